@@ -75,7 +75,8 @@ pub enum Reply {
     Fault(TclFault),
 }
 
-/// What a host says to a command: a value, a fault, that it asks a shared call, or that memory was refused.
+/// What a host says to a command: a value, a fault, that it asks a shared call, or that memory was
+/// refused.
 #[derive(Drop, Debug)]
 pub enum HostAnswer {
     Value(Text),

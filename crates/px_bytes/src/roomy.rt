@@ -1,6 +1,23 @@
 // Items in order, with room kept for more.
 
-ghost use Rattle.std.specs.Prelude.{◌≡◌, ◌≤◌, ◌<◌, ◌+◌, ◌-◌, [], ◌∷◌, ◌++◌, length, slice_get, option_map, OnOk, OnErr, IsOk, vec_len, vec_capacity};
+ghost use Rattle.std.specs.Prelude.{
+  ◌≡◌,
+  ◌≤◌,
+  ◌<◌,
+  ◌+◌,
+  ◌-◌,
+  [],
+  ◌∷◌,
+  ◌++◌,
+  length,
+  slice_get,
+  option_map,
+  OnOk,
+  OnErr,
+  IsOk,
+  vec_len,
+  vec_capacity,
+};
 ghost use Rattle.px_bytes.specs.Roomy.{Roomy};
 
 use crate::M;

@@ -1,6 +1,17 @@
 // Items in order.
 
-ghost use Rattle.std.specs.Prelude.{◌≡◌, List, [], ◌∷◌, ◌++◌, length, slice_get, option_map, OnOk, OnErr};
+ghost use Rattle.std.specs.Prelude.{
+  ◌≡◌,
+  List,
+  [],
+  ◌∷◌,
+  ◌++◌,
+  length,
+  slice_get,
+  option_map,
+  OnOk,
+  OnErr,
+};
 
 use crate::{M, Text};
 use std::alloc::Global;

@@ -1,0 +1,5 @@
+pub mod Comes
+pub mod Rows
+pub mod Runs
+pub mod Trees
+pub mod Outcomes

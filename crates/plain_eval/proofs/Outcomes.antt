@@ -1,0 +1,41 @@
+-- What the caller is told is the evaluator's outcome.
+use Rattle.std.proofs.Common.{◌≡◌, ℕ, ◌≤◌, List, length}
+use Rattle.std.specs.Prelude.{Result, Ok, Err, IfOk}
+use Rattle.px_bytes.specs.declared.memory.Memory.{Memory}
+use Rattle.px_bytes.specs.declared.fault.Reply.{Reply}
+use Rattle.tcl_vars.specs.Scopes.{Scopes}
+use Rattle.rule_model.specs.Evaluator.{Outcome, Ends, Waits}
+use Rattle.plain_eval.specs.declared.context.Progress.{Progress}
+use Rattle.plain_eval.specs.declared.plain.PlainCode.{PlainCode}
+use Rattle.plain_eval.specs.declared.plain.PlainCode.TheVariants as code
+use Rattle.plain_eval.specs.declared.plain.Plain.{Plain}
+use Rattle.plain_eval.specs.declared.plain.Plain.TheVariants.{Done, Waits as WaitsFor}
+use Rattle.plain_eval.specs.declared.stop.Stop.{Stop}
+use Rattle.plain_eval.specs.declared.stop.Stop.TheVariants as stop
+use Rattle.plain_eval.specs.Plain.{IsOutcome, code_of}
+use Rattle.plain_eval.specs.Stop.{plain_of}
+use Rattle.plain_eval.specs.Stand.{stand, EndsAs, WaitsAs, Matches}
+
+ends_is : {H : Type 0} (o : Outcome H) (c : PlainCode) (answers : List Reply) (vars : Scopes) (host : H) (p : Progress)
+    → EndsAs o (code_of c) (stand answers vars host p) → p.used ≤ length answers → IsOutcome o (Done c p.used) vars host answers
+ends_is (Ends end st) c answers vars host p m used = (m.0, m.1, m.2, used, m.3)
+ends_is (Waits path call st) c answers vars host p m used = absurd m
+
+waits_is : {H : Type 0} (o : Outcome H) (call : List (List ℕ)) (answers : List Reply) (vars : Scopes) (host : H) (p : Progress)
+    → WaitsAs o call (stand answers vars host p) → IsOutcome o (WaitsFor call) vars host answers
+waits_is (Ends end st) call answers vars host p m = absurd m
+waits_is (Waits path asked st) call answers vars host p m = m
+
+told_is : {H : Type 0} (o : Outcome H) (end : Result (List ℕ) Stop) (answers : List Reply) (vars : Scopes) (host : H) (p : Progress)
+    → Matches o end (stand answers vars host p) → p.used ≤ length answers → IfOk (plain_of p.used end) (λ plain. IsOutcome o plain vars host answers)
+told_is o (Ok v) answers vars host p m used = ends_is o (code.Ends v) answers vars host p m used
+told_is o (Err (stop.Raised f)) answers vars host p m used = ends_is o (code.Raised f) answers vars host p m used
+told_is o (Err (stop.Return v)) answers vars host p m used = ends_is o (code.Return v) answers vars host p m used
+told_is o (Err stop.Break) answers vars host p m used = ends_is o code.Break answers vars host p m used
+told_is o (Err stop.Continue) answers vars host p m used = ends_is o code.Continue answers vars host p m used
+told_is o (Err (stop.Waits call)) answers vars host p m used = waits_is o call answers vars host p m
+told_is o (Err stop.Memory) answers vars host p m used = tt
+
+pub outcome_is : {H : Type 0} (o : Outcome H) (end : Result (List ℕ) Stop) (told : Result Plain Memory) (answers : List Reply) (vars : Scopes) (host : H) (p : Progress)
+    → Matches o end (stand answers vars host p) → p.used ≤ length answers → told ≡ plain_of p.used end → IfOk told (λ plain. IsOutcome o plain vars host answers)
+outcome_is o end told answers vars host p m used is = rw is (told_is o end answers vars host p m used)

@@ -1,0 +1,4 @@
+pub mod Plain
+pub mod Stop
+pub mod Stand
+pub mod TestHost

@@ -1,0 +1,82 @@
+// The evaluation of a tree on the replies that have come.
+
+ghost use Rattle.std.specs.Prelude.{◌≡◌, IfOk, option_map};
+ghost use Rattle.rule_model.specs.Evaluator.{evaluate};
+ghost use Rattle.plain_eval.specs.Plain.{IsOutcome, setting};
+ghost use Rattle.plain_eval.specs.Stop.{plain_of};
+
+use crate::context::{Context, Progress};
+use crate::host::PlainHost;
+use crate::stop::Stop;
+use crate::tree::eval_tree;
+use px_bytes::{M, Memory, Reply, Seq, TclFault, Text, Texts};
+use std::alloc::Global;
+use tcl_expr::{Procs, Tree};
+use tcl_vars::Vars;
+
+/// How a body ends.
+#[derive(Drop)]
+pub enum PlainCode {
+    Ends(Text),
+    Raised(TclFault),
+    Return(Text),
+    Break,
+    Continue,
+}
+
+/// What a body comes to on the replies that have come: its end, with how many of them it took, or
+/// the shared call that has no reply yet.
+#[derive(Drop)]
+pub enum Plain {
+    Done { code: PlainCode, used: usize },
+    Waits { call: Texts },
+}
+
+/// The replies to a body's shared calls, in order.
+pub type Replies = Seq<Reply>;
+
+/// What a tree comes to, from its beginning, on these replies. `statics` are the static variables
+/// where they are only read; with `None` they are those of `vars`. After want of memory `vars` and
+/// `host` are not to be used.
+pub fn eval_plain<H: PlainHost>(
+    alloc: Global,
+    tree: &Tree,
+    _procs: &Procs,
+    statics: Option<&Vars>,
+    vars: &mut Vars,
+    host: &mut H,
+    env: &H::Env,
+    answers: &Replies,
+    budget: u32,
+) -> M<Plain>
+    ensures { let level = option_map (λ v. v.now.statics) statics.entry in
+        let given = setting level (H.table env.now) in
+        let outcome = evaluate given tree.now vars.old host.old answers.now budget in
+        IfOk result (λ plain. IsOutcome outcome plain vars.new host.new answers.now) }
+{
+    let context = Context {
+        alloc,
+        statics,
+        env,
+        answers,
+    };
+    let mut progress = Progress { used: 0, budget };
+    let end = eval_tree(&context, tree, vars, host, &mut progress);
+    told(end, progress.used)
+}
+
+// An end or a wait, told to the caller.
+fn told(end: Result<Text, Stop>, used: usize) -> M<Plain>
+    ensures { result ≡ plain_of used end }
+{
+    let code = match end {
+        Ok(value) => PlainCode::Ends(value),
+        Err(Stop::Raised(fault)) => PlainCode::Raised(fault),
+        Err(Stop::Return(value)) => PlainCode::Return(value),
+        Err(Stop::Break) => PlainCode::Break,
+        Err(Stop::Continue) => PlainCode::Continue,
+        Err(Stop::Waits(call)) => return Ok(Plain::Waits { call }),
+        Err(Stop::Memory) => return Err(Memory),
+    };
+    Ok(Plain::Done { code, used })
+}

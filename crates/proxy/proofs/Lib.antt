@@ -1,0 +1,12 @@
+pub mod TakenBytes
+pub mod Stopping
+pub mod Finishing
+pub mod Refusing
+pub mod OneEvent
+pub mod ReportRows
+pub mod ScheduleRows
+pub mod ConfigBuilds
+pub mod ConfigDocument
+pub mod ConfigRefusals
+pub mod ConfigRule
+pub mod ConfigTable

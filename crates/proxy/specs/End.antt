@@ -1,0 +1,26 @@
+-- The status of each end.
+use Rattle.std.specs.Prelude.{ℕ, Result, Ok, Err}
+use Rattle.proxy.specs.declared.end.End.{End}
+use Rattle.proxy.specs.declared.end.End.TheVariants.{
+  Done,
+  Usage,
+  Config,
+  Schedule,
+  ReadFault,
+  WriteFault,
+  Memory,
+}
+
+abbrev pub status_of : End → ℕ
+status_of Done = 0
+status_of Usage = 2
+status_of Config = 3
+status_of Schedule = 4
+status_of ReadFault = 5
+status_of WriteFault = 6
+status_of Memory = 7
+
+-- an end, unless another one came before
+abbrev pub end_unless : End → Result (Unit {0}) End → End
+end_unless end (Ok u) = end
+end_unless end (Err earlier) = earlier

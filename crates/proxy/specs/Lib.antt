@@ -1,0 +1,11 @@
+pub mod Report
+pub mod End
+pub mod Command
+pub mod Taken
+pub mod Replay
+pub mod Written
+pub mod Stops
+pub mod Replayed
+pub mod Config
+pub mod Offline
+pub mod Schedule

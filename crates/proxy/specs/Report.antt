@@ -1,0 +1,115 @@
+-- The lines of a report, in this project's own format. Each ends with LF.
+use Rattle.std.specs.Prelude.{ℕ, List, ◌++◌, flat_map, codes}
+use Rattle.std.specs.Fmt.{decimal}
+use Rattle.px_bytes.specs.Escapes.{escaped}
+use Rattle.px_bytes.specs.Hexadecimal.{hex_text}
+use Rattle.px_bytes.specs.declared.fault.FaultKind.{FaultKind}
+use Rattle.px_bytes.specs.declared.fault.FaultKind.TheVariants.{
+  NoVariable,
+  NoCommand,
+  Arity,
+  NotWhole,
+  OutOfRange,
+  DivideByZero,
+  TooLong,
+  TooDeep,
+  Budget,
+  Context,
+  Raised,
+  Syntax,
+  NoSuch,
+  TableFull,
+}
+use Rattle.proxy_core.specs.declared.event.BadEvent.{BadEvent}
+use Rattle.proxy_core.specs.declared.event.BadEvent.TheVariants.{
+  NoConn,
+  TookTooMuch,
+  Full,
+  TwiceConn,
+  NoVirtual,
+}
+use Rattle.proxy_core.specs.declared.note.Cause.{Cause}
+use Rattle.proxy_core.specs.declared.note.Cause.TheVariants.{Tcl, Unselected, Memory}
+use Rattle.proxy_core.specs.declared.note.Note.{Note}
+use Rattle.proxy_core.specs.declared.note.Note.TheVariants.{Log, Finish, CloseClient, Ended}
+
+-- the number of a kind of fault
+abbrev pub fault_number : FaultKind → ℕ
+fault_number NoVariable = 1
+fault_number NoCommand = 2
+fault_number Arity = 3
+fault_number NotWhole = 4
+fault_number OutOfRange = 5
+fault_number DivideByZero = 6
+fault_number TooLong = 7
+fault_number TooDeep = 8
+fault_number Budget = 9
+fault_number Context = 10
+fault_number Raised = 11
+fault_number Syntax = 12
+fault_number NoSuch = 13
+fault_number TableFull = 14
+
+-- the number of a refusal
+abbrev pub refusal_number : BadEvent → ℕ
+refusal_number NoConn = 1
+refusal_number TookTooMuch = 6
+refusal_number Full = 7
+refusal_number TwiceConn = 9
+refusal_number NoVirtual = 10
+
+-- why a connection finishes
+abbrev pub cause_text : Cause → List ℕ
+cause_text (Tcl kind) = codes "tcl " ++ decimal (fault_number kind)
+cause_text Unselected = codes "unselected"
+cause_text Memory = codes "memory"
+
+-- the line of a note, which names its connection
+abbrev pub note_line : Note → List ℕ
+note_line (Log conn text) =
+    codes "> log " ++ decimal conn ++ codes " " ++ escaped text ++ codes "\n"
+note_line (Finish conn cause) =
+    codes "> finish " ++ decimal conn ++ codes " " ++ cause_text cause ++ codes "\n"
+note_line (CloseClient conn) =
+    codes "> close-client " ++ decimal conn ++ codes "\n"
+note_line (Ended conn dropped) =
+    codes "> ended " ++ decimal conn ++ codes " " ++ decimal dropped ++ codes "\n"
+
+-- the lines of notes, in order
+abbrev pub note_lines : List Note → List ℕ
+note_lines notes = flat_map note_line notes
+
+-- the bytes that a client took
+abbrev pub client_text : ℕ → List ℕ → List ℕ
+client_text conn bytes =
+    codes "> client " ++ decimal conn ++ codes " " ++ hex_text bytes ++ codes "\n"
+
+-- a connection is live at the end: how many bytes are pending to its client and to its server
+abbrev pub open_text : ℕ → ℕ → ℕ → List ℕ
+open_text conn to_client to_server =
+    codes "> open " ++ decimal conn ++ codes " " ++ decimal to_client ++ codes " "
+    ++ decimal to_server ++ codes "\n"
+
+-- how many events were accepted
+abbrev pub end_text : ℕ → List ℕ
+end_text events = codes "> end " ++ decimal events ++ codes "\n"
+
+-- a line of the schedule, the first being 1, spells no event, with the kind of its fault
+abbrev pub text_fault : ℕ → ℕ → List ℕ
+text_fault line kind =
+    codes "> fault line " ++ decimal line ++ codes " text " ++ decimal kind ++ codes "\n"
+
+-- the event of a line of the schedule, the first being 1, was refused
+abbrev pub event_fault : ℕ → BadEvent → List ℕ
+event_fault line why =
+    codes "> fault line " ++ decimal line ++ codes " event " ++ decimal (refusal_number why)
+    ++ codes "\n"
+
+-- a configuration doesn't load, with the kind of its fault and its place
+abbrev pub config_fault : ℕ → List ℕ → List ℕ
+config_fault kind place =
+    codes "config fault " ++ decimal kind ++ codes " at " ++ place ++ codes "\n"
+
+-- the words of the command line are no command
+abbrev pub usage_fault : List ℕ
+usage_fault = codes "usage fault\n"

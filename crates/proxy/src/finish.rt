@@ -1,0 +1,49 @@
+// The end of a report.
+
+ghost use Rattle.std.specs.Prelude.{◌≡◌, ◌≤◌, ◌++◌, IfOk, OnOk, OnErr, IfErr};
+ghost use Rattle.px_outside.specs.Outside.{told_more, Rose};
+ghost use Rattle.proxy.specs.Replay.{conn_text, conns_text};
+ghost use Rattle.proxy.specs.Stops.{IsOutside};
+ghost use Rattle.proxy.specs.Written.{WritesFrontOf};
+
+use crate::replay::{Replay, Stop};
+use crate::report::{client_line, open_line};
+use crate::taken::Taken;
+use proxy_core::Core;
+use px_bytes::{M, Side, Text};
+use px_outside::{Sink, write_all};
+use std::alloc::Global;
+
+impl Replay {
+    /// Writes the lines of the connections and the last line. Where that stops, a part of them is
+    /// written.
+    pub fn finish<K: Sink>(&self, alloc: Global, last: &Text, out: &mut K) -> Result<(), Stop>
+        ensures writes_all { OnOk result (K.written out.new ≡ told_more (K.written out.old)
+            (conns_text self.now.core self.now.taken.items ++ last.now)) }
+        ensures writes_front { OnErr result
+            (WritesFrontOf (conns_text self.now.core self.now.taken.items ++ last.now)
+            (K.written out.old) (K.written out.new)) }
+        ensures failed_is_counted { IfErr result
+            (λ why. why ≡ Stop.WriteFault → Rose (K.faults out.old) (K.faults out.new)) }
+        ensures faults_never_fall { K.faults out.old ≤ K.faults out.new }
+        ensures only_outside { IfErr result (λ why. IsOutside why) }
+    {
+        for taken in &self.taken {
+            write_all(out, conn_text(alloc, &self.core, taken)?.as_bytes())?;
+        }
+        write_all(out, last.as_bytes())?;
+        Ok(())
+    }
+}
+
+// The lines of one connection.
+fn conn_text(alloc: Global, core: &Core, taken: &Taken) -> M<Text>
+    ensures { IfOk result (λ text. text ≡ conn_text core.now taken.now) }
+{
+    let mut text = client_line(alloc, taken.conn, taken.bytes.as_bytes())?;
+    if let Some(to_client) = core.pending(taken.conn, Side::Client) {
+        let to_server = core.pending(taken.conn, Side::Server).unwrap_or(0);
+        text.push(open_line(alloc, taken.conn, to_client, to_server)?.as_bytes())?;
+    }
+    Ok(text)
+}

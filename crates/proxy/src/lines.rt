@@ -1,0 +1,106 @@
+// The lines of a schedule.
+
+ghost use Rattle.std.specs.Prelude.{
+  ◌≡◌,
+  ◌≤◌,
+  ◌<◌,
+  ◌+◌,
+  ◌^◌,
+  OnOk,
+  IfErr,
+  IfSome,
+  Option,
+  List,
+  ℕ,
+  length,
+};
+ghost use Rattle.px_outside.specs.Outside.{Rose};
+ghost use Rattle.proxy_core.specs.declared.config.Config.{Config};
+ghost use Rattle.proxy.specs.Written.{Stands};
+ghost use Rattle.proxy.specs.Stops.{Stopped};
+
+use crate::replay::{Replay, Stop};
+use crate::schedule::{LineFault, line_event};
+use proxy_core::Event;
+use px_outside::Sink;
+use std::alloc::Global;
+
+impl Replay {
+    /// Gives the events of all lines to the core, and writes their notes.
+    pub fn lines<K: Sink>(
+        &mut self,
+        alloc: Global,
+        schedule: &[u8],
+        out: &mut K,
+    ) -> Result<(), Stop>
+        requires { self.old.events ≡ 0 }
+        ensures goes_on { OnOk result ((C : Config) (told : Option (List ℕ)) →
+            Stands C self.old.core self.old.taken.items self.old.events told (K.written out.old) →
+            Stands C self.new.core self.new.taken.items self.new.events told (K.written out.new)) }
+        ensures stops { IfErr result (λ why. (C : Config) (told : Option (List ℕ)) →
+            Stands C self.old.core self.old.taken.items self.old.events told (K.written out.old) →
+            Stopped C self.new.core self.new.taken.items self.new.events told (K.written out.new) why) }
+        ensures failed_is_counted { IfErr result
+            (λ why. why ≡ Stop.WriteFault → Rose (K.faults out.old) (K.faults out.new)) }
+        ensures faults_never_fall { K.faults out.old ≤ K.faults out.new }
+    {
+        let mut at = 0;
+        let mut line = 0;
+        while at < schedule.len() {
+            line += 1;
+            let Some(len) = line_len(&schedule[at..]) else {
+                return Err(Stop::Text { line });
+            };
+            if let Err(why) = self.line(alloc, line, &schedule[at..at + len], out) {
+                return Err(why);
+            }
+            at += len + 1;
+        }
+        Ok(())
+    }
+
+    // Gives the event of one line to the core. Today a schedule has one connection at most.
+    fn line<K: Sink>(
+        &mut self,
+        alloc: Global,
+        line: u64,
+        text: &[u8],
+        out: &mut K,
+    ) -> Result<(), Stop>
+        requires { self.old.events + 1 < 2 ^ 64 }
+        ensures goes_on { OnOk result ((C : Config) (told : Option (List ℕ)) →
+            Stands C self.old.core self.old.taken.items self.old.events told (K.written out.old) →
+            Stands C self.new.core self.new.taken.items self.new.events told (K.written out.new)) }
+        ensures stops { IfErr result (λ why. (C : Config) (told : Option (List ℕ)) →
+            Stands C self.old.core self.old.taken.items self.old.events told (K.written out.old) →
+            Stopped C self.new.core self.new.taken.items self.new.events told (K.written out.new) why) }
+        ensures failed_is_counted { IfErr result
+            (λ why. why ≡ Stop.WriteFault → Rose (K.faults out.old) (K.faults out.new)) }
+        ensures faults_never_fall { K.faults out.old ≤ K.faults out.new }
+        ensures counts { self.new.events ≤ self.old.events + 1 }
+    {
+        match line_event(alloc, text) {
+            Ok(None) => Ok(()),
+            Ok(Some(event)) => {
+                if self.is_second(&event) {
+                    return Err(Stop::Text { line });
+                }
+                self.event(alloc, line, event, out)
+            }
+            Err(LineFault::NotBuilt) => Err(Stop::Text { line }),
+            Err(LineFault::Memory) => Err(Stop::Memory),
+        }
+    }
+
+    // Whether the event accepts a connection after another one.
+    fn is_second(&self, event: &Event) -> bool {
+        matches!(event, Event::Accept { .. }) && !self.taken.is_empty()
+    }
+}
+
+// How many bytes stand before the first newline.
+fn line_len(bytes: &[u8]) -> Option<usize>
+    ensures { IfSome result (λ len. len < length bytes.now) }
+{
+    bytes.iter().position(|b| *b == b'\n')
+}

@@ -1,0 +1,71 @@
+//! Ciravogu: a full proxy for TCP and plain HTTP/1.1, scripted by iRules.
+#![tactic(auto)]
+
+mod command;
+mod config;
+mod end;
+mod finish;
+mod lines;
+mod offline;
+mod real;
+mod replay;
+mod report;
+mod run_schedule;
+mod schedule;
+mod taken;
+#[cfg(test)]
+mod tests;
+
+use crate::end::Status;
+use crate::offline::offline;
+use crate::real::{RealFiles, StdoutSink};
+use px_bytes::{Text, Texts};
+use std::alloc::Global;
+use std::io::{self, ErrorKind};
+use std::process::ExitCode;
+use std::rt::Env;
+
+/// The status where no memory is found for the words.
+const NO_MEMORY: u8 = 7;
+
+fn main(rt: HostRuntime) -> ExitCode {
+    match run(&rt) {
+        Ok(status) => ExitCode::from(status.0),
+        Err(_) => ExitCode::from(NO_MEMORY),
+    }
+}
+
+// Makes the real objects, and runs the command on them.
+fn run(rt: &HostRuntime) -> io::Result<Status> {
+    let alloc = rt.alloc();
+    let words = match words(rt, alloc) {
+        Ok(words) => words,
+        // words that aren't UTF-8 are no command, as none at all
+        Err(error) if error.kind() == ErrorKind::InvalidData => Texts::new(alloc),
+        Err(error) => return Err(error),
+    };
+    let mut files = RealFiles {
+        rt: rt.clone()?,
+        faults: 0,
+    };
+    let mut out = StdoutSink {
+        rt: rt.clone()?,
+        faults: 0,
+    };
+    Ok(offline(alloc, &words, &mut files, &mut out))
+}
+
+// The words of the command line, but the program's own name.
+fn words<R: Env + AllocGlobal>(rt: &R, alloc: Global) -> io::Result<Texts> {
+    let mut words = Texts::new(alloc);
+    for word in std::env::args(rt)?.skip(1) {
+        let added = match Text::new(alloc, word.as_bytes()) {
+            Ok(text) => words.push(text),
+            Err(memory) => Err(memory),
+        };
+        if added.is_err() {
+            return Err(io::Error::from(ErrorKind::OutOfMemory));
+        }
+    }
+    Ok(words)
+}

@@ -1,0 +1,111 @@
+// A replay of a schedule, line by line.
+
+ghost use Rattle.std.specs.Prelude.{◌≡◌, ◌≤◌, ◌<◌, ◌+◌, ◌^◌, IfOk, OnOk, IfErr, Option, List, ℕ};
+ghost use Rattle.px_outside.specs.Outside.{Rose};
+ghost use Rattle.proxy_core.specs.declared.config.Config.{Config};
+ghost use Rattle.proxy.specs.Written.{Stands};
+ghost use Rattle.proxy.specs.Stops.{Stopped};
+
+use crate::report::notes_text;
+use crate::taken::{Taken, add_took, took_by};
+use proxy_core::{BadEvent, Config, Core, Event, Notes};
+use px_bytes::{M, Memory};
+use px_outside::{Failed, Sink, write_all};
+use std::alloc::Global;
+
+/// What a replay keeps from one line to the next.
+#[derive(Drop)]
+pub struct Replay {
+    pub core: Core,
+    /// The notes of the event that is being given.
+    pub notes: Notes,
+    /// What each client took, in the order in which the connections were accepted.
+    pub taken: Vec<Taken>,
+    /// How many events were accepted.
+    pub events: u64,
+}
+
+/// Why a replay stops before the schedule's end.
+#[derive(Clone, Copy, Debug, PartialEq, Eq)]
+pub enum Stop {
+    /// The line spells no event.
+    Text { line: u64 },
+    /// The event of the line is refused.
+    Event { line: u64, why: BadEvent },
+    WriteFault,
+    Memory,
+}
+
+impl From<Memory> for Stop {
+    ghost use Rattle.std.specs.Prelude.{◌≡◌};
+    ghost use Rattle.proxy.specs.declared.replay.Stop.TheVariants.{Memory as OutOfMemory};
+
+    ghost from_gives = { λ _ e. e ≡ OutOfMemory };
+
+    fn from(_: Memory) -> Self {
+        Stop::Memory
+    }
+}
+
+impl From<Failed> for Stop {
+    ghost use Rattle.std.specs.Prelude.{◌≡◌};
+    ghost use Rattle.proxy.specs.Stops.{stop_of};
+
+    ghost from_gives = { λ f e. e ≡ stop_of f };
+
+    fn from(failed: Failed) -> Self {
+        match failed {
+            Failed::Failed => Stop::WriteFault,
+            Failed::Memory => Stop::Memory,
+        }
+    }
+}
+
+impl Replay {
+    /// A replay that was given no event.
+    pub fn new(alloc: Global, config: Config) -> M<Replay>
+        ensures stands { IfOk result (λ replay. (told : Option (List ℕ)) →
+            Stands config replay.core replay.taken.items replay.events told told) }
+        ensures no_event { IfOk result (λ replay. replay.events ≡ 0) }
+    {
+        let (core, notes) = Core::new(alloc, config)?;
+        Ok(Replay {
+            core,
+            notes,
+            taken: Vec::new(alloc),
+            events: 0,
+        })
+    }
+
+    /// Gives an event to the core, and writes its notes.
+    pub fn event<K: Sink>(
+        &mut self,
+        alloc: Global,
+        line: u64,
+        event: Event,
+        out: &mut K,
+    ) -> Result<(), Stop>
+        requires { self.old.events + 1 < 2 ^ 64 }
+        ensures goes_on { OnOk result ((C : Config) (told : Option (List ℕ)) →
+            Stands C self.old.core self.old.taken.items self.old.events told (K.written out.old) →
+            Stands C self.new.core self.new.taken.items self.new.events told (K.written out.new)) }
+        ensures stops { IfErr result (λ why. (C : Config) (told : Option (List ℕ)) →
+            Stands C self.old.core self.old.taken.items self.old.events told (K.written out.old) →
+            Stopped C self.new.core self.new.taken.items self.new.events told (K.written out.new) why) }
+        ensures failed_is_counted { IfErr result
+            (λ why. why ≡ Stop.WriteFault → Rose (K.faults out.old) (K.faults out.new)) }
+        ensures faults_never_fall { K.faults out.old ≤ K.faults out.new }
+        ensures counts { self.new.events ≤ self.old.events + 1 }
+    {
+        self.notes.clear();
+        self.notes.reserve(68)?;
+        let took = took_by(&self.core, &event)?;
+        if let Err(why) = self.core.step(event, &mut self.notes) {
+            return Err(Stop::Event { line, why });
+        }
+        self.events += 1;
+        write_all(out, notes_text(alloc, self.notes.as_slice())?.as_bytes())?;
+        add_took(alloc, &mut self.taken, took)?;
+        Ok(())
+    }
+}

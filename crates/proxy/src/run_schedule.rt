@@ -1,0 +1,58 @@
+// A whole replay.
+
+ghost use Rattle.std.specs.Prelude.{◌≡◌, ◌≤◌};
+ghost use Rattle.proxy.specs.Replayed.{Replayed, Finished};
+
+use crate::end::End;
+use crate::replay::{Replay, Stop};
+use crate::report::{end_line, event_fault_line, text_fault_line};
+use proxy_core::Config;
+use px_bytes::{M, Text};
+use px_outside::Sink;
+use std::alloc::Global;
+
+/// The number of a line that spells no event.
+const NOT_BUILT: u8 = 6;
+
+/// Gives the events of the schedule to a core of this configuration, and writes the report.
+pub fn replay<K: Sink>(alloc: Global, config: Config, schedule: &[u8], out: &mut K) -> End
+    ensures replayed { Replayed config (K.written out.old) (K.written out.new) (K.faults out.old)
+        (K.faults out.new) result }
+    ensures faults_never_fall { K.faults out.old ≤ K.faults out.new }
+{
+    let Ok(mut replay) = Replay::new(alloc, config) else {
+        return End::Memory;
+    };
+    match replay.lines(alloc, schedule, out) {
+        Ok(()) => {
+            let last = end_line(alloc, replay.events);
+            End::Done.unless(finish(&replay, alloc, last, out))
+        }
+        Err(Stop::Text { line }) => {
+            let last = text_fault_line(alloc, line, NOT_BUILT);
+            End::Schedule.unless(finish(&replay, alloc, last, out))
+        }
+        Err(Stop::Event { line, why }) => {
+            let last = event_fault_line(alloc, line, why);
+            End::Schedule.unless(finish(&replay, alloc, last, out))
+        }
+        Err(Stop::WriteFault) => End::WriteFault,
+        Err(Stop::Memory) => End::Memory,
+    }
+}
+
+// Writes the end of the report.
+fn finish<K: Sink>(replay: &Replay, alloc: Global, last: M<Text>, out: &mut K) -> Result<(), End>
+    ensures finished { Finished replay.now last (K.written out.old) (K.written out.new)
+        (K.faults out.old) (K.faults out.new) result }
+    ensures faults_never_fall { K.faults out.old ≤ K.faults out.new }
+{
+    let Ok(last) = last else {
+        return Err(End::Memory);
+    };
+    match replay.finish(alloc, &last, out) {
+        Ok(()) => Ok(()),
+        Err(Stop::WriteFault) => Err(End::WriteFault),
+        Err(_) => Err(End::Memory),
+    }
+}

@@ -1,0 +1,95 @@
+// What a user sees where a file can't be read or the output can't be written.
+
+use crate::end::Status;
+use crate::offline::offline;
+use px_bytes::{M, Pairs, Text, Texts};
+use px_outside::{Counts, MemFiles, MemSink};
+use std::alloc::Global;
+use std::test::Fail;
+
+const CONFIG: &[u8] = b"version = 1
+
+[[virtual]]
+name = \"v\"
+listen = \"127.0.0.1:9000\"
+rules = [\"r\"]
+
+[[rule]]
+name = \"r\"
+text = \"when CLIENT_ACCEPTED { set x 7; TCP::respond \\\"hi $x\\\" }\"
+";
+
+const SCHEDULE: &[u8] = b"accept 1 v 10.0.0.9 4000
+run
+client-took 1 4
+";
+
+const REPORT: &[u8] = b"> finish 1 unselected
+> close-client 1
+> ended 1 0
+> client 1 68692037
+> end 3
+";
+
+// Replays the schedule where these calls fail, and gives the status and what was written.
+fn run(alloc: Global, reads: &[u64], writes: &[u64]) -> M<(Status, Text)> {
+    let mut words = Texts::new(alloc);
+    for word in ["replay", "hi.toml", "hi.txt"] {
+        words.push(Text::new(alloc, word.as_bytes())?)?;
+    }
+    let mut files = Pairs::new(alloc);
+    files.push((Text::new(alloc, b"hi.toml")?, Text::new(alloc, CONFIG)?))?;
+    files.push((Text::new(alloc, b"hi.txt")?, Text::new(alloc, SCHEDULE)?))?;
+    let mut files = MemFiles::new(files, calls(alloc, reads)?);
+    let mut out = MemSink::new(alloc, calls(alloc, writes)?);
+    let status = offline(alloc, &words, &mut files, &mut out);
+    Ok((status, out.written().copy()?))
+}
+
+fn calls(alloc: Global, numbers: &[u64]) -> M<Counts> {
+    let mut calls = Counts::new(alloc);
+    for number in numbers {
+        calls.push(*number)?;
+    }
+    Ok(calls)
+}
+
+#[test]
+fn no_call_fails(rt: HostRuntime) -> Result<(), Fail> {
+    let (status, written) = run(rt.alloc(), &[], &[])?;
+    assert_eq!(rt; status, Status(0));
+    assert_eq!(rt; written.as_bytes(), REPORT);
+    Ok(())
+}
+
+#[test]
+fn first_read_fails(rt: HostRuntime) -> Result<(), Fail> {
+    let (status, written) = run(rt.alloc(), &[1], &[])?;
+    assert_eq!(rt; status, Status(5));
+    assert_eq!(rt; written.as_bytes(), b"".as_slice());
+    Ok(())
+}
+
+#[test]
+fn second_read_fails(rt: HostRuntime) -> Result<(), Fail> {
+    let (status, written) = run(rt.alloc(), &[2], &[])?;
+    assert_eq!(rt; status, Status(5));
+    assert_eq!(rt; written.as_bytes(), b"".as_slice());
+    Ok(())
+}
+
+#[test]
+fn first_write_fails(rt: HostRuntime) -> Result<(), Fail> {
+    let (status, written) = run(rt.alloc(), &[], &[1])?;
+    assert_eq!(rt; status, Status(6));
+    assert_eq!(rt; written.as_bytes(), b"".as_slice());
+    Ok(())
+}
+
+#[test]
+fn second_write_fails(rt: HostRuntime) -> Result<(), Fail> {
+    let (status, written) = run(rt.alloc(), &[], &[2])?;
+    assert_eq!(rt; status, Status(6));
+    assert!(rt; REPORT.starts_with(written.as_bytes()) && written.len() < REPORT.len());
+    Ok(())
+}

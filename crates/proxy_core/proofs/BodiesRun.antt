@@ -1,0 +1,53 @@
+-- Bodies one after another.
+use Rattle.std.proofs.Common.{◌≡◌, ℕ, List, [], ◌∷◌, Bool, true, false, Some, None, refl, drop, ◌+◌, ◌<◌, length, get_or, arith, nat_lt, codes, if◌then◌else◌}
+use Rattle.std.specs.Str.{bytes_eq}
+use Rattle.std.proofs.Math.Seq.{drop-cons}
+use Rattle.px_bytes.specs.declared.fault.TclFault.{TclFault}
+use Rattle.px_bytes.specs.declared.fault.Reply.{Reply}
+use Rattle.tcl_vars.specs.Scopes.{Scopes, Level}
+use Rattle.tcl_expr.specs.declared.tree.Tree.{Tree}
+use Rattle.rule_model.specs.Host.{HostStep}
+use Rattle.rule_model.specs.Evaluator.{Outcome, Ends, Waits, evaluate, state}
+use Rattle.plain_eval.specs.declared.plain.Plain.{Plain}
+use Rattle.plain_eval.specs.declared.plain.Plain.TheVariants.{Waits as WaitsFor}
+use Rattle.plain_eval.specs.Plain.{IsOutcome}
+use Rattle.proxy_core.specs.Responder.{respond_table, respond, respond_limit}
+use Rattle.proxy_core.specs.Bodies.{BodiesEnd, Uncaught, uncaught_line, after_body, rule_setting}
+use Rattle.proxy_core.specs.Runs.{BodyRuns}
+use Rattle.proxy_core.specs.declared.config.Rule.{Rule}
+use Rattle.proxy_core.proofs.NeverWaits.{waits, asks, eval_moves}
+
+if_asks : (b : Bool) (x y : HostStep (List ℕ)) → asks x ≡ false → asks y ≡ false → asks (if b then x else y) ≡ false
+if_asks true x y h k = h
+if_asks false x y h k = k
+
+respond_answers : (sent : List ℕ) (words : List (List ℕ)) → asks (respond sent words) ≡ false
+respond_answers sent [] = refl
+respond_answers sent (t ∷ []) = if_asks (nat_lt respond_limit (length sent + length t)) _ _ refl refl
+respond_answers sent (t ∷ u ∷ words) = refl
+
+table_answers : (sent : List ℕ) (words : List (List ℕ)) → asks (respond_table sent words) ≡ false
+table_answers sent [] = refl
+table_answers sent (name ∷ words) = if_asks (bytes_eq name (codes "TCP::respond")) _ _ (respond_answers sent words) refl
+
+no_wait : (o : Outcome (List ℕ)) (call : List (List ℕ)) (vars : Scopes) (sent : List ℕ) (replies : List Reply) → waits o ≡ false → IsOutcome o (WaitsFor call) vars sent replies → ⊥
+no_wait (Ends c st) call vars sent replies w h = h
+no_wait (Waits p q st) call vars sent replies w h = cc
+
+-- a body that answers its client waits for nothing
+pub body_ends : (statics : Level) (tree : Tree) (vars : Scopes) (sent : List ℕ) (replies : List Reply) (budget : ℕ) (plain : Plain) (call : List (List ℕ)) (vars' : Scopes) (sent' : List ℕ) → plain ≡ WaitsFor call → IsOutcome (evaluate (rule_setting statics) tree vars sent replies budget) plain vars' sent' replies → ⊥
+body_ends statics tree vars sent replies budget plain call vars' sent' e h =
+    no_wait (evaluate (rule_setting statics) tree vars sent replies budget) call vars' sent' replies (eval_moves (rule_setting statics) table_answers tree [] (state vars sent replies budget 0 [])) (rw e at h)
+
+-- where a body left no fault, the next goes on
+pub body_went : (name : List ℕ) (o : Outcome (List ℕ)) (vars : Scopes) (sent : List ℕ) (go : Scopes → List ℕ → BodiesEnd) → BodyRuns o None vars sent → after_body name o go ≡ go vars sent
+body_went name (Ends c st) vars sent go h = rw (h.0, h.1, h.2) refl
+body_went name (Waits p q st) vars sent go h = absurd h
+
+pub body_failed : (name : List ℕ) (o : Outcome (List ℕ)) (f : TclFault) (vars : Scopes) (sent : List ℕ) (go : Scopes → List ℕ → BodiesEnd) → BodyRuns o (Some f) vars sent → after_body name o go ≡ Uncaught f.kind (uncaught_line name f.text) vars sent
+body_failed name (Ends c st) f vars sent go h = rw (h.0, h.1, h.2) refl
+body_failed name (Waits p q st) f vars sent go h = absurd h
+
+-- the rules from a place on begin with the one that stands there
+pub rules_at : (rules : List Rule) (i : ℕ) (rule : Rule) → i < length rules → rule ≡ get_or rules i rule → drop i rules ≡ rule ∷ drop (i + 1) rules
+rules_at rules i rule h e = grind (arith, drop-cons rules i rule h, e)

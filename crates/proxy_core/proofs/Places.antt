@@ -1,0 +1,99 @@
+-- Live connections by their numbers.
+use Rattle.std.proofs.Common.{◌≡◌, ℕ, zero, suc, ◌+◌, ◌-◌, ◌<◌, ◌≤◌, List, [], ◌∷◌, Bool, true, false, ◌||◌, if◌then◌else◌, Some, None, nat_eq, nat_lt, length, refl, sym, ap, ◌∙◌, arith, remove, set, get_or}
+use Rattle.std.proofs.lemmas.Option.{slice_get_read}
+use Rattle.std.specs.List.{position_from, slice_get}
+use Rattle.std.proofs.lemmas.Bool.Decides.{nat_tests}
+use Rattle.proxy_core.specs.declared.live.Live.{Live}
+use Rattle.proxy_core.specs.Ready.{numbers, is_in, place_of}
+use Rattle.proxy_core.specs.Live.{pending_in}
+use Rattle.proxy_core.specs.Refusals.{live_at, took_refusal_at}
+
+eq_number : (a b : ℕ) → nat_eq a b ≡ true → a ≡ b
+eq_number a b h = grind (arith, nat_tests)
+
+number_from : (number i at : ℕ) (ls : List Live) (l : Live) → position_from (λ x. nat_eq x.number number) i ls ≡ Some at → (i ≤ at) × (slice_get ls (at - i) ≡ Some l → l.number ≡ number)
+number_from number i at [] l e = cc
+number_from number i at (x ∷ xs) l e = by_cases (nat_eq x.number number) refl (λ f. number_from number (i + 1) at xs l f) e
+  where
+    by_cases : (b : Bool) → nat_eq x.number number ≡ b → (position_from (λ y. nat_eq y.number number) (i + 1) xs ≡ Some at → (i + 1 ≤ at) × (slice_get xs (at - (i + 1)) ≡ Some l → l.number ≡ number)) → (if b then Some i else position_from (λ y. nat_eq y.number number) (i + 1) xs) ≡ Some at → (i ≤ at) × (slice_get (x ∷ xs) (at - i) ≡ Some l → l.number ≡ number)
+    by_cases true t rest f =
+        let g : at ≡ i = cc in
+        let z : at - i ≡ 0 = omega arith in
+        (omega arith, rw z (λ h. let k : x ≡ l = cc in ap (λ y. y.number) (sym k) ∙ eq_number x.number number t))
+    by_cases false t rest f =
+        let r = rest f in
+        let m : at - i ≡ suc (at - (i + 1)) = omega (arith, r.0) in
+        (omega (arith, r.0), rw m r.1)
+
+-- the connection at the place of a number has that number
+pub number_at : (number at : ℕ) (ls : List Live) (l : Live) → place_of ls number ≡ Some at → slice_get ls at ≡ Some l → l.number ≡ number
+number_at number at ls l e h =
+    let m : at - 0 ≡ at = omega arith in (number_from number 0 at ls l e).1 (rw m h)
+
+pub live_there : (number at : ℕ) (ls : List Live) (l : Live) → place_of ls number ≡ Some at → slice_get ls at ≡ Some l → live_at ls number ≡ Some l
+live_there number at ls l e h = rw e h
+
+pub in_numbers : (at : ℕ) (ls : List Live) (l : Live) → slice_get ls at ≡ Some l → is_in (numbers ls) l.number ≡ true
+in_numbers at [] l h = cc
+in_numbers zero (x ∷ xs) l h =
+    let k : x ≡ l = cc in
+    let t : nat_eq l.number x.number ≡ true = grind (arith, nat_tests, ap (λ y. y.number) k) in
+    rw t refl
+in_numbers (suc at) (x ∷ xs) l h = later (nat_eq l.number x.number) (is_in (numbers xs) l.number) (in_numbers at xs l h)
+  where
+    later : (a b : Bool) → b ≡ true → (a || b) ≡ true
+    later true b g = refl
+    later false b g = g
+
+-- a connection that changes keeps its number
+pub numbers_set : (at : ℕ) (ls : List Live) (l m : Live) → slice_get ls at ≡ Some l → m.number ≡ l.number → numbers (set ls at m) ≡ numbers ls
+numbers_set at [] l m h e = refl
+numbers_set zero (x ∷ xs) l m h e = let k : x ≡ l = cc in ap (λ n. n ∷ numbers xs) (e ∙ ap (λ y. y.number) (sym k))
+numbers_set (suc at) (x ∷ xs) l m h e = ap (λ ns. x.number ∷ ns) (numbers_set at xs l m h e)
+
+-- the others stay where one goes
+pub in_removed : (at : ℕ) (ls : List Live) (l : Live) (q : ℕ) → slice_get ls at ≡ Some l → nat_eq l.number q ≡ false → is_in (numbers ls) q ≡ true → is_in (numbers (remove ls at)) q ≡ true
+in_removed at [] l q h n g = cc
+in_removed zero (x ∷ xs) l q h n g = by_cases (nat_eq q x.number) refl g
+  where
+    by_cases : (b : Bool) → nat_eq q x.number ≡ b → (b || is_in (numbers xs) q) ≡ true → is_in (numbers xs) q ≡ true
+    by_cases false f k = k
+    by_cases true f k =
+        let e : x ≡ l = cc in
+        let t : nat_eq l.number q ≡ true = grind (arith, nat_tests, ap (λ y. y.number) e, eq_number q x.number f) in cc
+in_removed (suc at) (x ∷ xs) l q h n g = by_cases (nat_eq q x.number) g (in_removed at xs l q h n)
+  where
+    by_cases : (b : Bool) → (b || is_in (numbers xs) q) ≡ true → (is_in (numbers xs) q ≡ true → is_in (numbers (remove xs at)) q ≡ true) → (b || is_in (numbers (remove xs at)) q) ≡ true
+    by_cases true k rest = refl
+    by_cases false k rest = rest k
+
+pub in_before : (at : ℕ) (ls : List Live) (q : ℕ) → is_in (numbers (remove ls at)) q ≡ true → is_in (numbers ls) q ≡ true
+in_before zero [] q g = g
+in_before (suc at) [] q g = g
+in_before zero (x ∷ xs) q g = later (nat_eq q x.number) (is_in (numbers xs) q) g
+  where
+    later : (a b : Bool) → b ≡ true → (a || b) ≡ true
+    later true b h = refl
+    later false b h = h
+in_before (suc at) (x ∷ xs) q g = by_cases (nat_eq q x.number) g (in_before at xs q)
+  where
+    by_cases : (b : Bool) → (b || is_in (numbers (remove xs at)) q) ≡ true → (is_in (numbers (remove xs at)) q ≡ true → is_in (numbers xs) q ≡ true) → (b || is_in (numbers xs) q) ≡ true
+    by_cases true k rest = refl
+    by_cases false k rest = rest k
+
+-- the element that was read at the place of a number
+pub read_at : (ls ms : List Live) (at number : ℕ) (l : Live) → ms ≡ ls → Some at ≡ place_of ms number → at < length ms → l ≡ get_or ls at l → (place_of ls number ≡ Some at) × (slice_get ls at ≡ Some l)
+read_at ls ms at number l e p w r = (rw e at (sym p), slice_get_read ls (length ls) at l refl (rw e at w) r)
+
+-- what is read twice is the same
+pub read_again : (ls : List Live) (at : ℕ) (l m : Live) → slice_get ls at ≡ Some l → slice_get ls at ≡ Some m → l ≡ m
+read_again ls at l m h k = let e : Some l ≡ Some m = sym h ∙ k in cc
+
+pub took_accepted : (ls : List Live) (number at n : ℕ) (l : Live) → (place_of ls number ≡ Some at) × (slice_get ls at ≡ Some l) → n ≤ pending_in l.conn → took_refusal_at (live_at ls number) n ≡ None
+took_accepted ls number at n l h p =
+    let t : nat_lt (pending_in l.conn) n ≡ false = grind (arith, nat_tests) in rw (live_there number at ls l h.0 h.1, t) refl
+
+pub remove_set : (at : ℕ) (ls : List Live) (m : Live) → remove (set ls at m) at ≡ remove ls at
+remove_set at [] m = refl
+remove_set zero (x ∷ xs) m = refl
+remove_set (suc at) (x ∷ xs) m = ap (λ l. x ∷ l) (remove_set at xs m)

@@ -1,0 +1,10 @@
+pub mod Responder
+pub mod Bodies
+pub mod Live
+pub mod Ready
+pub mod Start
+pub mod Refusals
+pub mod Changes
+pub mod Runs
+pub mod Queue
+pub mod Queries

@@ -1,0 +1,12 @@
+-- A core before any event.
+use Rattle.std.specs.Prelude.{◌≡◌, []}
+use Rattle.tcl_vars.specs.Scopes.{no_scopes}
+use Rattle.proxy_core.specs.declared.config.Config.{Config}
+use Rattle.proxy_core.specs.declared.core_state.Core.{Core}
+
+pub record IsStart (C : Config) (core : Core) : Type 0 where
+  pub config : core.config ≡ C
+  pub statics : core.statics ≡ no_scopes
+  pub last : core.last ≡ 0
+  pub live : core.live.items ≡ []
+  pub ring : core.ring.items ≡ []

@@ -1,0 +1,68 @@
+// All connections.
+
+ghost use Rattle.std.specs.Prelude.{
+  ◌≡◌,
+  ◌≤◌,
+  ℕ,
+  Bool,
+  true,
+  nat_eq,
+  vec_len,
+  vec_capacity,
+  [],
+  IfOk,
+};
+ghost use Rattle.std.proofs.Props.{props};
+ghost use Rattle.std.specs.List.{IsDistinct};
+ghost use Rattle.proxy_core.specs.Ready.{numbers, is_in};
+
+use crate::config::Config;
+use crate::live::Live;
+use crate::note::Notes;
+use px_bytes::M;
+use std::alloc::Global;
+use tcl_vars::Vars;
+
+/// The live connections, and those of them that are ready to run.
+#[derive(Drop)]
+pub struct Core {
+    pub(crate) alloc: Global,
+    pub(crate) config: Config,
+    /// What RULE_INIT left in the static variables.
+    pub(crate) statics: Vars,
+    /// The greatest number that was accepted.
+    pub(crate) last: u32,
+    pub(crate) live: Vec<Live>,
+    /// The numbers of the connections that are ready to run, the next in front.
+    pub(crate) ring: Vec<u32>,
+    ghost ring_distinct: { IsDistinct nat_eq ring.items } by { Prim.hlevel props },
+    ghost ring_live: { (n : ℕ) → is_in ring.items n ≡ true → is_in (numbers live.items) n ≡ true },
+    ghost live_known: { (n : ℕ) → is_in (numbers live.items) n ≡ true → n ≤ last },
+    ghost live_limit: { vec_len live ≤ config.connections },
+    ghost live_room: { config.connections ≤ vec_capacity live },
+    ghost ring_room: { config.connections ≤ vec_capacity ring },
+}
+
+impl Core {
+    ghost use Rattle.proxy_core.specs.Start.{IsStart};
+
+    /// A core without connections, and the notes of its start. It has room for all connections that
+    /// may be live at once.
+    pub fn new(alloc: Global, config: Config) -> M<(Core, Notes)>
+        ensures start { IfOk result (λ made. IsStart config made.0) }
+        ensures notes { IfOk result (λ made. made.1.items ≡ []) }
+    {
+        let room = config.connections as usize;
+        let live = Vec::with_capacity(alloc, room)?;
+        let ring = Vec::with_capacity(alloc, room)?;
+        let core = Core {
+            alloc,
+            config,
+            statics: Vars::new(alloc),
+            last: 0,
+            live,
+            ring,
+        };
+        Ok((core, Notes::new(alloc)))
+    }
+}

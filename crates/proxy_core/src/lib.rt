@@ -1,0 +1,23 @@
+//! Connections, the rules that they run, and the events that move them.
+#![tactic(auto)]
+
+mod accept;
+mod bodies;
+mod config;
+mod conn;
+mod core_state;
+mod event;
+mod live;
+mod note;
+mod out_queue;
+mod queries;
+mod responder;
+mod ring;
+mod run;
+mod step;
+mod took;
+
+pub use config::{Config, Rule, Virtual};
+pub use core_state::Core;
+pub use event::{BadEvent, Event};
+pub use note::{Cause, Note, Notes};

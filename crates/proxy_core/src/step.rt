@@ -1,0 +1,32 @@
+// One event.
+
+ghost use Rattle.std.specs.Prelude.{◌≡◌, ◌≤◌, ◌++◌, Some, None, OnOk, OnErr, IfErr, List};
+ghost use Rattle.proxy_core.specs.Refusals.{refusal};
+ghost use Rattle.proxy_core.specs.Changes.{Changes};
+ghost use Rattle.proxy_core.specs.declared.note.Note.{Note};
+
+use crate::core_state::Core;
+use crate::event::{BadEvent, Event};
+use crate::note::Notes;
+
+impl Core {
+    /// Takes an event and adds its notes. A refused event changes nothing and gives no note.
+    pub fn step(&mut self, event: Event, notes: &mut Notes) -> Result<(), BadEvent>
+        requires { 68 ≤ notes.old.spare }
+        ensures accepted { OnOk result (refusal self.old event ≡ None) }
+        ensures refused { IfErr result (λ why. refusal self.old event ≡ Some why) }
+        ensures changes { OnOk result
+            ((group : List Note) × (notes.new.items ≡ notes.old.items ++ group)
+            × Changes self.old self.new event group) }
+        ensures same { OnErr result ((self.new ≡ self.old) × (notes.new ≡ notes.old)) }
+    {
+        match event {
+            Event::Accept { conn, vs, from } => self.accept(conn, vs.as_bytes(), from, notes),
+            Event::ClientTook { conn, n } => self.took(conn, n, notes),
+            Event::Run => {
+                self.run(notes);
+                Ok(())
+            }
+        }
+    }
+}

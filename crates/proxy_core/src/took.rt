@@ -1,0 +1,78 @@
+// A client takes bytes.
+
+ghost use Rattle.std.specs.Prelude.{
+  ◌≡◌,
+  ◌≤◌,
+  ◌<◌,
+  ◌+◌,
+  ◌++◌,
+  Some,
+  None,
+  OnOk,
+  OnErr,
+  IfErr,
+  IfSome,
+  List,
+  length,
+};
+ghost use Rattle.proxy_core.specs.Ready.{place_of};
+ghost use Rattle.proxy_core.specs.Refusals.{took_refusal_at, live_at};
+ghost use Rattle.proxy_core.specs.Changes.{Takes, closing};
+
+use crate::core_state::Core;
+use crate::event::BadEvent;
+use crate::live::Live;
+use crate::note::{Note, Notes};
+use crate::ring::{make_ready, unlink};
+
+impl Core {
+    /// The client took the first `n` bytes that were pending to it.
+    pub fn took(&mut self, number: u32, n: usize, notes: &mut Notes) -> Result<(), BadEvent>
+        requires { 68 ≤ notes.old.spare }
+        ensures accepted { OnOk result
+            (took_refusal_at (live_at self.old.live.items number) n ≡ None) }
+        ensures refused { IfErr result
+            (λ why. took_refusal_at (live_at self.old.live.items number) n ≡ Some why) }
+        ensures takes { OnOk result
+            ((group : List Note) × (notes.new.items ≡ notes.old.items ++ group)
+            × Takes self.old self.new number n group) }
+        ensures same { OnErr result ((self.new ≡ self.old) × (notes.new ≡ notes.old)) }
+    {
+        let Some(at) = find(&self.live, number) else {
+            return Err(BadEvent::NoConn);
+        };
+        if self.live[at].pending() < n {
+            return Err(BadEvent::TookTooMuch);
+        }
+        if self.live[at].ends_with(n) {
+            let _ = self.live.remove(at);
+            unlink(&mut self.ring, number);
+            close(number, 0, notes);
+        } else {
+            self.live[at].take(n);
+            make_ready(&mut self.ring, number);
+        }
+        Ok(())
+    }
+}
+
+/// Where the live connection of a number stands.
+pub fn find(live: &[Live], number: u32) -> Option<usize>
+    ensures place { result ≡ place_of live.now number }
+    ensures within { IfSome result (λ at. at < length live.now) }
+{
+    live.iter().position(|l| l.number == number)
+}
+
+/// The last notes of a connection, on which so many bytes were dropped.
+pub fn close(number: u32, dropped: usize, notes: &mut Notes)
+    requires { 2 ≤ notes.old.spare }
+    ensures items { notes.new.items ≡ notes.old.items ++ closing number dropped }
+    ensures spare { notes.new.spare + 2 ≡ notes.old.spare }
+{
+    notes.push_reserved(Note::CloseClient { conn: number });
+    notes.push_reserved(Note::Ended {
+        conn: number,
+        dropped,
+    });
+}

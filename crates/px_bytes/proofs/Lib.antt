@@ -1,0 +1,5 @@
+pub mod Addresses
+pub mod Decimals
+pub mod Examples
+pub mod PlainRuns
+pub mod Positions

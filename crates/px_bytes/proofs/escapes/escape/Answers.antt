@@ -1,0 +1,21 @@
+use Rattle.std.proofs.Common.{ℕ, ◌++◌, ap, sym, ◌∙◌, arith}
+use Rattle.std.proofs.lemmas.List.Sums.{prefix_len-le-length}
+use Rattle.px_bytes.proofs.PlainRuns.{escaped_turn, escaped_end, two_added}
+use Rattle.px_bytes.proofs.escapes.escape.Goals as goal
+
+pub split_at-requires : goal.split_at-requires
+split_at-requires c = omega (arith, prefix_len-le-length {X = ℕ})
+
+pub returns-in_default : goal.returns-in_default
+returns-in_default c =
+    let back = rw c.plain_len.ensures at c.split_at.ensures.back in
+    let front = rw c.plain_len.ensures at c.split_at.ensures.front in
+    let rest = escaped_end c.loop-out.rest.now c.split_at.result.1.now back c.in_default.len_below in
+    c.from_vec.ensures ∙ c.in_ok-extend_from_slice.ensures.items ∙ ap (λ t. c.loop-out.out.items ++ t) (front ∙ sym rest) ∙ c.loop-out.invariant
+
+pub loop-out-preserved : goal.loop-out-preserved
+loop-out-preserved c =
+    let back = rw c.plain_len.ensures at c.split_at.ensures.back in
+    let front = rw c.plain_len.ensures at c.split_at.ensures.front in
+    let rest = escaped_turn c.loop-out.rest.now c.split_at.result.1.now back c.in-len1-up.len_at_least in
+    two_added c.loop-out.out.items _ _ _ _ _ _ (c.in_ok-extend_from_slice.ensures.items ∙ ap (λ t. c.loop-out.out.items ++ t) front) (c.in_ok-extend_from_slice-2.ensures.items ∙ ap (λ t. c.extend_from_slice.new.self.items ++ t) c.digits_escape.ensures) (ap (λ t. c.loop-out.out.items ++ t) (sym rest) ∙ c.loop-out.invariant)

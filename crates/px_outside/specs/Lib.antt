@@ -1,0 +1,3 @@
+pub mod MemFiles
+pub mod MemSink
+pub mod Outside

@@ -1,0 +1,5 @@
+pub mod Keeps
+pub mod Grown
+pub mod Longer
+pub mod Trees
+pub mod Rows

@@ -1,0 +1,6 @@
+//! What a rule does: the evaluator's definition and its laws.
+#![tactic(auto)]
+
+mod laws;
+
+pub use laws::{acts_stay, host_holds_effects, more_replies_only_lengthen};

@@ -1,0 +1,5 @@
+pub mod Inserted
+pub mod LevelBytes
+pub mod Named
+pub mod Parens
+pub mod TakenOut

@@ -1,0 +1,170 @@
+// The variables of one level.
+
+ghost use Rattle.std.specs.Prelude.{◌≡◌, ◌≤◌, ℕ, List, ◌+◌, length, min, OnOk, OnErr};
+ghost use Rattle.std.specs.Option.{option_copied, option_map_or};
+ghost use Rattle.tcl_vars.specs.Scopes.{Level as LevelValue};
+ghost use Rattle.tcl_vars.specs.Scopes.{no_level, value_in, with_value_in, level_bytes};
+ghost use Rattle.tcl_vars.specs.Scopes.{is_set_in, without_value_in};
+ghost use Rattle.tcl_vars.specs.Tables.{IsInOrderAt, index_bytes, table_bytes};
+
+use crate::table::Table;
+use px_bytes::{M, Text};
+use std::alloc::Global;
+use std::marker::Model;
+
+/// The variables of one level, and how many bytes they have.
+#[derive(Drop)]
+pub(crate) struct Level {
+    plain: Table<Text>,
+    arrays: Table<Table<Text>>,
+    bytes: usize,
+}
+
+impl Model for Level {
+    ghost Value = { LevelValue };
+
+    ghost view = { λ l. record { plain = l.plain; arrays = l.arrays } };
+
+    ghost invariant = { λ l.
+        l.bytes ≡ level_bytes (record { plain = l.plain; arrays = l.arrays }) };
+}
+
+impl Level {
+    /// No variables, which takes no memory.
+    pub(crate) fn new(alloc: Global) -> Level
+        ensures { result ≡ no_level }
+    {
+        Level {
+            plain: Table::new(alloc),
+            arrays: Table::new(alloc),
+            bytes: 0,
+        }
+    }
+
+    /// The bytes of names, indexes and texts.
+    pub(crate) fn bytes(&self) -> usize
+        ensures { result ≡ level_bytes self.now }
+    {
+        self.bytes
+    }
+
+    /// The value of a variable or of an element.
+    pub(crate) fn get(&self, name: &[u8], index: Option<&[u8]>) -> Option<&Text>
+        ensures value { let i = option_copied index.entry in
+            option_copied result ≡ value_in self.now name.now i }
+        ensures in_order { IsInOrderAt self.now name.now (option_copied index.entry) }
+    {
+        match index {
+            None => self.plain.get(name),
+            Some(index) => self.arrays.get(name)?.get(index),
+        }
+    }
+
+    /// The bytes with a value of so many bytes, or `usize::MAX` where they would be more than that.
+    pub(crate) fn bytes_with(&self, name: &[u8], index: Option<&[u8]>, text_len: usize) -> usize
+        ensures { let i = option_copied index.entry in
+            (text : List ℕ) → length text ≡ text_len
+            → result ≡ min (level_bytes (with_value_in name.now i text self.now)) usize.MAX }
+    {
+        let without = match self.get(name, index) {
+            Some(old) => self.bytes - old.len(),
+            None => self
+                .bytes
+                .saturating_add(name.len())
+                .saturating_add(index_len(index)),
+        };
+        without.saturating_add(text_len)
+    }
+
+    /// Gives a variable or an element a value.
+    pub(crate) fn set(
+        &mut self,
+        alloc: Global,
+        name: &[u8],
+        index: Option<&[u8]>,
+        value: Text,
+    ) -> M<()>
+        requires { let i = option_copied index in
+            level_bytes (with_value_in name.now i value self.old) ≤ usize.MAX }
+        ensures ok { let i = option_copied index.entry in
+            OnOk result (self.new ≡ with_value_in name.now i value self.old) }
+        ensures err { OnErr result (self.new ≡ self.old) }
+    {
+        let bytes = self.bytes_with(name, index, value.len());
+        match index {
+            None => self.plain.put(alloc, name, value)?,
+            Some(index) => self.arrays.put_element(alloc, name, index, value)?,
+        }
+        self.bytes = bytes;
+        Ok(())
+    }
+
+    /// Takes a variable out, or an element: whether there was one.
+    pub(crate) fn unset(&mut self, name: &[u8], index: Option<&[u8]>) -> bool
+        ensures was_set { result ≡ is_set_in self.old name.now (option_copied index.entry) }
+        ensures left { self.new ≡ without_value_in name.now (option_copied index.entry) self.old }
+        ensures fewer { level_bytes self.new ≤ level_bytes self.old }
+    {
+        match index {
+            None => self.unset_name(name),
+            Some(index) => self.unset_element(name, index),
+        }
+    }
+
+    // Takes a name's plain value and elements out.
+    fn unset_name(&mut self, name: &[u8]) -> bool
+        ensures was_set { result ≡ is_set_in self.old name.now None }
+        ensures left { self.new ≡ without_value_in name.now None self.old }
+        ensures fewer { level_bytes self.new ≤ level_bytes self.old }
+    {
+        let plain = self.plain.remove(name);
+        let elements = self.arrays.remove(name);
+        self.bytes -= plain_bytes(name, &plain) + elements_bytes(name, &elements);
+        plain.is_some() || elements.is_some()
+    }
+
+    // Takes an element of a name out.
+    fn unset_element(&mut self, name: &[u8], index: &[u8]) -> bool
+        ensures was_set { result ≡ is_set_in self.old name.now (Some index.now) }
+        ensures left { self.new ≡ without_value_in name.now (Some index.now) self.old }
+        ensures fewer { level_bytes self.new ≤ level_bytes self.old }
+    {
+        let Some(old) = self.arrays.remove_element(name, index) else {
+            return false;
+        };
+        self.bytes -= name.len() + index.len() + old.len();
+        true
+    }
+}
+
+// The bytes of an index, and none where there is none.
+fn index_len(index: Option<&[u8]>) -> usize
+    ensures { result ≡ index_bytes (option_copied index.entry) }
+{
+    match index {
+        Some(index) => index.len(),
+        None => 0,
+    }
+}
+
+// The bytes of a name's plain value, and none where there is none.
+fn plain_bytes(name: &[u8], text: &Option<Text>) -> usize
+    requires { option_map_or (λ t. length name.now + length t) text.now 0 ≤ usize.MAX }
+    ensures { result ≡ option_map_or (λ t. length name.now + length t) text.now 0 }
+{
+    match text {
+        Some(text) => name.len() + text.len(),
+        None => 0,
+    }
+}
+
+// The bytes of a name's elements, and none where there are none.
+fn elements_bytes(name: &[u8], elements: &Option<Table<Text>>) -> usize
+    requires { option_map_or (table_bytes (length name.now)) elements.now 0 ≤ usize.MAX }
+    ensures { result ≡ option_map_or (table_bytes (length name.now)) elements.now 0 }
+{
+    match elements {
+        Some(elements) => elements.bytes(name.len()),
+        None => 0,
+    }
+}

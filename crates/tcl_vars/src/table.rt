@@ -1,0 +1,120 @@
+// A table of values by names.
+
+ghost use Rattle.std.specs.Prelude.{◌≡◌, ◌≤◌, ◌↔◌, ℕ, List, [], map, unwrap_or};
+ghost use Rattle.std.specs.Prelude.{IsTrue, OnOk, OnErr};
+ghost use Rattle.std.specs.Option.{option_copied};
+ghost use Rattle.std.specs.Ordering.{nat_cmp};
+ghost use Rattle.std.specs.Cmp.Lexicographic.{slice_cmp};
+ghost use Rattle.std.specs.BTreeMap.{IsOrdered};
+ghost use Rattle.tcl_vars.specs.Scopes.{find_in, put_in, take_out, with_elements};
+ghost use Rattle.tcl_vars.specs.Tables.{IsInOrder, table_bytes};
+
+use px_bytes::{M, Text};
+use std::alloc::Global;
+use std::collections::BTreeMap;
+use std::marker::Model;
+
+/// A finite map from names, seen as its entries in the order of the names' bytes.
+#[derive(Drop)]
+pub(crate) struct Table<X> {
+    tree: BTreeMap<Vec<u8>, X>,
+}
+
+impl<X> Model for Table<X> {
+    ghost Value = { List (List ℕ × X) };
+
+    ghost view = { λ t. map (λ e. (e.0.items, e.1)) t.tree.entries };
+
+    ghost invariant = { λ t. IsOrdered (λ x y. slice_cmp nat_cmp x.items y.items) t.tree };
+}
+
+impl<X: Drop> Table<X> {
+    /// No entries, which takes no memory.
+    pub(crate) fn new(alloc: Global) -> Table<X>
+        ensures { result ≡ [] }
+    {
+        Table {
+            tree: BTreeMap::new(alloc),
+        }
+    }
+
+    /// The value of a name.
+    pub(crate) fn get(&self, name: &[u8]) -> Option<&X>
+        ensures value { option_copied result ≡ find_in name.now self.now }
+        ensures in_order { IsInOrder self.now }
+    {
+        self.tree.get(name)
+    }
+
+    /// Gives a name a value.
+    pub(crate) fn put(&mut self, alloc: Global, name: &[u8], x: X) -> M<()>
+        ensures ok { OnOk result (self.new ≡ put_in name.now x self.old) }
+        ensures err { OnErr result (self.new ≡ self.old) }
+    {
+        if let Some(old) = self.tree.get_mut(name) {
+            *old = x;
+            return Ok(());
+        }
+        self.tree.insert(Vec::from_slice(alloc, name)?, x)?;
+        Ok(())
+    }
+
+    /// Takes a name's entry out.
+    pub(crate) fn remove(&mut self, name: &[u8]) -> Option<X>
+        ensures value { result ≡ find_in name.now self.old }
+        ensures left { self.new ≡ take_out name.now self.old }
+    {
+        self.tree.remove(name)
+    }
+
+    pub(crate) fn is_empty(&self) -> bool
+        ensures { IsTrue result ↔ (self.now ≡ []) }
+    {
+        self.tree.is_empty()
+    }
+}
+
+impl Table<Text> {
+    /// The bytes of names and texts, with so many more for each.
+    pub(crate) fn bytes(&self, more: usize) -> usize
+        requires { table_bytes more self.now ≤ usize.MAX }
+        ensures { result ≡ table_bytes more self.now }
+    {
+        let mut bytes = 0;
+        for (name, text) in &self.tree {
+            bytes += more + name.len() + text.len();
+        }
+        bytes
+    }
+}
+
+impl<X: Drop> Table<Table<X>> {
+    /// Gives an element of a name's table a value.
+    pub(crate) fn put_element(&mut self, alloc: Global, name: &[u8], index: &[u8], x: X) -> M<()>
+        ensures ok { let elements = unwrap_or (find_in name.now self.old) [] in
+            OnOk result (self.new ≡ put_in name.now (put_in index.now x elements) self.old) }
+        ensures err { OnErr result (self.new ≡ self.old) }
+    {
+        if let Some(elements) = self.tree.get_mut(name) {
+            return elements.put(alloc, index, x);
+        }
+        let mut elements = Table::new(alloc);
+        elements.put(alloc, index, x)?;
+        self.put(alloc, name, elements)
+    }
+
+    /// Takes an element of a name's table out, and the table with its last element.
+    pub(crate) fn remove_element(&mut self, name: &[u8], index: &[u8]) -> Option<X>
+        ensures value { let elements = unwrap_or (find_in name.now self.old) [] in
+            result ≡ find_in index.now elements }
+        ensures left { let elements = unwrap_or (find_in name.now self.old) [] in
+            self.new ≡ with_elements name.now (take_out index.now elements) self.old }
+    {
+        let elements = self.tree.get_mut(name)?;
+        let old = elements.remove(index);
+        if elements.is_empty() {
+            self.tree.remove(name);
+        }
+        old
+    }
+}

@@ -1,0 +1,163 @@
+// The variables of a script.
+
+ghost use Rattle.std.specs.Prelude.{◌≡◌, ◌+◌, ◌<◌, ◌≤◌, ℕ, List, ◌∷◌, length, min, reverse, sum_by};
+ghost use Rattle.std.specs.Prelude.{IfErr, OnOk, OnErr};
+ghost use Rattle.std.specs.Option.{option_copied};
+ghost use Rattle.px_bytes.specs.FaultText.{too_long};
+ghost use Rattle.tcl_vars.specs.Scopes.{Scopes, no_scopes, is_static, value_at, with_value};
+ghost use Rattle.tcl_vars.specs.Scopes.{is_set, without_value, in_proc, out_of_proc};
+ghost use Rattle.tcl_vars.specs.Scopes.{level_bytes, vars_bytes, vars_limit};
+ghost use Rattle.tcl_vars.specs.Faults.{IfFault};
+
+use crate::level::Level;
+use px_bytes::{M, Raise, TclFault, Text};
+use std::alloc::Global;
+use std::marker::Model;
+use std::mem;
+
+/// The most bytes that all variables may have together.
+const LIMIT: usize = 1_048_576;
+
+/// The variables of a script: the static ones, and a level for the body and for each procedure
+/// call that hasn't ended.
+#[derive(Drop)]
+pub struct Vars {
+    statics: Level,
+    innermost: Level,
+    // The levels outside the innermost, the body's first.
+    outer: Vec<Level>,
+    outer_bytes: usize,
+}
+
+impl Model for Vars {
+    ghost Value = { Scopes };
+
+    ghost view = { λ v.
+        record { statics = v.statics; levels = v.innermost ∷ reverse v.outer.items } };
+
+    ghost invariant = { λ v.
+        (v.outer_bytes ≡ sum_by level_bytes (reverse v.outer.items))
+        × (level_bytes v.statics + (level_bytes v.innermost + v.outer_bytes) ≤ vars_limit) };
+}
+
+impl Vars {
+    /// No variables, which takes no memory.
+    pub fn new(alloc: Global) -> Vars
+        ensures { result ≡ no_scopes }
+    {
+        Vars {
+            statics: Level::new(alloc),
+            innermost: Level::new(alloc),
+            outer: Vec::new(alloc),
+            outer_bytes: 0,
+        }
+    }
+
+    /// The bytes of all names, indexes and texts.
+    pub fn bytes(&self) -> usize
+        ensures bytes { result ≡ vars_bytes self.now }
+        ensures room { result ≤ vars_limit }
+    {
+        self.statics.bytes() + self.innermost.bytes() + self.outer_bytes
+    }
+
+    /// The value of a variable, or of an element.
+    pub fn get(&self, name: &[u8], index: Option<&[u8]>) -> Option<&Text>
+        ensures { option_copied result ≡ value_at self.now name.now (option_copied index.entry) }
+    {
+        if is_static(name) {
+            self.statics.get(name, index)
+        } else {
+            self.innermost.get(name, index)
+        }
+    }
+
+    /// Gives a variable or an element a value. That all variables would have more bytes than they
+    /// may is a fault.
+    pub fn set(&mut self, name: &[u8], index: Option<&[u8]>, value: Text) -> Result<(), Raise>
+        ensures ok { let i = option_copied index.entry in
+            OnOk result (self.new ≡ with_value name.now i value self.old) }
+        ensures room { OnOk result (vars_bytes self.new ≤ vars_limit) }
+        ensures err { OnErr result (self.new ≡ self.old) }
+
+        // A fault is `too_long`, and comes only where the variables would have too many bytes.
+        ensures fault { IfErr result (λ e. IfFault e (λ f. f ≡ too_long)) }
+        ensures over_limit { let i = option_copied index.entry in
+            let bytes = vars_bytes (with_value name.now i value self.old) in
+            IfErr result (λ e. IfFault e (λ _. vars_limit < bytes)) }
+    {
+        let alloc = *self.outer.allocator();
+        if self.bytes_with(name, index, value.len()) > LIMIT {
+            return Err(Raise::Fault(TclFault::too_long(alloc)?));
+        }
+        if is_static(name) {
+            self.statics.set(alloc, name, index, value)?;
+        } else {
+            self.innermost.set(alloc, name, index, value)?;
+        }
+        Ok(())
+    }
+
+    /// Takes a variable out, or an element, and a name with no index with all that it has: whether
+    /// there was one. It takes no memory.
+    pub fn unset(&mut self, name: &[u8], index: Option<&[u8]>) -> bool
+        ensures was_set { result ≡ is_set self.old name.now (option_copied index.entry) }
+        ensures left { self.new ≡ without_value name.now (option_copied index.entry) self.old }
+    {
+        if is_static(name) {
+            self.statics.unset(name, index)
+        } else {
+            self.innermost.unset(name, index)
+        }
+    }
+
+    /// Begins a procedure call, which has no variables yet.
+    pub fn enter_proc(&mut self) -> M<()>
+        ensures ok { OnOk result (self.new ≡ in_proc self.old) }
+        ensures err { OnErr result (self.new ≡ self.old) }
+    {
+        self.outer.reserve(1)?;
+        let fresh = Level::new(*self.outer.allocator());
+        let caller = mem::replace(&mut self.innermost, fresh);
+        self.outer_bytes += caller.bytes();
+        self.outer.push_reserved(caller);
+        Ok(())
+    }
+
+    /// Ends a procedure call, with its variables.
+    pub fn leave_proc(&mut self)
+        requires { 1 < length self.old.levels }
+        ensures { self.new ≡ out_of_proc self.old }
+    {
+        if let Some(caller) = self.outer.pop() {
+            self.outer_bytes -= caller.bytes();
+            self.innermost = caller;
+        }
+    }
+
+    // The bytes with a value of so many bytes, or `usize::MAX` where they would be more than that.
+    fn bytes_with(&self, name: &[u8], index: Option<&[u8]>, text_len: usize) -> usize
+        ensures { let i = option_copied index.entry in
+            (text : List ℕ) → length text ≡ text_len
+            → result ≡ min (vars_bytes (with_value name.now i text self.now)) usize.MAX }
+    {
+        if is_static(name) {
+            let others = self.innermost.bytes() + self.outer_bytes;
+            self.statics
+                .bytes_with(name, index, text_len)
+                .saturating_add(others)
+        } else {
+            let others = self.statics.bytes() + self.outer_bytes;
+            self.innermost
+                .bytes_with(name, index, text_len)
+                .saturating_add(others)
+        }
+    }
+}
+
+// Whether a name is one variable at every level.
+fn is_static(name: &[u8]) -> bool
+    ensures { result ≡ is_static name.now }
+{
+    name.starts_with(b"static::")
+}

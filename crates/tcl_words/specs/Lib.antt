@@ -1,0 +1,10 @@
+pub mod Bytes
+pub mod Command
+pub mod Fault
+pub mod Next
+pub mod Parts
+pub mod Run
+pub mod Small
+pub mod Tree
+pub mod View
+pub mod Word

@@ -1,0 +1,70 @@
+-- The tree that a value of the code stands for.
+use Rattle.std.specs.Prelude.{List, [], ◌∷◌}
+use Rattle.tcl_words.specs.Tree.{
+  Part,
+  plain,
+  variable,
+  element,
+  bracket,
+  Parts,
+  no_parts,
+  and_part,
+  Word,
+  word,
+  Words,
+  no_words,
+  and_word,
+  Command,
+  command,
+  Commands,
+  no_commands,
+  and_command,
+}
+use Rattle.tcl_words.specs.declared.script.Part.{fold-Part}
+use Rattle.tcl_words.specs.declared.script.Part as code
+use Rattle.tcl_words.specs.declared.script.Script.{Script, fold-Script}
+use Rattle.tcl_words.specs.declared.script.Command as code_command
+use Rattle.tcl_words.specs.declared.script.Command.{fold-Command}
+use Rattle.tcl_words.specs.declared.script.Word as code_word
+use Rattle.tcl_words.specs.declared.script.Word.{fold-Word}
+use Rattle.tcl_words.specs.declared.script.Part.TheOpen.{Part-F, Command-F, Script-F, Word-F}
+
+abbrev pub parts_of : List Part → Parts
+parts_of [] = no_parts
+parts_of (p ∷ ps) = and_part p (parts_of ps)
+
+abbrev pub words_of : List Word → Words
+words_of [] = no_words
+words_of (w ∷ ws) = and_word w (words_of ws)
+
+abbrev pub commands_of : List Command → Commands
+commands_of [] = no_commands
+commands_of (c ∷ cs) = and_command c (commands_of cs)
+
+-- one level, with all that is inside already seen
+abbrev pub part_step : Part-F Part Command Commands Word → Part
+part_step (Part-F.Plain s t) = plain s t
+part_step (Part-F.Variable s n) = variable s n
+part_step (Part-F.Element s n i) = element s n (parts_of i.items)
+part_step (Part-F.Bracket s inside) = bracket s inside
+
+abbrev pub word_step : Word-F Part Command Commands Word → Word
+word_step w = word w.span w.form w.inner w.raw (parts_of w.parts.items)
+
+abbrev pub command_step : Command-F Part Command Commands Word → Command
+command_step c = command c.span (words_of c.words.items)
+
+abbrev pub script_step : Script-F Part Command Commands Word → Commands
+script_step s = commands_of s.commands.items
+
+abbrev pub part_view : code.Part → Part
+part_view = fold-Part Part Command Commands Word part_step command_step script_step word_step
+
+abbrev pub word_view : code_word.Word → Word
+word_view = fold-Word Part Command Commands Word part_step command_step script_step word_step
+
+abbrev pub command_view : code_command.Command → Command
+command_view = fold-Command Part Command Commands Word part_step command_step script_step word_step
+
+abbrev pub script_view : Script → Commands
+script_view = fold-Script Part Command Commands Word part_step command_step script_step word_step
