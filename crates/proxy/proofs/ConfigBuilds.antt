@@ -5,7 +5,8 @@ use Rattle.toml.specs.Data.{Members}
 use Rattle.toml.specs.Parse.{parse_document}
 use Rattle.proxy_core.specs.declared.config.Config.{Config}
 use Rattle.proxy.specs.Config.{Builds, Loads}
-use Rattle.proxy.specs.Config.Document.{Texts, document_of, settings_reading}
+use Rattle.proxy.specs.Config.Document.{Texts, document_of}
+use Rattle.proxy.specs.Config.Reading.{settings_reading}
 use Rattle.proxy.specs.declared.config.fault.ConfigFault.{ConfigFault}
 use Rattle.proxy.proofs.ConfigDocument.{settings_found, same_texts}
 

@@ -8,7 +8,8 @@ use Rattle.std.proofs.lemmas.Option.{option_and_then_some}
 use Rattle.tcl_words.proofs.Cuts.{found_if}
 use Rattle.toml.specs.Data.{Data, string, integer, table, Members, no_members, member, as_str, as_integer}
 use Rattle.proxy.specs.Config.Table.{has_keys, only_text, only_table, integer_at, only_table_at}
-use Rattle.proxy.specs.Config.Document.{Texts, ServerTexts, RuleTexts, only, document_of, server_with, server_reading, rule_with, rule_reading, settings_with, is_one, settings_reading}
+use Rattle.proxy.specs.Config.Document.{Texts, only, document_of}
+use Rattle.proxy.specs.Config.Reading.{ServerTexts, RuleTexts, server_with, server_reading, rule_with, rule_reading, settings_with, is_one, settings_reading}
 use Rattle.proxy.proofs.ConfigTable.{same_bytes, bytes_same, first_key, no_keys, text_is, integer_is, only_text_is, only_table_is}
 
 -- the members of the virtual server and of the rule

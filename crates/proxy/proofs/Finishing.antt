@@ -1,5 +1,5 @@
 -- From what stands and the end of a report to what a replay comes to.
-use Rattle.std.proofs.Common.{◌≡◌, ℕ, ◌≤◌, ◌<◌, List, ◌++◌, Option, Some, None, Result, Ok, Err, IfOk, length, take, refl, sym, ap, ◌∙◌, arith, inl, inr, subst}
+use Rattle.std.proofs.Common.{◌≡◌, ℕ, ◌≤◌, List, ◌++◌, Option, Result, Ok, Err, IfOk, refl, ap, ◌∙◌, arith, inl, inr, subst}
 use Rattle.px_bytes.specs.declared.memory.Memory as want
 use Rattle.px_outside.specs.Outside.{told_more, Rose}
 use Rattle.proxy_core.specs.declared.config.Config as configured
@@ -8,7 +8,7 @@ use Rattle.proxy.specs.declared.end.End.TheVariants.{Done, Usage, Config, Schedu
 use Rattle.proxy.specs.declared.replay.Replay.{Replay}
 use Rattle.proxy.specs.End.{end_unless}
 use Rattle.proxy.specs.Replay.{past_text, conns_text, report_text}
-use Rattle.proxy.specs.Report.{end_text, text_fault, event_fault}
+use Rattle.proxy.specs.Report.{text_fault, event_fault}
 use Rattle.proxy_core.specs.declared.event.BadEvent.{BadEvent}
 use Rattle.proxy.specs.Written.{Stands, WritesFront, WritesFrontOf}
 use Rattle.proxy.specs.Replayed.{Reports, IsEndLine, IsFaultLine, Replayed, Finished, FinishFault}

@@ -2,7 +2,6 @@
 use Rattle.std.proofs.Common.{◌≡◌, ℕ, ◌+◌, ◌≤◌, ◌<◌, List, [], ◌∷◌, ◌++◌, Option, Some, None, Result, Ok, Err, IfErr, OnErr, IsErrAnd, length, take, refl, sym, ap, ◌∙◌, arith, append_assoc, zero-add, suc-add, drop, get_or, subst}
 use Rattle.std.proofs.Math.Seq.{drop-cons}
 use Rattle.std.proofs.lemmas.List.{append-nil, take-append-le}
-use Rattle.std.specs.Option.{option_map}
 use Rattle.px_outside.specs.Outside.{told_more, AddsPrefix}
 use Rattle.px_outside.specs.declared.failed.Failed.{Failed}
 use Rattle.px_outside.specs.declared.failed.Failed.TheVariants as failed
@@ -17,8 +16,8 @@ use Rattle.proxy.specs.declared.replay.Stop.{Stop}
 use Rattle.proxy.specs.declared.replay.Stop.TheVariants as stop
 use Rattle.proxy.specs.Taken.{took_of, with_took}
 use Rattle.proxy.specs.Report.{note_lines}
-use Rattle.proxy.specs.Replay.{Past, Happened, Runs, past_text, conn_text, conns_text, report_text}
-use Rattle.proxy.specs.Written.{Stands, WritesFront, WritesFrontOf, IsReport}
+use Rattle.proxy.specs.Replay.{Past, past_text, conn_text, conns_text, report_text}
+use Rattle.proxy.specs.Written.{Stands, WritesFront, WritesFrontOf}
 use Rattle.proxy.specs.Stops.{Stopped, stop_of}
 
 -- an error that is want of memory

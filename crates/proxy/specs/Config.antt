@@ -26,6 +26,7 @@ use Rattle.proxy.specs.Config.Document.{Texts, document_of}
 use Rattle.proxy.specs.Config.Rule.{RuleIs}
 pub mod Document
 pub mod Fault
+pub mod Reading
 pub mod Rule
 pub mod Table
 

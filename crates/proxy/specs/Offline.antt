@@ -36,11 +36,17 @@ Says text old new before now (Err WriteFault) = Rose before now × WritesFrontOf
 Says text old new before now (Err Memory) = (new ≡ old) ⊎ WritesFrontOf text old new
 Says text old new before now (Err end) = ⊥
 
--- the text that is due for files that are read: the configuration's fault, or a report of a
--- configuration that loads
+-- the configuration was read, and doesn't load
+pub record IsRefused (told : List ℕ → Option (List ℕ)) (named : Named) : Type 0 where
+  pub bytes : List ℕ
+  pub contents : IsContents told named.config bytes
+  pub refused : (C : configured.Config) → Loads bytes C → ⊥
+
+-- the text that is due for files that are read: the fault of a configuration that doesn't load, or
+-- a report of one that does
 abbrev pub IsDue : (List ℕ → Option (List ℕ)) → Named → List ℕ → Type 0
 IsDue told named text =
-    (text ≡ config_fault 9 (codes "config"))
+    (IsRefused told named × (text ≡ config_fault 9 (codes "config")))
     ⊎ ((bytes : List ℕ) × (C : configured.Config) × IsContents told named.config bytes
     × Loads bytes C × IsReport C text)
 
@@ -59,14 +65,6 @@ pub record Replays (told : List ℕ → Option (List ℕ)) (named : Named) (old 
   pub schedule_contents : IsContents told named.schedule schedule
   pub replayed : Replayed C old new before now end
 
--- the configuration was read, and doesn't load
-pub record Refuses (told : List ℕ → Option (List ℕ)) (named : Named)
-    (old new : Option (List ℕ)) : Type 0 where
-  pub bytes : List ℕ
-  pub contents : IsContents told named.config bytes
-  pub refused : (C : configured.Config) → Loads bytes C → ⊥
-  pub written : new ≡ told_more old (config_fault 9 (codes "config"))
-
 -- `replay CONFIG SCHEDULE`, by its end
 abbrev pub ReplaysFiles : Named → (List ℕ → Option (List ℕ)) → Option (List ℕ) → Option (List ℕ) → ℕ
     → ℕ → ℕ → ℕ → End → Type 0
@@ -74,7 +72,7 @@ ReplaysFiles named told old new reads_before reads_now before now Done =
     Replays told named old new before now Done
 ReplaysFiles named told old new reads_before reads_now before now Usage = ⊥
 ReplaysFiles named told old new reads_before reads_now before now Config =
-    Refuses told named old new
+    IsRefused told named × (new ≡ told_more old (config_fault 9 (codes "config")))
 ReplaysFiles named told old new reads_before reads_now before now Schedule =
     Replays told named old new before now Schedule
 ReplaysFiles named told old new reads_before reads_now before now ReadFault =

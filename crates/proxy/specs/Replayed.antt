@@ -1,5 +1,5 @@
 -- What a replay comes to.
-use Rattle.std.specs.Prelude.{◌≡◌, ◌⊎◌, ℕ, List, ◌++◌, length, Option, Some, None, Result, Ok, Err}
+use Rattle.std.specs.Prelude.{◌≡◌, ◌⊎◌, ℕ, List, ◌++◌, length, Option, Result, Ok, Err}
 use Rattle.px_bytes.specs.declared.memory.Memory as want
 use Rattle.px_outside.specs.Outside.{told_more, Rose}
 use Rattle.proxy_core.specs.declared.config.Config as configured

@@ -2,9 +2,8 @@
 
 ghost use Rattle.std.specs.Prelude.{◌≡◌, ◌↔◌, IsTrue, IfOk, Err};
 ghost use Rattle.std.specs.List.{AllPass};
-ghost use Rattle.tcl_expr.specs.declared.tree.Tree.{Tree as RuleTree};
 ghost use Rattle.proxy.specs.Config.{is_name_byte, IsName, config_of, Builds, Loads};
-ghost use Rattle.proxy.specs.Config.Document.{seen};
+ghost use Rattle.proxy.specs.Config.Reading.{seen};
 
 mod document;
 mod fault;

@@ -52,7 +52,8 @@ fn run_body(
     host: &mut Responder,
 ) -> M<Option<TclFault>>
     ensures { IfOk result (λ fault. BodyRuns
-        (evaluate (rule_setting statics.now.statics) rule.now.body vars.old host.old [] budget) fault vars.new host.new) }
+        (evaluate (rule_setting statics.now.statics) rule.now.body vars.old host.old [] budget)
+        fault vars.new host.new) }
 {
     let replies = Replies::new(alloc);
     match eval_plain(

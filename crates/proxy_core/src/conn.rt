@@ -27,7 +27,8 @@ impl Live {
         requires { 4 ≤ notes.old.spare }
         ensures number { self.new.number ≡ self.old.number }
         ensures runs { (group : List Note) × (notes.new.items ≡ notes.old.items ++ group)
-            × LiveRuns statics.now.statics config.now self.old.number self.old.conn self.new.conn group result }
+            × LiveRuns statics.now.statics config.now self.old.number self.old.conn self.new.conn
+            group result }
     {
         match &mut self.conn {
             Some(conn) => conn.run(alloc, self.number, config, statics, notes),

@@ -33,7 +33,8 @@ pub struct RoomySeq<T> {
 impl<T> Model for RoomySeq<T> {
     ghost Value = { Roomy T };
 
-    ghost view = { λ s. record { items = s.items.items; spare = vec_capacity s.items - vec_len s.items } };
+    ghost view = { λ s.
+        record { items = s.items.items; spare = vec_capacity s.items - vec_len s.items } };
 }
 
 impl<T: Drop> RoomySeq<T> {

@@ -20,7 +20,8 @@ pub struct MemFiles {
 impl Model for MemFiles {
     ghost Value = { FilesInMemory };
 
-    ghost view = { λ m. record { files = m.files; fails = m.fails; calls = m.calls; faults = m.faults } };
+    ghost view = { λ m.
+        record { files = m.files; fails = m.fails; calls = m.calls; faults = m.faults } };
 }
 
 impl MemFiles {

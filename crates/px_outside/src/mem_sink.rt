@@ -20,7 +20,8 @@ pub struct MemSink {
 impl Model for MemSink {
     ghost Value = { SinkInMemory };
 
-    ghost view = { λ m. record { written = m.written; fails = m.fails; calls = m.calls; faults = m.faults } };
+    ghost view = { λ m.
+        record { written = m.written; fails = m.fails; calls = m.calls; faults = m.faults } };
 }
 
 impl MemSink {

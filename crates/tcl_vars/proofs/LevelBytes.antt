@@ -6,7 +6,7 @@ use Rattle.std.specs.List.Sorted.{IsStrictlySortedBy}
 use Rattle.std.proofs.lemmas.Cmp.{nat_list_cmp_total}
 use Rattle.std.proofs.lemmas.Map.Lookups.{exact_bytes}
 use Rattle.tcl_vars.specs.Scopes.{Table, Level, find_in, put_in, elements, value_in, with_value_in, level_bytes, take_out, with_elements, without_value_in}
-use Rattle.tcl_vars.specs.Tables.{IsInOrder, IsInOrderAt, index_bytes, table_bytes}
+use Rattle.tcl_vars.specs.Tables.{IsInOrder, IsInOrderAt, index_bytes}
 use Rattle.tcl_vars.proofs.Inserted.{sum_by-insert}
 use Rattle.tcl_vars.proofs.Named.{lookup-at}
 use Rattle.tcl_vars.proofs.TakenOut.{sum_by-take_out, sum_by-replace_in}
@@ -104,11 +104,14 @@ bytes-without_element level name index old there =
     let e = elements_bytes-without (λ n e. length n + length e.0 + length e.1) name index level.arrays in
     omega (arith, rw (← there) at e)
 
-pub bytes-without_name : (level : Level) (name : List ℕ)
-    → level_bytes (without_value_in name None level)
-    + (option_map_or (λ t. length name + length t) (find_in name level.plain) 0 + option_map_or (table_bytes (length name)) (find_in name level.arrays) 0)
-    ≡ level_bytes level
-bytes-without_name level name =
+pub bytes-without_no_plain : (level : Level) (name : List ℕ) → None ≡ find_in name level.plain
+    → level_bytes (without_value_in name None level) ≡ level_bytes level
+bytes-without_no_plain level name none =
     let p = sum_by-take_out name (λ (e : List ℕ × List ℕ). length e.0 + length e.1) level.plain in
-    let a = sum_by-take_out name (λ (a : List ℕ × Table (List ℕ)). table_bytes (length a.0) a.1) level.arrays in
-    omega arith
+    omega (arith, rw (← none) at p)
+
+pub bytes-without_plain : (level : Level) (name old : List ℕ) → Some old ≡ find_in name level.plain
+    → level_bytes (without_value_in name None level) + (length name + length old) ≡ level_bytes level
+bytes-without_plain level name old there =
+    let p = sum_by-take_out name (λ (e : List ℕ × List ℕ). length e.0 + length e.1) level.plain in
+    omega (arith, rw (← there) at p)

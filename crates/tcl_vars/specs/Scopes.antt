@@ -1,26 +1,7 @@
 -- The variables that a script sees: static ones, and a level for the body and for each procedure
 -- call that hasn't ended (Tcl 8.4, proc(n): a procedure's variables are its own; array(n): an array
 -- has elements; iRules: `static::` variables).
-use Rattle.std.specs.Prelude.{
-  ℕ,
-  ◌||◌,
-  is_some,
-  drop,
-  ◌+◌,
-  List,
-  [],
-  ◌∷◌,
-  length,
-  Bool,
-  Option,
-  Some,
-  None,
-  codes,
-  nat_eq,
-  if◌then◌else◌,
-  sum_by,
-  unwrap_or,
-}
+use Rattle.std.specs.Prelude.{ℕ, is_some, drop, ◌+◌, List, [], ◌∷◌, length, Bool, Option, Some, None, codes, nat_eq, if◌then◌else◌, sum_by, unwrap_or}
 use Rattle.std.specs.List.{starts_with}
 use Rattle.std.specs.Str.{bytes_eq}
 use Rattle.std.specs.Ordering.{nat_cmp}
@@ -67,8 +48,7 @@ with_value_in name (Some index) text level =
 
 -- whether there is something to unset
 abbrev pub is_set_in : Level → List ℕ → Option (List ℕ) → Bool
-is_set_in level name None =
-    is_some (find_in name level.plain) || is_some (find_in name level.arrays)
+is_set_in level name None = is_some (find_in name level.plain)
 is_set_in level name (Some index) = is_some (find_in index (elements name level))
 
 -- the arrays with these elements of a name: an array with no element isn't there
@@ -76,11 +56,10 @@ abbrev pub with_elements : {X : Type 0} → List ℕ → Table X → Table (Tabl
 with_elements name [] arrays = take_out name arrays
 with_elements name (e ∷ es) arrays = replace_in name (e ∷ es) arrays
 
--- what `unset` leaves (unset(n)): a name with no index stands for its plain value and all its
--- elements
+-- what `unset` leaves (unset(n)); in this profile a name with no index stands for its plain value
+-- alone
 abbrev pub without_value_in : List ℕ → Option (List ℕ) → Level → Level
-without_value_in name None level =
-    record level { plain = take_out name level.plain; arrays = take_out name level.arrays }
+without_value_in name None level = record level { plain = take_out name level.plain }
 without_value_in name (Some index) level =
     record level { arrays = with_elements name (take_out index (elements name level)) level.arrays }
 

@@ -1,5 +1,5 @@
 -- Tables whose names stand in order, and the bytes of an index.
-use Rattle.std.specs.Prelude.{ℕ, ◌+◌, sum_by, List, length, Option, Some, None}
+use Rattle.std.specs.Prelude.{ℕ, List, length, Option, Some, None}
 use Rattle.std.specs.List.Sorted.{IsStrictlySortedBy}
 use Rattle.std.specs.Ordering.{nat_cmp}
 use Rattle.std.specs.Cmp.Lexicographic.{slice_cmp}
@@ -19,7 +19,3 @@ IsInOrderAt level name (Some index) = IsInOrder level.arrays × IsInOrder (eleme
 abbrev pub index_bytes : Option (List ℕ) → ℕ
 index_bytes None = 0
 index_bytes (Some index) = length index
-
--- the bytes of a table's names and texts, with so many more for each
-abbrev pub table_bytes : ℕ → Table (List ℕ) → ℕ
-table_bytes more table = sum_by (λ e. more + length e.0 + length e.1) table

@@ -1,11 +1,11 @@
 // The variables of one level.
 
 ghost use Rattle.std.specs.Prelude.{◌≡◌, ◌≤◌, ℕ, List, ◌+◌, length, min, OnOk, OnErr};
-ghost use Rattle.std.specs.Option.{option_copied, option_map_or};
+ghost use Rattle.std.specs.Option.{option_copied};
 ghost use Rattle.tcl_vars.specs.Scopes.{Level as LevelValue};
 ghost use Rattle.tcl_vars.specs.Scopes.{no_level, value_in, with_value_in, level_bytes};
 ghost use Rattle.tcl_vars.specs.Scopes.{is_set_in, without_value_in};
-ghost use Rattle.tcl_vars.specs.Tables.{IsInOrderAt, index_bytes, table_bytes};
+ghost use Rattle.tcl_vars.specs.Tables.{IsInOrderAt, index_bytes};
 
 use crate::table::Table;
 use px_bytes::{M, Text};
@@ -111,16 +111,17 @@ impl Level {
         }
     }
 
-    // Takes a name's plain value and elements out.
+    // Takes a name's plain value out.
     fn unset_name(&mut self, name: &[u8]) -> bool
         ensures was_set { result ≡ is_set_in self.old name.now None }
         ensures left { self.new ≡ without_value_in name.now None self.old }
         ensures fewer { level_bytes self.new ≤ level_bytes self.old }
     {
-        let plain = self.plain.remove(name);
-        let elements = self.arrays.remove(name);
-        self.bytes -= plain_bytes(name, &plain) + elements_bytes(name, &elements);
-        plain.is_some() || elements.is_some()
+        let Some(old) = self.plain.remove(name) else {
+            return false;
+        };
+        self.bytes -= name.len() + old.len();
+        true
     }
 
     // Takes an element of a name out.
@@ -143,28 +144,6 @@ fn index_len(index: Option<&[u8]>) -> usize
 {
     match index {
         Some(index) => index.len(),
-        None => 0,
-    }
-}
-
-// The bytes of a name's plain value, and none where there is none.
-fn plain_bytes(name: &[u8], text: &Option<Text>) -> usize
-    requires { option_map_or (λ t. length name.now + length t) text.now 0 ≤ usize.MAX }
-    ensures { result ≡ option_map_or (λ t. length name.now + length t) text.now 0 }
-{
-    match text {
-        Some(text) => name.len() + text.len(),
-        None => 0,
-    }
-}
-
-// The bytes of a name's elements, and none where there are none.
-fn elements_bytes(name: &[u8], elements: &Option<Table<Text>>) -> usize
-    requires { option_map_or (table_bytes (length name.now)) elements.now 0 ≤ usize.MAX }
-    ensures { result ≡ option_map_or (table_bytes (length name.now)) elements.now 0 }
-{
-    match elements {
-        Some(elements) => elements.bytes(name.len()),
         None => 0,
     }
 }

@@ -7,9 +7,9 @@ ghost use Rattle.std.specs.Ordering.{nat_cmp};
 ghost use Rattle.std.specs.Cmp.Lexicographic.{slice_cmp};
 ghost use Rattle.std.specs.BTreeMap.{IsOrdered};
 ghost use Rattle.tcl_vars.specs.Scopes.{find_in, put_in, take_out, with_elements};
-ghost use Rattle.tcl_vars.specs.Tables.{IsInOrder, table_bytes};
+ghost use Rattle.tcl_vars.specs.Tables.{IsInOrder};
 
-use px_bytes::{M, Text};
+use px_bytes::M;
 use std::alloc::Global;
 use std::collections::BTreeMap;
 use std::marker::Model;
@@ -71,20 +71,6 @@ impl<X: Drop> Table<X> {
         ensures { IsTrue result ↔ (self.now ≡ []) }
     {
         self.tree.is_empty()
-    }
-}
-
-impl Table<Text> {
-    /// The bytes of names and texts, with so many more for each.
-    pub(crate) fn bytes(&self, more: usize) -> usize
-        requires { table_bytes more self.now ≤ usize.MAX }
-        ensures { result ≡ table_bytes more self.now }
-    {
-        let mut bytes = 0;
-        for (name, text) in &self.tree {
-            bytes += more + name.len() + text.len();
-        }
-        bytes
     }
 }
 

@@ -2,14 +2,8 @@
 
 ghost use Rattle.std.specs.Prelude.{◌≡◌, option_map};
 ghost use Rattle.toml.specs.View.{table_view};
-ghost use Rattle.proxy.specs.Config.Document.{
-  seen,
-  seen_server,
-  seen_rule,
-  server_reading,
-  rule_reading,
-  settings_reading,
-};
+ghost use Rattle.proxy.specs.Config.Reading.{seen, seen_server, seen_rule};
+ghost use Rattle.proxy.specs.Config.Reading.{server_reading, rule_reading, settings_reading};
 
 use crate::config::table::{has_keys, integer_at, only_table_at, only_text_at, text_at};
 use toml::Table;

@@ -1,5 +1,5 @@
 use Rattle.toml.specs.View.{table_view}
-use Rattle.proxy.specs.Config.Document.{seen}
+use Rattle.proxy.specs.Config.Reading.{seen}
 use Rattle.proxy.proofs.ConfigBuilds.{loads, not_loaded}
 use Rattle.proxy.proofs.config.read_config.Goals as goal
 

@@ -1,4 +1,4 @@
-use Rattle.std.proofs.Common.{◌≡◌, ◌∙◌, refl, ap, Err}
+use Rattle.std.proofs.Common.{◌∙◌, ap, Err}
 use Rattle.proxy.proofs.Refusing.{refused_end}
 use Rattle.proxy.proofs.offline.replay_files.Goals as goal
 

@@ -1,4 +1,4 @@
-use Rattle.std.proofs.Common.{◌≡◌, ◌∙◌, sym, ap, inl, inr, refl}
+use Rattle.std.proofs.Common.{inr, refl}
 use Rattle.proxy.proofs.Finishing.{done_replayed, schedule_replayed, text_last, event_last}
 use Rattle.proxy.proofs.run_schedule.replay.Goals as goal
 

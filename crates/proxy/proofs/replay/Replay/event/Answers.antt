@@ -1,4 +1,4 @@
-use Rattle.std.proofs.Common.{◌≡◌, ◌∙◌, sym, ap, refl}
+use Rattle.std.proofs.Common.{◌∙◌, ap, refl}
 use Rattle.proxy.specs.Report.{note_lines}
 use Rattle.proxy.specs.Taken.{took_of, with_took}
 use Rattle.proxy.specs.Written.{Stands}

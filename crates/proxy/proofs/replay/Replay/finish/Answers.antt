@@ -1,5 +1,4 @@
-use Rattle.std.proofs.Common.{◌≡◌, ◌∙◌, sym, ap, arith, ℕ, List}
-use Rattle.proxy.specs.Replay.{conn_text}
+use Rattle.std.proofs.Common.{◌∙◌, arith}
 use Rattle.proxy.proofs.Stopping.{conns_next, conns_front, conns_part, on_err}
 use Rattle.proxy.proofs.replay.Replay.finish.Goals as goal
 

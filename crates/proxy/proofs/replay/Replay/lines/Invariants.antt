@@ -1,4 +1,4 @@
-use Rattle.std.proofs.Common.{◌≡◌, ◌≤◌, ◌+◌, ◌-◌, ℕ, List, Option, length}
+use Rattle.std.proofs.Common.{◌≤◌, ◌-◌, ℕ, List, Option, length}
 use Rattle.proxy_core.specs.declared.config.Config.{Config}
 use Rattle.proxy.specs.Written.{Stands}
 use Rattle.proxy.proofs.replay.Replay.lines.Given as goal
