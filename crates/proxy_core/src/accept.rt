@@ -16,7 +16,7 @@ use std::alloc::Global;
 
 impl Core {
     /// Accepts a connection, which gets the number and goes to the back of the ring.
-    pub fn accept(
+    pub(crate) fn accept(
         &mut self,
         number: u32,
         vs: &[u8],

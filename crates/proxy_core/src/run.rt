@@ -11,7 +11,7 @@ use crate::took::find;
 
 impl Core {
     /// Takes the front of the ring and runs its connection. On an empty ring nothing happens.
-    pub fn run(&mut self, notes: &mut Notes)
+    pub(crate) fn run(&mut self, notes: &mut Notes)
         requires { 68 ≤ notes.old.spare }
         ensures { (group : List Note) × (notes.new.items ≡ notes.old.items ++ group)
             × RunsRing self.old self.new self.old.ring.items group }

@@ -27,7 +27,7 @@ use crate::ring::{make_ready, unlink};
 
 impl Core {
     /// The client took the first `n` bytes that were pending to it.
-    pub fn took(&mut self, number: u32, n: usize, notes: &mut Notes) -> Result<(), BadEvent>
+    pub(crate) fn took(&mut self, number: u32, n: usize, notes: &mut Notes) -> Result<(), BadEvent>
         requires { 68 ≤ notes.old.spare }
         ensures accepted { OnOk result
             (took_refusal_at (live_at self.old.live.items number) n ≡ None) }
