@@ -12,7 +12,7 @@ use Rattle.px_bytes.specs.Decimal.{BeginsPlainly}
 pub own : IsNumeralModel (AllDigits 10) (digits_value 10)
 own = numerals_by_value (AllDigits 10) tells_digits
 
-begins_plainly : (n : ℕ) → n < 2 ^ 64 → BeginsPlainly (decimal n)
+pub begins_plainly : (n : ℕ) → n < 2 ^ 64 → BeginsPlainly (decimal n)
 begins_plainly zero fits = inl (decimal_digit 0 (omega arith))
 begins_plainly (suc n) fits =
     let first = first_decimal (suc n) (omega arith) fits in
@@ -29,7 +29,7 @@ no_plus : (text : List ℕ) → BeginsPlainly text → get_or text 0 0 ≢ 43
 no_plus text (inl zero_alone) plus = let first = ap (λ t. get_or t 0 0) zero_alone in omega arith
 no_plus text (inr digit) plus = omega arith
 
-lone_zero : (text : List ℕ) → BeginsPlainly text → get_or text 0 0 ≡ 48 → length text ≡ 1
+pub lone_zero : (text : List ℕ) → BeginsPlainly text → get_or text 0 0 ≡ 48 → length text ≡ 1
 lone_zero text (inl zero_alone) first = ap length zero_alone
 lone_zero text (inr digit) first = absurd (omega arith)
 

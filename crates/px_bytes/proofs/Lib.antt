@@ -1,5 +1,11 @@
 pub mod Addresses
 pub mod Decimals
 pub mod Examples
+pub mod Globs
+pub mod HexReads
+pub mod Lowered
+pub mod Nets
 pub mod PlainRuns
 pub mod Positions
+pub mod Rows
+pub mod Wholes
