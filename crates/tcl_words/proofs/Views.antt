@@ -5,7 +5,7 @@ use Rattle.tcl_words.specs.Next.{command_end}
 use Rattle.tcl_words.specs.Tree.{plain, variable, element, bracket, word, command}
 use Rattle.tcl_words.specs.View.{script_view, command_view, word_view, part_view, commands_of, words_of, parts_of}
 use Rattle.tcl_words.specs.declared.script.Command as code_command
-use Rattle.tcl_words.specs.declared.script.Command.{out-Command}
+use Rattle.tcl_words.specs.declared.script.Command.{out-Command, roll-Command}
 use Rattle.tcl_words.specs.declared.script.Part as code
 use Rattle.tcl_words.specs.declared.script.Part.{Plain, Variable, Element, Bracket, the_lemmas}
 use Rattle.tcl_words.specs.declared.script.Script.{Script, out-Script, roll-Script}
@@ -40,3 +40,6 @@ view-Element s name index = search (rules, the_lemmas)
 
 pub view-Bracket : (s : Span) (inside : Script) → part_view (Bracket s inside) ≡ bracket s (script_view inside)
 view-Bracket s inside = search (rules, the_lemmas)
+
+pub view-Command : (s : Span) (words : Vec code_word.Word Global) → command_view (roll-Command (record { span = s; words = words })) ≡ command s (words_of (map word_view words.items))
+view-Command s words = search (rules, the_lemmas)

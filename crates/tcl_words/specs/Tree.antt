@@ -3,6 +3,10 @@ use Rattle.std.specs.Prelude.{ℕ, List, Option}
 use Rattle.tcl_words.specs.declared.script.Form.{Form}
 use Rattle.tcl_words.specs.declared.script.Span.{Span}
 
+-- the bytes from one place up to, and not with, another
+abbrev pub from_to : ℕ → ℕ → Span
+from_to start end = record { start = start; end = end }
+
 mutual
   -- a piece of a word
   pub data Part : Type 0 where

@@ -1,5 +1,5 @@
 -- The tree that a value of the code stands for.
-use Rattle.std.specs.Prelude.{List, [], ◌∷◌}
+use Rattle.std.specs.Prelude.{List, [], ◌∷◌, map}
 use Rattle.tcl_words.specs.Tree.{
   Part,
   plain,
@@ -68,3 +68,9 @@ command_view = fold-Command Part Command Commands Word part_step command_step sc
 
 abbrev pub script_view : Script → Commands
 script_view = fold-Script Part Command Commands Word part_step command_step script_step word_step
+
+abbrev pub parts_view : List code.Part → Parts
+parts_view ps = parts_of (map part_view ps)
+
+abbrev pub words_view : List code_word.Word → Words
+words_view ws = words_of (map word_view ws)

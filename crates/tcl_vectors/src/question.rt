@@ -1,0 +1,40 @@
+// Questions as they stand in a line.
+
+use hex::FromHexError;
+use px_bytes::{M, Memory, Text, Texts};
+use std::alloc::Global;
+
+/// A call and the texts that it is given.
+#[derive(Drop)]
+pub struct Question<'a> {
+    pub call: &'a str,
+    pub texts: Texts,
+}
+
+/// The question in the line: the call's name and a word for each text, separated by one blank.
+pub fn read_question(alloc: Global, line: &str) -> M<Option<Question<'_>>> {
+    let mut words = line.split(' ');
+    let Some(call) = words.next() else {
+        return Ok(None);
+    };
+    let mut texts = Texts::new(alloc);
+    for word in words {
+        let Some(text) = read_text(alloc, word)? else {
+            return Ok(None);
+        };
+        texts.push(text)?;
+    }
+    Ok(Some(Question { call, texts }))
+}
+
+// The text that a word writes: two hexadecimal digits a byte, and `-` for the empty one.
+fn read_text(alloc: Global, word: &str) -> M<Option<Text>> {
+    if word == "-" {
+        return Ok(Some(Text::empty(alloc)));
+    }
+    match hex::decode(alloc, word) {
+        Ok(bytes) => Ok(Some(Text::from_vec(bytes))),
+        Err(FromHexError::OutOfMemory) => Err(Memory),
+        Err(_) => Ok(None),
+    }
+}
