@@ -1,11 +1,13 @@
 -- What an evaluation leaves of the state before it, and what is seen of the host's state after it.
 use Rattle.std.proofs.Common.{◌≡◌, refl, sym, ap, ◌∙◌, ℕ, ◌+◌, ◌-◌, ◌≤◌, List, [], ◌∷◌, ◌++◌, map, append_assoc, arith}
 use Rattle.std.proofs.lemmas.List.{append-nil}
+use Rattle.std.proofs.lemmas.Grind.{flat_map-append}
+use Rattle.std.specs.List.{flat_map}
 use Rattle.px_bytes.specs.declared.fault.Reply.{Reply}
 use Rattle.px_bytes.specs.declared.fault.Reply.TheVariants as reply
-use Rattle.rule_model.specs.Host.{Effect, HostStep, Gives, Faults, Asks}
+use Rattle.rule_model.specs.Host.{HostStep, Gives, Faults, Asks}
 use Rattle.rule_model.specs.Evaluator.{Act, Did, Called, State, paid, ask_in, answered}
-use Rattle.rule_model.specs.Laws.{state_after, Grows, effects_among, StepAdds, TableAdds, AddsEffects}
+use Rattle.rule_model.specs.Laws.{state_after, Grows, StepShows, TableShows, ShowsActs}
 use Rattle.rule_model.proofs.Keeps.{Steps}
 
 -- nothing was done and nothing taken
@@ -42,47 +44,41 @@ grows table = record {
   answers = λ a words path. answers (table a.host words) path a;
 }
 
--- effects
-effects-append : (a b : List Act) → effects_among (a ++ b) ≡ effects_among a ++ effects_among b
-effects-append [] b = refl
-effects-append (Did e ∷ a) b = ap (λ x. e ∷ x) (effects-append a b)
-effects-append (Called path call ∷ a) b = effects-append a b
-
-effects-did : (effects : List Effect) → effects_among (map Did effects) ≡ effects
-effects-did [] = refl
-effects-did (e ∷ effects) = ap (λ x. e ∷ x) (effects-did effects)
-
-same_host : {H : Type 0} (seen : H → List Effect) (a b : State H) → b.acts ≡ a.acts → b.host ≡ a.host → AddsEffects seen a b
-same_host seen a b acts host = record {
+-- what is shown of the acts
+same_host : {H M : Type 0} (of : Act → List M) (shown : H → List M) (a b : State H) → b.acts ≡ a.acts → b.host ≡ a.host → ShowsActs of shown a b
+same_host of shown a b acts host = record {
   new = [];
   acts = acts ∙ sym (append-nil a.acts);
-  effects = ap seen host ∙ sym (append-nil (seen a.host));
+  grown = ap shown host ∙ sym (append-nil (shown a.host));
 }
 
-adds_joined : {H : Type 0} (seen : H → List Effect) (a b c : State H) → AddsEffects seen a b → AddsEffects seen b c → AddsEffects seen a c
-adds_joined seen a b c p q = record {
+shows_joined : {H M : Type 0} (of : Act → List M) (shown : H → List M) (a b c : State H) → ShowsActs of shown a b → ShowsActs of shown b c → ShowsActs of shown a c
+shows_joined of shown a b c p q = record {
   new = p.new ++ q.new;
   acts = q.acts ∙ ap (λ x. x ++ q.new) p.acts ∙ append_assoc a.acts p.new q.new;
-  effects = q.effects ∙ ap (λ x. x ++ effects_among q.new) p.effects ∙ append_assoc (seen a.host) (effects_among p.new) (effects_among q.new) ∙ ap (λ x. seen a.host ++ x) (sym (effects-append p.new q.new));
+  grown = q.grown ∙ ap (λ x. x ++ flat_map of q.new) p.grown ∙ append_assoc (shown a.host) (flat_map of p.new) (flat_map of q.new) ∙ ap (λ x. shown a.host ++ x) (sym (flat_map-append of p.new q.new));
 }
 
-adds_asked : {H : Type 0} (seen : H → List Effect) (left : List Reply) (call : List (List ℕ)) (path : List ℕ) (h : H) (a : State H) → seen h ≡ seen a.host
-    → AddsEffects seen a (state_after (ask_in left call path (record a { host = h })))
-adds_asked seen [] call path h a is = record { new = Called path call ∷ []; acts = refl; effects = is ∙ sym (append-nil (seen a.host)) }
-adds_asked seen (reply.Ok v ∷ more) call path h a is = record { new = Called path call ∷ []; acts = refl; effects = is ∙ sym (append-nil (seen a.host)) }
-adds_asked seen (reply.Fault f ∷ more) call path h a is = record { new = Called path call ∷ []; acts = refl; effects = is ∙ sym (append-nil (seen a.host)) }
+shows_one : {M : Type 0} (of : Act → List M) (act : Act) → flat_map of (act ∷ []) ≡ of act
+shows_one of act = append-nil (of act)
 
-adds_answers : {H : Type 0} (seen : H → List Effect) (step : HostStep H) (path : List ℕ) (a : State H) → StepAdds seen a.host step → AddsEffects seen a (state_after (answered step path a))
-adds_answers seen (Gives v h effects) path a is = record { new = map Did effects; acts = refl; effects = is ∙ ap (λ x. seen a.host ++ x) (sym (effects-did effects)) }
-adds_answers seen (Faults f h effects) path a is = record { new = map Did effects; acts = refl; effects = is ∙ ap (λ x. seen a.host ++ x) (sym (effects-did effects)) }
-adds_answers seen (Asks call h) path a is = adds_asked seen a.replies call path h a is
+shows_asked : {H M : Type 0} (of : Act → List M) (shown : H → List M) (left : List Reply) (call : List (List ℕ)) (path : List ℕ) (h : H) (a : State H) → shown h ≡ shown a.host ++ of (Called path call)
+    → ShowsActs of shown a (state_after (ask_in left call path (record a { host = h })))
+shows_asked of shown [] call path h a is = record { new = Called path call ∷ []; acts = refl; grown = is ∙ ap (λ x. shown a.host ++ x) (sym (shows_one of (Called path call))) }
+shows_asked of shown (reply.Ok v ∷ more) call path h a is = record { new = Called path call ∷ []; acts = refl; grown = is ∙ ap (λ x. shown a.host ++ x) (sym (shows_one of (Called path call))) }
+shows_asked of shown (reply.Fault f ∷ more) call path h a is = record { new = Called path call ∷ []; acts = refl; grown = is ∙ ap (λ x. shown a.host ++ x) (sym (shows_one of (Called path call))) }
 
-pub adds : {H : Type 0} (seen : H → List Effect) (table : H → List (List ℕ) → HostStep H) → TableAdds seen table → Steps table (AddsEffects seen)
-adds seen table is = record {
-  stays = λ a. same_host seen a a refl refl;
-  joins = adds_joined seen;
-  pays = λ a. same_host seen a (paid a) refl refl;
-  spends = λ a. same_host seen a (record a { budget = a.budget - 1; cost = a.cost + 1 }) refl refl;
-  sets = λ a vars. same_host seen a (record a { vars = vars }) refl refl;
-  answers = λ a words path. adds_answers seen (table a.host words) path a (is a.host words);
+shows_answers : {H M : Type 0} (of : Act → List M) (shown : H → List M) (step : HostStep H) (path : List ℕ) (a : State H) → StepShows of shown a.host step → ShowsActs of shown a (state_after (answered step path a))
+shows_answers of shown (Gives v h effects) path a is = record { new = map Did effects; acts = refl; grown = is }
+shows_answers of shown (Faults f h effects) path a is = record { new = map Did effects; acts = refl; grown = is }
+shows_answers of shown (Asks call h) path a is = shows_asked of shown a.replies call path h a (is path)
+
+pub shows : {H M : Type 0} (of : Act → List M) (shown : H → List M) (table : H → List (List ℕ) → HostStep H) → TableShows of shown table → Steps table (ShowsActs of shown)
+shows of shown table is = record {
+  stays = λ a. same_host of shown a a refl refl;
+  joins = shows_joined of shown;
+  pays = λ a. same_host of shown a (paid a) refl refl;
+  spends = λ a. same_host of shown a (record a { budget = a.budget - 1; cost = a.cost + 1 }) refl refl;
+  sets = λ a vars. same_host of shown a (record a { vars = vars }) refl refl;
+  answers = λ a words path. shows_answers of shown (table a.host words) path a (is a.host words);
 }

@@ -1,18 +1,15 @@
 -- A worked row: `set x 7; TCP::respond "hi $x"` on no variables.
-use Rattle.std.proofs.Common.{◌≡◌, refl, ap, ◌∙◌, ℕ, List, [], ◌∷◌, None, map}
+use Rattle.std.proofs.Common.{◌≡◌, refl, ℕ, List, [], ◌∷◌, None, map}
 use Rattle.std.specs.Prelude.{codes, if◌then◌else◌}
 use Rattle.std.specs.Str.{bytes_eq}
-use Rattle.std.specs.declared.vec.Vec.{Vec}
-use Rattle.std.specs.declared.alloc.Global.{Global}
 use Rattle.px_bytes.specs.FaultText.{no_command}
 use Rattle.px_bytes.specs.declared.addr.Side.TheVariants.{Client}
 use Rattle.tcl_vars.specs.Scopes.{no_scopes, with_value}
-use Rattle.tcl_expr.specs.declared.tree.Tree.{Tree, Plain, Variable, Word, Command, Body}
-use Rattle.tcl_expr.specs.declared.tree.Verb.{Verb}
+use Rattle.tcl_expr.specs.declared.tree.Tree.{Tree, Plain, Variable}
 use Rattle.tcl_expr.specs.declared.tree.Verb.TheVariants.{Set, Named}
 use Rattle.rule_model.specs.Host.{Sent, HostStep, Gives, Faults}
 use Rattle.rule_model.specs.Evaluator.{Value, Did, Ends, Meaning, Setting, state, in_order, join_pieces, command, commands, eval, evaluate}
-use Rattle.rule_model.proofs.Trees.{evals_items}
+use Rattle.rule_model.proofs.Trees.{IsWord, IsCommand, IsBody, word_is, command_is, body_is}
 
 -- a host whose only command is `TCP::respond TEXT`
 abbrev responds : {H : Type 0} → H → List (List ℕ) → HostStep H
@@ -39,32 +36,6 @@ worked : {H : Type 0} (host : H) →
     ≡ Ends (Value []) (state (with_value (codes "x") None (codes "7") no_scopes) host [] 19998 8 (Did (Sent Client (codes "hi 7")) ∷ []))
 worked host = refl
 
--- the tree is a word of these parts, a command of these words, a body of these commands
-pub record IsWord (tree : Tree) (parts : List Tree) : Type 0 where
-  pub vec : Vec Tree Global
-  pub is : tree ≡ Word vec
-  pub items : vec.items ≡ parts
-
-pub record IsCommand (tree : Tree) (verb : Verb) (words : List Tree) : Type 0 where
-  pub vec : Vec Tree Global
-  pub is : tree ≡ Command verb vec
-  pub items : vec.items ≡ words
-
-pub record IsBody (tree : Tree) (all : List Tree) : Type 0 where
-  pub vec : Vec Tree Global
-  pub is : tree ≡ Body vec
-  pub items : vec.items ≡ all
-
-word_is : {H : Type 0} {tree : Tree} {parts : List Tree} → IsWord tree parts → eval {H = H} setting tree ≡ word parts
-word_is w = ap (eval setting) w.is ∙ ap (λ ms. in_order join_pieces ms 0 []) (evals_items setting w.vec ∙ ap (map (eval setting)) w.items)
-
-command_is : {H : Type 0} {tree : Tree} {verb : Verb} {words : List Tree} → IsCommand tree verb words → eval {H = H} setting tree ≡ in_order (command setting verb) (map (eval setting) words) 0 []
-command_is {verb = verb} w =
-    ap (eval setting) w.is ∙ ap (λ ms. in_order (command setting verb) ms 0 []) (evals_items setting w.vec ∙ ap (map (eval setting)) w.items)
-
-body_is : {H : Type 0} {tree : Tree} {all : List Tree} → IsBody tree all → eval {H = H} setting tree ≡ commands (map (eval setting) all) 0 []
-body_is w = ap (eval setting) w.is ∙ ap (λ ms. commands ms 0 []) (evals_items setting w.vec ∙ ap (map (eval setting)) w.items)
-
 pub worked_row : {H : Type 0} (host : H) (body first second set x seven name text : Tree)
     → IsBody body (first ∷ second ∷ [])
     → IsCommand first Set (set ∷ x ∷ seven ∷ []) → IsWord set (Plain (codes "set") ∷ []) → IsWord x (Plain (codes "x") ∷ []) → IsWord seven (Plain (codes "7") ∷ [])
@@ -73,6 +44,6 @@ pub worked_row : {H : Type 0} (host : H) (body first second set x seven name tex
     ≡ Ends (Value []) (state (with_value (codes "x") None (codes "7") no_scopes) host [] 19998 8 (Did (Sent Client (codes "hi 7")) ∷ []))
 worked_row {H = H} host body first second set x seven name text b c w1 w2 w3 d w4 w5 =
     let first_is : eval {H = H} setting first ≡ set_x =
-    rw (command_is {H = H} c, word_is {H = H} w1, word_is {H = H} w2, word_is {H = H} w3) refl in
-    let second_is : eval {H = H} setting second ≡ respond = rw (command_is {H = H} d, word_is {H = H} w4, word_is {H = H} w5) refl in
-    rw (body_is {H = H} b, first_is, second_is) (worked host)
+    rw (command_is (setting {H = H}) c, word_is (setting {H = H}) w1, word_is (setting {H = H}) w2, word_is (setting {H = H}) w3) refl in
+    let second_is : eval {H = H} setting second ≡ respond = rw (command_is (setting {H = H}) d, word_is (setting {H = H}) w4, word_is (setting {H = H}) w5) refl in
+    rw (body_is (setting {H = H}) b, first_is, second_is) (worked host)

@@ -1,9 +1,10 @@
 -- What holds of every evaluation.
-use Rattle.std.specs.Prelude.{◌≡◌, ℕ, ◌≤◌, List, [], ◌∷◌, ◌++◌}
+use Rattle.std.specs.Prelude.{◌≡◌, ℕ, ◌≤◌, List, ◌++◌, map}
+use Rattle.std.specs.List.{flat_map}
 use Rattle.px_bytes.specs.declared.fault.Reply.{Reply}
 use Rattle.tcl_expr.specs.declared.tree.Tree.{Tree}
-use Rattle.rule_model.specs.Host.{Effect, HostStep, Gives, Faults, Asks}
-use Rattle.rule_model.specs.Evaluator.{Act, Did, Called, State, Outcome, Ends, Waits, Setting, eval}
+use Rattle.rule_model.specs.Host.{HostStep, Gives, Faults, Asks}
+use Rattle.rule_model.specs.Evaluator.{Act, Did, Called, State, state, Outcome, Ends, Waits, Setting, eval}
 
 -- where an evaluation stands when it ends or waits
 abbrev pub state_after : {H : Type 0} → Outcome H → State H
@@ -40,31 +41,59 @@ MoreRepliesOnlyLengthen H =
     (g : Setting H) (tree : Tree) (path : List ℕ) (st : State H) (more : List Reply)
     → Lengthens more (eval g tree path st) (eval g tree path (with_more more st))
 
--- the effects among what was done, in order
-abbrev pub effects_among : List Act → List Effect
-effects_among [] = []
-effects_among (Did e ∷ acts) = e ∷ effects_among acts
-effects_among (Called path call ∷ acts) = effects_among acts
+-- A host command adds to what is shown of the host's state what is shown of its acts.
+abbrev pub StepShows : {H M : Type 0} → (Act → List M) → (H → List M) → H → HostStep H → Type 0
+StepShows of shown before (Gives v after effects) =
+    shown after ≡ shown before ++ flat_map of (map Did effects)
+StepShows of shown before (Faults f after effects) =
+    shown after ≡ shown before ++ flat_map of (map Did effects)
+StepShows of shown before (Asks call after) =
+    (path : List ℕ) → shown after ≡ shown before ++ of (Called path call)
 
--- a host command adds its effects to what is seen of the host's state
-abbrev pub StepAdds : {H : Type 0} → (H → List Effect) → H → HostStep H → Type 0
-StepAdds seen before (Gives v after effects) = seen after ≡ seen before ++ effects
-StepAdds seen before (Faults f after effects) = seen after ≡ seen before ++ effects
-StepAdds seen before (Asks call after) = seen after ≡ seen before
+abbrev pub TableShows : {H M : Type 0} → (Act → List M) → (H → List M)
+    → (H → List (List ℕ) → HostStep H) → Type 0
+TableShows {H = H} of shown table =
+    (host : H) (words : List (List ℕ)) → StepShows of shown host (table host words)
 
-abbrev pub TableAdds : {H : Type 0} → (H → List Effect) → (H → List (List ℕ) → HostStep H) → Type 0
-TableAdds {H = H} seen table =
-    (host : H) (words : List (List ℕ)) → StepAdds seen host (table host words)
-
--- what is seen of the host's state grew by the effects among what was newly done
-pub record AddsEffects {H : Type 0} (seen : H → List Effect) (before after : State H) : Type 0 where
+-- what is shown of the host's state grew by what is shown of the new acts
+pub record ShowsActs {H M : Type 0} (of : Act → List M) (shown : H → List M)
+    (before after : State H) : Type 0 where
   pub new : List Act
   pub acts : after.acts ≡ before.acts ++ new
-  pub effects : seen after.host ≡ seen before.host ++ effects_among new
+  pub grown : shown after.host ≡ shown before.host ++ flat_map of new
 
--- a host's state may hold all that was done
-abbrev pub HostHoldsEffects : Type 0 → Type 0
-HostHoldsEffects H =
-    (g : Setting H) (seen : H → List Effect) → TableAdds seen g.table
+-- A host's state may hold something of all that was done: what each host command shows of its acts,
+-- the whole evaluation shows.
+abbrev pub HostShowsActs : Type 0 → Type 0 → Type 0
+HostShowsActs H M =
+    (g : Setting H) (of : Act → List M) (shown : H → List M) → TableShows of shown g.table
     → (tree : Tree) (path : List ℕ) (st : State H)
-    → AddsEffects seen st (state_after (eval g tree path st))
+    → ShowsActs of shown st (state_after (eval g tree path st))
+
+-- what a host command gives, where only this view of the host's state is seen
+abbrev pub step_seen : {H K : Type 0} → (K → H) → HostStep K → HostStep H
+step_seen view (Gives v host effects) = Gives v (view host) effects
+step_seen view (Faults f host effects) = Faults f (view host) effects
+step_seen view (Asks call host) = Asks call (view host)
+
+abbrev pub state_seen : {H K : Type 0} → (K → H) → State K → State H
+state_seen view st = state st.vars (view st.host) st.replies st.budget st.cost st.acts
+
+abbrev pub outcome_seen : {H K : Type 0} → (K → H) → Outcome K → Outcome H
+outcome_seen view (Ends code st) = Ends code (state_seen view st)
+outcome_seen view (Waits path call st) = Waits path call (state_seen view st)
+
+-- The two settings read the same static variables, and each host command of the wider one, where
+-- only the view of its host is seen, is that of the other.
+pub record SeenAs {H K : Type 0} (view : K → H) (wide : Setting K) (plain : Setting H) : Type 0 where
+  pub statics : wide.statics ≡ plain.statics
+  pub steps : (host : K) (words : List (List ℕ))
+      → step_seen view (wide.table host words) ≡ plain.table (view host) words
+
+-- A host that also holds what no command reads evaluates alike: what is seen of an evaluation is the
+-- evaluation from what is seen of the state.
+abbrev pub WiderHostAgrees : Type 0 → Type 0 → Type 0
+WiderHostAgrees H K =
+    (view : K → H) (wide : Setting K) (plain : Setting H) → SeenAs view wide plain
+    → (tree : Tree) (path : List ℕ) (st : State K)
+    → outcome_seen view (eval wide tree path st) ≡ eval plain tree path (state_seen view st)

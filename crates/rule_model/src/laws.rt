@@ -1,6 +1,11 @@
 // Laws of the evaluator.
 
-ghost use Rattle.rule_model.specs.Laws.{ActsStay, HostHoldsEffects, MoreRepliesOnlyLengthen};
+ghost use Rattle.rule_model.specs.Laws.{
+  ActsStay,
+  HostShowsActs,
+  MoreRepliesOnlyLengthen,
+  WiderHostAgrees,
+};
 
 /// What was done before an evaluation stays, its cost never falls, and its budget never rises.
 pub fn acts_stay<H>()
@@ -12,7 +17,12 @@ pub fn more_replies_only_lengthen<H>()
     ensures { MoreRepliesOnlyLengthen H }
 {}
 
-/// A host's state may hold all that was done.
-pub fn host_holds_effects<H>()
-    ensures { HostHoldsEffects H }
+/// A host's state may hold something of all that was done.
+pub fn host_shows_acts<H, M>()
+    ensures { HostShowsActs H M }
+{}
+
+/// A host that also holds what no command reads evaluates alike.
+pub fn wider_host_agrees<H, K>()
+    ensures { WiderHostAgrees H K }
 {}

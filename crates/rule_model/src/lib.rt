@@ -3,4 +3,4 @@
 
 mod laws;
 
-pub use laws::{acts_stay, host_holds_effects, more_replies_only_lengthen};
+pub use laws::{acts_stay, host_shows_acts, more_replies_only_lengthen, wider_host_agrees};

@@ -1,0 +1,4 @@
+pub mod Longer
+pub mod Unfolding
+pub mod BodyItems
+pub mod Rows

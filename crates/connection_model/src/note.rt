@@ -1,0 +1,38 @@
+// What is noted of a connection.
+
+use px_bytes::{Addr, FaultKind, RoomySeq, Side, Text};
+
+/// Why a connection finishes.
+#[derive(Clone, Copy, Debug, PartialEq, Eq)]
+pub enum Cause {
+    /// A rule raised a fault that nothing caught.
+    Tcl(FaultKind),
+    /// No server could be selected.
+    Unselected,
+    /// Memory was refused.
+    Memory,
+}
+
+/// One thing that came of an event.
+#[derive(Drop, Debug)]
+pub enum Note {
+    /// A server connection to this address is to be opened.
+    Connect { conn: u32, to: Addr },
+    /// A rule logged a line.
+    Log { conn: u32, text: Text },
+    /// So many bytes that came from a side were passed on.
+    Pass { conn: u32, side: Side, n: usize },
+    /// A collect was met: the bytes that came from this side go to its event.
+    Fired { conn: u32, side: Side },
+    /// Before a later request: whether the server connection is used again.
+    Reuse { conn: u32, kept: bool },
+    /// The connection began to finish.
+    Finish { conn: u32, cause: Cause },
+    /// Nothing more is sent to the client.
+    CloseClient { conn: u32 },
+    /// The connection is over; so many bytes that were queued on it were never taken.
+    Ended { conn: u32, dropped: usize },
+}
+
+/// Notes in order, with room for those of the next event.
+pub type Notes = RoomySeq<Note>;

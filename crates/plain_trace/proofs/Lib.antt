@@ -1,0 +1,4 @@
+pub mod Goes
+pub mod Recorded
+pub mod Evaluated
+pub mod Steps

@@ -1,0 +1,5 @@
+pub mod Setup
+pub mod Items
+pub mod Recorder
+pub mod Runs
+pub mod Trace
