@@ -1,65 +1,102 @@
 -- From what stands and the end of a report to what a replay comes to.
-use Rattle.std.proofs.Common.{◌≡◌, ℕ, ◌≤◌, List, ◌++◌, Option, Result, Ok, Err, IfOk, refl, ap, ◌∙◌, arith, inl, inr, subst}
+use Rattle.std.proofs.lemmas.List.{append-nil}
+use Rattle.std.proofs.Common.{◌≡◌, ◌⊎◌, inl, inr, refl, sym, ap, subst, ◌∙◌, ℕ, ◌+◌, ◌≤◌, List, [], ◌++◌, length, take, Option, Result, Ok, Err, IfOk, arith, append_assoc}
 use Rattle.px_bytes.specs.declared.memory.Memory as want
 use Rattle.px_outside.specs.Outside.{told_more, Rose}
 use Rattle.proxy_core.specs.declared.config.Config as configured
+use Rattle.proxy_core.specs.declared.event.BadEvent.{BadEvent}
+use Rattle.proxy_core.proofs.Promises.{every_past_matches}
 use Rattle.proxy.specs.declared.end.End.{End}
 use Rattle.proxy.specs.declared.end.End.TheVariants.{Done, Usage, Config, Schedule, ReadFault, WriteFault, Memory}
 use Rattle.proxy.specs.declared.replay.Replay.{Replay}
 use Rattle.proxy.specs.End.{end_unless}
-use Rattle.proxy.specs.Replay.{past_text, conns_text, report_text}
-use Rattle.proxy.specs.Report.{text_fault, event_fault}
-use Rattle.proxy_core.specs.declared.event.BadEvent.{BadEvent}
-use Rattle.proxy.specs.Written.{Stands, WritesFront, WritesFrontOf}
-use Rattle.proxy.specs.Replayed.{Reports, IsEndLine, IsFaultLine, Replayed, Finished, FinishFault}
+use Rattle.proxy.specs.Replay.{past_text, accepted, connections_text, conns_text, report_text}
+use Rattle.proxy.specs.Report.{end_text, text_fault, event_fault}
+use Rattle.proxy.specs.Stops.{StoppedText, StoppedEvent}
+use Rattle.proxy.specs.Written.{Stands, IsLast, IsReport, WritesFront, WritesFrontOf}
+use Rattle.proxy.specs.Replayed.{Reports, ReplaysAll, MeetsFault, MeetsRefusal, Replayed, Finished, FinishFault}
+use Rattle.proxy.proofs.ConnectionLines.{lines_same}
 use Rattle.proxy.proofs.Stopping.{told_twice, front_more, stands_front}
 
 pub rose_earlier : (a b c : ℕ) → a ≤ b → Rose b c → Rose a c
 rose_earlier a b c h (inl k) = inl (omega (arith, h, k))
 rose_earlier a b c h (inr k) = inr k
 
+-- the lines of the connections that the program writes
+ends_same : (C : configured.Config) (r : Replay) (text : List ℕ) (number : ℕ) (last : List ℕ) (old mid : Option (List ℕ)) (s : Stands C text number r.core r.taken.items r.events old mid) → conns_text r.core r.taken.items ++ last ≡ connections_text s.past s.state (accepted s.past) ++ last
+ends_same C r text number last old mid s = ap (λ l. l ++ last) (ap (conns_text r.core) s.taken_is ∙ lines_same C s.past s.state r.core (accepted s.past) s.represents)
+
 -- all of the report was written
-all_written : (C : configured.Config) (r : Replay) (last : List ℕ) (old mid new : Option (List ℕ)) (IsLast : ℕ → List ℕ → Type 0) → Stands C r.core r.taken.items r.events old mid → IsLast r.events last → new ≡ told_more mid (conns_text r.core r.taken.items ++ last) → Reports C IsLast old new
-all_written C r last old mid new IsLast s i w = record {
-  past = s.past;
+reports : (C : configured.Config) (r : Replay) (text : List ℕ) (number : ℕ) (last : List ℕ) (old mid new : Option (List ℕ)) (s : Stands C text number r.core r.taken.items r.events old mid) → new ≡ told_more mid (conns_text r.core r.taken.items ++ last) → Reports C s.past s.state text number last old new
+reports C r text number last old mid new s w = record {
   core = r.core;
-  taken = r.taken.items;
-  last = last;
-  runs = s.runs;
-  is_last = let P : ℕ → Type 0 = λ n. IsLast n last in subst P s.count i;
-  written = w ∙ ap (λ o. told_more o (conns_text r.core r.taken.items ++ last)) s.written ∙ told_twice old (past_text s.past) _;
+  represents = s.represents;
+  output_matches_evaluator = every_past_matches C s.past s.state s.represents.sound.leads;
+  reads = s.reads;
+  report_bytes = w ∙ ap (told_more mid) (ends_same C r text number last old mid s) ∙ ap (λ o. told_more o (connections_text s.past s.state (accepted s.past) ++ last)) s.written ∙ told_twice old (past_text s.past) _;
 }
 
 -- a part of its end was written
-part_written : (C : configured.Config) (r : Replay) (last : List ℕ) (old mid new : Option (List ℕ)) → Stands C r.core r.taken.items r.events old mid → WritesFrontOf (conns_text r.core r.taken.items ++ last) mid new → WritesFront C old new
-part_written C r last old mid new s w =
-    (report_text s.past r.core r.taken.items last, (s.past, r.core, r.taken.items, last, s.runs, refl), front_more (past_text s.past) (conns_text r.core r.taken.items ++ last) old mid new s.written w)
+part_written : (C : configured.Config) (r : Replay) (text rest : List ℕ) (number : ℕ) (last : List ℕ) (old mid new : Option (List ℕ)) (s : Stands C text number r.core r.taken.items r.events old mid) → IsLast (length s.past) last → WritesFrontOf (conns_text r.core r.taken.items ++ last) mid new → WritesFront C (text ++ rest) old new
+part_written C r text rest number last old mid new s is w =
+    let P : List ℕ → Type 0 = λ l. WritesFrontOf l mid new in (
+      report_text s.past s.state last,
+      record { past = s.past; state = s.state; leads = s.represents.sound.leads; read = text; rest = rest; front = refl; number = number; reads = s.reads; last = last; is_last = is; text_is = refl },
+      front_more (past_text s.past) (connections_text s.past s.state (accepted s.past) ++ last) old mid new s.written (subst P (ends_same C r text number last old mid s) w),
+    )
 
-fault_replayed : (C : configured.Config) (r : Replay) (last : List ℕ) (old mid new : Option (List ℕ)) (before between now : ℕ) (e : End) → Stands C r.core r.taken.items r.events old mid → before ≤ between → FinishFault between now e → WritesFrontOf (conns_text r.core r.taken.items ++ last) mid new → Replayed C old new before now e
-fault_replayed C r last old mid new before between now Done s h f w = absurd f
-fault_replayed C r last old mid new before between now Usage s h f w = absurd f
-fault_replayed C r last old mid new before between now Config s h f w = absurd f
-fault_replayed C r last old mid new before between now Schedule s h f w = absurd f
-fault_replayed C r last old mid new before between now ReadFault s h f w = absurd f
-fault_replayed C r last old mid new before between now WriteFault s h f w = (rose_earlier before between now h f, part_written C r last old mid new s w)
-fault_replayed C r last old mid new before between now Memory s h f w = inr (part_written C r last old mid new s w)
+fault_replayed : (C : configured.Config) (schedule : List ℕ) (old new : Option (List ℕ)) (before between now : ℕ) (e : End) → before ≤ between → FinishFault between now e → WritesFront C schedule old new → Replayed C schedule old new before now e
+fault_replayed C schedule old new before between now Done h f w = absurd f
+fault_replayed C schedule old new before between now Usage h f w = absurd f
+fault_replayed C schedule old new before between now Config h f w = absurd f
+fault_replayed C schedule old new before between now Schedule h f w = absurd f
+fault_replayed C schedule old new before between now ReadFault h f w = absurd f
+fault_replayed C schedule old new before between now WriteFault h f w = (rose_earlier before between now h f, w)
+fault_replayed C schedule old new before between now Memory h f w = inr w
 
-pub done_replayed : (C : configured.Config) (r : Replay) (last : Result (List ℕ) want.Memory) (old mid new : Option (List ℕ)) (before between now : ℕ) (res : Result (Unit {0}) End) → Stands C r.core r.taken.items r.events old mid → before ≤ between → IfOk last (λ l. IsEndLine r.events l) → Finished r last mid new between now res → Replayed C old new before now (end_unless Done res)
-done_replayed C r (Ok last) old mid new before between now (Ok u) s h i f = all_written C r last old mid new IsEndLine s i f
-done_replayed C r (Ok last) old mid new before between now (Err e) s h i f = fault_replayed C r last old mid new before between now e s h f.0 f.1
-done_replayed C r (Err w) old mid new before between now (Ok u) s h i f = absurd f
-done_replayed C r (Err w) old mid new before between now (Err e) s h i f = rw (f.0, f.1) (inr (stands_front C r.core r.taken.items r.events old mid s))
+-- by what became of the end of the report
+ended : (C : configured.Config) (schedule : List ℕ) (r : Replay) (text rest : List ℕ) (number : ℕ) (last : Result (List ℕ) want.Memory) (old mid new : Option (List ℕ)) (before between now : ℕ) (end : End) (res : Result (Unit {0}) End) → schedule ≡ text ++ rest
+    → (s : Stands C text number r.core r.taken.items r.events old mid) → before ≤ between → IfOk last (λ l. IsLast (length s.past) l)
+    → IfOk last (λ l. Reports C s.past s.state text number l old new → Replayed C schedule old new before now end)
+    → Finished r last mid new between now res → Replayed C schedule old new before now (end_unless end res)
+ended C schedule r text rest number (Ok last) old mid new before between now end (Ok u) e s h i k f = k (reports C r text number last old mid new s f)
+ended C schedule r text rest number (Ok last) old mid new before between now end (Err x) e s h i k f =
+    let P : List ℕ → Type 0 = λ t. WritesFront C t old new in
+    fault_replayed C schedule old new before between now x h f.0 (subst P (sym e) (part_written C r text rest number last old mid new s i f.1))
+ended C schedule r text rest number (Err w) old mid new before between now end (Ok u) e s h i k f = absurd f
+ended C schedule r text rest number (Err w) old mid new before between now end (Err x) e s h i k f =
+    let P : List ℕ → Type 0 = λ t. WritesFront C t old mid in
+    rw (f.0, f.1) (inr (subst P (sym e) (stands_front C text rest number r.core r.taken.items r.events old mid s)))
 
-pub schedule_replayed : (C : configured.Config) (r : Replay) (last : Result (List ℕ) want.Memory) (old mid new : Option (List ℕ)) (before between now : ℕ) (res : Result (Unit {0}) End) → Stands C r.core r.taken.items r.events old mid → before ≤ between → IfOk last (λ l. IsFaultLine r.events l) → Finished r last mid new between now res → Replayed C old new before now (end_unless Schedule res)
-schedule_replayed C r (Ok last) old mid new before between now (Ok u) s h i f = all_written C r last old mid new IsFaultLine s i f
-schedule_replayed C r (Ok last) old mid new before between now (Err e) s h i f = fault_replayed C r last old mid new before between now e s h f.0 f.1
-schedule_replayed C r (Err w) old mid new before between now (Ok u) s h i f = absurd f
-schedule_replayed C r (Err w) old mid new before between now (Err e) s h i f = rw (f.0, f.1) (inr (stands_front C r.core r.taken.items r.events old mid s))
+if_ok : {T : Type 0} (r : Result T want.Memory) (P Q : T → Type 0) → ((x : T) → P x → Q x) → IfOk r P → IfOk r Q
+if_ok (Ok x) P Q f h = f x h
+if_ok (Err w) P Q f h = tt
 
-pub text_last : (events line : ℕ) (last : Result (List ℕ) want.Memory) → IfOk last (λ l. l ≡ text_fault line 6) → IfOk last (λ l. IsFaultLine events l)
-text_last events line (Ok l) h = inl (line, h)
-text_last events line (Err w) h = tt
+pub done_replayed : (C : configured.Config) (schedule : List ℕ) (r : Replay) (last : Result (List ℕ) want.Memory) (old mid new : Option (List ℕ)) (before between now : ℕ) (res : Result (Unit {0}) End) → (number : ℕ) × Stands C schedule number r.core r.taken.items r.events old mid
+    → before ≤ between → IfOk last (λ l. l ≡ end_text r.events) → Finished r last mid new between now res → Replayed C schedule old new before now (end_unless Done res)
+done_replayed C schedule r last old mid new before between now res (number, s) h i f =
+    let is : (l : List ℕ) → l ≡ end_text r.events → l ≡ end_text (length s.past) = λ l e. e ∙ ap end_text s.count in
+    ended C schedule r schedule [] number last old mid new before between now Done res (sym (append-nil schedule)) s h
+    (if_ok last (λ l. l ≡ end_text r.events) (λ l. IsLast (length s.past) l) (λ l e. inl (is l e)) i)
+    (if_ok last (λ l. l ≡ end_text r.events) (λ l. Reports C s.past s.state schedule number l old new → ReplaysAll C schedule old new)
+    (λ l e k. record { past = s.past; state = s.state; number = number; reports = (let P : List ℕ → Type 0 = λ x. Reports C s.past s.state schedule number x old new in subst P (is l e) k) }) i) f
 
-pub event_last : (events line : ℕ) (why : BadEvent) (last : Result (List ℕ) want.Memory) → IfOk last (λ l. l ≡ event_fault line why) → IfOk last (λ l. IsFaultLine events l)
-event_last events line why (Ok l) h = inr (line, why, h)
-event_last events line why (Err w) h = tt
+pub text_replayed : (C : configured.Config) (schedule : List ℕ) (r : Replay) (line : ℕ) (last : Result (List ℕ) want.Memory) (old mid new : Option (List ℕ)) (before between now : ℕ) (res : Result (Unit {0}) End) → StoppedText C schedule line r.core r.taken.items r.events old mid
+    → before ≤ between → IfOk last (λ l. l ≡ text_fault line 6) → Finished r last mid new between now res → Replayed C schedule old new before now (end_unless Schedule res)
+text_replayed C schedule r line last old mid new before between now res k h i f =
+    let s = k.stands in
+    let is : (l : List ℕ) → l ≡ text_fault line 6 → l ≡ text_fault (k.number + 1) 6 = λ l e. e ∙ ap (λ n. text_fault n 6) k.line_is in
+    ended C schedule r k.text k.rest k.number last old mid new before between now Schedule res k.schedule_is s h
+    (if_ok last (λ l. l ≡ text_fault line 6) (λ l. IsLast (length s.past) l) (λ l e. inr (inl (line, e))) i)
+    (if_ok last (λ l. l ≡ text_fault line 6) (λ l. Reports C s.past s.state k.text k.number l old new → Replayed C schedule old new before now Schedule)
+    (λ l e x. inl (record { past = s.past; state = s.state; text = k.text; rest = k.rest; schedule_is = k.schedule_is; number = k.number; faulty = k.faulty; reports = (let P : List ℕ → Type 0 = λ y. Reports C s.past s.state k.text k.number y old new in subst P (is l e) x) })) i) f
+
+pub event_replayed : (C : configured.Config) (schedule : List ℕ) (r : Replay) (line : ℕ) (why : BadEvent) (last : Result (List ℕ) want.Memory) (old mid new : Option (List ℕ)) (before between now : ℕ) (res : Result (Unit {0}) End) → StoppedEvent C schedule line why r.core r.taken.items r.events old mid
+    → before ≤ between → IfOk last (λ l. l ≡ event_fault line why) → Finished r last mid new between now res → Replayed C schedule old new before now (end_unless Schedule res)
+event_replayed C schedule r line why last old mid new before between now res k h i f =
+    let s = k.stands in
+    let is : (l : List ℕ) → l ≡ event_fault line why → l ≡ event_fault (k.number + 1) why = λ l e. e ∙ ap (λ n. event_fault n why) k.line_is in
+    ended C schedule r k.text k.rest k.number last old mid new before between now Schedule res k.schedule_is s h
+    (if_ok last (λ l. l ≡ event_fault line why) (λ l. IsLast (length s.past) l) (λ l e. inr (inr (line, why, e))) i)
+    (if_ok last (λ l. l ≡ event_fault line why) (λ l. Reports C s.past s.state k.text k.number l old new → Replayed C schedule old new before now Schedule)
+    (λ l e x. inr (record { past = s.past; state = s.state; text = k.text; rest = k.rest; schedule_is = k.schedule_is; number = k.number; why = why; refuses = k.refuses; reports = (let P : List ℕ → Type 0 = λ y. Reports C s.past s.state k.text k.number y old new in subst P (is l e) x) })) i) f

@@ -1,6 +1,7 @@
 pub mod TakenBytes
-pub mod Stopping
-pub mod Finishing
+pub mod TakenKept
+pub mod LineCuts
+pub mod ConnectionLines
 pub mod Refusing
 pub mod OneEvent
 pub mod ReportRows
@@ -10,3 +11,9 @@ pub mod ConfigDocument
 pub mod ConfigRefusals
 pub mod ConfigRule
 pub mod ConfigTable
+pub mod Stopping
+pub mod LineStops
+pub mod ScheduleStops
+pub mod Finishing
+pub mod WholeReading
+pub mod Completing

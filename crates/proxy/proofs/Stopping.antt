@@ -1,35 +1,41 @@
 -- What is written where a replay stops, and after an event.
-use Rattle.std.proofs.Common.{◌≡◌, ℕ, ◌+◌, ◌≤◌, ◌<◌, List, [], ◌∷◌, ◌++◌, Option, Some, None, Result, Ok, Err, IfErr, OnErr, IsErrAnd, length, take, refl, sym, ap, ◌∙◌, arith, append_assoc, zero-add, suc-add, drop, get_or, subst}
+use Rattle.std.proofs.Common.{◌≡◌, ℕ, ◌+◌, ◌≤◌, ◌<◌, List, [], ◌∷◌, ◌++◌, Option, Some, None, Result, Ok, Err, IfErr, OnErr, IsErrAnd, length, take, refl, sym, ap, ◌∙◌, arith, append_assoc, zero-add, suc-add, drop, get_or, subst, inl, inr}
 use Rattle.std.proofs.Math.Seq.{drop-cons}
 use Rattle.std.proofs.lemmas.List.{append-nil, take-append-le}
 use Rattle.px_outside.specs.Outside.{told_more, AddsPrefix}
 use Rattle.px_outside.specs.declared.failed.Failed.{Failed}
 use Rattle.px_outside.specs.declared.failed.Failed.TheVariants as failed
+use Rattle.connection_model.specs.declared.note.Note.{Note}
+use Rattle.proxy_core.specs.Past.{Happened, Past}
+use Rattle.proxy_core.specs.Refusals.{refusal}
+use Rattle.proxy_core.specs.Represents.{Represents}
+use Rattle.proxy_core.specs.Scheduler.{State, no_connections, refused}
+use Rattle.proxy_core.specs.Steps.{KeepsStanding, StandsAfter}
 use Rattle.proxy_core.specs.declared.config.Config.{Config}
 use Rattle.proxy_core.specs.declared.core_state.Core.{Core}
 use Rattle.proxy_core.specs.declared.event.Event.{Event}
-use Rattle.proxy_core.specs.declared.note.Note.{Note}
-use Rattle.proxy_core.specs.Refusals.{refusal}
-use Rattle.proxy_core.specs.Changes.{Changes}
+use Rattle.proxy_core.proofs.AgreesAccepts.{refusal_same}
 use Rattle.proxy.specs.declared.taken.Taken.{Taken}
 use Rattle.proxy.specs.declared.replay.Stop.{Stop}
 use Rattle.proxy.specs.declared.replay.Stop.TheVariants as stop
+use Rattle.proxy.specs.Lines.{IsLine, Gives, Reads, events_of}
+use Rattle.proxy.specs.Replay.{past_text, accepted, connections_text, conn_text, conns_text, report_text}
+use Rattle.proxy.specs.Report.{note_lines, end_text}
+use Rattle.proxy.specs.Stops.{stop_of, with_line}
 use Rattle.proxy.specs.Taken.{took_of, with_took}
-use Rattle.proxy.specs.Report.{note_lines}
-use Rattle.proxy.specs.Replay.{Past, past_text, conn_text, conns_text, report_text}
-use Rattle.proxy.specs.Written.{Stands, WritesFront, WritesFrontOf}
-use Rattle.proxy.specs.Stops.{Stopped, stop_of}
+use Rattle.proxy.specs.Written.{Stands, IsReport, WritesFront, WritesFrontOf}
+use Rattle.proxy.proofs.TakenKept.{taken_kept}
 
 -- an error that is want of memory
-pub out_of_memory : {T : Type 0} (r : Result T Stop) (core : Core) (taken : List Taken) (events : ℕ) (new : Option (List ℕ)) (S : Config → Option (List ℕ) → Type 0) → IsErrAnd r (λ e. e ≡ stop.Memory) → ((C : Config) (told : Option (List ℕ)) → S C told → WritesFront C told new) → IfErr r (λ why. (C : Config) (told : Option (List ℕ)) → S C told → Stopped C core taken events told new why)
-out_of_memory (Ok x) core taken events new S e h = tt
-out_of_memory (Err x) core taken events new S e h = rw e h
+pub out_of_memory : {T : Type 0} (r : Result T Stop) (P : Stop → Type 0) → IsErrAnd r (λ e. e ≡ stop.Memory) → P stop.Memory → IfErr r P
+out_of_memory (Ok x) P e h = tt
+out_of_memory (Err x) P e h = subst P (sym e) h
 
 -- an error of a write
-pub not_written : {T : Type 0} (f : Failed) (r : Result T Stop) (core : Core) (taken : List Taken) (events : ℕ) (new : Option (List ℕ)) (S : Config → Option (List ℕ) → Type 0) → IsErrAnd r (λ e. e ≡ stop_of f) → ((C : Config) (told : Option (List ℕ)) → S C told → WritesFront C told new) → IfErr r (λ why. (C : Config) (told : Option (List ℕ)) → S C told → Stopped C core taken events told new why)
-not_written f (Ok x) core taken events new S e h = tt
-not_written failed.Failed (Err x) core taken events new S e h = rw e h
-not_written failed.Memory (Err x) core taken events new S e h = rw e h
+pub not_written : {T : Type 0} (f : Failed) (r : Result T Stop) (P : Stop → Type 0) → IsErrAnd r (λ e. e ≡ stop_of f) → P stop.WriteFault → P stop.Memory → IfErr r P
+not_written f (Ok x) P e h k = tt
+not_written failed.Failed (Err x) P e h k = subst P (sym e) h
+not_written failed.Memory (Err x) P e h k = subst P (sym e) k
 
 take_front : (a b : List ℕ) → take (length a) (a ++ b) ≡ a
 take_front [] b = refl
@@ -44,31 +50,95 @@ told_twice None a b = refl
 told_twice (Some x) a b = ap Some (append_assoc x a b)
 
 -- what stands has written a prefix of a report
-pub stands_front : (C : Config) (core : Core) (taken : List Taken) (events : ℕ) (old new : Option (List ℕ)) → Stands C core taken events old new → WritesFront C old new
-stands_front C core taken events old new s =
-    (report_text s.past core taken [], (s.past, core, taken, [], s.runs, refl), (length (past_text s.past), s.written ∙ ap (told_more old) (sym (take_front (past_text s.past) _))))
+pub stands_front : (C : Config) (text rest : List ℕ) (number : ℕ) (core : Core) (taken : List Taken) (events : ℕ) (old new : Option (List ℕ)) → Stands C text number core taken events old new → WritesFront C (text ++ rest) old new
+stands_front C text rest number core taken events old new s =
+    let last = end_text (length s.past) in (
+      report_text s.past s.state last,
+      record { past = s.past; state = s.state; leads = s.represents.sound.leads; read = text; rest = rest; front = refl; number = number; reads = s.reads; last = last; is_last = inl refl; text_is = refl },
+      (length (past_text s.past), s.written ∙ ap (told_more old) (sym (take_front (past_text s.past) _))),
+    )
+
+-- the same of just what was read
+pub written_front : (C : Config) (text : List ℕ) (number : ℕ) (core : Core) (taken : List Taken) (events : ℕ) (old new : Option (List ℕ)) → Stands C text number core taken events old new → WritesFront C text old new
+written_front C text number core taken events old new s =
+    let w = stands_front C text [] number core taken events old new s in
+    let P : List ℕ → Type 0 = λ x. WritesFront C x old new in subst P (append-nil text) w
+
+-- the same of a longer schedule
+pub front_longer : (C : Config) (text rest whole : List ℕ) (old new : Option (List ℕ)) → whole ≡ text ++ rest → WritesFront C text old new → WritesFront C whole old new
+front_longer C text rest whole old new is w = (
+  w.0,
+  record {
+    past = w.1.past;
+    state = w.1.state;
+    leads = w.1.leads;
+    read = w.1.read;
+    rest = w.1.rest ++ rest;
+    front = is ∙ ap (λ x. x ++ rest) w.1.front ∙ append_assoc w.1.read w.1.rest rest;
+    number = w.1.number;
+    reads = w.1.reads;
+    last = w.1.last;
+    is_last = w.1.is_last;
+    text_is = w.1.text_is;
+  },
+  w.2,
+)
 
 -- one more event with its notes
-pub record Gives (core new : Core) (event : Event) (group : List Note) (taken after : List Taken) : Type 0 where
+pub record Given (core new : Core) (event : Event) (group : List Note) : Type 0 where
   pub accepted : refusal core event ≡ None
-  pub changes : Changes core new event group
-  pub takes : after ≡ with_took (took_of core event) taken
+  pub stands : KeepsStanding core new (record { event = event; group = group })
 
-pub stands_next : (C : Config) (core next : Core) (event : Event) (group : List Note) (taken after : List Taken) (events : ℕ) (told old new : Option (List ℕ)) → Gives core next event group taken after → Stands C core taken events told old → new ≡ told_more old (note_lines group) → Stands C next after (events + 1) told new
-stands_next C core next event group taken after events told old new g s w = record {
-  past = record { event = event; group = group } ∷ s.past;
-  runs = (core, taken, s.runs, g.accepted, g.changes, g.takes);
-  count = omega (arith, s.count);
-  written = w ∙ ap (λ o. told_more o (note_lines group)) s.written ∙ told_twice told (past_text s.past) (note_lines group);
+-- the lines with one more of them, which gives the event
+more_lines : (text line : List ℕ) (number : ℕ) (event : Event) (before : List Event) → Reads text number before → IsLine line → Gives line before event → Reads (with_line text line) (number + 1) (event ∷ before)
+more_lines text line number event before r is g = record {
+  lines = line ∷ r.lines;
+  text_is = ap (λ x. x ++ (line ++ 10 ∷ [])) r.text_is;
+  all_lines = (is, r.all_lines);
+  number_is = (let e : length (line ∷ r.lines) ≡ length r.lines + 1 = omega arith in ap (λ n. n + 1) r.number_is ∙ sym e);
+  spell = inr (event, before, refl, g, r.spell);
 }
 
+after : (C : Config) (past : Past) (s : State) (core new : Core) (event : Event) (group : List Note) → Represents C past s core → Given core new event group → StandsAfter C past s (record { event = event; group = group }) new
+after C past s core new event group r g = g.stands C past s r
+
+pub stands_next : (C : Config) (text line : List ℕ) (number : ℕ) (core next : Core) (event : Event) (group : List Note) (taken kept : List Taken) (events : ℕ) (told old new : Option (List ℕ)) → Given core next event group → kept ≡ with_took (took_of core event) taken
+    → (s : Stands C text number core taken events told old) → IsLine line → Gives line (events_of s.past) event → new ≡ told_more old (note_lines group) → Stands C (with_line text line) (number + 1) next kept (events + 1) told new
+stands_next C text line number core next event group taken kept events told old new g takes s is gives w =
+    let k = after C s.past s.state core next event group s.represents g in
+    let fine : refused C s.past s.state event ≡ None = sym (refusal_same C s.past s.state core event s.represents.agrees) ∙ g.accepted in
+    record {
+      past = record { event = event; group = group } ∷ s.past;
+      state = k.next;
+      represents = k.represents;
+      reads = more_lines text line number event (events_of s.past) s.reads is gives;
+      count = omega (arith, s.count);
+      taken_is = takes ∙ ap (with_took (took_of core event)) s.taken_is ∙ taken_kept C s.past s.state k.next core event group s.represents fine g.accepted k.moves;
+      written = w ∙ ap (λ o. told_more o (note_lines group)) s.written ∙ told_twice told (past_text s.past) (note_lines group);
+    }
+
 -- a prefix of its notes' lines
-pub front_in_notes : (C : Config) (core next : Core) (event : Event) (group : List Note) (taken after : List Taken) (events : ℕ) (told old new : Option (List ℕ)) → Gives core next event group taken after → Stands C core taken events told old → AddsPrefix (note_lines group) old new → WritesFront C told new
-front_in_notes C core next event group taken after events told old new g s w =
+pub front_in_notes : (C : Config) (text line : List ℕ) (number : ℕ) (core next : Core) (event : Event) (group : List Note) (taken : List Taken) (events : ℕ) (told old new : Option (List ℕ)) → Given core next event group
+    → (s : Stands C text number core taken events told old) → IsLine line → Gives line (events_of s.past) event → AddsPrefix (note_lines group) old new → WritesFront C (with_line text line) told new
+front_in_notes C text line number core next event group taken events told old new g s is gives w =
+    let k = after C s.past s.state core next event group s.represents g in
     let past : Past = record { event = event; group = group } ∷ s.past in
-    let rest : List ℕ = conns_text next after ++ [] in (
-      report_text past next after [],
-      (past, next, after, [], (core, taken, s.runs, g.accepted, g.changes, g.takes), refl),
+    let last = end_text (length past) in
+    let rest : List ℕ = connections_text past k.next (accepted past) ++ last in (
+      report_text past k.next last,
+      record {
+        past = past;
+        state = k.next;
+        leads = k.represents.sound.leads;
+        read = with_line text line;
+        rest = [];
+        front = sym (append-nil (with_line text line));
+        number = number + 1;
+        reads = more_lines text line number event (events_of s.past) s.reads is gives;
+        last = last;
+        is_last = inl refl;
+        text_is = refl;
+      },
       (
         length (past_text s.past) + w.taken,
         w.written ∙ ap (λ o. told_more o (take w.taken (note_lines group))) s.written ∙ told_twice told (past_text s.past) (take w.taken (note_lines group))
@@ -76,13 +146,25 @@ front_in_notes C core next event group taken after events told old new g s w =
       ),
     )
 
--- the notes of a list that was empty before are those of the group
-pub only_group : (empty now : List Note) (group : List Note) → empty ≡ [] → now ≡ empty ++ group → now ≡ group
-only_group empty now group e n = n ∙ ap (λ l. l ++ group) e
-
 told_none : (o : Option (List ℕ)) → o ≡ told_more o []
 told_none None = refl
 told_none (Some x) = ap Some (sym (append-nil x))
+
+-- before any event
+pub stands_first : (C : Config) (core : Core) (taken : List Taken) (told : Option (List ℕ)) → Represents C [] no_connections core → taken ≡ [] → Stands C [] 0 core taken 0 told told
+stands_first C core taken told r none = record {
+  past = [];
+  state = no_connections;
+  represents = r;
+  reads = record { lines = []; text_is = refl; all_lines = tt; number_is = refl; spell = refl };
+  count = refl;
+  taken_is = none;
+  written = told_none told;
+}
+
+-- the notes of a list that was empty before are those of the group
+pub only_group : (empty now : List Note) (group : List Note) → empty ≡ [] → now ≡ empty ++ group → now ≡ group
+only_group empty now group e n = n ∙ ap (λ l. l ++ group) e
 
 take_plus : (a b : List ℕ) (n : ℕ) → take (length a + n) (a ++ b) ≡ a ++ take n b
 take_plus [] b n = rw (zero-add n) refl

@@ -2,10 +2,12 @@ pub mod Report
 pub mod End
 pub mod Command
 pub mod Taken
+pub mod Lines
 pub mod Replay
 pub mod Written
 pub mod Stops
 pub mod Replayed
 pub mod Config
+pub mod Complete
 pub mod Offline
 pub mod Schedule

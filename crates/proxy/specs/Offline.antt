@@ -48,7 +48,8 @@ abbrev pub IsDue : (List ℕ → Option (List ℕ)) → Named → List ℕ → T
 IsDue told named text =
     (IsRefused told named × (text ≡ config_fault 9 (codes "config")))
     ⊎ ((bytes : List ℕ) × (C : configured.Config) × IsContents told named.config bytes
-    × Loads bytes C × IsReport C text)
+    × Loads bytes C × (schedule : List ℕ) × IsContents told named.schedule schedule
+    × IsReport C schedule text)
 
 abbrev pub WritesDue : (List ℕ → Option (List ℕ)) → Named → Option (List ℕ) → Option (List ℕ)
     → Type 0
@@ -63,7 +64,7 @@ pub record Replays (told : List ℕ → Option (List ℕ)) (named : Named) (old 
   pub loads : Loads bytes C
   pub schedule : List ℕ
   pub schedule_contents : IsContents told named.schedule schedule
-  pub replayed : Replayed C old new before now end
+  pub replayed : Replayed C schedule old new before now end
 
 -- `replay CONFIG SCHEDULE`, by its end
 abbrev pub ReplaysFiles : Named → (List ℕ → Option (List ℕ)) → Option (List ℕ) → Option (List ℕ) → ℕ

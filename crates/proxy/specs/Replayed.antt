@@ -1,7 +1,11 @@
 -- What a replay comes to.
-use Rattle.std.specs.Prelude.{◌≡◌, ◌⊎◌, ℕ, List, ◌++◌, length, Option, Result, Ok, Err}
+use Rattle.std.specs.Prelude.{◌≡◌, ◌⊎◌, ℕ, ◌+◌, List, ◌++◌, length, Option, Result, Ok, Err}
 use Rattle.px_bytes.specs.declared.memory.Memory as want
 use Rattle.px_outside.specs.Outside.{told_more, Rose}
+use Rattle.proxy_core.specs.Headline.{OutputMatchesEvaluator}
+use Rattle.proxy_core.specs.Past.{Past}
+use Rattle.proxy_core.specs.Represents.{Represents}
+use Rattle.proxy_core.specs.Scheduler.{State}
 use Rattle.proxy_core.specs.declared.config.Config as configured
 use Rattle.proxy_core.specs.declared.core_state.Core.{Core}
 use Rattle.proxy_core.specs.declared.event.BadEvent.{BadEvent}
@@ -16,42 +20,68 @@ use Rattle.proxy.specs.declared.end.End.TheVariants.{
   Memory,
 }
 use Rattle.proxy.specs.declared.replay.Replay.{Replay}
-use Rattle.proxy.specs.declared.taken.Taken.{Taken}
+use Rattle.proxy.specs.Lines.{Reads, Faulty, Refuses, events_of}
 use Rattle.proxy.specs.Report.{end_text, text_fault, event_fault}
-use Rattle.proxy.specs.Replay.{Past, Runs, conns_text, report_text}
+use Rattle.proxy.specs.Replay.{conns_text, report_text}
 use Rattle.proxy.specs.Written.{WritesFront, WritesFrontOf}
 
--- A whole report was written, with a last line of this kind: it tells how many events there were.
-pub record Reports (C : configured.Config) (IsLast : ℕ → List ℕ → Type 0)
+-- The report of a past was written, with this last line. A core stands for the past, its events are
+-- those of so many lines of text, and every connection's output matches the evaluator's.
+pub record Reports (C : configured.Config) (past : Past) (state : State) (text : List ℕ)
+    (number : ℕ) (last : List ℕ) (old new : Option (List ℕ)) : Type 0 where
+  pub core : Core
+  pub represents : Represents C past state core
+  pub output_matches_evaluator : OutputMatchesEvaluator C past state
+  pub reads : Reads text number (events_of past)
+  pub report_bytes : new ≡ told_more old (report_text past state last)
+
+-- all lines of the schedule spell events, and none is refused
+pub record ReplaysAll (C : configured.Config) (schedule : List ℕ)
     (old new : Option (List ℕ)) : Type 0 where
   pub past : Past
-  pub core : Core
-  pub taken : List Taken
-  pub last : List ℕ
-  pub runs : Runs C past core taken
-  pub is_last : IsLast (length past) last
-  pub written : new ≡ told_more old (report_text past core taken last)
+  pub state : State
+  pub number : ℕ
+  pub reports : Reports C past state schedule number (end_text (length past)) old new
 
--- the last line of a schedule that was read to its end
-abbrev pub IsEndLine : ℕ → List ℕ → Type 0
-IsEndLine events last = last ≡ end_text events
+-- the first faulty line of the schedule gives no event
+pub record MeetsFault (C : configured.Config) (schedule : List ℕ)
+    (old new : Option (List ℕ)) : Type 0 where
+  pub past : Past
+  pub state : State
+  pub text : List ℕ
+  pub rest : List ℕ
+  pub schedule_is : schedule ≡ text ++ rest
+  pub number : ℕ
+  pub faulty : Faulty (events_of past) rest
+  pub reports : Reports C past state text number (text_fault (number + 1) 6) old new
 
--- the last line where a line of the schedule spells no event, or its event is refused
-abbrev pub IsFaultLine : ℕ → List ℕ → Type 0
-IsFaultLine events last =
-    ((line : ℕ) × (last ≡ text_fault line 6))
-    ⊎ ((line : ℕ) × (why : BadEvent) × (last ≡ event_fault line why))
+-- the first faulty line of the schedule gives an event that is refused
+pub record MeetsRefusal (C : configured.Config) (schedule : List ℕ)
+    (old new : Option (List ℕ)) : Type 0 where
+  pub past : Past
+  pub state : State
+  pub text : List ℕ
+  pub rest : List ℕ
+  pub schedule_is : schedule ≡ text ++ rest
+  pub number : ℕ
+  pub why : BadEvent
+  pub refuses : Refuses C past state why rest
+  pub reports : Reports C past state text number (event_fault (number + 1) why) old new
 
--- A replay of this configuration: the report is whole, or ends with a faulty line; or a prefix of a
--- report was written, and the count of write faults rose or memory was refused.
-abbrev pub Replayed : configured.Config → Option (List ℕ) → Option (List ℕ) → ℕ → ℕ → End → Type 0
-Replayed C old new before now Done = Reports C IsEndLine old new
-Replayed C old new before now Usage = ⊥
-Replayed C old new before now Config = ⊥
-Replayed C old new before now Schedule = Reports C IsFaultLine old new
-Replayed C old new before now ReadFault = ⊥
-Replayed C old new before now WriteFault = Rose before now × WritesFront C old new
-Replayed C old new before now Memory = (new ≡ old) ⊎ WritesFront C old new
+-- A replay of this configuration and schedule, by its end: the whole report, or one that ends with
+-- the first faulty line; or a prefix of a report was written, and the count of write faults rose or
+-- memory was refused.
+abbrev pub Replayed : configured.Config → List ℕ → Option (List ℕ) → Option (List ℕ) → ℕ → ℕ → End
+    → Type 0
+Replayed C schedule old new before now Done = ReplaysAll C schedule old new
+Replayed C schedule old new before now Usage = ⊥
+Replayed C schedule old new before now Config = ⊥
+Replayed C schedule old new before now Schedule =
+    MeetsFault C schedule old new ⊎ MeetsRefusal C schedule old new
+Replayed C schedule old new before now ReadFault = ⊥
+Replayed C schedule old new before now WriteFault =
+    Rose before now × WritesFront C schedule old new
+Replayed C schedule old new before now Memory = (new ≡ old) ⊎ WritesFront C schedule old new
 
 -- a fault of the end of a report, of which a prefix was written
 abbrev pub FinishFault : ℕ → ℕ → End → Type 0

@@ -1,5 +1,5 @@
 -- The lines of a report, in this project's own format. Each ends with LF.
-use Rattle.std.specs.Prelude.{ℕ, List, ◌++◌, flat_map, codes}
+use Rattle.std.specs.Prelude.{ℕ, List, ◌++◌, Bool, true, false, flat_map, codes}
 use Rattle.std.specs.Fmt.{decimal}
 use Rattle.px_bytes.specs.Escapes.{escaped}
 use Rattle.px_bytes.specs.Hexadecimal.{hex_text}
@@ -28,10 +28,22 @@ use Rattle.proxy_core.specs.declared.event.BadEvent.TheVariants.{
   TwiceConn,
   NoVirtual,
 }
-use Rattle.proxy_core.specs.declared.note.Cause.{Cause}
-use Rattle.proxy_core.specs.declared.note.Cause.TheVariants.{Tcl, Unselected, Memory}
-use Rattle.proxy_core.specs.declared.note.Note.{Note}
-use Rattle.proxy_core.specs.declared.note.Note.TheVariants.{Log, Finish, CloseClient, Ended}
+use Rattle.connection_model.specs.declared.note.Cause.{Cause}
+use Rattle.connection_model.specs.declared.note.Cause.TheVariants.{Tcl, Unselected, Memory}
+use Rattle.connection_model.specs.declared.note.Note.{Note}
+use Rattle.connection_model.specs.declared.note.Note.TheVariants.{
+  Connect,
+  Log,
+  Pass,
+  Fired,
+  Reuse,
+  Finish,
+  CloseClient,
+  Ended,
+}
+use Rattle.px_bytes.specs.Address.{addr_text}
+use Rattle.px_bytes.specs.declared.addr.Side.{Side}
+use Rattle.px_bytes.specs.declared.addr.Side.TheVariants.{Client, Server}
 
 -- the number of a kind of fault
 abbrev pub fault_number : FaultKind → ℕ
@@ -64,8 +76,25 @@ cause_text (Tcl kind) = codes "tcl " ++ decimal (fault_number kind)
 cause_text Unselected = codes "unselected"
 cause_text Memory = codes "memory"
 
+abbrev pub side_text : Side → List ℕ
+side_text Client = codes "client"
+side_text Server = codes "server"
+
+abbrev pub kept_text : Bool → List ℕ
+kept_text true = codes "kept"
+kept_text false = codes "gone"
+
 -- the line of a note, which names its connection
 abbrev pub note_line : Note → List ℕ
+note_line (Connect conn to) =
+    codes "> connect " ++ decimal conn ++ codes " " ++ addr_text to ++ codes "\n"
+note_line (Pass conn side n) =
+    codes "> pass " ++ decimal conn ++ codes " " ++ side_text side ++ codes " " ++ decimal n
+    ++ codes "\n"
+note_line (Fired conn side) =
+    codes "> fired " ++ decimal conn ++ codes " " ++ side_text side ++ codes "\n"
+note_line (Reuse conn kept) =
+    codes "> reuse " ++ decimal conn ++ codes " " ++ kept_text kept ++ codes "\n"
 note_line (Log conn text) =
     codes "> log " ++ decimal conn ++ codes " " ++ escaped text ++ codes "\n"
 note_line (Finish conn cause) =

@@ -1,5 +1,19 @@
 -- The bytes that the clients took.
-use Rattle.std.specs.Prelude.{ℕ, List, [], ◌∷◌, ◌++◌, nat_eq, Option, Some, None, if◌then◌else◌}
+use Rattle.std.specs.Prelude.{
+  ℕ,
+  List,
+  [],
+  ◌∷◌,
+  ◌++◌,
+  Bool,
+  true,
+  false,
+  nat_eq,
+  Option,
+  Some,
+  None,
+  if◌then◌else◌,
+}
 use Rattle.px_bytes.specs.declared.addr.Side.TheVariants.{Client}
 use Rattle.proxy_core.specs.declared.core_state.Core.{Core}
 use Rattle.proxy_core.specs.declared.event.Event.{Event}
@@ -33,3 +47,10 @@ abbrev pub with_took : Took → List Taken → List Taken
 with_took Nothing all = all
 with_took (Begins conn) all = all ++ record { conn = conn; bytes = [] } ∷ []
 with_took (More conn bytes) all = with_bytes conn bytes all
+
+-- an accept after another one
+abbrev pub is_second : Event → List Taken → Bool
+is_second (Accept conn vs from) [] = false
+is_second (Accept conn vs from) (t ∷ taken) = true
+is_second (ClientTook conn n) taken = false
+is_second Run taken = false

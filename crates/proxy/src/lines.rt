@@ -11,13 +11,18 @@ ghost use Rattle.std.specs.Prelude.{
   IfSome,
   Option,
   List,
+  [],
   ℕ,
   length,
+  nat_eq,
 };
+ghost use Rattle.std.specs.List.{position_from};
 ghost use Rattle.px_outside.specs.Outside.{Rose};
 ghost use Rattle.proxy_core.specs.declared.config.Config.{Config};
+ghost use Rattle.proxy.specs.Lines.{IsLine};
+ghost use Rattle.proxy.specs.Stops.{GoesOnBehind, StopsBehind, Stopped};
+ghost use Rattle.proxy.specs.Taken.{is_second};
 ghost use Rattle.proxy.specs.Written.{Stands};
-ghost use Rattle.proxy.specs.Stops.{Stopped};
 
 use crate::replay::{Replay, Stop};
 use crate::schedule::{LineFault, line_event};
@@ -35,11 +40,15 @@ impl Replay {
     ) -> Result<(), Stop>
         requires { self.old.events ≡ 0 }
         ensures goes_on { OnOk result ((C : Config) (told : Option (List ℕ)) →
-            Stands C self.old.core self.old.taken.items self.old.events told (K.written out.old) →
-            Stands C self.new.core self.new.taken.items self.new.events told (K.written out.new)) }
+            Stands C [] 0 self.old.core self.old.taken.items self.old.events told
+            (K.written out.old) → (number : ℕ)
+            × Stands C schedule.now number self.new.core self.new.taken.items self.new.events told
+            (K.written out.new)) }
         ensures stops { IfErr result (λ why. (C : Config) (told : Option (List ℕ)) →
-            Stands C self.old.core self.old.taken.items self.old.events told (K.written out.old) →
-            Stopped C self.new.core self.new.taken.items self.new.events told (K.written out.new) why) }
+            Stands C [] 0 self.old.core self.old.taken.items self.old.events told
+            (K.written out.old) →
+            Stopped C schedule.now self.new.core self.new.taken.items self.new.events told
+            (K.written out.new) why) }
         ensures failed_is_counted { IfErr result
             (λ why. why ≡ Stop.WriteFault → Rose (K.faults out.old) (K.faults out.new)) }
         ensures faults_never_fall { K.faults out.old ≤ K.faults out.new }
@@ -67,13 +76,14 @@ impl Replay {
         text: &[u8],
         out: &mut K,
     ) -> Result<(), Stop>
-        requires { self.old.events + 1 < 2 ^ 64 }
-        ensures goes_on { OnOk result ((C : Config) (told : Option (List ℕ)) →
-            Stands C self.old.core self.old.taken.items self.old.events told (K.written out.old) →
-            Stands C self.new.core self.new.taken.items self.new.events told (K.written out.new)) }
-        ensures stops { IfErr result (λ why. (C : Config) (told : Option (List ℕ)) →
-            Stands C self.old.core self.old.taken.items self.old.events told (K.written out.old) →
-            Stopped C self.new.core self.new.taken.items self.new.events told (K.written out.new) why) }
+        requires room { self.old.events + 1 < 2 ^ 64 }
+        requires is_line { IsLine text.now }
+        ensures goes_on { OnOk result (GoesOnBehind text.now self.old.core self.new.core
+            self.old.taken.items self.new.taken.items self.old.events self.new.events
+            (K.written out.old) (K.written out.new)) }
+        ensures stops { IfErr result (StopsBehind line text.now self.old.core self.new.core
+            self.old.taken.items self.new.taken.items self.old.events self.new.events
+            (K.written out.old) (K.written out.new)) }
         ensures failed_is_counted { IfErr result
             (λ why. why ≡ Stop.WriteFault → Rose (K.faults out.old) (K.faults out.new)) }
         ensures faults_never_fall { K.faults out.old ≤ K.faults out.new }
@@ -93,14 +103,17 @@ impl Replay {
     }
 
     // Whether the event accepts a connection after another one.
-    fn is_second(&self, event: &Event) -> bool {
+    fn is_second(&self, event: &Event) -> bool
+        ensures { result ≡ is_second event.now self.now.taken.items }
+    {
         matches!(event, Event::Accept { .. }) && !self.taken.is_empty()
     }
 }
 
 // How many bytes stand before the first newline.
 fn line_len(bytes: &[u8]) -> Option<usize>
-    ensures { IfSome result (λ len. len < length bytes.now) }
+    ensures place { result ≡ position_from (λ b. nat_eq b 10) 0 bytes.now }
+    ensures within { IfSome result (λ len. len < length bytes.now) }
 {
     bytes.iter().position(|b| *b == b'\n')
 }

@@ -2,6 +2,7 @@
 
 ghost use Rattle.std.specs.Prelude.{◌≡◌, codes};
 ghost use Rattle.proxy.specs.Command.{named_of};
+ghost use Rattle.proxy.specs.Complete.{Completes};
 ghost use Rattle.proxy.specs.End.{status_of};
 ghost use Rattle.proxy.specs.Offline.{Offline, ReplaysFiles, Says, end_of_read};
 ghost use Rattle.proxy.specs.Report.{config_fault};
@@ -27,6 +28,8 @@ pub fn offline<F: Files, K: Sink>(
 ) -> Status
     ensures { (end : End) × (result.0 ≡ status_of end)
         × Offline words.now (F.told files.old) (K.written out.old) (K.written out.new)
+        (F.faults files.old) (F.faults files.new) (K.faults out.old) (K.faults out.new) end
+        × Completes words.now (F.told files.old) (K.written out.old) (K.written out.new)
         (F.faults files.old) (F.faults files.new) (K.faults out.old) (K.faults out.new) end }
 {
     run(alloc, words, files, out).status()

@@ -1,10 +1,22 @@
 // A replay of a schedule, line by line.
 
-ghost use Rattle.std.specs.Prelude.{◌≡◌, ◌≤◌, ◌<◌, ◌+◌, ◌^◌, IfOk, OnOk, IfErr, Option, List, ℕ};
+ghost use Rattle.std.specs.Prelude.{
+  ◌≡◌,
+  ◌≤◌,
+  ◌<◌,
+  ◌+◌,
+  ◌^◌,
+  IfOk,
+  OnOk,
+  IfErr,
+  Option,
+  List,
+  ℕ,
+  [],
+};
 ghost use Rattle.px_outside.specs.Outside.{Rose};
-ghost use Rattle.proxy_core.specs.declared.config.Config.{Config};
 ghost use Rattle.proxy.specs.Written.{Stands};
-ghost use Rattle.proxy.specs.Stops.{Stopped};
+ghost use Rattle.proxy.specs.Stops.{GoesOnWith, StopsWith};
 
 use crate::report::notes_text;
 use crate::taken::{Taken, add_took, took_by};
@@ -65,7 +77,7 @@ impl Replay {
     /// A replay that was given no event.
     pub fn new(alloc: Global, config: Config) -> M<Replay>
         ensures stands { IfOk result (λ replay. (told : Option (List ℕ)) →
-            Stands config replay.core replay.taken.items replay.events told told) }
+            Stands config [] 0 replay.core replay.taken.items replay.events told told) }
         ensures no_event { IfOk result (λ replay. replay.events ≡ 0) }
     {
         let (core, notes) = Core::new(alloc, config)?;
@@ -77,7 +89,7 @@ impl Replay {
         })
     }
 
-    /// Gives an event to the core, and writes its notes.
+    /// Gives the event of a line to the core, and writes its notes.
     pub fn event<K: Sink>(
         &mut self,
         alloc: Global,
@@ -86,12 +98,12 @@ impl Replay {
         out: &mut K,
     ) -> Result<(), Stop>
         requires { self.old.events + 1 < 2 ^ 64 }
-        ensures goes_on { OnOk result ((C : Config) (told : Option (List ℕ)) →
-            Stands C self.old.core self.old.taken.items self.old.events told (K.written out.old) →
-            Stands C self.new.core self.new.taken.items self.new.events told (K.written out.new)) }
-        ensures stops { IfErr result (λ why. (C : Config) (told : Option (List ℕ)) →
-            Stands C self.old.core self.old.taken.items self.old.events told (K.written out.old) →
-            Stopped C self.new.core self.new.taken.items self.new.events told (K.written out.new) why) }
+        ensures goes_on { OnOk result (GoesOnWith event self.old.core self.new.core
+            self.old.taken.items self.new.taken.items self.old.events self.new.events
+            (K.written out.old) (K.written out.new)) }
+        ensures stops { IfErr result (StopsWith line event self.old.core self.new.core
+            self.old.taken.items self.new.taken.items self.old.events self.new.events
+            (K.written out.old) (K.written out.new)) }
         ensures failed_is_counted { IfErr result
             (λ why. why ≡ Stop.WriteFault → Rose (K.faults out.old) (K.faults out.new)) }
         ensures faults_never_fall { K.faults out.old ≤ K.faults out.new }

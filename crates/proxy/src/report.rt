@@ -16,7 +16,7 @@ ghost use Rattle.proxy.specs.Report.{
 };
 
 use proxy_core::{BadEvent, Cause, Note};
-use px_bytes::{FaultKind, M, Text, escape, print_hex};
+use px_bytes::{Addr, FaultKind, M, Side, Text, escape, print_addr, print_hex};
 use std::alloc::Global;
 
 /// The lines of notes, in order.
@@ -34,11 +34,52 @@ fn note_text(alloc: Global, note: &Note) -> M<Text>
     ensures { IfOk result (λ text. text ≡ note_line note.now) }
 {
     match note {
+        Note::Connect { conn, to } => connect_text(alloc, *conn, *to),
         Note::Log { conn, text } => log_text(alloc, *conn, text),
+        Note::Pass { conn, side, n } => pass_text(alloc, *conn, *side, *n),
+        Note::Fired { conn, side } => fired_text(alloc, *conn, *side),
+        Note::Reuse { conn, kept } => reuse_text(alloc, *conn, *kept),
         Note::Finish { conn, cause } => finish_text(alloc, *conn, *cause),
         Note::CloseClient { conn } => Ok(text_of(format!(in alloc; "> close-client {conn}\n")?)),
         Note::Ended { conn, dropped } => ended_text(alloc, *conn, *dropped),
     }
+}
+
+fn connect_text(alloc: Global, conn: u32, to: Addr) -> M<Text>
+    ensures { IfOk result (λ line. line ≡ note_line (Note.Connect conn to)) }
+{
+    let mut line = text_of(format!(in alloc; "> connect {conn} ")?);
+    line.push(print_addr(alloc, to)?.as_bytes())?;
+    line.push(b"\n")?;
+    Ok(line)
+}
+
+fn pass_text(alloc: Global, conn: u32, side: Side, n: usize) -> M<Text>
+    ensures { IfOk result (λ line. line ≡ note_line (Note.Pass conn side n)) }
+{
+    Ok(text_of(match side {
+        Side::Client => format!(in alloc; "> pass {conn} client {n}\n")?,
+        Side::Server => format!(in alloc; "> pass {conn} server {n}\n")?,
+    }))
+}
+
+fn fired_text(alloc: Global, conn: u32, side: Side) -> M<Text>
+    ensures { IfOk result (λ line. line ≡ note_line (Note.Fired conn side)) }
+{
+    Ok(text_of(match side {
+        Side::Client => format!(in alloc; "> fired {conn} client\n")?,
+        Side::Server => format!(in alloc; "> fired {conn} server\n")?,
+    }))
+}
+
+fn reuse_text(alloc: Global, conn: u32, kept: bool) -> M<Text>
+    ensures { IfOk result (λ line. line ≡ note_line (Note.Reuse conn kept)) }
+{
+    Ok(text_of(if kept {
+        format!(in alloc; "> reuse {conn} kept\n")?
+    } else {
+        format!(in alloc; "> reuse {conn} gone\n")?
+    }))
 }
 
 fn log_text(alloc: Global, conn: u32, text: &Text) -> M<Text>

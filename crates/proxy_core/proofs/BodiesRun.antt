@@ -11,8 +11,10 @@ use Rattle.rule_model.specs.Evaluator.{Outcome, Ends, Waits, evaluate, state}
 use Rattle.plain_eval.specs.declared.plain.Plain.{Plain}
 use Rattle.plain_eval.specs.declared.plain.Plain.TheVariants.{Waits as WaitsFor}
 use Rattle.plain_eval.specs.Plain.{IsOutcome}
-use Rattle.proxy_core.specs.Responder.{respond_table, respond, respond_limit}
-use Rattle.proxy_core.specs.Bodies.{BodiesEnd, Uncaught, uncaught_line, after_body, rule_setting}
+use Rattle.connection_model.specs.Responder.{respond_table, respond, respond_limit}
+use Rattle.connection_model.specs.Event.{ClientAccepted}
+use Rattle.connection_model.specs.Setup.{body_setting, uncaught_line}
+use Rattle.proxy_core.specs.Bodies.{BodiesEnd, Uncaught, after_body}
 use Rattle.proxy_core.specs.Runs.{BodyRuns}
 use Rattle.proxy_core.specs.declared.config.Rule.{Rule}
 use Rattle.proxy_core.proofs.NeverWaits.{waits, asks, eval_moves}
@@ -35,16 +37,19 @@ no_wait (Ends c st) call vars sent replies w h = h
 no_wait (Waits p q st) call vars sent replies w h = cc
 
 -- a body that answers its client waits for nothing
-pub body_ends : (statics : Level) (tree : Tree) (vars : Scopes) (sent : List ℕ) (replies : List Reply) (budget : ℕ) (plain : Plain) (call : List (List ℕ)) (vars' : Scopes) (sent' : List ℕ) → plain ≡ WaitsFor call → IsOutcome (evaluate (rule_setting statics) tree vars sent replies budget) plain vars' sent' replies → ⊥
+pub body_moves : (statics : Level) (tree : Tree) (vars : Scopes) (sent : List ℕ) (replies : List Reply) (budget : ℕ) → waits (evaluate (body_setting statics) tree vars sent replies budget) ≡ false
+body_moves statics tree vars sent replies budget = eval_moves (body_setting statics) table_answers tree [] (state vars sent replies budget 0 [])
+
+pub body_ends : (statics : Level) (tree : Tree) (vars : Scopes) (sent : List ℕ) (replies : List Reply) (budget : ℕ) (plain : Plain) (call : List (List ℕ)) (vars' : Scopes) (sent' : List ℕ) → plain ≡ WaitsFor call → IsOutcome (evaluate (body_setting statics) tree vars sent replies budget) plain vars' sent' replies → ⊥
 body_ends statics tree vars sent replies budget plain call vars' sent' e h =
-    no_wait (evaluate (rule_setting statics) tree vars sent replies budget) call vars' sent' replies (eval_moves (rule_setting statics) table_answers tree [] (state vars sent replies budget 0 [])) (rw e at h)
+    no_wait (evaluate (body_setting statics) tree vars sent replies budget) call vars' sent' replies (body_moves statics tree vars sent replies budget) (rw e at h)
 
 -- where a body left no fault, the next goes on
 pub body_went : (name : List ℕ) (o : Outcome (List ℕ)) (vars : Scopes) (sent : List ℕ) (go : Scopes → List ℕ → BodiesEnd) → BodyRuns o None vars sent → after_body name o go ≡ go vars sent
 body_went name (Ends c st) vars sent go h = rw (h.0, h.1, h.2) refl
 body_went name (Waits p q st) vars sent go h = absurd h
 
-pub body_failed : (name : List ℕ) (o : Outcome (List ℕ)) (f : TclFault) (vars : Scopes) (sent : List ℕ) (go : Scopes → List ℕ → BodiesEnd) → BodyRuns o (Some f) vars sent → after_body name o go ≡ Uncaught f.kind (uncaught_line name f.text) vars sent
+pub body_failed : (name : List ℕ) (o : Outcome (List ℕ)) (f : TclFault) (vars : Scopes) (sent : List ℕ) (go : Scopes → List ℕ → BodiesEnd) → BodyRuns o (Some f) vars sent → after_body name o go ≡ Uncaught f.kind (uncaught_line name ClientAccepted f.text) vars sent
 body_failed name (Ends c st) f vars sent go h = rw (h.0, h.1, h.2) refl
 body_failed name (Waits p q st) f vars sent go h = absurd h
 

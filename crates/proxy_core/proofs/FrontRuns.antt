@@ -2,7 +2,7 @@
 use Rattle.std.proofs.Common.{◌≡◌, ℕ, List, [], ◌∷◌, Option, Some, None, subst, sym, refl}
 use Rattle.proxy_core.specs.Ready.{PopsFront}
 use Rattle.proxy_core.specs.declared.core_state.Core.{Core}
-use Rattle.proxy_core.specs.declared.note.Note.{Note}
+use Rattle.connection_model.specs.declared.note.Note.{Note}
 use Rattle.proxy_core.specs.Changes.{RunsRing, RunsFront, Idles}
 
 pub front_runs : (old new : Core) (ring rest : List ℕ) (n : ℕ) (group : List Note) → ring ≡ n ∷ rest → RunsFront old new n rest group → RunsRing old new ring group

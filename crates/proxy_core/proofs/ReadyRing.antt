@@ -46,7 +46,7 @@ all_absent : (n : ℕ) (xs : List ℕ) → is_in xs n ≡ false → AllByRecursi
 all_absent n [] h = tt
 all_absent n (x ∷ xs) h = let e = or_false (nat_eq n x) (is_in xs n) h in (e.0, all_absent n xs e.1)
 
-absent_all : (n : ℕ) (xs : List ℕ) → AllByRecursion (λ y. nat_eq n y ≡ false) xs → is_in xs n ≡ false
+pub absent_all : (n : ℕ) (xs : List ℕ) → AllByRecursion (λ y. nat_eq n y ≡ false) xs → is_in xs n ≡ false
 absent_all n [] h = refl
 absent_all n (x ∷ xs) h = rw h.0 (absent_all n xs h.1)
 

@@ -1,39 +1,13 @@
 -- What the bodies of an event come to, one after another (iRules: return ends its body alone, an
 -- uncaught fault ends the event).
-use Rattle.std.specs.Prelude.{ℕ, List, [], ◌∷◌, ◌++◌, codes, Option, Some, None}
-use Rattle.px_bytes.specs.FaultText.{outside_loop}
+use Rattle.std.specs.Prelude.{ℕ, List, [], ◌∷◌, Option, Some, None}
 use Rattle.px_bytes.specs.declared.fault.FaultKind.{FaultKind}
 use Rattle.px_bytes.specs.declared.fault.TclFault.{TclFault}
 use Rattle.tcl_vars.specs.Scopes.{Scopes, Level}
-use Rattle.rule_model.specs.Evaluator.{
-  Outcome,
-  Ends,
-  Waits,
-  Code,
-  Value,
-  Raised,
-  Return,
-  Break,
-  Continue,
-  State,
-  Setting,
-  evaluate,
-}
-use Rattle.proxy_core.specs.Responder.{respond_table}
+use Rattle.rule_model.specs.Evaluator.{Outcome, Ends, Waits, State, evaluate}
+use Rattle.connection_model.specs.Event.{ClientAccepted}
+use Rattle.connection_model.specs.Setup.{body_setting, uncaught_of, uncaught_line}
 use Rattle.proxy_core.specs.declared.config.Rule.{Rule}
-
--- the fault that a body leaves uncaught; `break` and `continue` may stand in a loop alone (Tcl 8.4,
--- break(n))
-abbrev pub uncaught_of : Code → Option TclFault
-uncaught_of (Value v) = None
-uncaught_of (Raised fault) = Some fault
-uncaught_of (Return v) = None
-uncaught_of Break = Some (outside_loop (codes "break"))
-uncaught_of Continue = Some (outside_loop (codes "continue"))
-
--- the line that an uncaught fault logs
-abbrev pub uncaught_line : List ℕ → List ℕ → List ℕ
-uncaught_line rule text = codes "TCL error: " ++ rule ++ codes " <CLIENT_ACCEPTED> - " ++ text
 
 -- How the bodies end, with the variables and what they sent: all of them ran; or one raised a fault
 -- of this kind that logs this line, and the others didn't run; or one waits for the reply to a
@@ -47,20 +21,16 @@ abbrev pub after_code : List ℕ → Option TclFault → State (List ℕ) → (S
     → BodiesEnd
 after_code rule None st go = go st.vars st.host
 after_code rule (Some fault) st go =
-    Uncaught fault.kind (uncaught_line rule fault.text) st.vars st.host
+    Uncaught fault.kind (uncaught_line rule ClientAccepted fault.text) st.vars st.host
 
 -- goes on with the next body
 abbrev pub after_body : List ℕ → Outcome (List ℕ) → (Scopes → List ℕ → BodiesEnd) → BodiesEnd
 after_body rule (Ends code st) go = after_code rule (uncaught_of code) st go
 after_body rule (Waits path call st) go = AtCall call st.vars st.host
 
--- the bodies read the static variables and send to the client
-abbrev pub rule_setting : Level → Setting (List ℕ)
-rule_setting statics = record { statics = Some statics; table = respond_table }
-
 -- the rules' bodies in order, each with a budget of its own
 abbrev pub bodies_end : Level → ℕ → List Rule → Scopes → List ℕ → BodiesEnd
 bodies_end statics budget [] vars sent = AllRan vars sent
 bodies_end statics budget (rule ∷ rules) vars sent =
-    after_body rule.name (evaluate (rule_setting statics) rule.body vars sent [] budget)
+    after_body rule.name (evaluate (body_setting statics) rule.body vars sent [] budget)
     (bodies_end statics budget rules)

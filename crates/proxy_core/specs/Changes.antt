@@ -24,9 +24,9 @@ use Rattle.px_bytes.specs.declared.addr.Addr.{Addr}
 use Rattle.proxy_core.specs.declared.core_state.Core.{Core}
 use Rattle.proxy_core.specs.declared.live.Live.{Live}
 use Rattle.proxy_core.specs.declared.live.Conn.{Conn}
-use Rattle.proxy_core.specs.declared.note.Cause.TheVariants.{Memory, Unselected, Tcl}
-use Rattle.proxy_core.specs.declared.note.Note.{Note}
-use Rattle.proxy_core.specs.declared.note.Note.TheVariants.{Log, Finish, CloseClient, Ended}
+use Rattle.connection_model.specs.declared.note.Cause.TheVariants.{Memory, Unselected, Tcl}
+use Rattle.connection_model.specs.declared.note.Note.{Note}
+use Rattle.connection_model.specs.declared.note.Note.TheVariants.{Log, Finish, CloseClient, Ended}
 use Rattle.proxy_core.specs.Live.{fresh_conn, after_taking, is_over}
 use Rattle.proxy_core.specs.Queue.{is_empty}
 use Rattle.proxy_core.specs.Bodies.{BodiesEnd, AllRan, Uncaught, AtCall, bodies_end}

@@ -1,4 +1,3 @@
-pub mod Responder
 pub mod Bodies
 pub mod Live
 pub mod Ready
@@ -8,3 +7,11 @@ pub mod Changes
 pub mod Runs
 pub mod Queue
 pub mod Queries
+pub mod Past
+pub mod Setup
+pub mod Scheduler
+pub mod Moves
+pub mod Sound
+pub mod Represents
+pub mod Steps
+pub mod Headline

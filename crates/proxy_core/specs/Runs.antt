@@ -4,13 +4,14 @@ use Rattle.px_bytes.specs.Roomy.{Roomy}
 use Rattle.px_bytes.specs.declared.fault.TclFault.{TclFault}
 use Rattle.tcl_vars.specs.Scopes.{Scopes, Level}
 use Rattle.rule_model.specs.Evaluator.{Outcome, Ends, Waits}
-use Rattle.proxy_core.specs.Bodies.{BodiesEnd, AllRan, Uncaught, uncaught_of, bodies_end}
+use Rattle.proxy_core.specs.Bodies.{BodiesEnd, AllRan, Uncaught, bodies_end}
+use Rattle.connection_model.specs.Setup.{uncaught_of}
 use Rattle.proxy_core.specs.Changes.{rules_of}
 use Rattle.proxy_core.specs.declared.config.Config.{Config}
 use Rattle.proxy_core.specs.declared.live.Conn.{Conn}
-use Rattle.proxy_core.specs.declared.note.Cause.TheVariants.{Unselected, Tcl}
-use Rattle.proxy_core.specs.declared.note.Note.{Note}
-use Rattle.proxy_core.specs.declared.note.Note.TheVariants.{Log, Finish}
+use Rattle.connection_model.specs.declared.note.Cause.TheVariants.{Unselected, Tcl}
+use Rattle.connection_model.specs.declared.note.Note.{Note}
+use Rattle.connection_model.specs.declared.note.Note.TheVariants.{Log, Finish}
 use Rattle.proxy_core.specs.declared.bodies.Uncaught as code
 
 abbrev pub end_of : Option code.Uncaught → Scopes → List ℕ → BodiesEnd

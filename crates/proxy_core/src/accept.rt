@@ -10,7 +10,7 @@ use crate::config::{Config, Virtual};
 use crate::core_state::Core;
 use crate::event::BadEvent;
 use crate::live::{Conn, Live};
-use crate::note::{Cause, Note, Notes};
+use connection_model::{Cause, Note, Notes};
 use px_bytes::Addr;
 use std::alloc::Global;
 

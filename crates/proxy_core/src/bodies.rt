@@ -3,7 +3,9 @@
 ghost use Rattle.std.specs.Prelude.{◌≡◌, [], ◌++◌, IfOk};
 ghost use Rattle.rule_model.specs.Evaluator.{evaluate};
 ghost use Rattle.plain_eval.specs.Plain.{code_of};
-ghost use Rattle.proxy_core.specs.Bodies.{uncaught_of, uncaught_line, bodies_end, rule_setting};
+ghost use Rattle.connection_model.specs.Event.{ClientAccepted};
+ghost use Rattle.connection_model.specs.Setup.{body_setting, uncaught_of, uncaught_line};
+ghost use Rattle.proxy_core.specs.Bodies.{bodies_end};
 
 use crate::config::Rule;
 use crate::responder::Responder;
@@ -52,7 +54,7 @@ fn run_body(
     host: &mut Responder,
 ) -> M<Option<TclFault>>
     ensures { IfOk result (λ fault. BodyRuns
-        (evaluate (rule_setting statics.now.statics) rule.now.body vars.old host.old [] budget)
+        (evaluate (body_setting statics.now.statics) rule.now.body vars.old host.old [] budget)
         fault vars.new host.new) }
 {
     let replies = Replies::new(alloc);
@@ -86,11 +88,13 @@ fn uncaught_fault(alloc: Global, code: PlainCode) -> M<Option<TclFault>>
 
 fn logged(alloc: Global, rule: &Text, fault: TclFault) -> M<Uncaught>
     ensures { IfOk result
-        (λ u. u ≡ record { kind = fault.kind; line = uncaught_line rule.now fault.text }) }
+        (λ u. u ≡ record { kind = fault.kind; line = uncaught_line rule.now ClientAccepted fault.text }) }
 {
     let mut line = Text::new(alloc, b"TCL error: ")?;
     line.push(rule.as_bytes())?;
-    line.push(b" <CLIENT_ACCEPTED> - ")?;
+    line.push(b" <")?;
+    line.push(b"CLIENT_ACCEPTED")?;
+    line.push(b"> - ")?;
     line.push(fault.text.as_bytes())?;
     Ok(Uncaught {
         kind: fault.kind,

@@ -18,7 +18,7 @@ ghost use Rattle.proxy_core.specs.Ready.{numbers, is_in};
 
 use crate::config::Config;
 use crate::live::Live;
-use crate::note::Notes;
+use connection_model::Notes;
 use px_bytes::M;
 use std::alloc::Global;
 use tcl_vars::Vars;
@@ -44,12 +44,15 @@ pub struct Core {
 }
 
 impl Core {
+    ghost use Rattle.proxy_core.specs.Represents.{Represents};
+    ghost use Rattle.proxy_core.specs.Scheduler.{no_connections};
     ghost use Rattle.proxy_core.specs.Start.{IsStart};
 
     /// A core without connections, and the notes of its start. It has room for all connections that
     /// may be live at once.
     pub fn new(alloc: Global, config: Config) -> M<(Core, Notes)>
         ensures start { IfOk result (λ made. IsStart config made.0) }
+        ensures stands { IfOk result (λ made. Represents config [] no_connections made.0) }
         ensures notes { IfOk result (λ made. made.1.items ≡ []) }
     {
         let room = config.connections as usize;

@@ -7,8 +7,8 @@ mod config;
 mod conn;
 mod core_state;
 mod event;
+mod laws;
 mod live;
-mod note;
 mod out_queue;
 mod queries;
 mod responder;
@@ -18,6 +18,7 @@ mod step;
 mod took;
 
 pub use config::{Config, Rule, Virtual};
+pub use connection_model::{Cause, Note, Notes};
 pub use core_state::Core;
 pub use event::{BadEvent, Event};
-pub use note::{Cause, Note, Notes};
+pub use laws::output_matches_evaluator;

@@ -2,12 +2,12 @@
 
 ghost use Rattle.std.specs.Prelude.{◌≡◌, ◌≤◌, ◌++◌, List};
 ghost use Rattle.proxy_core.specs.Changes.{RunsRing};
-ghost use Rattle.proxy_core.specs.declared.note.Note.{Note};
+ghost use Rattle.connection_model.specs.declared.note.Note.{Note};
 
 use crate::core_state::Core;
-use crate::note::Notes;
 use crate::ring::pop_front;
 use crate::took::find;
+use connection_model::Notes;
 
 impl Core {
     /// Takes the front of the ring and runs its connection. On an empty ring nothing happens.

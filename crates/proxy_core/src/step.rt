@@ -1,17 +1,30 @@
 // One event.
 
 ghost use Rattle.std.specs.Prelude.{◌≡◌, ◌≤◌, ◌++◌, Some, None, OnOk, OnErr, IfErr, List};
-ghost use Rattle.proxy_core.specs.Refusals.{refusal};
+ghost use Rattle.connection_model.specs.declared.note.Note.{Note};
 ghost use Rattle.proxy_core.specs.Changes.{Changes};
-ghost use Rattle.proxy_core.specs.declared.note.Note.{Note};
+ghost use Rattle.proxy_core.specs.Refusals.{refusal};
+ghost use Rattle.proxy_core.specs.Steps.{Steps, IsRefused};
 
 use crate::core_state::Core;
 use crate::event::{BadEvent, Event};
-use crate::note::Notes;
+use connection_model::Notes;
 
 impl Core {
     /// Takes an event and adds its notes. A refused event changes nothing and gives no note.
     pub fn step(&mut self, event: Event, notes: &mut Notes) -> Result<(), BadEvent>
+        requires { 68 ≤ notes.old.spare }
+        ensures accepted { OnOk result (refusal self.old event ≡ None) }
+        ensures refused { IfErr result (λ why. refusal self.old event ≡ Some why) }
+        ensures steps { OnOk result
+            (Steps self.old self.new event notes.old.items notes.new.items) }
+        ensures scheduled { IfErr result (λ why. IsRefused self.old event why) }
+        ensures same { OnErr result ((self.new ≡ self.old) × (notes.new ≡ notes.old)) }
+    {
+        self.take(event, notes)
+    }
+
+    fn take(&mut self, event: Event, notes: &mut Notes) -> Result<(), BadEvent>
         requires { 68 ≤ notes.old.spare }
         ensures accepted { OnOk result (refusal self.old event ≡ None) }
         ensures refused { IfErr result (λ why. refusal self.old event ≡ Some why) }

@@ -22,8 +22,8 @@ ghost use Rattle.proxy_core.specs.Changes.{Takes, closing};
 use crate::core_state::Core;
 use crate::event::BadEvent;
 use crate::live::Live;
-use crate::note::{Note, Notes};
 use crate::ring::{make_ready, unlink};
+use connection_model::{Note, Notes};
 
 impl Core {
     /// The client took the first `n` bytes that were pending to it.

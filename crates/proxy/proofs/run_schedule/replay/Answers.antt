@@ -1,24 +1,24 @@
 use Rattle.std.proofs.Common.{inr, refl}
-use Rattle.proxy.proofs.Finishing.{done_replayed, schedule_replayed, text_last, event_last}
+use Rattle.proxy.proofs.Finishing.{done_replayed, text_replayed, event_replayed}
 use Rattle.proxy.proofs.run_schedule.replay.Goals as goal
 
 pub returns-in-Ok-lines-clause-replayed : goal.returns-in-Ok-lines-clause-replayed
 returns-in-Ok-lines-clause-replayed g c =
     let old = g.K.Sink.written c.args.out.now in
     let st = c.in-Ok-lines.ensures.goes_on c.args.config old (c.in-Ok.ensures.stands old) in
-    rw c.unless.ensures (done_replayed c.args.config c.lines.new.self c.end_line-last.result old _ _ _ _ _ c.finish.result st c.lines.ensures.faults_never_fall c.end_line-last.ensures c.finish.ensures.finished)
+    rw c.unless.ensures (done_replayed c.args.config c.args.schedule.now c.lines.new.self c.end_line-last.result old _ _ _ _ _ c.finish.result st c.lines.ensures.faults_never_fall c.end_line-last.ensures c.finish.ensures.finished)
 
 pub returns-in-Err-Text-clause-replayed : goal.returns-in-Err-Text-clause-replayed
 returns-in-Err-Text-clause-replayed g c =
     let old = g.K.Sink.written c.args.out.now in
     let st = (rw c.in-Err-Text.field-0-is at c.in-Err-Text.ensures.stops) c.args.config old (c.in-Ok.ensures.stands old) in
-    rw c.unless-in-Err-Text.ensures (schedule_replayed c.args.config c.lines.new.self c.text_fault_line-last.result old _ _ _ _ _ c.finish-in-Err-Text.result st c.lines.ensures.faults_never_fall (text_last c.lines.new.self.events c.in-Err-Text.line c.text_fault_line-last.result c.text_fault_line-last.ensures) c.finish-in-Err-Text.ensures.finished)
+    rw c.unless-in-Err-Text.ensures (text_replayed c.args.config c.args.schedule.now c.lines.new.self c.in-Err-Text.line c.text_fault_line-last.result old _ _ _ _ _ c.finish-in-Err-Text.result st c.lines.ensures.faults_never_fall c.text_fault_line-last.ensures c.finish-in-Err-Text.ensures.finished)
 
 pub returns-in-Err-Event-clause-replayed : goal.returns-in-Err-Event-clause-replayed
 returns-in-Err-Event-clause-replayed g c =
     let old = g.K.Sink.written c.args.out.now in
     let st = (rw c.in-Err-Event.field-0-is at c.in-Err-Event.ensures.stops) c.args.config old (c.in-Ok.ensures.stands old) in
-    rw c.unless-in-Err-Event.ensures (schedule_replayed c.args.config c.lines.new.self c.event_fault_line-last.result old _ _ _ _ _ c.finish-in-Err-Event.result st c.lines.ensures.faults_never_fall (event_last c.lines.new.self.events c.in-Err-Event.line c.in-Err-Event.why c.event_fault_line-last.result c.event_fault_line-last.ensures) c.finish-in-Err-Event.ensures.finished)
+    rw c.unless-in-Err-Event.ensures (event_replayed c.args.config c.args.schedule.now c.lines.new.self c.in-Err-Event.line c.in-Err-Event.why c.event_fault_line-last.result old _ _ _ _ _ c.finish-in-Err-Event.result st c.lines.ensures.faults_never_fall c.event_fault_line-last.ensures c.finish-in-Err-Event.ensures.finished)
 
 pub returns-in-Err-WriteFault-clause-replayed : goal.returns-in-Err-WriteFault-clause-replayed
 returns-in-Err-WriteFault-clause-replayed g c =

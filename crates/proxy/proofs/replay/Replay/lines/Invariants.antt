@@ -1,4 +1,4 @@
-use Rattle.std.proofs.Common.{◌≤◌, ◌-◌, ℕ, List, Option, length}
+use Rattle.std.proofs.Common.{◌≤◌, ◌-◌, ℕ, List, [], Option, length, take}
 use Rattle.proxy_core.specs.declared.config.Config.{Config}
 use Rattle.proxy.specs.Written.{Stands}
 use Rattle.proxy.proofs.replay.Replay.lines.Given as goal
@@ -6,8 +6,8 @@ use Rattle.proxy.proofs.replay.Replay.lines.Given as goal
 abbrev pub invariant-loop-at : goal.invariant-loop-at
 invariant-loop-at g l = record {
   stands : (C : Config) (told : Option (List ℕ)) →
-      Stands C l.fn.self.core l.fn.self.taken.items l.fn.self.events told (g.K.Sink.written l.fn.out) →
-      Stands C l.self.core l.self.taken.items l.self.events told (g.K.Sink.written l.out);
+      Stands C [] 0 l.fn.self.core l.fn.self.taken.items l.fn.self.events told (g.K.Sink.written l.fn.out) →
+      Stands C (take l.at l.schedule) l.line l.self.core l.self.taken.items l.self.events told (g.K.Sink.written l.out);
   events : l.self.events ≤ l.at;
   line : l.line ≤ l.at;
   within : l.at ≤ length l.schedule;

@@ -1,0 +1,137 @@
+-- A schedule all of whose lines spell events has no faulty line.
+use Rattle.std.proofs.Common.{◌≡◌, ◌⊎◌, inl, inr, refl, sym, ap, subst, ◌∙◌, ℕ, List, [], ◌∷◌, ◌++◌, reverse, Bool, true, false, nat_eq, append_assoc, arith}
+use Rattle.std.proofs.lemmas.Bool.Decides.{nat_tests}
+use Rattle.std.proofs.lemmas.List.{append-nil, reverse-append, reverse-reverse}
+use Rattle.proxy_core.specs.declared.event.Event.{Event}
+use Rattle.proxy.specs.Lines.{IsLine, AllLines, lines_text, Gives, GivesNone, Spell, Reads, Faulty, Unended, NoEvent}
+use Rattle.proxy.specs.Schedule.{IsSkipped, words_of}
+use Rattle.proxy.proofs.OneEvent.{one_event}
+
+-- one line at the front of a text
+not_lf : (n : ℕ) → nat_eq n 10 ≡ false → n ≡ 10 → ⊥
+not_lf n h e = (let t : nat_eq n 10 ≡ true = grind (arith, nat_tests) in cc)
+
+one_cut : (a b x y : List ℕ) → IsLine a → IsLine b → a ++ 10 ∷ x ≡ b ++ 10 ∷ y → (a ≡ b) × (x ≡ y)
+one_cut [] [] x y p q e = (refl, cc)
+one_cut [] (c ∷ b) x y p q e = absurd (not_lf c q.0 (sym (let k : 10 ≡ c = cc in k)))
+one_cut (c ∷ a) [] x y p q e = absurd (not_lf c p.0 (let k : c ≡ 10 = cc in k))
+one_cut (c ∷ a) (d ∷ b) x y p q e =
+    let h : c ≡ d = cc in
+    let t : a ++ 10 ∷ x ≡ b ++ 10 ∷ y = cc in
+    let r = one_cut a b x y p.1 q.1 t in
+    (ap (λ n. n ∷ a) h ∙ ap (λ l. d ∷ l) r.0, r.1)
+
+-- the same text, the oldest line first
+forward : List (List ℕ) → List ℕ
+forward [] = []
+forward (line ∷ lines) = line ++ 10 ∷ forward lines
+
+forward_joined : (a b : List (List ℕ)) → forward (a ++ b) ≡ forward a ++ forward b
+unfolding forward
+forward_joined [] b = refl
+forward_joined (line ∷ a) b = ap (λ t. line ++ 10 ∷ t) (forward_joined a b) ∙ sym (append_assoc line (10 ∷ forward a) (forward b))
+
+turned : (lines : List (List ℕ)) → lines_text lines ≡ forward (reverse lines)
+unfolding forward
+turned [] = refl
+turned (line ∷ lines) =
+    let e : reverse (line ∷ lines) ≡ reverse lines ++ line ∷ [] = reverse-append (line ∷ []) lines in
+    ap (λ t. t ++ (line ++ 10 ∷ [])) (turned lines) ∙ sym (ap forward e ∙ forward_joined (reverse lines) (line ∷ []))
+
+all_joined : (a b : List (List ℕ)) → AllLines a → AllLines b → AllLines (a ++ b)
+all_joined [] b p q = q
+all_joined (l ∷ a) b p q = (p.0, all_joined a b p.1 q)
+
+all_turned : (lines : List (List ℕ)) → AllLines lines → AllLines (reverse lines)
+all_turned [] h = tt
+all_turned (line ∷ lines) h =
+    let e : reverse (line ∷ lines) ≡ reverse lines ++ line ∷ [] = reverse-append (line ∷ []) lines in
+    subst AllLines (sym e) (all_joined (reverse lines) (line ∷ []) (all_turned lines h.1) (h.0, tt))
+
+-- the lines of a longer text begin with those of its front
+record Longer (a b : List (List ℕ)) (rest : List ℕ) : Type 0 where
+  more : List (List ℕ)
+  whole : a ≡ b ++ more
+  rest_is : rest ≡ forward more
+
+longer : (a b : List (List ℕ)) (rest : List ℕ) → AllLines a → AllLines b → forward a ≡ forward b ++ rest → Longer a b rest
+unfolding forward
+longer a [] rest p q e = record { more = a; whole = refl; rest_is = sym e }
+longer [] (m ∷ b) rest p q e = absurd (nothing m (forward b ++ rest) (e ∙ append_assoc m (10 ∷ forward b) rest))
+  where
+    nothing : (m t : List ℕ) → [] ≡ m ++ 10 ∷ t → ⊥
+    nothing [] t e = cc
+    nothing (c ∷ m) t e = cc
+longer (l ∷ a) (m ∷ b) rest p q e =
+    let c = one_cut l m (forward a) (forward b ++ rest) p.0 q.0 (e ∙ append_assoc m (10 ∷ forward b) rest) in
+    let k = longer a b rest p.1 q.1 c.1 in
+    record { more = k.more; whole = ap (λ x. x ∷ a) c.0 ∙ ap (λ x. m ∷ x) k.whole; rest_is = k.rest_is }
+
+-- the same lines spell the same events
+same_gives : (line : List ℕ) (before : List Event) (a b : Event) → Gives line before a → Gives line before b → a ≡ b
+same_gives line before a b p q = one_event (words_of line) b a q.spells p.spells
+
+same_events : (lines : List (List ℕ)) (a b : List Event) → Spell lines a → Spell lines b → a ≡ b
+same_events [] a b p q = p ∙ sym q
+same_events (line ∷ lines) a b (inl p) (inl q) = same_events lines a b p.1 q.1
+same_events (line ∷ lines) a b (inl p) (inr q) = absurd (q.3.not_skipped p.0)
+same_events (line ∷ lines) a b (inr p) (inl q) = absurd (p.3.not_skipped q.0)
+same_events (line ∷ lines) a b (inr p) (inr q) =
+    let before : p.1 ≡ q.1 = same_events lines p.1 q.1 p.4 q.4 in
+    let event : p.0 ≡ q.0 = same_gives line q.1 p.0 q.0 (subst (λ x. Gives line x p.0) before p.3) q.3 in
+    p.2 ∙ ap (λ e. e ∷ p.1) event ∙ ap (λ x. q.0 ∷ x) before ∙ sym q.2
+
+-- the front of lines that spell spells too
+front_spells : (newer lines : List (List ℕ)) (events : List Event) → Spell (newer ++ lines) events → (before : List Event) × Spell lines before
+front_spells [] lines events s = (events, s)
+front_spells (l ∷ newer) lines events (inl s) = front_spells newer lines events s.1
+front_spells (l ∷ newer) lines events (inr s) = front_spells newer lines s.1 s.4
+
+-- a line that spells isn't faulty
+line_not_faulty : (line : List ℕ) (lines : List (List ℕ)) (events before : List Event) → Spell (line ∷ lines) events → Spell lines before → GivesNone line before → ⊥
+line_not_faulty line lines events before (inl s) t g = g.not_skipped s.0
+line_not_faulty line lines events before (inr s) t g = g.none s.0 (subst (λ x. Gives line x s.0) (same_events lines s.1 before s.4 t) s.3)
+
+lf_in : (line rest : List ℕ) → IsLine (line ++ 10 ∷ rest) → ⊥
+lf_in [] rest h = cc
+lf_in (b ∷ line) rest h = lf_in line rest h.1
+
+-- the oldest of the lines behind a front
+behind : (newer : List (List ℕ)) (line : List ℕ) (lines : List (List ℕ)) (events : List Event) → Spell (reverse (line ∷ newer) ++ lines) events → (before : List Event) × Spell (line ∷ lines) before
+behind newer line lines events s =
+    let e : reverse (line ∷ newer) ++ lines ≡ reverse newer ++ (line ∷ lines) = ap (λ x. x ++ lines) (reverse-append (line ∷ []) newer) ∙ append_assoc (reverse newer) (line ∷ []) lines in
+    front_spells (reverse newer) (line ∷ lines) events (subst (λ x. Spell x events) e s)
+
+not_nothing : (line rest : List ℕ) → line ++ 10 ∷ rest ≡ [] → ⊥
+not_nothing [] rest e = cc
+not_nothing (b ∷ line) rest e = cc
+
+unended_false : (more : List (List ℕ)) (byte : ℕ) (rest : List ℕ) → byte ∷ rest ≡ forward more → IsLine (byte ∷ rest) → ⊥
+unfolding forward
+unended_false [] byte rest e is = cc
+unended_false (m ∷ more) byte rest e is = lf_in m (forward more) (subst IsLine e is)
+
+no_event_false : (more lines : List (List ℕ)) (events before : List Event) (line rest : List ℕ) → line ++ 10 ∷ rest ≡ forward more → AllLines more → Spell (reverse more ++ lines) events → Spell lines before → IsLine line → GivesNone line before → ⊥
+unfolding forward
+no_event_false [] lines events before line rest e all s t is g = not_nothing line rest e
+no_event_false (m ∷ more) lines events before line rest e all s t is g =
+    let c = one_cut line m rest (forward more) is all.0 e in
+    let k = behind more m lines events s in
+    line_not_faulty m lines k.0 before k.1 t (subst (λ l. GivesNone l before) c.0 g)
+
+faulty_false : (more lines : List (List ℕ)) (events before : List Event) (text : List ℕ) → Faulty before text → text ≡ forward more → AllLines more → Spell (reverse more ++ lines) events → Spell lines before → ⊥
+faulty_false more lines events before text (Unended byte rest is) e all s t = unended_false more byte rest e is
+faulty_false more lines events before text (NoEvent line rest is g) e all s t = no_event_false more lines events before line rest e all s t is g
+
+later_lines : (a b : List (List ℕ)) → AllLines (a ++ b) → AllLines b
+later_lines [] b h = h
+later_lines (l ∷ a) b h = later_lines a b h.1
+
+-- a schedule that spells events has no faulty line behind any front of it
+pub whole_has_no_fault : (schedule text rest : List ℕ) (m n : ℕ) (events before : List Event) → Reads schedule m events → schedule ≡ text ++ rest → Reads text n before → Faulty before rest → ⊥
+whole_has_no_fault schedule text rest m n events before r is f fault =
+    let forwards : forward (reverse r.lines) ≡ forward (reverse f.lines) ++ rest = sym (r.text_is ∙ turned r.lines) ∙ is ∙ ap (λ t. t ++ rest) (f.text_is ∙ turned f.lines) in
+    let k = longer (reverse r.lines) (reverse f.lines) rest (all_turned r.lines r.all_lines) (all_turned f.lines f.all_lines) forwards in
+    let lines : r.lines ≡ reverse k.more ++ f.lines = sym (reverse-reverse r.lines) ∙ ap reverse k.whole ∙ reverse-append (reverse f.lines) k.more ∙ ap (λ x. reverse k.more ++ x) (reverse-reverse f.lines) in
+    let more : AllLines k.more = later_lines (reverse f.lines) k.more (subst AllLines k.whole (all_turned r.lines r.all_lines)) in
+    faulty_false k.more f.lines events before rest fault k.rest_is more (subst (λ x. Spell x events) lines r.spell) f.spell

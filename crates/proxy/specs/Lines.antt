@@ -1,0 +1,99 @@
+-- A schedule as lines, in this project's own format: which events they spell, and where the first
+-- faulty one stands.
+use Rattle.std.specs.Prelude.{
+  ◌≡◌,
+  ◌⊎◌,
+  ℕ,
+  List,
+  [],
+  ◌∷◌,
+  ◌++◌,
+  length,
+  false,
+  nat_eq,
+  Some,
+}
+use Rattle.proxy_core.specs.Past.{Past, Happened}
+use Rattle.proxy_core.specs.Scheduler.{State, refused}
+use Rattle.proxy_core.specs.declared.config.Config.{Config}
+use Rattle.proxy_core.specs.declared.event.Event.{Event}
+use Rattle.proxy_core.specs.declared.event.Event.TheVariants.{Accept, ClientTook, Run}
+use Rattle.proxy_core.specs.declared.event.BadEvent.{BadEvent}
+use Rattle.proxy.specs.Schedule.{IsSkipped, SpellsEvent}
+
+-- a line holds no LF
+abbrev pub IsLine : List ℕ → Type 0
+IsLine [] = Unit {0}
+IsLine (byte ∷ line) = (nat_eq byte 10 ≡ false) × IsLine line
+
+abbrev pub AllLines : List (List ℕ) → Type 0
+AllLines [] = Unit {0}
+AllLines (line ∷ lines) = IsLine line × AllLines lines
+
+-- lines, the newest first, each with its LF
+abbrev pub lines_text : List (List ℕ) → List ℕ
+lines_text [] = []
+lines_text (line ∷ lines) = lines_text lines ++ (line ++ 10 ∷ [])
+
+-- the numbers that events accept
+abbrev pub accepted_in : List Event → List ℕ
+accepted_in [] = []
+accepted_in (Accept conn vs from ∷ events) = conn ∷ accepted_in events
+accepted_in (ClientTook conn n ∷ events) = accepted_in events
+accepted_in (Run ∷ events) = accepted_in events
+
+-- today a schedule has one connection at most
+abbrev pub MayFollow : List Event → Event → Type 0
+MayFollow before (Accept conn vs from) = accepted_in before ≡ []
+MayFollow before (ClientTook conn n) = Unit {0}
+MayFollow before Run = Unit {0}
+
+-- the line isn't skipped, and spells this event, which may stand behind those before
+pub record Gives (line : List ℕ) (before : List Event) (event : Event) : Type 0 where
+  pub not_skipped : IsSkipped line → ⊥
+  pub spells : SpellsEvent line event
+  pub may_follow : MayFollow before event
+
+-- these lines spell these events, the newest first in both
+abbrev pub Spell : List (List ℕ) → List Event → Type 0
+Spell [] events = events ≡ []
+Spell (line ∷ lines) events =
+    (IsSkipped line × Spell lines events)
+    ⊎ ((event : Event) × (before : List Event) × (events ≡ event ∷ before)
+    × Gives line before event × Spell lines before)
+
+-- the text is these lines, so many of them, and they spell these events
+pub record Reads (text : List ℕ) (number : ℕ) (events : List Event) : Type 0 where
+  pub lines : List (List ℕ)
+  pub text_is : text ≡ lines_text lines
+  pub all_lines : AllLines lines
+  pub number_is : number ≡ length lines
+  pub spell : Spell lines events
+
+-- the events of a past, the newest first
+abbrev pub events_of : Past → List Event
+events_of [] = []
+events_of (x ∷ past) = x.event ∷ events_of past
+
+-- the line gives no event behind those before, and isn't skipped
+pub record GivesNone (line : List ℕ) (before : List Event) : Type 0 where
+  pub not_skipped : IsSkipped line → ⊥
+  pub none : (event : Event) → Gives line before event → ⊥
+
+-- The text behind some lines begins with a faulty line: the last one, which has no LF, or one that
+-- gives no event.
+pub data Faulty (before : List Event) : List ℕ → Type 0 where
+  Unended : (byte : ℕ) → (rest : List ℕ) → IsLine (byte ∷ rest) → Faulty before (byte ∷ rest)
+  NoEvent : (line rest : List ℕ) → IsLine line → GivesNone line before
+      → Faulty before (line ++ 10 ∷ rest)
+
+-- it begins with a line whose event the scheduler refuses
+pub record Refuses (C : Config) (past : Past) (s : State) (why : BadEvent)
+    (text : List ℕ) : Type 0 where
+  pub line : List ℕ
+  pub rest : List ℕ
+  pub text_is : text ≡ line ++ 10 ∷ rest
+  pub is_line : IsLine line
+  pub event : Event
+  pub gives : Gives line (events_of past) event
+  pub refused_for : refused C past s event ≡ Some why
