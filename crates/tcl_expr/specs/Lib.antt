@@ -1,1 +1,5 @@
 pub mod Compile
+pub mod OperatorFaults
+pub mod Operators
+pub mod TextTests
+pub mod Truth

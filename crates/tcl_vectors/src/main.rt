@@ -5,6 +5,7 @@
 mod bytes;
 mod lists;
 mod numbers;
+mod operators;
 mod question;
 mod script;
 mod words;
@@ -51,6 +52,9 @@ fn answer(alloc: Global, question: &Question) -> M<Option<Text>> {
         return Ok(Some(answer));
     }
     if let Some(answer) = lists::answer(alloc, question)? {
+        return Ok(Some(answer));
+    }
+    if let Some(answer) = operators::answer(alloc, question)? {
         return Ok(Some(answer));
     }
     words::answer(alloc, question)

@@ -4,18 +4,24 @@ use hex::FromHexError;
 use px_bytes::{M, Memory, Text, Texts};
 use std::alloc::Global;
 
-/// A call and the texts that it is given.
+/// A call, the operator that it is given by its name, and its texts.
 #[derive(Drop)]
 pub struct Question<'a> {
     pub call: &'a str,
+    pub operator: Option<&'a str>,
     pub texts: Texts,
 }
 
-/// The question in the line: the call's name and a word for each text, separated by one blank.
+/// The question in the line: the call's name, an operator's where the call has one, and a word for
+/// each text, separated by one blank.
 pub fn read_question(alloc: Global, line: &str) -> M<Option<Question<'_>>> {
     let mut words = line.split(' ');
     let Some(call) = words.next() else {
         return Ok(None);
+    };
+    let operator = match call {
+        "apply1" | "apply2" => words.next(),
+        _ => None,
     };
     let mut texts = Texts::new(alloc);
     for word in words {
@@ -24,7 +30,11 @@ pub fn read_question(alloc: Global, line: &str) -> M<Option<Question<'_>>> {
         };
         texts.push(text)?;
     }
-    Ok(Some(Question { call, texts }))
+    Ok(Some(Question {
+        call,
+        operator,
+        texts,
+    }))
 }
 
 // The text that a word writes: two hexadecimal digits a byte, and `-` for the empty one.

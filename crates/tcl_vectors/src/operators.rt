@@ -1,0 +1,116 @@
+// The operators of tcl_expr.
+
+ghost use Rattle.std.specs.Prelude.{◌≡◌, ◌<◌};
+
+use crate::question::Question;
+use px_bytes::{M, Memory, Raise, Steps, TclFault, Text, print_hex};
+use std::alloc::Global;
+use std::marker::Brand;
+use std::sync::ledger::{Blank, Ledger};
+use tcl_expr::{Op1, Op2, apply1, apply2};
+
+pub fn answer(alloc: Global, question: &Question) -> M<Option<Text>> {
+    let Some(name) = question.operator else {
+        return Ok(None);
+    };
+    match (question.call, question.texts.as_slice()) {
+        ("apply1", [x]) => answer_one(alloc, name, x.as_bytes()),
+        ("apply2", [x, y]) => answer_two(alloc, name, x.as_bytes(), y.as_bytes()),
+        _ => Ok(None),
+    }
+}
+
+fn answer_one(alloc: Global, name: &str, x: &[u8]) -> M<Option<Text>> {
+    match op1(name) {
+        Some(op) => value_text(alloc, one::<Brand>(alloc, op, x, Blank::new(1))),
+        None => Ok(None),
+    }
+}
+
+fn answer_two(alloc: Global, name: &str, x: &[u8], y: &[u8]) -> M<Option<Text>> {
+    match op2(name) {
+        Some(op) => value_text(alloc, two::<Brand>(alloc, op, x, y, Blank::new(1))),
+        None => Ok(None),
+    }
+}
+
+fn one<L: Ledger>(alloc: Global, op: Op1, x: &[u8], blank: Blank) -> Result<Text, Raise>
+    requires name { blank.name ≡ L.name }
+    requires parts { blank.parts ≡ L.parts }
+    requires some { 0 < blank.parts }
+{
+    let mut steps = Steps::<L>::new(blank);
+    apply1(alloc, op, x, &mut steps)
+}
+
+fn two<L: Ledger>(alloc: Global, op: Op2, x: &[u8], y: &[u8], blank: Blank) -> Result<Text, Raise>
+    requires name { blank.name ≡ L.name }
+    requires parts { blank.parts ≡ L.parts }
+    requires some { 0 < blank.parts }
+{
+    let mut steps = Steps::<L>::new(blank);
+    apply2(alloc, op, x, y, &mut steps)
+}
+
+fn op1(name: &str) -> Option<Op1> {
+    match name {
+        "Plus" => Some(Op1::Plus),
+        "Neg" => Some(Op1::Neg),
+        "BitNot" => Some(Op1::BitNot),
+        "Not" => Some(Op1::Not),
+        _ => None,
+    }
+}
+
+fn op2(name: &str) -> Option<Op2> {
+    match name {
+        "Mul" => Some(Op2::Mul),
+        "Div" => Some(Op2::Div),
+        "Mod" => Some(Op2::Mod),
+        "Add" => Some(Op2::Add),
+        "Sub" => Some(Op2::Sub),
+        "Shl" => Some(Op2::Shl),
+        "Shr" => Some(Op2::Shr),
+        "Less" => Some(Op2::Less),
+        "Greater" => Some(Op2::Greater),
+        "AtMost" => Some(Op2::AtMost),
+        "AtLeast" => Some(Op2::AtLeast),
+        "NumEq" => Some(Op2::NumEq),
+        "NumNe" => Some(Op2::NumNe),
+        _ => text_op(name),
+    }
+}
+
+fn text_op(name: &str) -> Option<Op2> {
+    match name {
+        "TextEq" => Some(Op2::TextEq),
+        "TextNe" => Some(Op2::TextNe),
+        "Contains" => Some(Op2::Contains),
+        "StartsWith" => Some(Op2::StartsWith),
+        "EndsWith" => Some(Op2::EndsWith),
+        "MatchesGlob" => Some(Op2::MatchesGlob),
+        "BitAnd" => Some(Op2::BitAnd),
+        "BitXor" => Some(Op2::BitXor),
+        "BitOr" => Some(Op2::BitOr),
+        _ => None,
+    }
+}
+
+fn value_text(alloc: Global, value: Result<Text, Raise>) -> M<Option<Text>> {
+    match value {
+        Ok(text) => {
+            let mut out = Text::new(alloc, b"ok ")?;
+            out.push(print_hex(alloc, text.as_bytes())?.as_bytes())?;
+            Ok(Some(out))
+        }
+        Err(Raise::Fault(fault)) => Ok(Some(fault_text(alloc, &fault)?)),
+        Err(Raise::Memory) => Err(Memory),
+    }
+}
+
+fn fault_text(alloc: Global, fault: &TclFault) -> M<Text> {
+    let kind = fault.kind as u8;
+    let mut out = Text::from_vec(format!(in alloc; "fault {kind} ")?.into_bytes());
+    out.push(print_hex(alloc, fault.text.as_bytes())?.as_bytes())?;
+    Ok(out)
+}
