@@ -16,7 +16,7 @@ use Rattle.proxy.specs.Stops.{StoppedText, StoppedEvent}
 use Rattle.proxy.specs.Written.{Stands, IsLast, IsReport, WritesFront, WritesFrontOf}
 use Rattle.proxy.specs.Replayed.{Reports, ReplaysAll, MeetsFault, MeetsRefusal, Replayed, Finished, FinishFault}
 use Rattle.proxy.proofs.ConnectionLines.{lines_same}
-use Rattle.proxy.proofs.Stopping.{told_twice, front_more, stands_front}
+use Rattle.proxy.proofs.Stopping.{told_twice, front_more, front_of, written_front, front_longer}
 
 pub rose_earlier : (a b c : ℕ) → a ≤ b → Rose b c → Rose a c
 rose_earlier a b c h (inl k) = inl (omega (arith, h, k))
@@ -37,11 +37,11 @@ reports C r text number last old mid new s w = record {
 }
 
 -- a part of its end was written
-part_written : (C : configured.Config) (r : Replay) (text rest : List ℕ) (number : ℕ) (last : List ℕ) (old mid new : Option (List ℕ)) (s : Stands C text number r.core r.taken.items r.events old mid) → IsLast (length s.past) last → WritesFrontOf (conns_text r.core r.taken.items ++ last) mid new → WritesFront C (text ++ rest) old new
-part_written C r text rest number last old mid new s is w =
+part_written : (C : configured.Config) (r : Replay) (schedule text rest : List ℕ) (number : ℕ) (last : List ℕ) (old mid new : Option (List ℕ)) (s : Stands C text number r.core r.taken.items r.events old mid) → schedule ≡ text ++ rest → IsLast C s.past s.state number rest last → WritesFrontOf (conns_text r.core r.taken.items ++ last) mid new → WritesFront C schedule old new
+part_written C r schedule text rest number last old mid new s e is w =
     let P : List ℕ → Type 0 = λ l. WritesFrontOf l mid new in (
       report_text s.past s.state last,
-      record { past = s.past; state = s.state; leads = s.represents.sound.leads; read = text; rest = rest; front = refl; number = number; reads = s.reads; last = last; is_last = is; text_is = refl },
+      inr (record { past = s.past; state = s.state; of_front = front_of C text rest schedule number r.core r.taken.items r.events old mid e s; last = last; is_last = is; text_is = refl }),
       front_more (past_text s.past) (connections_text s.past s.state (accepted s.past) ++ last) old mid new s.written (subst P (ends_same C r text number last old mid s) w),
     )
 
@@ -56,17 +56,15 @@ fault_replayed C schedule old new before between now Memory h f w = inr w
 
 -- by what became of the end of the report
 ended : (C : configured.Config) (schedule : List ℕ) (r : Replay) (text rest : List ℕ) (number : ℕ) (last : Result (List ℕ) want.Memory) (old mid new : Option (List ℕ)) (before between now : ℕ) (end : End) (res : Result (Unit {0}) End) → schedule ≡ text ++ rest
-    → (s : Stands C text number r.core r.taken.items r.events old mid) → before ≤ between → IfOk last (λ l. IsLast (length s.past) l)
+    → (s : Stands C text number r.core r.taken.items r.events old mid) → before ≤ between → IfOk last (λ l. IsLast C s.past s.state number rest l)
     → IfOk last (λ l. Reports C s.past s.state text number l old new → Replayed C schedule old new before now end)
     → Finished r last mid new between now res → Replayed C schedule old new before now (end_unless end res)
 ended C schedule r text rest number (Ok last) old mid new before between now end (Ok u) e s h i k f = k (reports C r text number last old mid new s f)
 ended C schedule r text rest number (Ok last) old mid new before between now end (Err x) e s h i k f =
-    let P : List ℕ → Type 0 = λ t. WritesFront C t old new in
-    fault_replayed C schedule old new before between now x h f.0 (subst P (sym e) (part_written C r text rest number last old mid new s i f.1))
+    fault_replayed C schedule old new before between now x h f.0 (part_written C r schedule text rest number last old mid new s e i f.1)
 ended C schedule r text rest number (Err w) old mid new before between now end (Ok u) e s h i k f = absurd f
 ended C schedule r text rest number (Err w) old mid new before between now end (Err x) e s h i k f =
-    let P : List ℕ → Type 0 = λ t. WritesFront C t old mid in
-    rw (f.0, f.1) (inr (subst P (sym e) (stands_front C text rest number r.core r.taken.items r.events old mid s)))
+    rw (f.0, f.1) (inr (front_longer C text rest schedule old mid e (written_front C text number r.core r.taken.items r.events old mid s)))
 
 if_ok : {T : Type 0} (r : Result T want.Memory) (P Q : T → Type 0) → ((x : T) → P x → Q x) → IfOk r P → IfOk r Q
 if_ok (Ok x) P Q f h = f x h
@@ -77,7 +75,7 @@ pub done_replayed : (C : configured.Config) (schedule : List ℕ) (r : Replay) (
 done_replayed C schedule r last old mid new before between now res (number, s) h i f =
     let is : (l : List ℕ) → l ≡ end_text r.events → l ≡ end_text (length s.past) = λ l e. e ∙ ap end_text s.count in
     ended C schedule r schedule [] number last old mid new before between now Done res (sym (append-nil schedule)) s h
-    (if_ok last (λ l. l ≡ end_text r.events) (λ l. IsLast (length s.past) l) (λ l e. inl (is l e)) i)
+    (if_ok last (λ l. l ≡ end_text r.events) (λ l. IsLast C s.past s.state number [] l) (λ l e. inl (refl, is l e)) i)
     (if_ok last (λ l. l ≡ end_text r.events) (λ l. Reports C s.past s.state schedule number l old new → ReplaysAll C schedule old new)
     (λ l e k. record { past = s.past; state = s.state; number = number; reports = (let P : List ℕ → Type 0 = λ x. Reports C s.past s.state schedule number x old new in subst P (is l e) k) }) i) f
 
@@ -87,7 +85,7 @@ text_replayed C schedule r line last old mid new before between now res k h i f 
     let s = k.stands in
     let is : (l : List ℕ) → l ≡ text_fault line 6 → l ≡ text_fault (k.number + 1) 6 = λ l e. e ∙ ap (λ n. text_fault n 6) k.line_is in
     ended C schedule r k.text k.rest k.number last old mid new before between now Schedule res k.schedule_is s h
-    (if_ok last (λ l. l ≡ text_fault line 6) (λ l. IsLast (length s.past) l) (λ l e. inr (inl (line, e))) i)
+    (if_ok last (λ l. l ≡ text_fault line 6) (λ l. IsLast C s.past s.state k.number k.rest l) (λ l e. inr (inl (k.faulty, is l e))) i)
     (if_ok last (λ l. l ≡ text_fault line 6) (λ l. Reports C s.past s.state k.text k.number l old new → Replayed C schedule old new before now Schedule)
     (λ l e x. inl (record { past = s.past; state = s.state; text = k.text; rest = k.rest; schedule_is = k.schedule_is; number = k.number; faulty = k.faulty; reports = (let P : List ℕ → Type 0 = λ y. Reports C s.past s.state k.text k.number y old new in subst P (is l e) x) })) i) f
 
@@ -97,6 +95,6 @@ event_replayed C schedule r line why last old mid new before between now res k h
     let s = k.stands in
     let is : (l : List ℕ) → l ≡ event_fault line why → l ≡ event_fault (k.number + 1) why = λ l e. e ∙ ap (λ n. event_fault n why) k.line_is in
     ended C schedule r k.text k.rest k.number last old mid new before between now Schedule res k.schedule_is s h
-    (if_ok last (λ l. l ≡ event_fault line why) (λ l. IsLast (length s.past) l) (λ l e. inr (inr (line, why, e))) i)
+    (if_ok last (λ l. l ≡ event_fault line why) (λ l. IsLast C s.past s.state k.number k.rest l) (λ l e. inr (inr (why, k.refuses, is l e))) i)
     (if_ok last (λ l. l ≡ event_fault line why) (λ l. Reports C s.past s.state k.text k.number l old new → Replayed C schedule old new before now Schedule)
     (λ l e x. inr (record { past = s.past; state = s.state; text = k.text; rest = k.rest; schedule_is = k.schedule_is; number = k.number; why = why; refuses = k.refuses; reports = (let P : List ℕ → Type 0 = λ y. Reports C s.past s.state k.text k.number y old new in subst P (is l e) x) })) i) f

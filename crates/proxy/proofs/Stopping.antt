@@ -2,6 +2,7 @@
 use Rattle.std.proofs.Common.{◌≡◌, ℕ, ◌+◌, ◌≤◌, ◌<◌, List, [], ◌∷◌, ◌++◌, Option, Some, None, Result, Ok, Err, IfErr, OnErr, IsErrAnd, length, take, refl, sym, ap, ◌∙◌, arith, append_assoc, zero-add, suc-add, drop, get_or, subst, inl, inr}
 use Rattle.std.proofs.Math.Seq.{drop-cons}
 use Rattle.std.proofs.lemmas.List.{append-nil, take-append-le}
+use Rattle.std.proofs.Math.Seq.{take-length}
 use Rattle.px_outside.specs.Outside.{told_more, AddsPrefix}
 use Rattle.px_outside.specs.declared.failed.Failed.{Failed}
 use Rattle.px_outside.specs.declared.failed.Failed.TheVariants as failed
@@ -23,7 +24,7 @@ use Rattle.proxy.specs.Replay.{past_text, accepted, connections_text, conn_text,
 use Rattle.proxy.specs.Report.{note_lines, end_text}
 use Rattle.proxy.specs.Stops.{stop_of, with_line}
 use Rattle.proxy.specs.Taken.{took_of, with_took}
-use Rattle.proxy.specs.Written.{Stands, IsReport, WritesFront, WritesFrontOf}
+use Rattle.proxy.specs.Written.{Stands, IsFront, IsNotes, WritesNotes, WritesFront, WritesFrontOf}
 use Rattle.proxy.proofs.TakenKept.{taken_kept}
 
 -- an error that is want of memory
@@ -37,52 +38,49 @@ not_written f (Ok x) P e h k = tt
 not_written failed.Failed (Err x) P e h k = subst P (sym e) h
 not_written failed.Memory (Err x) P e h k = subst P (sym e) k
 
-take_front : (a b : List ℕ) → take (length a) (a ++ b) ≡ a
-take_front [] b = refl
-take_front (x ∷ a) b = ap (λ l. x ∷ l) (take_front a b)
-
-take_past : (n : ℕ) (a b c : List ℕ) → n ≤ length b → take (length a + n) (a ++ (b ++ c)) ≡ a ++ take n b
-take_past n [] b c h = rw (zero-add n) (take-append-le n b c h)
-take_past n (x ∷ a) b c h = rw (suc-add (length a) n) (ap (λ l. x ∷ l) (take_past n a b c h))
-
 pub told_twice : (o : Option (List ℕ)) (a b : List ℕ) → told_more (told_more o a) b ≡ told_more o (a ++ b)
 told_twice None a b = refl
 told_twice (Some x) a b = ap Some (append_assoc x a b)
 
--- what stands has written a prefix of a report
-pub stands_front : (C : Config) (text rest : List ℕ) (number : ℕ) (core : Core) (taken : List Taken) (events : ℕ) (old new : Option (List ℕ)) → Stands C text number core taken events old new → WritesFront C (text ++ rest) old new
-stands_front C text rest number core taken events old new s =
-    let last = end_text (length s.past) in (
-      report_text s.past s.state last,
-      record { past = s.past; state = s.state; leads = s.represents.sound.leads; read = text; rest = rest; front = refl; number = number; reads = s.reads; last = last; is_last = inl refl; text_is = refl },
-      (length (past_text s.past), s.written ∙ ap (told_more old) (sym (take_front (past_text s.past) _))),
-    )
+take_plus : (a b : List ℕ) (n : ℕ) → take (length a + n) (a ++ b) ≡ a ++ take n b
+take_plus [] b n = rw (zero-add n) refl
+take_plus (x ∷ a) b n = rw (suc-add (length a) n) (ap (λ l. x ∷ l) (take_plus a b n))
+
+-- all of the first text and a prefix of the second
+pub front_more : (a b : List ℕ) (old mid new : Option (List ℕ)) → mid ≡ told_more old a → WritesFrontOf b mid new → WritesFrontOf (a ++ b) old new
+front_more a b old mid new e w =
+    (length a + w.0, w.1 ∙ ap (λ o. told_more o (take w.0 b)) e ∙ told_twice old a (take w.0 b) ∙ ap (told_more old) (sym (take_plus a b w.0)))
+
+-- the front of a schedule that was read
+abbrev pub front_of : (C : Config) (text rest whole : List ℕ) (number : ℕ) (core : Core) (taken : List Taken) (events : ℕ) (old new : Option (List ℕ)) → whole ≡ text ++ rest → (s : Stands C text number core taken events old new) → IsFront C whole s.past s.state
+front_of C text rest whole number core taken events old new is s = record { leads = s.represents.sound.leads; read = text; rest = rest; front = is; number = number; reads = s.reads }
+
+-- what stands has written the notes of it
+pub stands_front : (C : Config) (text rest : List ℕ) (number : ℕ) (core : Core) (taken : List Taken) (events : ℕ) (old new : Option (List ℕ)) → Stands C text number core taken events old new → WritesNotes C (text ++ rest) old new
+stands_front C text rest number core taken events old new s = (
+  past_text s.past,
+  record { past = s.past; state = s.state; of_front = front_of C text rest (text ++ rest) number core taken events old new refl s; text_is = refl },
+  (length (past_text s.past), s.written ∙ ap (told_more old) (sym (take-length (past_text s.past)))),
+)
 
 -- the same of just what was read
-pub written_front : (C : Config) (text : List ℕ) (number : ℕ) (core : Core) (taken : List Taken) (events : ℕ) (old new : Option (List ℕ)) → Stands C text number core taken events old new → WritesFront C text old new
+pub written_front : (C : Config) (text : List ℕ) (number : ℕ) (core : Core) (taken : List Taken) (events : ℕ) (old new : Option (List ℕ)) → Stands C text number core taken events old new → WritesNotes C text old new
 written_front C text number core taken events old new s =
-    let w = stands_front C text [] number core taken events old new s in
-    let P : List ℕ → Type 0 = λ x. WritesFront C x old new in subst P (append-nil text) w
+    let P : List ℕ → Type 0 = λ x. WritesNotes C x old new in subst P (append-nil text) (stands_front C text [] number core taken events old new s)
 
 -- the same of a longer schedule
-pub front_longer : (C : Config) (text rest whole : List ℕ) (old new : Option (List ℕ)) → whole ≡ text ++ rest → WritesFront C text old new → WritesFront C whole old new
-front_longer C text rest whole old new is w = (
-  w.0,
-  record {
-    past = w.1.past;
-    state = w.1.state;
-    leads = w.1.leads;
-    read = w.1.read;
-    rest = w.1.rest ++ rest;
-    front = is ∙ ap (λ x. x ++ rest) w.1.front ∙ append_assoc w.1.read w.1.rest rest;
-    number = w.1.number;
-    reads = w.1.reads;
-    last = w.1.last;
-    is_last = w.1.is_last;
-    text_is = w.1.text_is;
-  },
-  w.2,
-)
+pub front_longer : (C : Config) (text rest whole : List ℕ) (old new : Option (List ℕ)) → whole ≡ text ++ rest → WritesNotes C text old new → WritesFront C whole old new
+front_longer C text rest whole old new is w =
+    let f = w.1.of_front in (
+      w.0,
+      inl (record {
+        past = w.1.past;
+        state = w.1.state;
+        of_front = record { leads = f.leads; read = f.read; rest = f.rest ++ rest; front = is ∙ ap (λ x. x ++ rest) f.front ∙ append_assoc f.read f.rest rest; number = f.number; reads = f.reads };
+        text_is = w.1.text_is;
+      }),
+      w.2,
+    )
 
 -- one more event with its notes
 pub record Given (core new : Core) (event : Event) (group : List Note) : Type 0 where
@@ -119,31 +117,21 @@ stands_next C text line number core next event group taken kept events told old 
 
 -- a prefix of its notes' lines
 pub front_in_notes : (C : Config) (text line : List ℕ) (number : ℕ) (core next : Core) (event : Event) (group : List Note) (taken : List Taken) (events : ℕ) (told old new : Option (List ℕ)) → Given core next event group
-    → (s : Stands C text number core taken events told old) → IsLine line → Gives line (events_of s.past) event → AddsPrefix (note_lines group) old new → WritesFront C (with_line text line) told new
+    → (s : Stands C text number core taken events told old) → IsLine line → Gives line (events_of s.past) event → AddsPrefix (note_lines group) old new → WritesNotes C (with_line text line) told new
 front_in_notes C text line number core next event group taken events told old new g s is gives w =
     let k = after C s.past s.state core next event group s.represents g in
     let past : Past = record { event = event; group = group } ∷ s.past in
-    let last = end_text (length past) in
-    let rest : List ℕ = connections_text past k.next (accepted past) ++ last in (
-      report_text past k.next last,
-      record {
-        past = past;
-        state = k.next;
-        leads = k.represents.sound.leads;
-        read = with_line text line;
-        rest = [];
-        front = sym (append-nil (with_line text line));
-        number = number + 1;
-        reads = more_lines text line number event (events_of s.past) s.reads is gives;
-        last = last;
-        is_last = inl refl;
-        text_is = refl;
-      },
-      (
-        length (past_text s.past) + w.taken,
-        w.written ∙ ap (λ o. told_more o (take w.taken (note_lines group))) s.written ∙ told_twice told (past_text s.past) (take w.taken (note_lines group))
-            ∙ ap (told_more told) (sym (ap (take (length (past_text s.past) + w.taken)) (append_assoc (past_text s.past) (note_lines group) rest) ∙ take_past w.taken (past_text s.past) (note_lines group) rest (omega (arith, w.not_all)))),
-      ),
+    let front : IsFront C (with_line text line) past k.next = record {
+      leads = k.represents.sound.leads;
+      read = with_line text line;
+      rest = [];
+      front = sym (append-nil (with_line text line));
+      number = number + 1;
+      reads = more_lines text line number event (events_of s.past) s.reads is gives;
+    } in (
+      past_text past,
+      record { past = past; state = k.next; of_front = front; text_is = refl },
+      front_more (past_text s.past) (note_lines group) told old new s.written (w.taken, w.written),
     )
 
 told_none : (o : Option (List ℕ)) → o ≡ told_more o []
@@ -166,18 +154,9 @@ stands_first C core taken told r none = record {
 pub only_group : (empty now : List Note) (group : List Note) → empty ≡ [] → now ≡ empty ++ group → now ≡ group
 only_group empty now group e n = n ∙ ap (λ l. l ++ group) e
 
-take_plus : (a b : List ℕ) (n : ℕ) → take (length a + n) (a ++ b) ≡ a ++ take n b
-take_plus [] b n = rw (zero-add n) refl
-take_plus (x ∷ a) b n = rw (suc-add (length a) n) (ap (λ l. x ∷ l) (take_plus a b n))
-
 -- nothing is a prefix of every text
 pub front_none : (text : List ℕ) (old : Option (List ℕ)) → WritesFrontOf text old old
 front_none text old = (0, told_none old)
-
--- all of the first text and a prefix of the second
-pub front_more : (a b : List ℕ) (old mid new : Option (List ℕ)) → mid ≡ told_more old a → WritesFrontOf b mid new → WritesFrontOf (a ++ b) old new
-front_more a b old mid new e w =
-    (length a + w.0, w.1 ∙ ap (λ o. told_more o (take w.0 b)) e ∙ told_twice old a (take w.0 b) ∙ ap (told_more old) (sym (take_plus a b w.0)))
 
 -- a part of the first text
 pub front_part : (a b : List ℕ) (old new : Option (List ℕ)) → AddsPrefix a old new → WritesFrontOf (a ++ b) old new

@@ -17,7 +17,7 @@ use Rattle.proxy.specs.declared.end.End.TheVariants.{
 use Rattle.proxy.specs.Command.{Named, replay_of}
 use Rattle.proxy.specs.Config.{Loads}
 use Rattle.proxy.specs.Report.{config_fault, usage_fault}
-use Rattle.proxy.specs.Written.{IsReport, WritesFrontOf}
+use Rattle.proxy.specs.Written.{IsWritten, WritesFrontOf}
 use Rattle.proxy.specs.Replayed.{Replayed}
 
 abbrev pub end_of_read : Failed → End
@@ -42,14 +42,14 @@ pub record IsRefused (told : List ℕ → Option (List ℕ)) (named : Named) : T
   pub contents : IsContents told named.config bytes
   pub refused : (C : configured.Config) → Loads bytes C → ⊥
 
--- the text that is due for files that are read: the fault of a configuration that doesn't load, or
--- a report of one that does
+-- the text that is due for files that are read: the fault of a configuration that doesn't load; or,
+-- of one that does, the notes of a front of the schedule, or the whole report of it
 abbrev pub IsDue : (List ℕ → Option (List ℕ)) → Named → List ℕ → Type 0
 IsDue told named text =
     (IsRefused told named × (text ≡ config_fault 9 (codes "config")))
     ⊎ ((bytes : List ℕ) × (C : configured.Config) × IsContents told named.config bytes
     × Loads bytes C × (schedule : List ℕ) × IsContents told named.schedule schedule
-    × IsReport C schedule text)
+    × IsWritten C schedule text)
 
 abbrev pub WritesDue : (List ℕ → Option (List ℕ)) → Named → Option (List ℕ) → Option (List ℕ)
     → Type 0

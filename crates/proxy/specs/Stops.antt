@@ -12,7 +12,7 @@ use Rattle.proxy.specs.declared.taken.Taken.{Taken}
 use Rattle.proxy.specs.declared.replay.Stop.{Stop}
 use Rattle.proxy.specs.declared.replay.Stop.TheVariants.{Text, Event as Refused, WriteFault, Memory}
 use Rattle.proxy.specs.Lines.{IsLine, Gives, GivesNone, Faulty, Refuses, events_of}
-use Rattle.proxy.specs.Written.{Stands, WritesFront}
+use Rattle.proxy.specs.Written.{Stands, WritesNotes, WritesFront}
 
 abbrev pub stop_of : Failed → Stop
 stop_of failed.Failed = WriteFault
@@ -23,7 +23,7 @@ abbrev pub with_line : List ℕ → List ℕ → List ℕ
 with_line text line = text ++ (line ++ 10 ∷ [])
 
 -- At an event of a line that may follow what was read: the notes so far are written and nothing
--- else, and the scheduler refuses the event; or a prefix of a report is written.
+-- else, and the scheduler refuses the event; or a prefix of notes is written.
 abbrev pub StoppedAtEvent : Config → (text line : List ℕ) → (number : ℕ) → (at : ℕ) → Event → Core
     → List Taken → ℕ → Option (List ℕ) → Option (List ℕ) → Stop → Type 0
 StoppedAtEvent C text line number at event core taken events old new (Text l) = ⊥
@@ -31,11 +31,11 @@ StoppedAtEvent C text line number at event core taken events old new (Refused l 
     (l ≡ at) × ((st : Stands C text number core taken events old new)
     × Gives line (events_of st.past) event × (refused C st.past st.state event ≡ Some why))
 StoppedAtEvent C text line number at event core taken events old new WriteFault =
-    WritesFront C (with_line text line) old new
+    WritesNotes C (with_line text line) old new
 StoppedAtEvent C text line number at event core taken events old new Memory =
-    WritesFront C (with_line text line) old new
+    WritesNotes C (with_line text line) old new
 
--- At a line: it gives no event, or its event is refused; or a prefix of a report is written.
+-- At a line: it gives no event, or its event is refused; or a prefix of notes is written.
 abbrev pub StoppedAtLine : Config → (text line : List ℕ) → (number : ℕ) → (at : ℕ) → Core
     → List Taken → ℕ → Option (List ℕ) → Option (List ℕ) → Stop → Type 0
 StoppedAtLine C text line number at core taken events old new (Text l) =
@@ -45,9 +45,9 @@ StoppedAtLine C text line number at core taken events old new (Refused l why) =
     (l ≡ at) × ((st : Stands C text number core taken events old new) × (event : Event)
     × Gives line (events_of st.past) event × (refused C st.past st.state event ≡ Some why))
 StoppedAtLine C text line number at core taken events old new WriteFault =
-    WritesFront C (with_line text line) old new
+    WritesNotes C (with_line text line) old new
 StoppedAtLine C text line number at core taken events old new Memory =
-    WritesFront C (with_line text line) old new
+    WritesNotes C (with_line text line) old new
 
 -- What stands after an event of a line that may follow what was read.
 abbrev pub GoesOnWith : Event → (before after : Core) → (taken taken' : List Taken)

@@ -1,5 +1,5 @@
 -- What a replay has read and written so far.
-use Rattle.std.specs.Prelude.{◌≡◌, ◌⊎◌, ℕ, List, ◌++◌, length, take, Option}
+use Rattle.std.specs.Prelude.{◌≡◌, ◌⊎◌, ℕ, ◌+◌, List, [], ◌++◌, length, take, Option}
 use Rattle.px_outside.specs.Outside.{told_more}
 use Rattle.proxy_core.specs.Moves.{Leads}
 use Rattle.proxy_core.specs.Past.{Past}
@@ -9,7 +9,7 @@ use Rattle.proxy_core.specs.declared.config.Config.{Config}
 use Rattle.proxy_core.specs.declared.core_state.Core.{Core}
 use Rattle.proxy_core.specs.declared.event.BadEvent.{BadEvent}
 use Rattle.proxy.specs.declared.taken.Taken.{Taken}
-use Rattle.proxy.specs.Lines.{Reads, events_of}
+use Rattle.proxy.specs.Lines.{Reads, Faulty, Refuses, events_of}
 use Rattle.proxy.specs.Replay.{past_text, accepted, taken_of, report_text}
 use Rattle.proxy.specs.Report.{end_text, text_fault, event_fault}
 
@@ -25,31 +25,52 @@ pub record Stands (C : Config) (text : List ℕ) (number : ℕ) (core : Core) (t
   pub taken_is : taken ≡ taken_of past state (accepted past)
   pub written : new ≡ told_more old (past_text past)
 
--- the last line of a report of so many events
-abbrev pub IsLast : ℕ → List ℕ → Type 0
-IsLast events last =
-    (last ≡ end_text events) ⊎ ((line : ℕ) × (last ≡ text_fault line 6))
-    ⊎ ((line : ℕ) × (why : BadEvent) × (last ≡ event_fault line why))
+-- the last line of a report of this past, behind whose lines stands this rest of the schedule: how
+-- many events there were, or the first faulty line, with its number
+abbrev pub IsLast : Config → Past → State → (number : ℕ) → (rest : List ℕ) → List ℕ → Type 0
+IsLast C past s number rest last =
+    ((rest ≡ []) × (last ≡ end_text (length past)))
+    ⊎ (Faulty (events_of past) rest × (last ≡ text_fault (number + 1) 6))
+    ⊎ ((why : BadEvent) × Refuses C past s why rest × (last ≡ event_fault (number + 1) why))
 
--- a report of this configuration and a front of this schedule
-pub record IsReport (C : Config) (schedule : List ℕ) (text : List ℕ) : Type 0 where
-  pub past : Past
-  pub state : State
+-- a past of this configuration, whose events are those of a front of this schedule
+pub record IsFront (C : Config) (schedule : List ℕ) (past : Past) (state : State) : Type 0 where
   pub leads : Leads C past state
   pub read : List ℕ
   pub rest : List ℕ
   pub front : schedule ≡ read ++ rest
   pub number : ℕ
   pub reads : Reads read number (events_of past)
+
+-- the notes of such a past
+pub record IsNotes (C : Config) (schedule text : List ℕ) : Type 0 where
+  pub past : Past
+  pub state : State
+  pub of_front : IsFront C schedule past state
+  pub text_is : text ≡ past_text past
+
+-- the whole report that is due for this schedule, with its last line
+pub record IsReport (C : Config) (schedule text : List ℕ) : Type 0 where
+  pub past : Past
+  pub state : State
+  pub of_front : IsFront C schedule past state
   pub last : List ℕ
-  pub is_last : IsLast (length past) last
+  pub is_last : IsLast C past state of_front.number of_front.rest last
   pub text_is : text ≡ report_text past state last
+
+abbrev pub IsWritten : Config → List ℕ → List ℕ → Type 0
+IsWritten C schedule text = IsNotes C schedule text ⊎ IsReport C schedule text
 
 -- a prefix of the text was written, all of it or less
 abbrev pub WritesFrontOf : List ℕ → Option (List ℕ) → Option (List ℕ) → Type 0
 WritesFrontOf text old new = (n : ℕ) × (new ≡ told_more old (take n text))
 
--- a prefix of such a report was written
+-- a prefix of the notes of some lines was written
+abbrev pub WritesNotes : Config → List ℕ → Option (List ℕ) → Option (List ℕ) → Type 0
+WritesNotes C schedule old new =
+    (text : List ℕ) × IsNotes C schedule text × WritesFrontOf text old new
+
+-- a prefix of such notes, or of the whole report
 abbrev pub WritesFront : Config → List ℕ → Option (List ℕ) → Option (List ℕ) → Type 0
 WritesFront C schedule old new =
-    (text : List ℕ) × IsReport C schedule text × WritesFrontOf text old new
+    (text : List ℕ) × IsWritten C schedule text × WritesFrontOf text old new
