@@ -1,5 +1,6 @@
 -- The items of a body: its acts one after another, and then its end.
-use Rattle.std.proofs.Common.{◌≡◌, refl, sym, ap, ◌∙◌, ℕ, ◌+◌, List, [], ◌∷◌, ◌++◌, None, Some, length, map, append_assoc, arith}
+use Rattle.std.proofs.Common.{◌≡◌, refl, sym, ap, ◌∙◌, ℕ, ◌+◌, List, [], ◌∷◌, ◌++◌, None, Some}
+use Rattle.std.proofs.Common.{length, map, append_assoc, arith}
 use Rattle.std.specs.Prelude.{slice_get}
 use Rattle.std.proofs.lemmas.List.{length-append}
 use Rattle.std.proofs.lemmas.Option.{slice_get_past}
@@ -7,7 +8,10 @@ use Rattle.rule_model.specs.Evaluator.{Act, Code, State, Outcome, Ends, Waits as
 use Rattle.rule_model.specs.Laws.{state_after}
 use Rattle.connection_model.specs.Setup.{Handler, Setup, uncaught_of}
 use Rattle.connection_model.specs.Item.{Ran}
-use Rattle.connection_model.specs.Trace.{Bodies, Running, TraceState, Waits, ForReply, EventRun, accepted_run, selecting_run, closing_run, run_body, act_item, act_next, after_body, body_next, bodies_next, ended_next, next_item, Unfolds}
+use Rattle.connection_model.specs.Trace.{Bodies, Running, TraceState, Waits, ForReply, EventRun}
+use Rattle.connection_model.specs.Trace.{accepted_run, selecting_run, closing_run, run_body}
+use Rattle.connection_model.specs.Trace.{act_item, act_next, after_body, body_next, bodies_next}
+use Rattle.connection_model.specs.Trace.{ended_next, next_item, Unfolds}
 use Rattle.connection_model.proofs.Unfolding.{unfolds_on, unfolds_one}
 
 -- while the bodies of an event run, they say what comes next

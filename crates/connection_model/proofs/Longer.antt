@@ -1,5 +1,6 @@
 -- On a longer input the next item is the same, unless it waits.
-use Rattle.std.proofs.Common.{◌≡◌, refl, sym, ap, subst, ◌∙◌, ℕ, zero, suc, List, [], ◌∷◌, ◌++◌, Option, Some, None}
+use Rattle.std.proofs.Common.{◌≡◌, refl, sym, ap, subst, ◌∙◌, ℕ, zero, suc, List, [], ◌∷◌, ◌++◌}
+use Rattle.std.proofs.Common.{Option, Some, None}
 use Rattle.std.specs.Prelude.{slice_get}
 use Rattle.rule_model.specs.Evaluator.{Act, Outcome, Ends, Waits as Stops, state}
 use Rattle.rule_model.specs.Laws.{state_after, Lengthens}

@@ -6,13 +6,16 @@ use Rattle.tcl_vars.specs.Scopes.{Level, no_scopes, with_value}
 use Rattle.tcl_expr.specs.declared.tree.Tree.{Tree, Plain, Variable}
 use Rattle.tcl_expr.specs.declared.tree.Verb.TheVariants.{Set, Named}
 use Rattle.rule_model.specs.Host as effect
-use Rattle.rule_model.specs.Evaluator.{Value, Did, Outcome, Ends, Meaning, state, in_order, join_pieces, command, commands, eval, evaluate}
+use Rattle.rule_model.specs.Evaluator.{Value, Did, Outcome, Ends, Meaning, state, in_order}
+use Rattle.rule_model.specs.Evaluator.{join_pieces, command, commands, eval, evaluate}
 use Rattle.rule_model.proofs.Trees.{IsWord, IsCommand, IsBody, word_is, command_is, body_is}
 use Rattle.connection_model.specs.Event.{EventName, ClientAccepted}
 use Rattle.connection_model.specs.Setup.{Handler, Setup, body_setting}
 use Rattle.connection_model.specs.Item.{Item, BeforeBodies, ToClient, Opened, Sent, Ran, Finished}
 use Rattle.connection_model.specs.declared.note.Cause.TheVariants.{Unselected}
-use Rattle.connection_model.specs.Trace.{TraceState, Next, Over, Accepted, Running, Finishing, Draining, accepted_run, body_next, next_item, Unfolds, trace_from, trace, no_stream, no_answers, start}
+use Rattle.connection_model.specs.Trace.{TraceState, Next, Over, Accepted, Running, Finishing}
+use Rattle.connection_model.specs.Trace.{Draining, accepted_run, body_next, next_item, Unfolds}
+use Rattle.connection_model.specs.Trace.{trace_from, trace, no_stream, no_answers, start}
 use Rattle.connection_model.proofs.Unfolding.{trace_unfolds}
 
 -- the body is the tree of the row

@@ -1,5 +1,6 @@
 -- Unfoldings: they agree, and the trace is made of them.
-use Rattle.std.proofs.Common.{◌≡◌, ◌⊎◌, inl, inr, refl, sym, ap, ◌∙◌, ℕ, zero, suc, ◌+◌, zero-add, List, [], ◌∷◌, ◌++◌, length, arith}
+use Rattle.std.proofs.Common.{◌≡◌, ◌⊎◌, inl, inr, refl, sym, ap, ◌∙◌, ℕ, zero, suc, ◌+◌, zero-add}
+use Rattle.std.proofs.Common.{List, [], ◌∷◌, ◌++◌, length, arith}
 use Rattle.connection_model.specs.Setup.{Setup}
 use Rattle.connection_model.specs.Item.{Item}
 use Rattle.connection_model.specs.Trace.{TraceState, Does, next_item, Unfolds, trace_from, trace}

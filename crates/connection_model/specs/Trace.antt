@@ -37,7 +37,8 @@ use Rattle.rule_model.specs.Evaluator as act
 use Rattle.rule_model.specs.Laws.{state_after}
 use Rattle.connection_model.specs.Event.{EventName, ClientAccepted, LbFailed, ClientClosed}
 use Rattle.connection_model.specs.Setup.{Handler, Setup, body_setting, uncaught_of, uncaught_line}
-use Rattle.connection_model.specs.Item.{BeforeBodies, Peer, ToClient, ToServer, Item, Opened, Ran, Called, Logged, Sent, Finished}
+use Rattle.connection_model.specs.Item.{BeforeBodies, Peer, ToClient, ToServer, Item, Opened, Ran}
+use Rattle.connection_model.specs.Item.{Called, Logged, Sent, Finished}
 use Rattle.connection_model.specs.declared.note.Cause.{Cause}
 use Rattle.connection_model.specs.declared.note.Cause.TheVariants.{Tcl, Unselected}
 

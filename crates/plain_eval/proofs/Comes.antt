@@ -1,5 +1,6 @@
 -- What the small steps say is what the evaluator comes to.
-use Rattle.std.proofs.Common.{◌≡◌, sym, ap, ℕ, ◌<◌, ◌≤◌, List, [], ◌∷◌, Bool, true, false, Option, Some, None, nat_lt, arith}
+use Rattle.std.proofs.Common.{◌≡◌, sym, ap, ℕ, ◌<◌, ◌≤◌, List, [], ◌∷◌, Bool, true, false, Option}
+use Rattle.std.proofs.Common.{Some, None, nat_lt, arith}
 use Rattle.std.specs.Prelude.{if◌then◌else◌, codes, Result, Ok, Err}
 use Rattle.std.specs.Bool.{MatchBool}
 use Rattle.std.proofs.lemmas.Bool.Decides.{nat_tests}
@@ -7,7 +8,8 @@ use Rattle.px_bytes.specs.FaultText.{no_variable, wrong_arity, too_long, static_
 use Rattle.px_bytes.specs.declared.fault.TclFault.{TclFault}
 use Rattle.tcl_vars.specs.Scopes.{Level, with_value, is_static, vars_bytes, vars_limit}
 use Rattle.tcl_vars.specs.Names.{Name, name_of}
-use Rattle.rule_model.specs.Evaluator.{Value, Raised, State, Outcome, Ends, Setting, value_of, read_as, set_in_room, set_as, set_command}
+use Rattle.rule_model.specs.Evaluator.{Value, Raised, State, Outcome, Ends, Setting, value_of}
+use Rattle.rule_model.specs.Evaluator.{read_as, set_in_room, set_as, set_command}
 use Rattle.plain_eval.specs.declared.stop.Stop.{Stop}
 use Rattle.plain_eval.specs.declared.stop.Stop.TheVariants as stop
 use Rattle.plain_eval.specs.Stand.{Stand, Matches, Gives, Fails, Reads, Stores, Assigns, Sets}

@@ -1,9 +1,12 @@
 -- Whatever the rest of a row comes to, the whole comes to.
-use Rattle.std.proofs.Common.{◌≡◌, refl, sym, ℕ, ◌+◌, ◌-◌, ◌<◌, ◌≤◌, List, [], ◌∷◌, ◌++◌, true, false, length, nat_lt, nat_eq, arith}
+use Rattle.std.proofs.Common.{◌≡◌, refl, sym, ℕ, ◌+◌, ◌-◌, ◌<◌, ◌≤◌, List, [], ◌∷◌, ◌++◌, true}
+use Rattle.std.proofs.Common.{false, length, nat_lt, nat_eq, arith}
 use Rattle.std.specs.Prelude.{sum_by, Result, Ok, Err}
 use Rattle.std.proofs.lemmas.Bool.Decides.{nat_tests}
 use Rattle.px_bytes.specs.FaultText.{too_long, budget_spent}
-use Rattle.rule_model.specs.Evaluator.{Act, Code, Value, Raised, Return, Break, Continue, State, Outcome, Ends, Waits, Meaning, then_value, in_order, commands, text_limit}
+use Rattle.rule_model.specs.Evaluator.{Act, Code, Value, Raised, Return, Break, Continue, State}
+use Rattle.rule_model.specs.Evaluator.{Outcome, Ends, Waits, Meaning, then_value, in_order}
+use Rattle.rule_model.specs.Evaluator.{commands, text_limit}
 use Rattle.plain_eval.specs.declared.stop.Stop.{Stop}
 use Rattle.plain_eval.specs.declared.stop.Stop.TheVariants as stop
 use Rattle.plain_eval.specs.Stand.{Stand, from, EndsAs, WaitsAs, Matches, Comes}

@@ -1,5 +1,6 @@
 -- The loops over a row of trees: whatever the trees that are left come to, the whole row comes to.
-use Rattle.std.proofs.Common.{◌≡◌, refl, sym, ap, ◌∙◌, ℕ, ◌+◌, ◌<◌, ◌≤◌, List, [], ◌∷◌, ◌++◌, length, drop, map, get_or, arith}
+use Rattle.std.proofs.Common.{◌≡◌, refl, sym, ap, ◌∙◌, ℕ, ◌+◌, ◌<◌, ◌≤◌, List, [], ◌∷◌, ◌++◌}
+use Rattle.std.proofs.Common.{length, drop, map, get_or, arith}
 use Rattle.std.specs.Prelude.{sum_by, Result, Ok, Err}
 use Rattle.std.specs.Result.{IsErr, IsErrAnd}
 use Rattle.std.proofs.lemmas.List.{drop_more, drop_all}
@@ -13,7 +14,8 @@ use Rattle.plain_eval.specs.declared.stop.Stop.{Stop}
 use Rattle.plain_eval.specs.declared.stop.Stop.TheVariants as stop
 use Rattle.plain_eval.specs.Stand.{Stand, stand, Comes, RowComes, Lengthens, Spends}
 use Rattle.plain_eval.specs.declared.context.Progress.{Progress}
-use Rattle.plain_eval.proofs.Rows.{row_goes, row_long, row_stops, command_goes, command_stops, command_unpaid, spent}
+use Rattle.plain_eval.proofs.Rows.{row_goes, row_long, row_stops, command_goes, command_stops}
+use Rattle.plain_eval.proofs.Rows.{command_unpaid, spent}
 
 -- the rest of a row of values, from a place on
 abbrev pub RowLeft : {H : Type 0} → Setting H → List Tree → Stand H → ℕ → List (List ℕ) → Stand H → Type 0

@@ -7,7 +7,8 @@ use Rattle.std.specs.declared.vec.Vec.{Vec}
 use Rattle.std.specs.declared.alloc.Global.{Global}
 use Rattle.tcl_expr.specs.declared.tree.Tree.{Tree, Word, Command, Body}
 use Rattle.tcl_expr.specs.declared.tree.Verb.{Verb}
-use Rattle.rule_model.specs.Evaluator.{Value, Setting, in_order, join_pieces, command, commands, eval}
+use Rattle.rule_model.specs.Evaluator.{Value, Setting, in_order, join_pieces, command, commands}
+use Rattle.rule_model.specs.Evaluator.{eval}
 use Rattle.rule_model.proofs.Trees.{evals_items}
 use Rattle.plain_eval.specs.declared.stop.Stop.{Stop}
 use Rattle.plain_eval.specs.Stand.{Stand, Comes, RowComes}

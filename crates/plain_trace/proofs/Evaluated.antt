@@ -1,5 +1,6 @@
 -- What a body that was evaluated says of the trace.
-use Rattle.std.proofs.Common.{◌≡◌, refl, sym, ap, subst, ◌∙◌, ℕ, List, [], ◌∷◌, ◌++◌, drop, length, map}
+use Rattle.std.proofs.Common.{◌≡◌, refl, sym, ap, subst, ◌∙◌, ℕ, List, [], ◌∷◌, ◌++◌, drop, length}
+use Rattle.std.proofs.Common.{map}
 use Rattle.std.proofs.Math.Seq.{drop-nil}
 use Rattle.rule_model.specs.Evaluator.{Code, Outcome, Ends, Waits, State}
 use Rattle.rule_model.specs.Laws.{state_after, state_seen, outcome_seen}
@@ -10,7 +11,8 @@ use Rattle.connection_model.specs.Setup.{Handler, Setup, uncaught_of}
 use Rattle.connection_model.specs.Item.{Item}
 use Rattle.connection_model.specs.Item as trace
 use Rattle.connection_model.specs.Trace.{Running, act_item, after_body, run_body, Unfolds}
-use Rattle.connection_model.proofs.BodyItems.{running, ended, all_acts_unfold, body_unfolds, body_waits}
+use Rattle.connection_model.proofs.BodyItems.{running, ended, all_acts_unfold, body_unfolds}
+use Rattle.connection_model.proofs.BodyItems.{body_waits}
 use Rattle.plain_trace.specs.declared.setup.PlainEvent.{PlainEvent}
 use Rattle.plain_trace.specs.declared.item.PlainItem.TheVariants as item
 use Rattle.plain_trace.specs.declared.recorder.Recorder.{Recorder}

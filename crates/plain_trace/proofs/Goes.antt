@@ -4,10 +4,12 @@ use Rattle.std.proofs.lemmas.List.{append-nil, map-append}
 use Rattle.connection_model.specs.Setup.{Setup}
 use Rattle.connection_model.specs.Item.{Item}
 use Rattle.connection_model.specs.Trace.{Bodies, Phase, Does, bodies_next, next_item}
-use Rattle.connection_model.proofs.BodyItems.{ByBodies, accepted_by_bodies, selecting_by_bodies, closing_by_bodies}
+use Rattle.connection_model.proofs.BodyItems.{ByBodies, accepted_by_bodies, selecting_by_bodies}
+use Rattle.connection_model.proofs.BodyItems.{closing_by_bodies}
 use Rattle.connection_model.proofs.Unfolding.{unfolds_on, unfolds_one}
 use Rattle.plain_trace.specs.declared.setup.PlainEvent.{PlainEvent}
-use Rattle.plain_trace.specs.declared.setup.PlainEvent.TheVariants.{ClientAccepted, LbFailed, ClientClosed}
+use Rattle.plain_trace.specs.declared.setup.PlainEvent.TheVariants.{ClientAccepted, LbFailed}
+use Rattle.plain_trace.specs.declared.setup.PlainEvent.TheVariants.{ClientClosed}
 use Rattle.plain_trace.specs.declared.item.PlainItem.{PlainItem}
 use Rattle.plain_trace.specs.declared.run.Run.{Run}
 use Rattle.plain_trace.specs.Setup.{event_of}

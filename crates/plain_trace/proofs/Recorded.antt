@@ -6,7 +6,8 @@ use Rattle.px_bytes.specs.declared.addr.Side.TheVariants as side
 use Rattle.rule_model.specs.Host as host
 use Rattle.rule_model.specs.Host.{Effect, HostStep, Gives, Faults, Asks}
 use Rattle.rule_model.specs.Evaluator.{Act, Did, Outcome, State, state, evaluate}
-use Rattle.rule_model.specs.Laws.{state_after, StepShows, ShowsActs, step_seen, outcome_seen, SeenAs}
+use Rattle.rule_model.specs.Laws.{state_after, StepShows, ShowsActs, step_seen, outcome_seen}
+use Rattle.rule_model.specs.Laws.{SeenAs}
 use Rattle.rule_model.proofs.Keeps.{eval_keeps}
 use Rattle.rule_model.proofs.Grown.{shows}
 use Rattle.rule_model.proofs.Seen.{eval_agrees}

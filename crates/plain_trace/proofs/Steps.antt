@@ -1,5 +1,6 @@
 -- The steps of an event: its gate, the line of a fault, and one body after another.
-use Rattle.std.proofs.Common.{◌≡◌, refl, sym, ap, ◌∙◌, ℕ, ◌+◌, ◌<◌, List, [], ◌∷◌, ◌++◌, Some, drop, length, get_or, map, arith, Bool, true, false, Option, None}
+use Rattle.std.proofs.Common.{◌≡◌, refl, sym, ap, ◌∙◌, ℕ, ◌+◌, ◌<◌, List, [], ◌∷◌, ◌++◌, Some, drop}
+use Rattle.std.proofs.Common.{length, get_or, map, arith, Bool, true, false, Option, None}
 use Rattle.std.specs.Bool.{◌==◌}
 use Rattle.std.proofs.lemmas.List.{append-nil}
 use Rattle.std.proofs.Math.Seq.{drop-cons}
@@ -7,7 +8,9 @@ use Rattle.px_bytes.specs.declared.fault.TclFault.{TclFault}
 use Rattle.connection_model.specs.Setup.{Handler, Setup, uncaught_line}
 use Rattle.connection_model.specs.Item as trace
 use Rattle.connection_model.specs.Item.{BeforeBodies}
-use Rattle.connection_model.specs.Trace.{Gated, Running, Failing, Phase, Finishing, Closing, Draining, closing, closing_run, entered, next_body, after_body, next_item}
+use Rattle.connection_model.specs.Trace.{Gated, Running, Failing, Phase, Finishing, Closing}
+use Rattle.connection_model.specs.Trace.{Draining, closing, closing_run, entered, next_body}
+use Rattle.connection_model.specs.Trace.{after_body, next_item}
 use Rattle.connection_model.specs.declared.note.Cause.{Cause}
 use Rattle.plain_trace.specs.declared.setup.PlainEvent.{PlainEvent}
 use Rattle.plain_trace.specs.declared.setup.PlainEvent.TheVariants.{ClientClosed}

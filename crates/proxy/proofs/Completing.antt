@@ -1,9 +1,11 @@
 -- From what the program promises of its end to when that is the whole report.
-use Rattle.std.proofs.Common.{◌≡◌, ◌⊎◌, inl, inr, refl, sym, ap, subst, ◌∙◌, ℕ, List, Option, Some, None}
+use Rattle.std.proofs.Common.{◌≡◌, ◌⊎◌, inl, inr, refl, sym, ap, subst, ◌∙◌, ℕ, List, Option, Some}
+use Rattle.std.proofs.Common.{None}
 use Rattle.std.specs.Prelude.{IfSome}
 use Rattle.proxy_core.specs.declared.config.Config as configured
 use Rattle.proxy.specs.declared.end.End.{End}
-use Rattle.proxy.specs.declared.end.End.TheVariants.{Done, Usage, Config, Schedule, ReadFault, WriteFault, Memory}
+use Rattle.proxy.specs.declared.end.End.TheVariants.{Done, Usage, Config, Schedule, ReadFault}
+use Rattle.proxy.specs.declared.end.End.TheVariants.{WriteFault, Memory}
 use Rattle.proxy.specs.Command.{Named, replay_of}
 use Rattle.proxy.specs.Complete.{MayReplay, Completes}
 use Rattle.proxy.specs.Config.{Loads}

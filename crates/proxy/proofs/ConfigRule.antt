@@ -1,9 +1,15 @@
 -- A rule's text has one body, and that is what is read.
-use Rattle.std.proofs.Common.{◌≡◌, ℕ, suc, ◌+◌, ◌-◌, ◌≤◌, ◌<◌, Option, Some, None, MatchOption, IfSome, IfNone, Bor, List, [], ◌∷◌, ◌++◌, length, get_or, take, drop, reverse, Bool, true, false, cond, refl, sym, ap, ap₂, ◌∙◌, subst, arith, codes, append_assoc, length-append}
+use Rattle.std.proofs.Common.{◌≡◌, ℕ, suc, ◌+◌, ◌-◌, ◌≤◌, ◌<◌, Option, Some, None, MatchOption}
+use Rattle.std.proofs.Common.{IfSome, IfNone, Bor, List, [], ◌∷◌, ◌++◌, length, get_or, take, drop}
+use Rattle.std.proofs.Common.{reverse, Bool, true, false, cond, refl, sym, ap, ap₂, ◌∙◌, subst}
+use Rattle.std.proofs.Common.{arith, codes, append_assoc, length-append}
 use Rattle.std.specs.List.{AllPass, list_all, prefix_len, suffix_len}
 use Rattle.std.specs.Str.{bytes_eq}
-use Rattle.std.proofs.lemmas.List.{append_cancel_left, append_cancel_right, get_or-append-add, get_or-take, get_or-drop, get_or-reverse, length-take, length-drop, take-append-drop}
-use Rattle.std.proofs.lemmas.List.Sums.{list_all-from_AllPass, prefix_len_passes, suffix_len_is, suffix_len-le-length}
+use Rattle.std.proofs.lemmas.List.{append_cancel_left, append_cancel_right, get_or-append-add}
+use Rattle.std.proofs.lemmas.List.{get_or-take, get_or-drop, get_or-reverse, length-take}
+use Rattle.std.proofs.lemmas.List.{length-drop, take-append-drop}
+use Rattle.std.proofs.lemmas.List.Sums.{list_all-from_AllPass, prefix_len_passes, suffix_len_is}
+use Rattle.std.proofs.lemmas.List.Sums.{suffix_len-le-length}
 use Rattle.std.proofs.lemmas.Bool.{and_parts}
 use Rattle.std.proofs.Math.Seq.{take-append_seam, drop-append_seam, get_or-append_seam}
 use Rattle.proxy.specs.Config.Rule.{is_space, head, SpellsRule, trimmed}

@@ -2,7 +2,8 @@
 use Rattle.std.proofs.Common.{ℕ, List, Option, Result, Ok, Err, codes, refl, inl, inr}
 use Rattle.proxy_core.specs.declared.config.Config as configured
 use Rattle.proxy.specs.declared.end.End.{End}
-use Rattle.proxy.specs.declared.end.End.TheVariants.{Done, Usage, Config, Schedule, ReadFault, WriteFault, Memory}
+use Rattle.proxy.specs.declared.end.End.TheVariants.{Done, Usage, Config, Schedule, ReadFault}
+use Rattle.proxy.specs.declared.end.End.TheVariants.{WriteFault, Memory}
 use Rattle.proxy.specs.Command.{Named}
 use Rattle.proxy.specs.Config.{Loads}
 use Rattle.proxy.specs.End.{end_unless}

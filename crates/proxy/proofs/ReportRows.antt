@@ -6,7 +6,8 @@ use Rattle.px_bytes.specs.declared.fault.FaultKind.TheVariants.{NoVariable}
 use Rattle.proxy_core.specs.declared.event.BadEvent.TheVariants.{Full}
 use Rattle.connection_model.specs.declared.note.Cause.TheVariants.{Tcl, Unselected}
 use Rattle.connection_model.specs.declared.note.Note.TheVariants.{Log, Finish, CloseClient, Ended}
-use Rattle.proxy.specs.Report.{note_line, note_lines, client_text, open_text, end_text, text_fault, event_fault, config_fault}
+use Rattle.proxy.specs.Report.{note_line, note_lines, client_text, open_text, end_text, text_fault}
+use Rattle.proxy.specs.Report.{event_fault, config_fault}
 
 client : client_text 1 (codes "hi 7") ≡ codes "> client 1 68692037\n"
 unfolding digits

@@ -1,5 +1,7 @@
 -- A schedule: what stands behind its lines, and where the replay stops.
-use Rattle.std.proofs.Common.{◌≡◌, refl, sym, ap, subst, ◌∙◌, ℕ, zero, suc, ◌+◌, ◌-◌, ◌≤◌, ◌<◌, List, [], ◌∷◌, ◌++◌, length, take, drop, Option, Some, None, arith, append_assoc}
+use Rattle.std.proofs.Common.{◌≡◌, refl, sym, ap, subst, ◌∙◌, ℕ, zero, suc, ◌+◌, ◌-◌, ◌≤◌, ◌<◌}
+use Rattle.std.proofs.Common.{List, [], ◌∷◌, ◌++◌, length, take, drop, Option, Some, None, arith}
+use Rattle.std.proofs.Common.{append_assoc}
 use Rattle.std.specs.List.{position_from}
 use Rattle.std.proofs.lemmas.List.{take-append-drop, take_rest, length-drop}
 use Rattle.proxy_core.specs.declared.config.Config.{Config}

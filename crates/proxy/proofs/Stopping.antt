@@ -1,5 +1,8 @@
 -- What is written where a replay stops, and after an event.
-use Rattle.std.proofs.Common.{◌≡◌, ℕ, ◌+◌, ◌≤◌, ◌<◌, List, [], ◌∷◌, ◌++◌, Option, Some, None, Result, Ok, Err, IfErr, OnErr, IsErrAnd, length, take, refl, sym, ap, ◌∙◌, arith, append_assoc, zero-add, suc-add, drop, get_or, subst, inl, inr}
+use Rattle.std.proofs.Common.{◌≡◌, ℕ, ◌+◌, ◌≤◌, ◌<◌, List, [], ◌∷◌, ◌++◌, Option, Some, None}
+use Rattle.std.proofs.Common.{Result, Ok, Err, IfErr, OnErr, IsErrAnd, length, take, refl, sym, ap}
+use Rattle.std.proofs.Common.{◌∙◌, arith, append_assoc, zero-add, suc-add, drop, get_or, subst, inl}
+use Rattle.std.proofs.Common.{inr}
 use Rattle.std.proofs.Math.Seq.{drop-cons}
 use Rattle.std.proofs.lemmas.List.{append-nil, take-append-le}
 use Rattle.std.proofs.Math.Seq.{take-length}
@@ -20,7 +23,8 @@ use Rattle.proxy.specs.declared.taken.Taken.{Taken}
 use Rattle.proxy.specs.declared.replay.Stop.{Stop}
 use Rattle.proxy.specs.declared.replay.Stop.TheVariants as stop
 use Rattle.proxy.specs.Lines.{IsLine, Gives, Reads, events_of}
-use Rattle.proxy.specs.Replay.{past_text, accepted, connections_text, conn_text, conns_text, report_text}
+use Rattle.proxy.specs.Replay.{past_text, accepted, connections_text, conn_text, conns_text}
+use Rattle.proxy.specs.Replay.{report_text}
 use Rattle.proxy.specs.Report.{note_lines, end_text}
 use Rattle.proxy.specs.Stops.{stop_of, with_line}
 use Rattle.proxy.specs.Taken.{took_of, with_took}

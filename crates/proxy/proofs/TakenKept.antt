@@ -1,5 +1,8 @@
 -- What the program keeps of the bytes that clients took is what the past and the state say.
-use Rattle.std.proofs.Common.{◌≡◌, refl, sym, ap, subst, ◌∙◌, ℕ, zero, suc, ◌+◌, ◌-◌, ◌≤◌, ◌<◌, List, [], ◌∷◌, ◌++◌, length, take, drop, map, Bool, true, false, ◌||◌, Option, Some, None, nat_eq, nat_le, nat_lt, arith, if◌then◌else◌, ◌⊎◌, inl, inr}
+use Rattle.std.proofs.Common.{◌≡◌, refl, sym, ap, subst, ◌∙◌, ℕ, zero, suc, ◌+◌, ◌-◌, ◌≤◌, ◌<◌}
+use Rattle.std.proofs.Common.{List, [], ◌∷◌, ◌++◌, length, take, drop, map, Bool, true, false, ◌||◌}
+use Rattle.std.proofs.Common.{Option, Some, None, nat_eq, nat_le, nat_lt, arith, if◌then◌else◌, ◌⊎◌}
+use Rattle.std.proofs.Common.{inl, inr}
 use Rattle.std.specs.Bool.{MatchBool}
 use Rattle.std.specs.List.{IsDistinct}
 use Rattle.std.proofs.lemmas.Bool.Decides.{nat_tests}
@@ -11,12 +14,15 @@ use Rattle.px_bytes.specs.declared.addr.Side.TheVariants.{Client}
 use Rattle.connection_model.specs.declared.note.Note.{Note}
 use Rattle.connection_model.specs.Item.{Item, to_client, client_output}
 use Rattle.proxy_core.specs.Live.{pending_in}
-use Rattle.proxy_core.specs.Moves.{Leads, Moves, MovesBy, MovesRing, RunsOn, RunsOut, RunsFailed, MovesTook, MovesFailed}
-use Rattle.proxy_core.specs.Past.{Happened, Past, Heard, heard, hears, live_numbers, last_number, is_failed}
+use Rattle.proxy_core.specs.Moves.{Leads, Moves, MovesBy, MovesRing, RunsOn, RunsOut, RunsFailed}
+use Rattle.proxy_core.specs.Moves.{MovesTook, MovesFailed}
+use Rattle.proxy_core.specs.Past.{Happened, Past, Heard, heard, hears, live_numbers, last_number}
+use Rattle.proxy_core.specs.Past.{is_failed}
 use Rattle.proxy_core.specs.Queries.{front_of, front_in, queue_on}
 use Rattle.proxy_core.specs.Ready.{is_in}
 use Rattle.proxy_core.specs.Refusals.{live_at, refusal, took_refusal_at}
-use Rattle.proxy_core.specs.Represents.{Continues, NeverBegan, ConnectionContinues, LiveContinues, Represents}
+use Rattle.proxy_core.specs.Represents.{Continues, NeverBegan, ConnectionContinues, LiveContinues}
+use Rattle.proxy_core.specs.Represents.{Represents}
 use Rattle.proxy_core.specs.Scheduler.{State, with_place, refused}
 use Rattle.proxy_core.specs.Sound.{Served, SoundBy, SoundAt, Sound}
 use Rattle.proxy_core.specs.Steps.{StandsAfter}

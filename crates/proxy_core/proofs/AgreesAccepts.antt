@@ -1,5 +1,7 @@
 -- A core that accepts a connection agrees with the past that has it.
-use Rattle.std.proofs.Common.{◌≡◌, refl, sym, ap, subst, ◌∙◌, ℕ, ◌-◌, List, [], ◌∷◌, ◌++◌, length, Bool, true, false, Option, Some, None, nat_eq, nat_le, nat_lt, arith, if◌then◌else◌, ◌⊎◌, inl, inr}
+use Rattle.std.proofs.Common.{◌≡◌, refl, sym, ap, subst, ◌∙◌, ℕ, ◌-◌, List, [], ◌∷◌, ◌++◌, length}
+use Rattle.std.proofs.Common.{Bool, true, false, Option, Some, None, nat_eq, nat_le, nat_lt, arith}
+use Rattle.std.proofs.Common.{if◌then◌else◌, ◌⊎◌, inl, inr}
 use Rattle.std.specs.Prelude.{slice_get, option_and_then}
 use Rattle.std.proofs.lemmas.List.{length-map, length-drop}
 use Rattle.px_bytes.specs.declared.addr.Addr.{Addr}
@@ -11,22 +13,26 @@ use Rattle.connection_model.specs.Item.{Item, client_output}
 use Rattle.proxy_core.specs.Changes.{Accepts, Begins, rules_in}
 use Rattle.proxy_core.specs.Live.{pending_in}
 use Rattle.proxy_core.specs.Moves.{MovesAccept}
-use Rattle.proxy_core.specs.Past.{Happened, Past, Heard, heard, hears, live_numbers, last_number, is_failed}
+use Rattle.proxy_core.specs.Past.{Happened, Past, Heard, heard, hears, live_numbers, last_number}
+use Rattle.proxy_core.specs.Past.{is_failed}
 use Rattle.proxy_core.specs.Ready.{numbers, is_in}
-use Rattle.proxy_core.specs.Refusals.{live_at, virtual_place, without_virtual, refusal, accept_refusal, took_refusal_at}
+use Rattle.proxy_core.specs.Refusals.{live_at, virtual_place, without_virtual, refusal}
+use Rattle.proxy_core.specs.Refusals.{accept_refusal, took_refusal_at}
 use Rattle.proxy_core.specs.Represents.{Continues, ConnectionContinues, LiveContinues, Agrees}
 use Rattle.proxy_core.specs.Scheduler.{State, pending, refused, refused_accept, refused_took}
 use Rattle.proxy_core.specs.Sound.{Unheard, Sound}
 use Rattle.proxy_core.specs.declared.config.Config.{Config}
 use Rattle.proxy_core.specs.declared.core_state.Core.{Core}
 use Rattle.proxy_core.specs.declared.event.BadEvent.{BadEvent}
-use Rattle.proxy_core.specs.declared.event.BadEvent.TheVariants.{TwiceConn, Full, NoConn, TookTooMuch}
+use Rattle.proxy_core.specs.declared.event.BadEvent.TheVariants.{TwiceConn, Full, NoConn}
+use Rattle.proxy_core.specs.declared.event.BadEvent.TheVariants.{TookTooMuch}
 use Rattle.proxy_core.specs.declared.event.Event.{Event}
 use Rattle.proxy_core.specs.declared.event.Event.TheVariants.{Accept, ClientTook, Run}
 use Rattle.proxy_core.specs.declared.live.Conn.{Conn}
 use Rattle.proxy_core.specs.declared.live.Live.{Live}
 use Rattle.proxy_core.proofs.GroupNotes.{own_none}
-use Rattle.proxy_core.proofs.LiveLookups.{live_absent, live_present, live_pushed_self, live_pushed_other}
+use Rattle.proxy_core.proofs.LiveLookups.{live_absent, live_present, live_pushed_self}
+use Rattle.proxy_core.proofs.LiveLookups.{live_pushed_other}
 use Rattle.proxy_core.proofs.Members.{eq_same}
 use Rattle.proxy_core.proofs.ReadyRing.{numbers_push}
 use Rattle.proxy_core.proofs.SoundAccepts.{Begun, begun, above, its_own, unheard_is}

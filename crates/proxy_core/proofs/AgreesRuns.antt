@@ -1,5 +1,7 @@
 -- A core that ran its front agrees with the past that has it.
-use Rattle.std.proofs.Common.{◌≡◌, refl, sym, ap, subst, ◌∙◌, ℕ, ◌-◌, ◌≤◌, List, [], ◌∷◌, ◌++◌, length, drop, Bool, true, false, Option, Some, None, nat_eq, nat_le, arith, if◌then◌else◌, set, remove, ◌⊎◌, inl, inr}
+use Rattle.std.proofs.Common.{◌≡◌, refl, sym, ap, subst, ◌∙◌, ℕ, ◌-◌, ◌≤◌, List, [], ◌∷◌, ◌++◌}
+use Rattle.std.proofs.Common.{length, drop, Bool, true, false, Option, Some, None, nat_eq, nat_le}
+use Rattle.std.proofs.Common.{arith, if◌then◌else◌, set, remove, ◌⊎◌, inl, inr}
 use Rattle.std.specs.Bool.{MatchBool}
 use Rattle.std.specs.List.{IsDistinct}
 use Rattle.std.proofs.lemmas.List.{append-nil, length-drop}
@@ -8,13 +10,18 @@ use Rattle.connection_model.specs.declared.note.Note.{Note}
 use Rattle.connection_model.specs.Item.{Item, client_output, notes_of}
 use Rattle.connection_model.specs.Trace.{TraceState, Over, next_item}
 use Rattle.proxy_core.specs.Bodies.{bodies_end}
-use Rattle.proxy_core.specs.Changes.{closing, RunsBodies, RunsIdle, RunsOut as RanOut, ConnRuns, LiveRuns, RunsFront, RunsRing, Idles, closing_if_empty, finish_notes, sent_at, rules_of}
-use Rattle.proxy_core.specs.Moves.{Stands, MovesRing, MovesFront, RunsOn, RunsOut, RunsFailed, closing_if}
-use Rattle.proxy_core.specs.Past.{Happened, Past, Heard, heard, hears, live_numbers, without_ended, own, is_failed}
+use Rattle.proxy_core.specs.Changes.{closing, RunsBodies, RunsIdle, RunsOut as RanOut, ConnRuns}
+use Rattle.proxy_core.specs.Changes.{LiveRuns, RunsFront, RunsRing, Idles, closing_if_empty}
+use Rattle.proxy_core.specs.Changes.{finish_notes, sent_at, rules_of}
+use Rattle.proxy_core.specs.Moves.{Stands, MovesRing, MovesFront, RunsOn, RunsOut, RunsFailed}
+use Rattle.proxy_core.specs.Moves.{closing_if}
+use Rattle.proxy_core.specs.Past.{Happened, Past, Heard, heard, hears, live_numbers, without_ended}
+use Rattle.proxy_core.specs.Past.{own, is_failed}
 use Rattle.proxy_core.specs.Queue.{is_empty}
 use Rattle.proxy_core.specs.Ready.{numbers, is_in, without}
 use Rattle.proxy_core.specs.Refusals.{live_at}
-use Rattle.proxy_core.specs.Represents.{AfterTrace, BeforeBodies, Continues, NeverBegan, ConnectionContinues, LiveContinues, Agrees}
+use Rattle.proxy_core.specs.Represents.{AfterTrace, BeforeBodies, Continues, NeverBegan}
+use Rattle.proxy_core.specs.Represents.{ConnectionContinues, LiveContinues, Agrees}
 use Rattle.proxy_core.specs.Scheduler.{State, with_place}
 use Rattle.proxy_core.specs.Setup.{rules_named, setup_of}
 use Rattle.proxy_core.specs.Sound.{Served, Sound}
@@ -24,13 +31,16 @@ use Rattle.proxy_core.specs.declared.event.Event.TheVariants.{Run}
 use Rattle.proxy_core.specs.declared.live.Conn.{Conn}
 use Rattle.proxy_core.specs.declared.live.Live.{Live}
 use Rattle.proxy_core.proofs.AgreesAccepts.{keep}
-use Rattle.proxy_core.proofs.AgreesTakes.{empty_left, is_over_at, after_live, after_live_over, other_live, numbers_after}
+use Rattle.proxy_core.proofs.AgreesTakes.{empty_left, is_over_at, after_live, after_live_over}
+use Rattle.proxy_core.proofs.AgreesTakes.{other_live, numbers_after}
 use Rattle.proxy_core.proofs.Causes.{NoneLacks, none_lacks}
-use Rattle.proxy_core.proofs.GroupNotes.{About, about_joined, about_items, about_closing, about_closing_if, own_all, own_none, ended_items, ended_if}
+use Rattle.proxy_core.proofs.GroupNotes.{About, about_joined, about_items, about_closing}
+use Rattle.proxy_core.proofs.GroupNotes.{about_closing_if, own_all, own_none, ended_items, ended_if}
 use Rattle.proxy_core.proofs.Members.{eq_self, eq_same}
 use Rattle.proxy_core.proofs.Places.{number_at, live_there}
 use Rattle.proxy_core.proofs.SoundFrames.{same_heard, is_served}
-use Rattle.proxy_core.proofs.SoundRuns.{heard_notes, not_failed_more, same_place, about_out, about_is}
+use Rattle.proxy_core.proofs.SoundRuns.{heard_notes, not_failed_more, same_place, about_out}
+use Rattle.proxy_core.proofs.SoundRuns.{about_is}
 use Rattle.proxy_core.proofs.SoundTakes.{same_name}
 use Rattle.proxy_core.proofs.WholeTrace.{whole_trace}
 

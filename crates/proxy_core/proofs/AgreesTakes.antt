@@ -1,5 +1,7 @@
 -- A core of which a client took bytes agrees with the past that has it.
-use Rattle.std.proofs.Common.{◌≡◌, refl, sym, ap, subst, ◌∙◌, ℕ, suc, ◌+◌, ◌-◌, List, [], ◌∷◌, ◌++◌, length, drop, Bool, true, false, ◌&&◌, Option, Some, None, nat_eq, nat_le, arith, if◌then◌else◌, set, remove}
+use Rattle.std.proofs.Common.{◌≡◌, refl, sym, ap, subst, ◌∙◌, ℕ, suc, ◌+◌, ◌-◌, List, [], ◌∷◌, ◌++◌}
+use Rattle.std.proofs.Common.{length, drop, Bool, true, false, ◌&&◌, Option, Some, None, nat_eq}
+use Rattle.std.proofs.Common.{nat_le, arith, if◌then◌else◌, set, remove}
 use Rattle.std.specs.Prelude.{slice_get}
 use Rattle.std.specs.Bool.{MatchBool}
 use Rattle.std.specs.List.{IsDistinct}
@@ -11,12 +13,15 @@ use Rattle.connection_model.specs.Item.{Item, client_output}
 use Rattle.connection_model.specs.Trace.{TraceState, Next, Does, Waits, Over, next_item, Unfolds}
 use Rattle.proxy_core.specs.Changes.{Takes, Stays, Goes, closing}
 use Rattle.proxy_core.specs.Live.{after_taking, is_over as conn_over}
-use Rattle.proxy_core.specs.Moves.{MovesBy, MovesTook, MovesFailed, Stands, is_over, is_drained, closing_if}
-use Rattle.proxy_core.specs.Past.{Happened, Past, Heard, heard, hears, live_numbers, without_ended, is_failed}
+use Rattle.proxy_core.specs.Moves.{MovesBy, MovesTook, MovesFailed, Stands, is_over, is_drained}
+use Rattle.proxy_core.specs.Moves.{closing_if}
+use Rattle.proxy_core.specs.Past.{Happened, Past, Heard, heard, hears, live_numbers, without_ended}
+use Rattle.proxy_core.specs.Past.{is_failed}
 use Rattle.proxy_core.specs.Queue.{is_empty}
 use Rattle.proxy_core.specs.Ready.{numbers, is_in, without, with_ready}
 use Rattle.proxy_core.specs.Refusals.{live_at}
-use Rattle.proxy_core.specs.Represents.{AfterTrace, BeforeBodies, ConnectionContinues, LiveContinues, Agrees}
+use Rattle.proxy_core.specs.Represents.{AfterTrace, BeforeBodies, ConnectionContinues}
+use Rattle.proxy_core.specs.Represents.{LiveContinues, Agrees}
 use Rattle.proxy_core.specs.Scheduler.{State, refused_took}
 use Rattle.proxy_core.specs.Setup.{setup_of, trace_start}
 use Rattle.proxy_core.specs.Sound.{Served, Sound}
@@ -27,7 +32,8 @@ use Rattle.proxy_core.specs.declared.live.Conn.{Conn}
 use Rattle.proxy_core.specs.declared.live.Live.{Live}
 use Rattle.proxy_core.proofs.AgreesAccepts.{keep}
 use Rattle.proxy_core.proofs.GroupNotes.{About, about_closing_if, own_none, ended_if}
-use Rattle.proxy_core.proofs.LiveLookups.{live_absent, live_set_self, live_set_other, live_removed_other, numbers_removed}
+use Rattle.proxy_core.proofs.LiveLookups.{live_absent, live_set_self, live_set_other}
+use Rattle.proxy_core.proofs.LiveLookups.{live_removed_other, numbers_removed}
 use Rattle.proxy_core.proofs.Members.{eq_self, eq_same, not_in_without}
 use Rattle.proxy_core.proofs.Places.{number_at, live_there, numbers_set}
 use Rattle.proxy_core.proofs.SoundAccepts.{start_goes}

@@ -1,5 +1,6 @@
 -- Bodies one after another.
-use Rattle.std.proofs.Common.{◌≡◌, ℕ, List, [], ◌∷◌, Bool, true, false, Some, None, refl, drop, ◌+◌, ◌<◌, length, get_or, arith, nat_lt, codes, if◌then◌else◌}
+use Rattle.std.proofs.Common.{◌≡◌, ℕ, List, [], ◌∷◌, Bool, true, false, Some, None, refl, drop, ◌+◌}
+use Rattle.std.proofs.Common.{◌<◌, length, get_or, arith, nat_lt, codes, if◌then◌else◌}
 use Rattle.std.specs.Str.{bytes_eq}
 use Rattle.std.proofs.Math.Seq.{drop-cons}
 use Rattle.px_bytes.specs.declared.fault.TclFault.{TclFault}

@@ -1,6 +1,7 @@
 -- What every trace of today's setups keeps: it doesn't finish for want of memory, it finishes once at
 -- most, and only its start is at a gate.
-use Rattle.std.proofs.Common.{◌≡◌, refl, sym, ap, subst, ◌∙◌, ℕ, ◌+◌, ◌≤◌, arith, length, List, [], ◌∷◌, ◌++◌, Bool, true, false, Option, Some, None, ◌⊎◌, inl, inr}
+use Rattle.std.proofs.Common.{◌≡◌, refl, sym, ap, subst, ◌∙◌, ℕ, ◌+◌, ◌≤◌, arith, length, List, []}
+use Rattle.std.proofs.Common.{◌∷◌, ◌++◌, Bool, true, false, Option, Some, None, ◌⊎◌, inl, inr}
 use Rattle.px_bytes.specs.declared.fault.FaultKind.{FaultKind}
 use Rattle.px_bytes.specs.declared.fault.TclFault.{TclFault}
 use Rattle.rule_model.specs.Host as effect
@@ -10,8 +11,14 @@ use Rattle.connection_model.specs.declared.note.Cause.{Cause}
 use Rattle.connection_model.specs.declared.note.Cause.TheVariants.{Tcl, Unselected, Memory}
 use Rattle.connection_model.specs.Event.{ClientAccepted, LbFailed, ClientClosed}
 use Rattle.connection_model.specs.Setup.{Handler, Setup, uncaught_of}
-use Rattle.connection_model.specs.Item.{Item, Gate, Opened, Read, Ran, Called, Connected, Logged, Sent, Passed, Fired, Reused, Finished}
-use Rattle.connection_model.specs.Trace.{Bodies, Gated, Running, Failing, Phase, Accepted, Selecting, Finishing, Closing, Draining, TraceState, Does, Over, EventRun, entered, next_body, selecting, accepted_run, selecting_run, closing_run, run_body, act_item, after_body, ended_next, act_next, bodies_next, phase_next, next_item, Unfolds}
+use Rattle.connection_model.specs.Item.{Item, Gate, Opened, Read, Ran, Called, Connected, Logged}
+use Rattle.connection_model.specs.Item.{Sent, Passed, Fired, Reused, Finished}
+use Rattle.connection_model.specs.Trace.{Bodies, Gated, Running, Failing, Phase, Accepted}
+use Rattle.connection_model.specs.Trace.{Selecting, Finishing, Closing, Draining, TraceState, Does}
+use Rattle.connection_model.specs.Trace.{Over, EventRun, entered, next_body, selecting}
+use Rattle.connection_model.specs.Trace.{accepted_run, selecting_run, closing_run, run_body}
+use Rattle.connection_model.specs.Trace.{act_item, after_body, ended_next, act_next, bodies_next}
+use Rattle.connection_model.specs.Trace.{phase_next, next_item, Unfolds}
 use Rattle.proxy_core.specs.Headline.{causes_of, causes_in}
 use Rattle.proxy_core.specs.Setup.{setup_of, trace_start}
 use Rattle.proxy_core.specs.declared.config.Config.{Config}

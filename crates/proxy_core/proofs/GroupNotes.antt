@@ -1,9 +1,11 @@
 -- The notes of one event: about which connection, and what they leave.
-use Rattle.std.proofs.Common.{◌≡◌, refl, ap, ℕ, List, [], ◌∷◌, ◌++◌, Bool, true, false, ◌||◌, if◌then◌else◌, nat_eq}
+use Rattle.std.proofs.Common.{◌≡◌, refl, ap, ℕ, List, [], ◌∷◌, ◌++◌, Bool, true, false, ◌||◌}
+use Rattle.std.proofs.Common.{if◌then◌else◌, nat_eq}
 use Rattle.connection_model.specs.declared.note.Cause.TheVariants.{Tcl, Unselected, Memory}
 use Rattle.connection_model.specs.declared.note.Note.{Note}
 use Rattle.connection_model.specs.declared.note.Note.TheVariants as note
-use Rattle.connection_model.specs.Item.{Item, Opened, Read, Ran, Called, Connected, Logged, Sent, Passed, Fired, Reused, Finished, notes_of}
+use Rattle.connection_model.specs.Item.{Item, Opened, Read, Ran, Called, Connected, Logged, Sent}
+use Rattle.connection_model.specs.Item.{Passed, Fired, Reused, Finished, notes_of}
 use Rattle.proxy_core.specs.Changes.{closing}
 use Rattle.proxy_core.specs.Moves.{closing_if}
 use Rattle.proxy_core.specs.Past.{conn_of, own, without_ended, is_failed}

@@ -1,12 +1,17 @@
 -- Where no host command asks a shared call, no evaluation waits.
-use Rattle.std.proofs.Common.{◌≡◌, ℕ, ◌+◌, List, [], ◌∷◌, ◌++◌, Bool, true, false, Option, Some, None, if◌then◌else◌, nat_eq, nat_lt, length, refl, sum_by}
+use Rattle.std.proofs.Common.{◌≡◌, ℕ, ◌+◌, List, [], ◌∷◌, ◌++◌, Bool, true, false, Option, Some}
+use Rattle.std.proofs.Common.{None, if◌then◌else◌, nat_eq, nat_lt, length, refl, sum_by}
 use Rattle.tcl_vars.specs.Scopes.{Level, is_static, vars_bytes, vars_limit, with_value}
 use Rattle.tcl_vars.specs.Names.{Name, name_of}
-use Rattle.tcl_expr.specs.declared.tree.Tree.{Tree, Plain, Variable, Word', Command', Body', Row_of-Tree, end_of-Tree, more_of-Tree}
+use Rattle.tcl_expr.specs.declared.tree.Tree.{Tree, Plain, Variable, Word', Command', Body'}
+use Rattle.tcl_expr.specs.declared.tree.Tree.{Row_of-Tree, end_of-Tree, more_of-Tree}
 use Rattle.tcl_expr.specs.declared.tree.Verb.{Verb}
 use Rattle.tcl_expr.specs.declared.tree.Verb.TheVariants.{Set, Named}
 use Rattle.rule_model.specs.Host.{HostStep, Gives, Faults, Asks}
-use Rattle.rule_model.specs.Evaluator.{State, Outcome, Ends, Waits, Value, Raised, Return, Break, Continue, Meaning, Setting, then_value, answered, value_of, read_as, set_as, text_limit, in_order, join_pieces, set_command, command, commands, eval, evals}
+use Rattle.rule_model.specs.Evaluator.{State, Outcome, Ends, Waits, Value, Raised, Return, Break}
+use Rattle.rule_model.specs.Evaluator.{Continue, Meaning, Setting, then_value, answered, value_of}
+use Rattle.rule_model.specs.Evaluator.{read_as, set_as, text_limit, in_order, join_pieces}
+use Rattle.rule_model.specs.Evaluator.{set_command, command, commands, eval, evals}
 
 abbrev pub waits : {H : Type 0} → Outcome H → Bool
 waits (Ends c st) = false

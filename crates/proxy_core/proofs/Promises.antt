@@ -1,14 +1,20 @@
 -- The promise, of every past that leads to a state.
-use Rattle.std.proofs.Common.{◌≡◌, refl, sym, ap, subst, ◌∙◌, ℕ, zero, suc, ◌+◌, ◌≤◌, List, [], ◌++◌, length, take, true, false, Option, arith}
+use Rattle.std.proofs.Common.{◌≡◌, refl, sym, ap, subst, ◌∙◌, ℕ, zero, suc, ◌+◌, ◌≤◌, List, []}
+use Rattle.std.proofs.Common.{◌++◌, length, take, true, false, Option, arith}
 use Rattle.std.proofs.lemmas.Bool.Decides.{nat_tests}
 use Rattle.std.proofs.lemmas.List.{append-nil, take-append-le}
 use Rattle.std.proofs.lemmas.Grind.{flat_map-append}
 use Rattle.px_bytes.specs.declared.addr.Side.TheVariants.{Client, Server}
-use Rattle.connection_model.specs.Gates.{Counts, no_bytes, has_room, is_open, sent_from, GivesNoMore}
-use Rattle.connection_model.specs.Item.{Gate, BeforeBodies, BeforePassing, BeforeConnect, Item, Opened, Read, Ran, Called, Connected, Logged, Sent, Passed, Fired, Reused, Finished, to_client, client_output}
-use Rattle.connection_model.specs.Trace.{TraceState, Next, Does, Waits, Over, next_item, Unfolds, trace, trace_from}
+use Rattle.connection_model.specs.Gates.{Counts, no_bytes, has_room, is_open, sent_from}
+use Rattle.connection_model.specs.Gates.{GivesNoMore}
+use Rattle.connection_model.specs.Item.{Gate, BeforeBodies, BeforePassing, BeforeConnect, Item}
+use Rattle.connection_model.specs.Item.{Opened, Read, Ran, Called, Connected, Logged, Sent, Passed}
+use Rattle.connection_model.specs.Item.{Fired, Reused, Finished, to_client, client_output}
+use Rattle.connection_model.specs.Trace.{TraceState, Next, Does, Waits, Over, next_item, Unfolds}
+use Rattle.connection_model.specs.Trace.{trace, trace_from}
 use Rattle.connection_model.proofs.Unfolding.{trace_unfolds}
-use Rattle.proxy_core.specs.Headline.{first_items, IsWhole, ConnectionPromise, OutputMatchesEvaluator}
+use Rattle.proxy_core.specs.Headline.{first_items, IsWhole, ConnectionPromise}
+use Rattle.proxy_core.specs.Headline.{OutputMatchesEvaluator}
 use Rattle.proxy_core.specs.Moves.{Leads}
 use Rattle.proxy_core.specs.Past.{Past, heard, live_numbers}
 use Rattle.proxy_core.specs.Ready.{is_in}

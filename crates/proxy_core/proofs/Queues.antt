@@ -1,5 +1,6 @@
 -- Queues that are taken to their end.
-use Rattle.std.proofs.Common.{◌≡◌, ℕ, zero, suc, ◌≤◌, List, [], ◌∷◌, Bool, true, false, Option, Some, nat_eq, length, drop, refl, sym, ap, ◌∙◌, arith}
+use Rattle.std.proofs.Common.{◌≡◌, ℕ, zero, suc, ◌≤◌, List, [], ◌∷◌, Bool, true, false, Option}
+use Rattle.std.proofs.Common.{Some, nat_eq, length, drop, refl, sym, ap, ◌∙◌, arith}
 use Rattle.std.proofs.lemmas.Bool.Decides.{nat_tests}
 use Rattle.proxy_core.specs.declared.live.Conn.{Conn}
 use Rattle.proxy_core.specs.declared.live.Live.{Live}

@@ -1,5 +1,7 @@
 -- An accepted connection keeps what holds of the states.
-use Rattle.std.proofs.Common.{◌≡◌, refl, sym, ap, subst, ◌∙◌, ℕ, ◌<◌, List, [], ◌∷◌, ◌++◌, length, Bool, true, false, Option, Some, None, nat_eq, nat_le, arith, if◌then◌else◌, ◌⊎◌, inl, inr}
+use Rattle.std.proofs.Common.{◌≡◌, refl, sym, ap, subst, ◌∙◌, ℕ, ◌<◌, List, [], ◌∷◌, ◌++◌, length}
+use Rattle.std.proofs.Common.{Bool, true, false, Option, Some, None, nat_eq, nat_le, arith}
+use Rattle.std.proofs.Common.{if◌then◌else◌, ◌⊎◌, inl, inr}
 use Rattle.std.specs.List.{IsDistinct}
 use Rattle.std.proofs.lemmas.Bool.Decides.{nat_tests}
 use Rattle.px_bytes.specs.declared.addr.Addr.{Addr}
@@ -9,10 +11,12 @@ use Rattle.connection_model.specs.declared.note.Note.TheVariants.{Finish}
 use Rattle.connection_model.specs.Event.{ClientAccepted, LbFailed}
 use Rattle.connection_model.specs.Setup.{Handler, Setup}
 use Rattle.connection_model.specs.Gates.{no_bytes}
-use Rattle.connection_model.specs.Trace.{Accepted, Selecting, Finishing, TraceState, Over, entered, selecting, phase_next, next_item}
+use Rattle.connection_model.specs.Trace.{Accepted, Selecting, Finishing, TraceState, Over, entered}
+use Rattle.connection_model.specs.Trace.{selecting, phase_next, next_item}
 use Rattle.connection_model.specs.declared.note.Cause.TheVariants.{Unselected}
 use Rattle.proxy_core.specs.Moves.{MovesAccept}
-use Rattle.proxy_core.specs.Past.{Happened, Past, Heard, nothing_heard, heard, hears, live_numbers, last_number, without_ended, is_failed}
+use Rattle.proxy_core.specs.Past.{Happened, Past, Heard, nothing_heard, heard, hears, live_numbers}
+use Rattle.proxy_core.specs.Past.{last_number, without_ended, is_failed}
 use Rattle.proxy_core.specs.Ready.{is_in}
 use Rattle.proxy_core.specs.Refusals.{virtual_place, without_virtual}
 use Rattle.proxy_core.specs.Scheduler.{State, refused_accept}

@@ -1,10 +1,13 @@
 -- What an event about one connection leaves of the others.
-use Rattle.std.proofs.Common.{◌≡◌, refl, sym, ap, subst, ◌∙◌, ℕ, ◌≤◌, ◌<◌, List, [], ◌∷◌, ◌++◌, length, Bool, true, false, ◌&&◌, Option, Some, None, nat_le, arith}
+use Rattle.std.proofs.Common.{◌≡◌, refl, sym, ap, subst, ◌∙◌, ℕ, ◌≤◌, ◌<◌, List, [], ◌∷◌, ◌++◌}
+use Rattle.std.proofs.Common.{length, Bool, true, false, ◌&&◌, Option, Some, None, nat_le, arith}
 use Rattle.std.proofs.lemmas.Bool.Decides.{nat_tests}
 use Rattle.std.proofs.lemmas.List.{append-nil}
 use Rattle.px_bytes.specs.declared.addr.Side.TheVariants.{Client, Server}
 use Rattle.connection_model.specs.declared.note.Note.{Note}
-use Rattle.connection_model.specs.Item.{Gate, BeforeBodies, BeforePassing, BeforeConnect, Item, Opened, Read, Ran, Called, Connected, Logged, Sent, Passed, Fired, Reused, Finished, client_output}
+use Rattle.connection_model.specs.Item.{Gate, BeforeBodies, BeforePassing, BeforeConnect, Item}
+use Rattle.connection_model.specs.Item.{Opened, Read, Ran, Called, Connected, Logged, Sent, Passed}
+use Rattle.connection_model.specs.Item.{Fired, Reused, Finished, client_output}
 use Rattle.connection_model.specs.Gates.{Counts, has_room, is_open, may_give, sent_after, Met}
 use Rattle.connection_model.specs.Trace.{TraceState, Next, Does, Waits, Over, next_item}
 use Rattle.proxy_core.specs.Moves.{Stands, is_over, is_drained}

@@ -1,5 +1,7 @@
 -- A Run keeps what holds of the states.
-use Rattle.std.proofs.Common.{◌≡◌, refl, sym, ap, subst, ◌∙◌, ℕ, ◌-◌, ◌≤◌, List, [], ◌∷◌, ◌++◌, length, Bool, true, false, ◌||◌, Some, nat_eq, arith, append_assoc, if◌then◌else◌, ◌⊎◌, inl, inr}
+use Rattle.std.proofs.Common.{◌≡◌, refl, sym, ap, subst, ◌∙◌, ℕ, ◌-◌, ◌≤◌, List, [], ◌∷◌, ◌++◌}
+use Rattle.std.proofs.Common.{length, Bool, true, false, ◌||◌, Some, nat_eq, arith, append_assoc}
+use Rattle.std.proofs.Common.{if◌then◌else◌, ◌⊎◌, inl, inr}
 use Rattle.std.specs.Bool.{MatchBool}
 use Rattle.std.specs.List.{IsDistinct}
 use Rattle.std.proofs.lemmas.List.{append-nil, length-append}
@@ -12,8 +14,10 @@ use Rattle.connection_model.specs.Item.{Item, to_client, client_output, note_of,
 use Rattle.connection_model.specs.Gates.{no_bytes, sent_from, GivesNoMore}
 use Rattle.connection_model.specs.Trace.{TraceState, next_item}
 use Rattle.proxy_core.specs.Changes.{closing}
-use Rattle.proxy_core.specs.Moves.{Leads, MovesRing, RunsOn, RunsOut, RunsFailed, Stands, is_drained, closing_if}
-use Rattle.proxy_core.specs.Past.{Happened, Past, Heard, heard, hears, live_numbers, without_ended, is_failed, own}
+use Rattle.proxy_core.specs.Moves.{Leads, MovesRing, RunsOn, RunsOut, RunsFailed, Stands}
+use Rattle.proxy_core.specs.Moves.{is_drained, closing_if}
+use Rattle.proxy_core.specs.Past.{Happened, Past, Heard, heard, hears, live_numbers, without_ended}
+use Rattle.proxy_core.specs.Past.{is_failed, own}
 use Rattle.proxy_core.specs.Ready.{is_in, without}
 use Rattle.proxy_core.specs.Scheduler.{State, with_place}
 use Rattle.proxy_core.specs.Setup.{setup_of}
@@ -21,9 +25,12 @@ use Rattle.proxy_core.specs.Sound.{last_notes, Served, SoundAt, Sound}
 use Rattle.proxy_core.specs.declared.config.Config.{Config}
 use Rattle.proxy_core.specs.declared.event.Event.TheVariants.{Run}
 use Rattle.proxy_core.proofs.Causes.{NoneLacks, none_lacks}
-use Rattle.proxy_core.proofs.GroupNotes.{About, about_joined, about_items, about_closing, about_closing_if, own_all, own_none, ended_items, ended_if, failed_joined, failed_if, items_not_failed}
+use Rattle.proxy_core.proofs.GroupNotes.{About, about_joined, about_items, about_closing}
+use Rattle.proxy_core.proofs.GroupNotes.{about_closing_if, own_all, own_none, ended_items, ended_if}
+use Rattle.proxy_core.proofs.GroupNotes.{failed_joined, failed_if, items_not_failed}
 use Rattle.proxy_core.proofs.Members.{eq_self, eq_same, eq_turned, in_rest_other, front_not_in_rest}
-use Rattle.proxy_core.proofs.SoundFrames.{frame, same_heard, is_served, from_served, drained, not_drained}
+use Rattle.proxy_core.proofs.SoundFrames.{frame, same_heard, is_served, from_served, drained}
+use Rattle.proxy_core.proofs.SoundFrames.{not_drained}
 use Rattle.proxy_core.proofs.SoundTakes.{same_name, live_after, own_live, live_stays_distinct}
 
 abbrev pub heard_notes : Heard → List Note → Heard

@@ -1,5 +1,7 @@
 -- A took-count keeps what holds of the states.
-use Rattle.std.proofs.Common.{◌≡◌, refl, sym, ap, subst, ◌∙◌, ℕ, ◌+◌, ◌-◌, ◌≤◌, List, [], ◌∷◌, ◌++◌, length, Bool, true, false, ◌||◌, Option, Some, None, nat_eq, nat_lt, arith, if◌then◌else◌}
+use Rattle.std.proofs.Common.{◌≡◌, refl, sym, ap, subst, ◌∙◌, ℕ, ◌+◌, ◌-◌, ◌≤◌, List, [], ◌∷◌, ◌++◌}
+use Rattle.std.proofs.Common.{length, Bool, true, false, ◌||◌, Option, Some, None, nat_eq, nat_lt}
+use Rattle.std.proofs.Common.{arith, if◌then◌else◌}
 use Rattle.std.specs.Bool.{MatchBool}
 use Rattle.std.specs.List.{IsDistinct}
 use Rattle.std.proofs.lemmas.Bool.Decides.{nat_tests}
@@ -9,18 +11,23 @@ use Rattle.connection_model.specs.Item.{Item, client_output, notes_of}
 use Rattle.connection_model.specs.Gates.{Counts}
 use Rattle.connection_model.specs.Trace.{TraceState}
 use Rattle.proxy_core.specs.Changes.{closing}
-use Rattle.proxy_core.specs.Moves.{Leads, MovesBy, Stands, is_drained, closing_if, MovesTook, MovesFailed}
-use Rattle.proxy_core.specs.Past.{Happened, Past, Heard, heard, hears, live_numbers, last_number, last_after, with_accepted, without_ended, is_failed}
+use Rattle.proxy_core.specs.Moves.{Leads, MovesBy, Stands, is_drained, closing_if, MovesTook}
+use Rattle.proxy_core.specs.Moves.{MovesFailed}
+use Rattle.proxy_core.specs.Past.{Happened, Past, Heard, heard, hears, live_numbers, last_number}
+use Rattle.proxy_core.specs.Past.{last_after, with_accepted, without_ended, is_failed}
 use Rattle.proxy_core.specs.Ready.{is_in, without, with_ready}
 use Rattle.proxy_core.specs.Scheduler.{State, pending, refused_took}
 use Rattle.proxy_core.specs.Sound.{last_notes, Served, SoundAt, Sound}
 use Rattle.proxy_core.specs.declared.config.Config.{Config}
 use Rattle.proxy_core.specs.declared.event.BadEvent.TheVariants.{NoConn, TookTooMuch}
 use Rattle.proxy_core.specs.declared.event.Event.TheVariants.{ClientTook}
-use Rattle.proxy_core.proofs.GroupNotes.{About, about_closing_if, own_all, own_none, ended_if, failed_joined, failed_if}
-use Rattle.proxy_core.proofs.Members.{eq_self, eq_same, eq_turned, not_in_without, in_without_other, in_ready_self, in_ready_other}
+use Rattle.proxy_core.proofs.GroupNotes.{About, about_closing_if, own_all, own_none, ended_if}
+use Rattle.proxy_core.proofs.GroupNotes.{failed_joined, failed_if}
+use Rattle.proxy_core.proofs.Members.{eq_self, eq_same, eq_turned, not_in_without, in_without_other}
+use Rattle.proxy_core.proofs.Members.{in_ready_self, in_ready_other}
 use Rattle.proxy_core.proofs.ReadyRing.{distinct_without, in_without, ready_distinct, ready_within}
-use Rattle.proxy_core.proofs.SoundFrames.{frame, same_heard, is_served, from_served, stands_more, drained, not_drained}
+use Rattle.proxy_core.proofs.SoundFrames.{frame, same_heard, is_served, from_served, stands_more}
+use Rattle.proxy_core.proofs.SoundFrames.{drained, not_drained}
 
 -- so many bytes were pending on a live connection
 pub record Taken (past : Past) (s : State) (c n : ℕ) : Type 0 where

@@ -1,5 +1,6 @@
 -- From what an event changed to what the core stands for.
-use Rattle.std.proofs.Common.{◌≡◌, sym, ap, ◌∙◌, List, [], ◌∷◌, ◌++◌, Some, None, Result, Ok, Err, OnOk, IfErr}
+use Rattle.std.proofs.Common.{◌≡◌, sym, ap, ◌∙◌, List, [], ◌∷◌, ◌++◌, Some, None, Result, Ok, Err}
+use Rattle.std.proofs.Common.{OnOk, IfErr}
 use Rattle.connection_model.specs.declared.note.Note.{Note}
 use Rattle.proxy_core.specs.Changes.{Changes}
 use Rattle.proxy_core.specs.Moves.{Moves}

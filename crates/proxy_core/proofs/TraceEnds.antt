@@ -1,5 +1,7 @@
 -- The bodies that the code ran are the trace from there to its end.
-use Rattle.std.proofs.Common.{◌≡◌, refl, sym, ap, subst, ◌∙◌, ℕ, ◌+◌, List, [], ◌∷◌, ◌++◌, length, map, Bool, true, false, Option, Some, None, append_assoc, codes, if◌then◌else◌, nat_lt}
+use Rattle.std.proofs.Common.{◌≡◌, refl, sym, ap, subst, ◌∙◌, ℕ, ◌+◌, List, [], ◌∷◌, ◌++◌, length}
+use Rattle.std.proofs.Common.{map, Bool, true, false, Option, Some, None, append_assoc, codes}
+use Rattle.std.proofs.Common.{if◌then◌else◌, nat_lt}
 use Rattle.std.specs.Str.{bytes_eq}
 use Rattle.std.proofs.lemmas.List.{append-nil}
 use Rattle.std.proofs.lemmas.Grind.{flat_map-append}
@@ -10,7 +12,8 @@ use Rattle.tcl_vars.specs.Scopes.{Scopes}
 use Rattle.rule_model.specs.Host as effect
 use Rattle.rule_model.specs.Host.{HostStep}
 use Rattle.rule_model.specs.Evaluator as act
-use Rattle.rule_model.specs.Evaluator.{Act, Did, State, state, Outcome, Ends, Waits as Stops, Code, evaluate}
+use Rattle.rule_model.specs.Evaluator.{Act, Did, State, state, Outcome, Ends, Waits as Stops, Code}
+use Rattle.rule_model.specs.Evaluator.{evaluate}
 use Rattle.rule_model.specs.Laws.{state_after, Grows, StepShows, TableShows, ShowsActs}
 use Rattle.rule_model.proofs.Keeps.{eval_keeps}
 use Rattle.rule_model.proofs.Grown.{grows, shows}
@@ -20,12 +23,17 @@ use Rattle.connection_model.specs.declared.note.Note.{Note}
 use Rattle.connection_model.specs.Event.{ClientAccepted, LbFailed, ClientClosed}
 use Rattle.connection_model.specs.Responder.{respond, respond_table, respond_limit}
 use Rattle.connection_model.specs.Setup.{Handler, Setup, body_setting, uncaught_of, uncaught_line}
-use Rattle.connection_model.specs.Item.{Item, Ran, Logged, Finished, to_client, client_output, note_of, notes_of}
+use Rattle.connection_model.specs.Item.{Item, Ran, Logged, Finished, to_client, client_output}
+use Rattle.connection_model.specs.Item.{note_of, notes_of}
 use Rattle.connection_model.specs.Gates.{Counts, may_give, sent_after, Met}
-use Rattle.connection_model.specs.Trace.{Running, Failing, Phase, Accepted, Selecting, Finishing, Closing, Draining, entered, phase_next, TraceState, Next, Does, Over, next_body, selecting, accepted_run, run_body, act_item, after_body, next_item, Unfolds, no_host}
+use Rattle.connection_model.specs.Trace.{Running, Failing, Phase, Accepted, Selecting, Finishing}
+use Rattle.connection_model.specs.Trace.{Closing, Draining, entered, phase_next, TraceState, Next}
+use Rattle.connection_model.specs.Trace.{Does, Over, next_body, selecting, accepted_run, run_body}
+use Rattle.connection_model.specs.Trace.{act_item, after_body, next_item, Unfolds, no_host}
 use Rattle.connection_model.proofs.BodyItems.{accepted_by_bodies, running, ended, body_unfolds}
 use Rattle.connection_model.proofs.Unfolding.{unfolds_on}
-use Rattle.proxy_core.specs.Bodies.{BodiesEnd, AllRan, Uncaught, after_code, after_body as goes_on, bodies_end}
+use Rattle.proxy_core.specs.Bodies.{BodiesEnd, AllRan, Uncaught, after_code, after_body as goes_on}
+use Rattle.proxy_core.specs.Bodies.{bodies_end}
 use Rattle.proxy_core.specs.Changes.{finish_notes, sent_at}
 use Rattle.proxy_core.specs.Setup.{handler_of}
 use Rattle.proxy_core.specs.declared.config.Rule.{Rule}

@@ -5,7 +5,8 @@ use Rattle.std.proofs.lemmas.Bool.Decides.{nat_tests}
 use Rattle.tcl_vars.specs.Scopes.{no_scopes}
 use Rattle.connection_model.specs.Item.{Item, BeforeBodies, Opened, client_output, notes_of}
 use Rattle.connection_model.specs.Gates.{Counts, no_bytes, room_limit, Met}
-use Rattle.connection_model.specs.Trace.{Accepted, Running, TraceState, Does, Over, entered, selecting, phase_next, next_item, Unfolds}
+use Rattle.connection_model.specs.Trace.{Accepted, Running, TraceState, Does, Over, entered}
+use Rattle.connection_model.specs.Trace.{selecting, phase_next, next_item, Unfolds}
 use Rattle.proxy_core.specs.Bodies.{BodiesEnd, bodies_end}
 use Rattle.proxy_core.specs.Changes.{finish_notes, sent_at}
 use Rattle.proxy_core.specs.Setup.{handler_of, rules_named, setup_of, trace_start}

@@ -1,12 +1,15 @@
 -- Which texts are decimals.
-use Rattle.std.proofs.Common.{◌≡◌, ◌≢◌, ℕ, zero, suc, ◌^◌, ◌<◌, inl, inr, List, length, get_or, Result, Ok, Err, IfSome, IfNone, sym, ap, ◌∙◌, arith}
+use Rattle.std.proofs.Common.{◌≡◌, ◌≢◌, ℕ, zero, suc, ◌^◌, ◌<◌, inl, inr, List, length, get_or}
+use Rattle.std.proofs.Common.{Result, Ok, Err, IfSome, IfNone, sym, ap, ◌∙◌, arith}
 use Rattle.std.specs.Fmt.{decimal}
 use Rattle.std.specs.Result.{result_ok}
 use Rattle.std.specs.Str.{IsUtf8}
 use Rattle.std.specs.Str.Parse.{AllDigits, digits_value, ParsesUnsigned}
-use Rattle.std.proofs.lemmas.Fmt.{decimal_digit, first_decimal, decimal_nonempty, digits_decimal, decimal-digits_value, IsAscii-decimal, parse-decimal}
+use Rattle.std.proofs.lemmas.Fmt.{decimal_digit, first_decimal, decimal_nonempty, digits_decimal}
+use Rattle.std.proofs.lemmas.Fmt.{decimal-digits_value, IsAscii-decimal, parse-decimal}
 use Rattle.std.proofs.lemmas.Str.{IsUtf8-from_ascii}
-use Rattle.std.proofs.lemmas.Str.Parse.{IsNumeralModel, numerals_by_value, tells_digits, digit_at, parse_plain}
+use Rattle.std.proofs.lemmas.Str.Parse.{IsNumeralModel, numerals_by_value, tells_digits, digit_at}
+use Rattle.std.proofs.lemmas.Str.Parse.{parse_plain}
 use Rattle.px_bytes.specs.Decimal.{BeginsPlainly}
 
 pub own : IsNumeralModel (AllDigits 10) (digits_value 10)

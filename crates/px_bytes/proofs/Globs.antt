@@ -1,9 +1,12 @@
 -- How the pieces of a pattern take a text.
-use Rattle.std.proofs.Common.{◌≡◌, ◌≢◌, ℕ, zero, suc, ◌+◌, ◌-◌, ◌<◌, ◌≤◌, ◌↔◌, Bool, true, false, ◌||◌, ◌==◌, cond, List, [], ◌∷◌, length, get_or, take, drop, Option, Some, None, sym, ap, refl, subst, ◌∙◌, arith, add-one}
+use Rattle.std.proofs.Common.{◌≡◌, ◌≢◌, ℕ, zero, suc, ◌+◌, ◌-◌, ◌<◌, ◌≤◌, ◌↔◌, Bool, true, false}
+use Rattle.std.proofs.Common.{◌||◌, ◌==◌, cond, List, [], ◌∷◌, length, get_or, take, drop, Option}
+use Rattle.std.proofs.Common.{Some, None, sym, ap, refl, subst, ◌∙◌, arith, add-one}
 use Rattle.std.proofs.lemmas.Bool.{false≢true, ne_eqb}
 use Rattle.std.proofs.lemmas.Bool.Decides.{nat_tests}
 use Rattle.std.proofs.lemmas.List.{drop-drop, take_rest}
-use Rattle.px_bytes.specs.Glob.{is_star, item_has, item_more, behind_set, behind_escape, behind_piece, Matches}
+use Rattle.px_bytes.specs.Glob.{is_star, item_has, item_more, behind_set, behind_escape}
+use Rattle.px_bytes.specs.Glob.{behind_piece, Matches}
 use Rattle.px_bytes.specs.Glob.Matches.{AtEnd, Many, One}
 use Rattle.px_bytes.specs.GlobRun.{ComesTo, starred, IsRun, Settles, left_of}
 use Rattle.px_bytes.specs.declared.pattern.Run.{Run}

@@ -2,6 +2,7 @@ pub mod Addresses
 pub mod Decimals
 pub mod Examples
 pub mod Globs
+pub mod Handed
 pub mod HexReads
 pub mod Lowered
 pub mod Nets

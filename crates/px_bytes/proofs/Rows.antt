@@ -1,5 +1,6 @@
 -- Rows of numbers, networks, patterns, hexadecimal and letters.
-use Rattle.std.proofs.Common.{◌≡◌, ℕ, zero, suc, Bool, false, ◌||◌, ◌==◌, cond, List, [], ◌∷◌, Option, Some, None, pos, neg_ℤ, inl, refl, ◌∙◌}
+use Rattle.std.proofs.Common.{◌≡◌, ℕ, zero, suc, Bool, false, ◌||◌, ◌==◌, cond, List, [], ◌∷◌}
+use Rattle.std.proofs.Common.{Option, Some, None, pos, neg_ℤ, inl, refl, ◌∙◌}
 use Rattle.std.specs.Prelude.{codes}
 use Rattle.std.specs.Fmt.{digits}
 use Rattle.px_bytes.specs.Glob.{item_has, item_more, behind_set, behind_piece, Matches}

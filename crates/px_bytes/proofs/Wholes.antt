@@ -1,9 +1,12 @@
 -- Which texts are whole numbers.
-use Rattle.std.proofs.Common.{◌≡◌, ℕ, suc, ◌+◌, ◌-◌, ◌*◌, ◌^◌, ◌<◌, ◌≤◌, Bool, true, false, ◌==◌, cond, ltb, List, [], ◌∷◌, length, get_or, take, drop, Option, Some, None, ℤ, pos, negsuc, neg_ℤ, sym, ap, ap₂, refl, ◌∙◌, arith}
+use Rattle.std.proofs.Common.{◌≡◌, ℕ, suc, ◌+◌, ◌-◌, ◌*◌, ◌^◌, ◌<◌, ◌≤◌, Bool, true, false, ◌==◌}
+use Rattle.std.proofs.Common.{cond, ltb, List, [], ◌∷◌, length, get_or, take, drop, Option, Some}
+use Rattle.std.proofs.Common.{None, ℤ, pos, negsuc, neg_ℤ, sym, ap, ap₂, refl, ◌∙◌, arith}
 use Rattle.std.specs.Char.{digit_value, is_digit}
 use Rattle.std.specs.Fmt.{decimal, signed_decimal}
 use Rattle.std.specs.List.{prefix_len, suffix_len}
-use Rattle.std.specs.Str.Parse.{AllDigits, digits_value, digits_value_after, starts_with_minus, without_leading_plus, without_leading_sign}
+use Rattle.std.specs.Str.Parse.{AllDigits, digits_value, digits_value_after, starts_with_minus}
+use Rattle.std.specs.Str.Parse.{without_leading_plus, without_leading_sign}
 use lib.Signed.{mag}
 use Rattle.std.proofs.Math.Nat.{mul-le-mul_left}
 use Rattle.std.proofs.lemmas.Bool.{ne_eqb, lt-ltb, le-leb}
@@ -13,7 +16,8 @@ use Rattle.std.proofs.lemmas.List.{at_drop_more, at_drop_all, get_or_past, take_
 use Rattle.std.proofs.lemmas.List.Sums.{prefix_len_is, suffix_len_is}
 use Rattle.std.proofs.lemmas.Str.Parse.{digit_at}
 use Rattle.px_bytes.specs.White.{is_space, trimmed_start, trimmed_end, trimmed}
-use Rattle.px_bytes.specs.Whole.{digits_behind, digits, is_hexadecimal, is_octal, magnitude, fits_64, signed, signed_number, whole}
+use Rattle.px_bytes.specs.Whole.{digits_behind, digits, is_hexadecimal, is_octal, magnitude}
+use Rattle.px_bytes.specs.Whole.{fits_64, signed, signed_number, whole}
 use Rattle.px_bytes.proofs.Decimals.{begins_plainly, lone_zero}
 
 too_large_now : (n : ℕ) → 2 ^ 64 ≤ n → fits_64 (Some n) ≡ None

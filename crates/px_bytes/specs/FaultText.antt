@@ -5,9 +5,12 @@ use Rattle.px_bytes.specs.declared.fault.FaultKind.TheVariants.{
   NoVariable,
   NoCommand,
   Arity,
+  NotWhole,
+  OutOfRange,
   TooLong,
   Budget,
   Context,
+  Syntax,
 }
 use Rattle.px_bytes.specs.declared.fault.TclFault.{TclFault}
 
@@ -27,6 +30,19 @@ no_command name =
 -- the command of this name was given a wrong number of words
 abbrev pub wrong_arity : List ℕ → TclFault
 wrong_arity name = record { kind = Arity; text = codes "wrong # args: \"" ++ name ++ codes "\"" }
+
+-- a word isn't a whole number (Tcl_GetInt(3))
+abbrev pub not_whole : List ℕ → TclFault
+not_whole text =
+    record { kind = NotWhole; text = codes "expected integer but got \"" ++ text ++ codes "\"" }
+
+-- a number is out of range
+abbrev pub out_of_range : TclFault
+out_of_range = record { kind = OutOfRange; text = codes "integer out of range" }
+
+-- the words of the command of this name have none of its forms
+abbrev pub syntax_error : List ℕ → TclFault
+syntax_error name = record { kind = Syntax; text = codes "syntax error in " ++ name }
 
 -- a text or the variables would be too long
 abbrev pub too_long : TclFault

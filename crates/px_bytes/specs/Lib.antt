@@ -2,13 +2,16 @@ pub mod Address
 pub mod Decimal
 pub mod Escapes
 pub mod FaultText
+pub mod Gives
 pub mod Glob
 pub mod GlobRun
 pub mod HexRead
 pub mod Hexadecimal
 pub mod Letters
 pub mod Net
+pub mod Position
 pub mod Roomy
 pub mod SplitAt
 pub mod White
 pub mod Whole
+pub mod WholeWord

@@ -5,6 +5,9 @@ ghost use Rattle.px_bytes.specs.FaultText.{
   no_variable,
   no_command,
   wrong_arity,
+  not_whole,
+  out_of_range,
+  syntax_error,
   too_long,
   budget_spent,
   static_set,
@@ -44,6 +47,39 @@ impl TclFault {
         let text = around(alloc, b"wrong # args: \"", name, b"\"")?;
         Ok(TclFault {
             kind: FaultKind::Arity,
+            text,
+        })
+    }
+
+    /// A word isn't a whole number.
+    pub fn not_whole(alloc: Global, word: &[u8]) -> M<TclFault>
+        ensures { IfOk result (λ f. f ≡ not_whole word.now) }
+    {
+        let text = around(alloc, b"expected integer but got \"", word, b"\"")?;
+        Ok(TclFault {
+            kind: FaultKind::NotWhole,
+            text,
+        })
+    }
+
+    /// A number is out of range.
+    pub fn out_of_range(alloc: Global) -> M<TclFault>
+        ensures { IfOk result (λ f. f ≡ out_of_range) }
+    {
+        Ok(TclFault {
+            kind: FaultKind::OutOfRange,
+            text: Text::new(alloc, b"integer out of range")?,
+        })
+    }
+
+    /// The words of the command of this name have none of its forms.
+    pub fn syntax_error(alloc: Global, name: &[u8]) -> M<TclFault>
+        ensures { IfOk result (λ f. f ≡ syntax_error name.now) }
+    {
+        let mut text = Text::new(alloc, b"syntax error in ")?;
+        text.push(name)?;
+        Ok(TclFault {
+            kind: FaultKind::Syntax,
             text,
         })
     }

@@ -1,5 +1,6 @@
 -- What is told behind what was told.
-use Rattle.std.proofs.Common.{◌≡◌, ℕ, ◌+◌, ◌-◌, List, ◌++◌, Option, Some, None, length, take, drop, refl, ap, sym, ◌∙◌, append_assoc, take-add}
+use Rattle.std.proofs.Common.{◌≡◌, ℕ, ◌+◌, ◌-◌, List, ◌++◌, Option, Some, None, length, take, drop}
+use Rattle.std.proofs.Common.{refl, ap, sym, ◌∙◌, append_assoc, take-add}
 use Rattle.std.proofs.lemmas.List.{take_rest}
 use Rattle.px_outside.specs.Outside.{told_more}
 

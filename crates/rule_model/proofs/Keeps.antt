@@ -1,13 +1,18 @@
 -- What each step of an evaluation keeps, the evaluation keeps.
-use Rattle.std.proofs.Common.{ℕ, ◌+◌, ◌-◌, List, [], ◌∷◌, ◌++◌, Bool, true, false, Option, Some, None, length, nat_eq, nat_lt}
+use Rattle.std.proofs.Common.{ℕ, ◌+◌, ◌-◌, List, [], ◌∷◌, ◌++◌, Bool, true, false, Option, Some}
+use Rattle.std.proofs.Common.{None, length, nat_eq, nat_lt}
 use Rattle.std.specs.Prelude.{if◌then◌else◌, sum_by}
 use Rattle.tcl_vars.specs.Scopes.{Scopes, Level, is_static, vars_bytes, vars_limit, with_value}
 use Rattle.tcl_vars.specs.Names.{Name, name_of}
-use Rattle.tcl_expr.specs.declared.tree.Tree.{Tree, Plain, Variable, Word', Command', Body', Row_of-Tree, end_of-Tree, more_of-Tree}
+use Rattle.tcl_expr.specs.declared.tree.Tree.{Tree, Plain, Variable, Word', Command', Body'}
+use Rattle.tcl_expr.specs.declared.tree.Tree.{Row_of-Tree, end_of-Tree, more_of-Tree}
 use Rattle.tcl_expr.specs.declared.tree.Verb.{Verb}
 use Rattle.tcl_expr.specs.declared.tree.Verb.TheVariants.{Set, Named}
 use Rattle.rule_model.specs.Host.{HostStep}
-use Rattle.rule_model.specs.Evaluator.{Value, Raised, Return, Break, Continue, State, Outcome, Ends, Waits, Meaning, Setting, then_value, paid, answered, value_of, read_as, set_in_room, set_as, text_limit, in_order, join_pieces, set_command, command, commands, eval, evals}
+use Rattle.rule_model.specs.Evaluator.{Value, Raised, Return, Break, Continue, State, Outcome, Ends}
+use Rattle.rule_model.specs.Evaluator.{Waits, Meaning, Setting, then_value, paid, answered}
+use Rattle.rule_model.specs.Evaluator.{value_of, read_as, set_in_room, set_as, text_limit, in_order}
+use Rattle.rule_model.specs.Evaluator.{join_pieces, set_command, command, commands, eval, evals}
 use Rattle.rule_model.specs.Laws.{state_after}
 
 -- a relation of a state to a later one that each step keeps

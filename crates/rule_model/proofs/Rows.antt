@@ -8,7 +8,8 @@ use Rattle.tcl_vars.specs.Scopes.{no_scopes, with_value}
 use Rattle.tcl_expr.specs.declared.tree.Tree.{Tree, Plain, Variable}
 use Rattle.tcl_expr.specs.declared.tree.Verb.TheVariants.{Set, Named}
 use Rattle.rule_model.specs.Host.{Sent, HostStep, Gives, Faults}
-use Rattle.rule_model.specs.Evaluator.{Value, Did, Ends, Meaning, Setting, state, in_order, join_pieces, command, commands, eval, evaluate}
+use Rattle.rule_model.specs.Evaluator.{Value, Did, Ends, Meaning, Setting, state, in_order}
+use Rattle.rule_model.specs.Evaluator.{join_pieces, command, commands, eval, evaluate}
 use Rattle.rule_model.proofs.Trees.{IsWord, IsCommand, IsBody, word_is, command_is, body_is}
 
 -- a host whose only command is `TCP::respond TEXT`

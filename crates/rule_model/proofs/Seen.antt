@@ -1,15 +1,20 @@
 -- An evaluation of a wider host, where only a view of its state is seen.
-use Rattle.std.proofs.Common.{◌≡◌, refl, ap, ◌∙◌, ℕ, ◌+◌, ◌-◌, List, [], ◌∷◌, ◌++◌, Bool, true, false, Option, Some, None, length, nat_eq, nat_lt}
+use Rattle.std.proofs.Common.{◌≡◌, refl, ap, ◌∙◌, ℕ, ◌+◌, ◌-◌, List, [], ◌∷◌, ◌++◌, Bool, true}
+use Rattle.std.proofs.Common.{false, Option, Some, None, length, nat_eq, nat_lt}
 use Rattle.std.specs.Prelude.{if◌then◌else◌, sum_by}
 use Rattle.px_bytes.specs.declared.fault.Reply.{Reply}
 use Rattle.px_bytes.specs.declared.fault.Reply.TheVariants as reply
 use Rattle.tcl_vars.specs.Scopes.{Level, is_static, vars_bytes, vars_limit, with_value}
 use Rattle.tcl_vars.specs.Names.{Name, name_of}
-use Rattle.tcl_expr.specs.declared.tree.Tree.{Tree, Plain, Variable, Word', Command', Body', Row_of-Tree, end_of-Tree, more_of-Tree}
+use Rattle.tcl_expr.specs.declared.tree.Tree.{Tree, Plain, Variable, Word', Command', Body'}
+use Rattle.tcl_expr.specs.declared.tree.Tree.{Row_of-Tree, end_of-Tree, more_of-Tree}
 use Rattle.tcl_expr.specs.declared.tree.Verb.{Verb}
 use Rattle.tcl_expr.specs.declared.tree.Verb.TheVariants.{Set, Named}
 use Rattle.rule_model.specs.Host.{HostStep, Gives, Faults, Asks}
-use Rattle.rule_model.specs.Evaluator.{Value, Raised, Return, Break, Continue, State, Outcome, Ends, Waits, Meaning, Setting, then_value, paid, ask_in, answered, value_of, read_as, set_in_room, set_as, text_limit, in_order, join_pieces, set_command, command, commands, eval, evals}
+use Rattle.rule_model.specs.Evaluator.{Value, Raised, Return, Break, Continue, State, Outcome, Ends}
+use Rattle.rule_model.specs.Evaluator.{Waits, Meaning, Setting, then_value, paid, ask_in, answered}
+use Rattle.rule_model.specs.Evaluator.{value_of, read_as, set_in_room, set_as, text_limit, in_order}
+use Rattle.rule_model.specs.Evaluator.{join_pieces, set_command, command, commands, eval, evals}
 use Rattle.rule_model.specs.Laws.{step_seen, state_seen, outcome_seen, SeenAs}
 
 -- what is seen of the one is the other

@@ -2,10 +2,13 @@
 use Rattle.std.proofs.Common.{◌≡◌, refl, ap, ◌∙◌, List, [], ◌∷◌, map}
 use Rattle.std.specs.declared.vec.Vec.{Vec}
 use Rattle.std.specs.declared.alloc.Global.{Global}
-use Rattle.tcl_expr.specs.declared.tree.Tree.{Tree, Word, Command, Body, Row_of-Tree, end_of-Tree, more_of-Tree, items-the_row-Tree, items_hidden-the_row-Tree-0}
+use Rattle.tcl_expr.specs.declared.tree.Tree.{Tree, Word, Command, Body, Row_of-Tree, end_of-Tree}
+use Rattle.tcl_expr.specs.declared.tree.Tree.{more_of-Tree, items-the_row-Tree}
+use Rattle.tcl_expr.specs.declared.tree.Tree.{items_hidden-the_row-Tree-0}
 use Rattle.tcl_expr.specs.declared.tree.Tree.TheBlock.{hidden-the_row-Tree-0}
 use Rattle.tcl_expr.specs.declared.tree.Verb.{Verb}
-use Rattle.rule_model.specs.Evaluator.{Setting, in_order, join_pieces, command, commands, eval, evals}
+use Rattle.rule_model.specs.Evaluator.{Setting, in_order, join_pieces, command, commands, eval}
+use Rattle.rule_model.specs.Evaluator.{evals}
 
 evals_are : {H : Type 0} (g : Setting H) {m : _} (row : Row_of-Tree m) → evals g row ≡ map (eval g) (items-the_row-Tree m row)
 evals_are g end_of-Tree = refl

@@ -4,7 +4,8 @@ use Rattle.std.specs.List.{flat_map}
 use Rattle.px_bytes.specs.declared.fault.Reply.{Reply}
 use Rattle.tcl_expr.specs.declared.tree.Tree.{Tree}
 use Rattle.rule_model.specs.Host.{HostStep, Gives, Faults, Asks}
-use Rattle.rule_model.specs.Evaluator.{Act, Did, Called, State, state, Outcome, Ends, Waits, Setting, eval}
+use Rattle.rule_model.specs.Evaluator.{Act, Did, Called, State, state, Outcome, Ends, Waits}
+use Rattle.rule_model.specs.Evaluator.{Setting, eval}
 
 -- where an evaluation stands when it ends or waits
 abbrev pub state_after : {H : Type 0} → Outcome H → State H

@@ -1,5 +1,7 @@
 -- Exact results in 128 bits.
-use Rattle.std.proofs.Common.{◌≡◌, ℤ, pos, negsuc, neg_ℤ, ◌*ℤ◌, Bool, true, false, cond, ltb, List, ℕ, zero, suc, ◌-◌, ◌*◌, ◌%◌, ◌^◌, ◌<◌, ◌≤◌, ap, refl, ◌∙◌, subst, arith, to_z, of_z}
+use Rattle.std.proofs.Common.{◌≡◌, ℤ, pos, negsuc, neg_ℤ, ◌*ℤ◌, Bool, true, false, cond, ltb, List}
+use Rattle.std.proofs.Common.{ℕ, zero, suc, ◌-◌, ◌*◌, ◌%◌, ◌^◌, ◌<◌, ◌≤◌, ap, refl, ◌∙◌, subst}
+use Rattle.std.proofs.Common.{arith, to_z, of_z}
 use Rattle.std.specs.Prelude.{Result, Ok, Err, unsigned_abs}
 use Rattle.std.specs.Int.{w64, w128, int_rem_euclid}
 use lib.Signed.{mag, lt_z, shr_z, mag_shr}
@@ -10,7 +12,9 @@ use Rattle.std.proofs.Math.Nat.{pow-le-pow_right}
 use mir.Val.{SFits}
 use Rattle.px_bytes.specs.declared.fault.Raise.{Raise}
 use Rattle.px_bytes.specs.declared.fault.TclFault.{TclFault}
-use Rattle.tcl_expr.specs.OperatorFaults.{Gives, out_of_range, divide_by_zero}
+use Rattle.px_bytes.specs.FaultText.{out_of_range}
+use Rattle.px_bytes.specs.Gives.{Gives}
+use Rattle.tcl_expr.specs.OperatorFaults.{divide_by_zero}
 use Rattle.tcl_expr.specs.Operators.{printed, quotient, remainder, with_divisor, count_of}
 
 -- what was printed is the wanted number

@@ -1,5 +1,6 @@
 -- Trees that stand for items one for one, and items that are built, one more at a time.
-use Rattle.std.proofs.Common.{◌≡◌, ℕ, ◌+◌, ◌<◌, List, [], ◌∷◌, ◌++◌, length, get_or, take, map, sym, ap, ◌∙◌, subst, refl}
+use Rattle.std.proofs.Common.{◌≡◌, ℕ, ◌+◌, ◌<◌, List, [], ◌∷◌, ◌++◌, length, get_or, take, map, sym}
+use Rattle.std.proofs.Common.{ap, ◌∙◌, subst, refl}
 use Rattle.std.specs.Prelude.{Result, Ok, Err}
 use Rattle.std.specs.List.{All, AllZip}
 use Rattle.std.specs.Result.{IsErr, IsErrAnd}
@@ -10,7 +11,8 @@ use Rattle.std.proofs.lemmas.List.Elements.{All-push}
 use Rattle.tcl_expr.specs.Compile.{trees_of}
 use Rattle.tcl_expr.specs.declared.compile_fault.CompileFault.{CompileFault}
 use Rattle.tcl_expr.specs.declared.compile_fault.CompileFault.TheVariants.{NotBuilt}
-use Rattle.tcl_expr.specs.declared.tree.Tree.{Tree, Row_of-Tree, end_of-Tree, more_of-Tree, items-the_row-Tree, items_hidden-the_row-Tree-0}
+use Rattle.tcl_expr.specs.declared.tree.Tree.{Tree, Row_of-Tree, end_of-Tree, more_of-Tree}
+use Rattle.tcl_expr.specs.declared.tree.Tree.{items-the_row-Tree, items_hidden-the_row-Tree-0}
 use Rattle.tcl_expr.specs.declared.tree.Tree.TheBlock.{hidden-the_row-Tree-0}
 
 trees_are : {m : _} (row : Row_of-Tree m) → trees_of row ≡ items-the_row-Tree m row

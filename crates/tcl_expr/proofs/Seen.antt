@@ -1,11 +1,14 @@
 -- Words, commands and scripts of the code, as the definitions see them.
-use Rattle.std.proofs.Common.{◌≡◌, ◌≢◌, ℕ, ◌<◌, Option, List, [], ◌∷◌, length, map, false, refl, sym, ap, ◌∙◌, subst, arith}
+use Rattle.std.proofs.Common.{◌≡◌, ◌≢◌, ℕ, ◌<◌, Option, List, [], ◌∷◌, length, map, false, refl}
+use Rattle.std.proofs.Common.{sym, ap, ◌∙◌, subst, arith}
 use Rattle.std.specs.List.{All, AllZip}
 use Rattle.std.proofs.lemmas.List.{length-map}
 use Rattle.std.specs.declared.vec.Vec.{Vec}
 use Rattle.std.specs.declared.alloc.Global.{Global}
-use Rattle.tcl_words.specs.Tree.{Part, plain, variable, element, bracket, Parts, and_part, Word, word, Command}
-use Rattle.tcl_words.specs.View.{part_view, word_view, command_view, script_view, parts_of, words_of, commands_of}
+use Rattle.tcl_words.specs.Tree.{Part, plain, variable, element, bracket, Parts, and_part, Word}
+use Rattle.tcl_words.specs.Tree.{word, Command}
+use Rattle.tcl_words.specs.View.{part_view, word_view, command_view, script_view, parts_of}
+use Rattle.tcl_words.specs.View.{words_of, commands_of}
 use Rattle.tcl_words.specs.declared.script.Form.{Form}
 use Rattle.tcl_words.specs.declared.script.Form.TheVariants.{Braced}
 use Rattle.tcl_words.specs.declared.script.Span.{Span}
@@ -16,7 +19,9 @@ use Rattle.tcl_words.specs.declared.script.Command as code_command
 use Rattle.tcl_words.specs.declared.script.Command.{out-Command}
 use Rattle.tcl_words.specs.declared.script.Script.{Script, out-Script}
 use Rattle.tcl_words.proofs.Views.{script-commands, command-words, word-parts}
-use Rattle.tcl_expr.specs.Compile.{all_parts, all_words, all_commands, PartIs, WordIs, CommandIs, Compiles, IsBuiltPart, IsBuiltWord, IsBuiltCommand, IsBuilt, is_set, verb_of, HasItsWords}
+use Rattle.tcl_expr.specs.Compile.{all_parts, all_words, all_commands, PartIs, WordIs, CommandIs}
+use Rattle.tcl_expr.specs.Compile.{Compiles, IsBuiltPart, IsBuiltWord, IsBuiltCommand, IsBuilt}
+use Rattle.tcl_expr.specs.Compile.{is_set, verb_of, HasItsWords}
 use Rattle.tcl_expr.specs.declared.tree.Tree as tree
 use Rattle.tcl_expr.specs.declared.tree.Tree.{Tree}
 use Rattle.tcl_expr.specs.declared.tree.Verb.{Verb}

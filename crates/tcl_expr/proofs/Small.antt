@@ -1,11 +1,17 @@
 -- What a text of the small form spells is built.
-use Rattle.std.proofs.Common.{◌≢◌, ℕ, ◌+◌, ◌<◌, ◌≤◌, List, [], ◌∷◌, length, sym, subst, arith, inl, inr, codes}
+use Rattle.std.proofs.Common.{◌≢◌, ℕ, ◌+◌, ◌<◌, ◌≤◌, List, [], ◌∷◌, length, sym, subst, arith, inl}
+use Rattle.std.proofs.Common.{inr, codes}
 use Rattle.std.specs.List.{All}
 use Rattle.std.proofs.lemmas.List.Elements.{All-nil, All-cons}
-use Rattle.tcl_words.specs.Small.{bare_word, one_plain, SpellsParts, SpellsInside, SpellsWord, SpellsRespond, SpellsSet, SpellsWords, SpellsCommand, SpellsCommands}
-use Rattle.tcl_words.specs.Tree.{plain, variable, element, bracket, Parts, no_parts, and_part, Word, word, Words, no_words, and_word, Command, command, Commands, no_commands, and_command}
+use Rattle.tcl_words.specs.Small.{bare_word, one_plain, SpellsParts, SpellsInside, SpellsWord}
+use Rattle.tcl_words.specs.Small.{SpellsRespond, SpellsSet, SpellsWords, SpellsCommand}
+use Rattle.tcl_words.specs.Small.{SpellsCommands}
+use Rattle.tcl_words.specs.Tree.{plain, variable, element, bracket, Parts, no_parts, and_part, Word}
+use Rattle.tcl_words.specs.Tree.{word, Words, no_words, and_word, Command, command, Commands}
+use Rattle.tcl_words.specs.Tree.{no_commands, and_command}
 use Rattle.tcl_words.specs.declared.script.Form.TheVariants.{Bare, Quoted, Braced}
-use Rattle.tcl_expr.specs.Compile.{all_parts, all_words, all_commands, IsBuiltPart, IsBuiltWord, IsBuiltCommand, verb_of, HasItsWords}
+use Rattle.tcl_expr.specs.Compile.{all_parts, all_words, all_commands, IsBuiltPart, IsBuiltWord}
+use Rattle.tcl_expr.specs.Compile.{IsBuiltCommand, verb_of, HasItsWords}
 
 parts_built : (at : ℕ) (text : List ℕ) (ps : Parts) → SpellsParts at text ps → All IsBuiltPart (all_parts ps)
 parts_built at text no_parts h = All-nil IsBuiltPart

@@ -1,5 +1,7 @@
 -- Tests of one text by another.
-use Rattle.std.proofs.Common.{◌≡◌, ℕ, zero, suc, ◌≤◌, ◌↔◌, Bool, true, false, ◌||◌, cond, nat_eq, List, [], ◌∷◌, length, take, drop, Option, Some, None, IsTrue, is_some, sym, ap, refl, ◌∙◌, arith}
+use Rattle.std.proofs.Common.{◌≡◌, ℕ, zero, suc, ◌≤◌, ◌↔◌, Bool, true, false, ◌||◌, cond, nat_eq}
+use Rattle.std.proofs.Common.{List, [], ◌∷◌, length, take, drop, Option, Some, None, IsTrue}
+use Rattle.std.proofs.Common.{is_some, sym, ap, refl, ◌∙◌, arith}
 use Rattle.std.specs.List.{starts_with}
 use Rattle.std.proofs.lemmas.Bool.{false≢true, or_left, or_right, false_from_ne_true}
 use Rattle.std.proofs.lemmas.List.{length-take, length-drop}
@@ -9,7 +11,8 @@ use Rattle.memchr.proofs.lemmas.MatchLemmas.{OccursAt-part, OccursAt-from_part}
 use Rattle.px_bytes.specs.Glob.{Matches, is_star, behind_piece}
 use Rattle.px_bytes.specs.Glob.Matches.{AtEnd, Many, One}
 use Rattle.px_bytes.proofs.Globs.{piece_shorter}
-use Rattle.tcl_expr.specs.TextTests.{some_end, contains, holds_behind, piece_and, matches_within, matches, MatchesIsGlob}
+use Rattle.tcl_expr.specs.TextTests.{some_end, contains, holds_behind, piece_and, matches_within}
+use Rattle.tcl_expr.specs.TextTests.{matches, MatchesIsGlob}
 
 -- two tests that hold alike
 pub same_test : {P : Type 0} (s t : Bool) → (s ≡ true) ↔ P → (t ≡ true) ↔ P → s ≡ t

@@ -52,7 +52,10 @@ use Rattle.std.specs.Cmp.Lexicographic.{slice_cmp}
 use Rattle.std.specs.Str.{bytes_eq}
 use Rattle.px_bytes.specs.Whole.{whole}
 use Rattle.px_bytes.specs.declared.fault.TclFault.{TclFault}
-use Rattle.tcl_expr.specs.OperatorFaults.{not_whole, not_truth, out_of_range, divide_by_zero}
+use Rattle.px_bytes.specs.FaultText.{out_of_range}
+use Rattle.px_bytes.specs.Gives.{with_value}
+use Rattle.px_bytes.specs.WholeWord.{number_of}
+use Rattle.tcl_expr.specs.OperatorFaults.{not_truth, divide_by_zero}
 use Rattle.tcl_expr.specs.TextTests.{contains, matches}
 use Rattle.tcl_expr.specs.Truth.{truth}
 use Rattle.tcl_expr.specs.declared.operator.Op1.{Op1}
@@ -82,20 +85,6 @@ use Rattle.tcl_expr.specs.declared.operator.Op2.TheVariants.{
   BitXor,
   BitOr,
 }
-
--- what is done with a value; a fault stays
-abbrev pub with_value : {A B : Type 0} → Result A TclFault → (A → Result B TclFault)
-    → Result B TclFault
-with_value (Ok value) f = f value
-with_value (Err fault) f = Err fault
-
--- the whole number that an operand is
-abbrev pub number_by : Option ℤ → List ℕ → Result ℤ TclFault
-number_by (Some n) text = Ok n
-number_by None text = Err (not_whole text)
-
-abbrev pub number_of : List ℕ → Result ℤ TclFault
-number_of text = number_by (whole text) text
 
 -- of two operands the first that isn't a whole number is named
 abbrev pub with_numbers : {A : Type 0} → List ℕ → List ℕ → (ℤ → ℤ → Result A TclFault)

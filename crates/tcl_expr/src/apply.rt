@@ -1,16 +1,16 @@
 // What operators give.
 
 ghost use Rattle.std.specs.Prelude.{◌≡◌, ◌+◌};
-ghost use Rattle.tcl_expr.specs.OperatorFaults.{Gives};
+ghost use Rattle.px_bytes.specs.Gives.{Gives};
 ghost use Rattle.tcl_expr.specs.Operators.{operator_value_1, operator_value_2, opposite_by};
 
 use crate::arithmetic::{bit_and, bit_or, bit_xor, difference, product, sum};
 use crate::comparison::{contains, matches, order};
 use crate::division::{quotient, remainder, shifted_left, shifted_right};
-use crate::number::{number, printed, tested};
+use crate::number::{printed, tested};
 use crate::operator_fault::not_truth;
 use crate::{Op1, Op2, read_truth};
-use px_bytes::{Raise, Steps, Text};
+use px_bytes::{Raise, Steps, Text, number};
 use std::alloc::Global;
 use std::sync::ledger::Ledger;
 

@@ -1,6 +1,6 @@
 // The operators that need whole numbers. Each is worked out exactly, in 128 bits.
 
-ghost use Rattle.tcl_expr.specs.OperatorFaults.{Gives};
+ghost use Rattle.px_bytes.specs.Gives.{Gives};
 ghost use Rattle.tcl_expr.specs.Operators.{operator_value_2};
 
 use crate::Op2;

@@ -1,7 +1,7 @@
 // Division and shifts, which round down.
 
 ghost use Rattle.std.specs.Prelude.{◌≡◌, ◌≢◌, pos};
-ghost use Rattle.tcl_expr.specs.OperatorFaults.{Gives};
+ghost use Rattle.px_bytes.specs.Gives.{Gives};
 ghost use Rattle.tcl_expr.specs.Operators.{operator_value_2, quotient, remainder};
 
 use crate::Op2;

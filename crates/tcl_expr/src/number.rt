@@ -1,22 +1,11 @@
 // Operands and results that are whole numbers.
 
 ghost use Rattle.std.specs.Prelude.{◌≡◌, Ok};
-ghost use Rattle.tcl_expr.specs.OperatorFaults.{Gives};
-ghost use Rattle.tcl_expr.specs.Operators.{number_of, with_numbers, count_of, printed, tested};
+ghost use Rattle.px_bytes.specs.Gives.{Gives};
+ghost use Rattle.tcl_expr.specs.Operators.{with_numbers, count_of, printed, tested};
 
-use crate::operator_fault::{not_whole, out_of_range};
-use px_bytes::{M, Raise, Text, print_whole, read_whole};
+use px_bytes::{Raise, TclFault, Text, number, print_whole};
 use std::alloc::Global;
-
-/// The whole number that an operand is.
-pub(crate) fn number(alloc: Global, x: &[u8]) -> Result<i64, Raise>
-    ensures { Gives result (number_of x.now) }
-{
-    match read_whole(x) {
-        Some(number) => Ok(number),
-        None => Err(Raise::Fault(not_whole(alloc, x)?)),
-    }
-}
 
 /// The whole numbers that two operands are.
 pub(crate) fn numbers(alloc: Global, x: &[u8], y: &[u8]) -> Result<(i64, i64), Raise>
@@ -33,7 +22,7 @@ pub(crate) fn count(alloc: Global, b: i64) -> Result<u32, Raise>
 {
     match u32::try_from(b) {
         Ok(count) if count < 64 => Ok(count),
-        _ => Err(Raise::Fault(out_of_range(alloc)?)),
+        _ => Err(Raise::Fault(TclFault::out_of_range(alloc)?)),
     }
 }
 
@@ -43,7 +32,7 @@ pub(crate) fn printed(alloc: Global, exact: i128) -> Result<Text, Raise>
 {
     match i64::try_from(exact) {
         Ok(number) => Ok(print_whole(alloc, number)?),
-        Err(_) => Err(Raise::Fault(out_of_range(alloc)?)),
+        Err(_) => Err(Raise::Fault(TclFault::out_of_range(alloc)?)),
     }
 }
 

@@ -1,26 +1,10 @@
 // The faults that operators raise, with their texts.
 
 ghost use Rattle.std.specs.Prelude.{◌≡◌, ◌++◌, IfOk, codes};
-ghost use Rattle.tcl_expr.specs.OperatorFaults.{
-  not_whole,
-  not_truth,
-  out_of_range,
-  divide_by_zero,
-};
+ghost use Rattle.tcl_expr.specs.OperatorFaults.{not_truth, divide_by_zero};
 
 use px_bytes::{FaultKind, M, TclFault, Text};
 use std::alloc::Global;
-
-/// An operand isn't a whole number.
-pub(crate) fn not_whole(alloc: Global, operand: &[u8]) -> M<TclFault>
-    ensures { IfOk result (λ f. f ≡ not_whole operand.now) }
-{
-    let text = quoted(alloc, b"expected integer but got \"", operand)?;
-    Ok(TclFault {
-        kind: FaultKind::NotWhole,
-        text,
-    })
-}
 
 /// An operand is no truth value.
 pub(crate) fn not_truth(alloc: Global, operand: &[u8]) -> M<TclFault>
@@ -30,16 +14,6 @@ pub(crate) fn not_truth(alloc: Global, operand: &[u8]) -> M<TclFault>
     Ok(TclFault {
         kind: FaultKind::NotWhole,
         text,
-    })
-}
-
-/// A result, or the count of a shift, is out of range.
-pub(crate) fn out_of_range(alloc: Global) -> M<TclFault>
-    ensures { IfOk result (λ f. f ≡ out_of_range) }
-{
-    Ok(TclFault {
-        kind: FaultKind::OutOfRange,
-        text: Text::new(alloc, b"integer out of range")?,
     })
 }
 

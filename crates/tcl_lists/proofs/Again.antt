@@ -1,20 +1,26 @@
 -- What is written is read again.
-use Rattle.std.proofs.Common.{◌≡◌, ℕ, ◌+◌, ◌-◌, ◌<◌, Bool, true, false, ◌==◌, cond, List, [], ◌∷◌, ◌++◌, length, take, drop, map, Result, Ok, Err, sym, ap, ap₂, refl, subst, ◌∙◌, arith, add-zero, append_assoc, append-nil, length-append}
+use Rattle.std.proofs.Common.{◌≡◌, ℕ, ◌+◌, ◌-◌, ◌<◌, Bool, true, false, ◌==◌, cond, List, [], ◌∷◌}
+use Rattle.std.proofs.Common.{◌++◌, length, take, drop, map, Result, Ok, Err, sym, ap, ap₂, refl}
+use Rattle.std.proofs.Common.{subst, ◌∙◌, arith, add-zero, append_assoc, append-nil, length-append}
 use Rattle.std.specs.List.{list_any}
 use Rattle.std.specs.Prelude.{codes}
 use Rattle.std.proofs.lemmas.Bool.{false≢true, lt-ltb}
 use Rattle.std.proofs.lemmas.Bool.Decides.{nat_tests, Decides-eqb}
 use Rattle.std.proofs.lemmas.List.{take_at, drop_at}
 use Rattle.px_bytes.specs.White.{is_space}
-use Rattle.tcl_lists.specs.Element.{ListElement, Found, is_quote, takes_next, depth_behind, free_len, brace_len, value_of, stands_alone, enclosed, bare, element}
+use Rattle.tcl_lists.specs.Element.{ListElement, Found, is_quote, takes_next, depth_behind}
+use Rattle.tcl_lists.specs.Element.{free_len, brace_len, value_of, stands_alone, enclosed, bare}
+use Rattle.tcl_lists.specs.Element.{element}
 use Rattle.tcl_lists.specs.Escape.{escape, replaced_from, replaced}
 use Rattle.tcl_lists.specs.Read.{with_first, each, elements_from, list_values}
 use Rattle.tcl_lists.specs.Seen.{behind}
-use Rattle.tcl_lists.specs.Write.{is_special, stands_bare, fits_braces, escape_letter, spelled_byte, spelled_bytes, escaped, spelled, joined}
+use Rattle.tcl_lists.specs.Write.{is_special, stands_bare, fits_braces, escape_letter, spelled_byte}
+use Rattle.tcl_lists.specs.Write.{spelled_bytes, escaped, spelled, joined}
 use Rattle.tcl_lists.specs.declared.escape.Escape.{Escape}
 use Rattle.tcl_lists.specs.declared.fault.ListFault.{ListFault}
 use Rattle.tcl_lists.specs.declared.fault.ListFault.TheVariants.{OpenBrace, OpenQuote, Extra}
-use Rattle.tcl_lists.proofs.Specials.{or_left, or_right, and_left, not_true, escape_back, not_space, not_backslash, not_quote, not_brace}
+use Rattle.tcl_lists.proofs.Specials.{or_left, or_right, and_left, not_true, escape_back, not_space}
+use Rattle.tcl_lists.proofs.Specials.{not_backslash, not_quote, not_brace}
 use Rattle.tcl_lists.proofs.Steps.{plain_kept, found_at_front}
 
 -- the values from a place on

@@ -1,10 +1,13 @@
 -- What white space before a list does, and what is added to a written list.
-use Rattle.std.proofs.Common.{◌≡◌, ℕ, zero, suc, ◌+◌, ◌<◌, Bool, true, false, ◌==◌, cond, List, [], ◌∷◌, ◌++◌, length, get_or, take, Result, Ok, Err, sym, ap, refl, ◌∙◌, arith, add-zero, append_assoc}
+use Rattle.std.proofs.Common.{◌≡◌, ℕ, zero, suc, ◌+◌, ◌<◌, Bool, true, false, ◌==◌, cond, List, []}
+use Rattle.std.proofs.Common.{◌∷◌, ◌++◌, length, get_or, take, Result, Ok, Err, sym, ap, refl, ◌∙◌}
+use Rattle.std.proofs.Common.{arith, add-zero, append_assoc}
 use Rattle.std.specs.List.{AllPass}
 use Rattle.std.proofs.lemmas.List.{length-take-le, take_more}
 use Rattle.std.proofs.lemmas.List.Elements.{All-head, All-tail}
 use Rattle.px_bytes.specs.White.{is_space}
-use Rattle.tcl_lists.specs.Element.{ListElement, Found, is_quote, free_len, brace_len, value_of, enclosed, bare, element}
+use Rattle.tcl_lists.specs.Element.{ListElement, Found, is_quote, free_len, brace_len, value_of}
+use Rattle.tcl_lists.specs.Element.{enclosed, bare, element}
 use Rattle.tcl_lists.specs.Laws.{fault_further, further, BracesKeepBytes, WhiteSpaceMoves}
 use Rattle.tcl_lists.specs.Read.{found_first, each, elements_from}
 use Rattle.tcl_lists.specs.Write.{spelled, joined, blank_behind}

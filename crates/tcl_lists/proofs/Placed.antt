@@ -1,8 +1,11 @@
 -- Each element stands at its place.
-use Rattle.std.proofs.Common.{◌≡◌, ℕ, zero, suc, ◌+◌, ◌-◌, Bool, true, false, ◌==◌, cond, List, [], ◌∷◌, ◌++◌, length, take, drop, Result, Ok, Err, sym, ap, ap₂, refl, ◌∙◌, arith, append_assoc, length-append}
+use Rattle.std.proofs.Common.{◌≡◌, ℕ, zero, suc, ◌+◌, ◌-◌, Bool, true, false, ◌==◌, cond, List, []}
+use Rattle.std.proofs.Common.{◌∷◌, ◌++◌, length, take, drop, Result, Ok, Err, sym, ap, ap₂, refl}
+use Rattle.std.proofs.Common.{◌∙◌, arith, append_assoc, length-append}
 use Rattle.std.proofs.lemmas.List.{drop_at, length-take, take_min}
 use Rattle.px_bytes.specs.White.{is_space}
-use Rattle.tcl_lists.specs.Element.{ListElement, Found, is_quote, free_len, brace_len, value_of, place_of, enclosed, bare, element}
+use Rattle.tcl_lists.specs.Element.{ListElement, Found, is_quote, free_len, brace_len, value_of}
+use Rattle.tcl_lists.specs.Element.{place_of, enclosed, bare, element}
 use Rattle.tcl_lists.specs.Escape.{replaced}
 use Rattle.tcl_lists.specs.Laws.{value_at, values_at, PlacesHoldValues}
 use Rattle.tcl_lists.specs.Read.{with_first, found_first, each, elements_from}

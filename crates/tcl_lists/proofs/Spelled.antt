@@ -1,9 +1,12 @@
 -- A list of the grammar reads as its values.
-use Rattle.std.proofs.Common.{◌≡◌, ℕ, ◌+◌, ◌-◌, Bool, true, false, not, ◌==◌, cond, List, [], ◌∷◌, ◌++◌, length, drop, Ok, sym, ap, ap₂, refl, ◌∙◌, arith, add-zero, zero-add, append_assoc, append-nil, length-append}
+use Rattle.std.proofs.Common.{◌≡◌, ℕ, ◌+◌, ◌-◌, Bool, true, false, not, ◌==◌, cond, List, [], ◌∷◌}
+use Rattle.std.proofs.Common.{◌++◌, length, drop, Ok, sym, ap, ap₂, refl, ◌∙◌, arith, add-zero}
+use Rattle.std.proofs.Common.{zero-add, append_assoc, append-nil, length-append}
 use Rattle.std.proofs.lemmas.Bool.{false≢true, ne_eqb}
 use Rattle.std.proofs.lemmas.List.{drop_at}
 use Rattle.px_bytes.specs.White.{is_space}
-use Rattle.tcl_lists.specs.Element.{Found, is_quote, takes_next, free_len, brace_len, value_of, stands_alone, element}
+use Rattle.tcl_lists.specs.Element.{Found, is_quote, takes_next, free_len, brace_len, value_of}
+use Rattle.tcl_lists.specs.Element.{stands_alone, element}
 use Rattle.tcl_lists.specs.Escape.{replaced}
 use Rattle.tcl_lists.specs.Grammar.{is_plain, Balanced, Free, begins_bare, IsList}
 use Rattle.tcl_lists.specs.Grammar.Balanced.{NoByte, Plain, Taken, Nested}
@@ -11,7 +14,8 @@ use Rattle.tcl_lists.specs.Grammar.Free.{FreeEnd, FreeByte, FreeTaken}
 use Rattle.tcl_lists.specs.Grammar.IsList.{NoElement, White, InBraces, InQuotes, Bare, BareEnd}
 use Rattle.tcl_lists.specs.Read.{found_first, each, elements_from}
 use Rattle.tcl_lists.specs.declared.fault.ListFault.TheVariants.{OpenQuote}
-use Rattle.tcl_lists.proofs.Again.{values, in_front, first_value, enclosed_reads, braced_reads, bare_reads}
+use Rattle.tcl_lists.proofs.Again.{values, in_front, first_value, enclosed_reads, braced_reads}
+use Rattle.tcl_lists.proofs.Again.{bare_reads}
 use Rattle.tcl_lists.proofs.Specials.{and_left, and_right, not_true}
 use Rattle.tcl_lists.proofs.Steps.{found_at_front}
 

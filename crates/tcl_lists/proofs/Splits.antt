@@ -1,18 +1,24 @@
 -- What is read is a list of the grammar.
-use Rattle.std.proofs.Common.{◌≡◌, ℕ, zero, suc, ◌+◌, ◌-◌, ◌<◌, Bool, true, false, ◌&&◌, ◌==◌, ltb, cond, ◌⊎◌, inl, inr, List, [], ◌∷◌, ◌++◌, length, take, drop, map, Result, Ok, Err, sym, ap, ap₂, refl, subst, ◌∙◌, arith, add-one, append_assoc}
+use Rattle.std.proofs.Common.{◌≡◌, ℕ, zero, suc, ◌+◌, ◌-◌, ◌<◌, Bool, true, false, ◌&&◌, ◌==◌, ltb}
+use Rattle.std.proofs.Common.{cond, ◌⊎◌, inl, inr, List, [], ◌∷◌, ◌++◌, length, take, drop, map}
+use Rattle.std.proofs.Common.{Result, Ok, Err, sym, ap, ap₂, refl, subst, ◌∙◌, arith, add-one}
+use Rattle.std.proofs.Common.{append_assoc}
 use Rattle.std.proofs.lemmas.Bool.{false≢true}
 use Rattle.std.proofs.lemmas.Bool.Decides.{nat_tests, Decides-eqb}
 use Rattle.std.proofs.lemmas.List.{take-append-drop, take_all, drop_all}
 use Rattle.px_bytes.specs.White.{is_space}
-use Rattle.tcl_lists.specs.Element.{ListElement, is_quote, free_len, brace_len, value_of, stands_alone, enclosed, bare, element}
+use Rattle.tcl_lists.specs.Element.{ListElement, is_quote, free_len, brace_len, value_of}
+use Rattle.tcl_lists.specs.Element.{stands_alone, enclosed, bare, element}
 use Rattle.tcl_lists.specs.Escape.{replaced}
-use Rattle.tcl_lists.specs.Grammar.{is_plain, Balanced, Free, begins_bare, IsList, ReadsExactlyLists, SplitsList}
+use Rattle.tcl_lists.specs.Grammar.{is_plain, Balanced, Free, begins_bare, IsList}
+use Rattle.tcl_lists.specs.Grammar.{ReadsExactlyLists, SplitsList}
 use Rattle.tcl_lists.specs.Grammar.Balanced.{NoByte, Plain, Taken, Nested}
 use Rattle.tcl_lists.specs.Grammar.Free.{FreeEnd, FreeByte, FreeTaken}
 use Rattle.tcl_lists.specs.Grammar.IsList.{NoElement, White, InBraces, InQuotes, Bare, BareEnd}
 use Rattle.tcl_lists.specs.Read.{with_first, found_first, each, elements_from, list_values, Answers}
 use Rattle.tcl_lists.specs.declared.fault.ListFault.{ListFault}
-use Rattle.tcl_lists.specs.declared.fault.ListFault.TheVariants.{OpenBrace, OpenQuote, Extra, Memory}
+use Rattle.tcl_lists.specs.declared.fault.ListFault.TheVariants.{OpenBrace, OpenQuote, Extra}
+use Rattle.tcl_lists.specs.declared.fault.ListFault.TheVariants.{Memory}
 use Rattle.tcl_lists.proofs.Spelled.{spelled_reads}
 use Rattle.tcl_lists.proofs.Steps.{elements_skip}
 

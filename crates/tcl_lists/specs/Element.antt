@@ -1,6 +1,7 @@
 -- The elements of a list in a text: Tcl 8.4, lindex(n) and Tcl(n). A backslash and the byte behind
 -- it stand together, counted from the left.
-use Rattle.std.specs.Prelude.{ℕ, ◌+◌, ◌-◌, Bool, true, false, not, ◌&&◌, List, [], ◌∷◌, length, take, drop, Result, Ok, Err, nat_lt, ◌==◌, if◌then◌else◌}
+use Rattle.std.specs.Prelude.{ℕ, ◌+◌, ◌-◌, Bool, true, false, not, ◌&&◌, List, [], ◌∷◌, length}
+use Rattle.std.specs.Prelude.{take, drop, Result, Ok, Err, nat_lt, ◌==◌, if◌then◌else◌}
 use Rattle.px_bytes.specs.White.{is_space}
 use Rattle.tcl_lists.specs.Escape.{replaced}
 use Rattle.tcl_lists.specs.declared.fault.ListFault.{ListFault}

@@ -1,6 +1,7 @@
 -- The grammar of lists over whole texts (Tcl 8.4, lindex(n)), by the sentences of the manual and
 -- apart from any order of reading. A backslash and the byte behind it stand together.
-use Rattle.std.specs.Prelude.{◌≡◌, ◌↔◌, ℕ, Bool, true, false, not, ◌&&◌, List, [], ◌∷◌, ◌++◌, Result, Ok, Err, ⊤, ◌==◌}
+use Rattle.std.specs.Prelude.{◌≡◌, ◌↔◌, ℕ, Bool, true, false, not, ◌&&◌, List, [], ◌∷◌, ◌++◌}
+use Rattle.std.specs.Prelude.{Result, Ok, Err, ⊤, ◌==◌}
 use Rattle.px_bytes.specs.White.{is_space}
 use Rattle.tcl_lists.specs.Element.{is_quote, stands_alone}
 use Rattle.tcl_lists.specs.Escape.{replaced}

@@ -1,5 +1,6 @@
 -- Laws of reading and writing.
-use Rattle.std.specs.Prelude.{◌≡◌, ℕ, ◌+◌, false, List, [], ◌∷◌, ◌++◌, length, map, Result, Ok, Err, codes, slice_range, if◌then◌else◌}
+use Rattle.std.specs.Prelude.{◌≡◌, ℕ, ◌+◌, false, List, [], ◌∷◌, ◌++◌, length, map, Result, Ok, Err}
+use Rattle.std.specs.Prelude.{codes, slice_range, if◌then◌else◌}
 use Rattle.std.specs.List.{AllPass}
 use Rattle.px_bytes.specs.White.{is_space}
 use Rattle.tcl_lists.specs.Element.{brace_len}
@@ -8,7 +9,8 @@ use Rattle.tcl_lists.specs.Read.{list_places, list_values}
 use Rattle.tcl_lists.specs.declared.place.Place.{Place}
 use Rattle.tcl_lists.specs.Write.{joined}
 use Rattle.tcl_lists.specs.declared.fault.ListFault.{ListFault}
-use Rattle.tcl_lists.specs.declared.fault.ListFault.TheVariants.{OpenBrace, OpenQuote, Extra, Memory}
+use Rattle.tcl_lists.specs.declared.fault.ListFault.TheVariants.{OpenBrace, OpenQuote, Extra}
+use Rattle.tcl_lists.specs.declared.fault.ListFault.TheVariants.{Memory}
 
 -- an element in braces is its bytes unchanged
 abbrev pub BracesKeepBytes : Type 0

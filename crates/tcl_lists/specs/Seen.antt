@@ -1,5 +1,6 @@
 -- The code's elements as the definitions' elements.
-use Rattle.std.specs.Prelude.{◌≡◌, ℕ, ◌+◌, ◌<◌, ◌≤◌, false, List, [], ◌++◌, length, slice_index, Result, Ok, Err, Option, Some, None}
+use Rattle.std.specs.Prelude.{◌≡◌, ℕ, ◌+◌, ◌<◌, ◌≤◌, false, List, [], ◌++◌, length, slice_index}
+use Rattle.std.specs.Prelude.{Result, Ok, Err, Option, Some, None}
 use Rattle.px_bytes.specs.White.{is_space}
 use Rattle.tcl_lists.specs.Element.{ListElement, Found}
 use Rattle.tcl_lists.specs.Read.{elements_from, with_first}
@@ -27,7 +28,8 @@ Gives due at size (Err e) = due ≡ Err e
 
 -- an element was read at the front, and the rest is less of the text, up to the same end
 pub record Reads (text : List ℕ) (at : ℕ) (next : Next) : Type 0 where
-  pub first : elements_from 0 at text ≡ with_first (seen next.element) (elements_from 0 next.rest.at next.rest.text.now)
+  pub first : elements_from 0 at text
+      ≡ with_first (seen next.element) (elements_from 0 next.rest.at next.rest.text.now)
   pub size : next.rest.at + length next.rest.text.now ≡ at + length text
   pub shorter : length next.rest.text.now < length text
   pub end : next.element.start + length next.element.raw.now ≤ at + length text

@@ -1,7 +1,8 @@
 // One element of a list.
 
 ghost use Rattle.std.specs.Prelude.{◌≡◌, ◌+◌, ◌<◌, ◌^◌, IfOk, drop, length, slice_index};
-ghost use Rattle.tcl_lists.specs.Element.{bare, element, enclosed, stands_alone, value_of, place_of};
+ghost use Rattle.tcl_lists.specs.Element.{bare, element, enclosed, stands_alone, value_of};
+ghost use Rattle.tcl_lists.specs.Element.{place_of};
 ghost use Rattle.tcl_lists.specs.Seen.{seen, seen_found, Gives};
 
 use crate::cut::{bare_len, brace_len, quote_len};

@@ -1,11 +1,13 @@
 -- The bytes of a level whose variable gets a value.
-use Rattle.std.proofs.Common.{◌≡◌, ℕ, ◌+◌, ◌-◌, ◌≤◌, min, List, [], ◌∷◌, length, Option, Some, None, sym, refl, ap, arith, unwrap_or, option_map}
+use Rattle.std.proofs.Common.{◌≡◌, ℕ, ◌+◌, ◌-◌, ◌≤◌, min, List, [], ◌∷◌, length, Option, Some, None}
+use Rattle.std.proofs.Common.{sym, refl, ap, arith, unwrap_or, option_map}
 use Rattle.std.specs.Prelude.{sum_by}
 use Rattle.std.specs.Option.{option_map_or}
 use Rattle.std.specs.List.Sorted.{IsStrictlySortedBy}
 use Rattle.std.proofs.lemmas.Cmp.{nat_list_cmp_total}
 use Rattle.std.proofs.lemmas.Map.Lookups.{exact_bytes}
-use Rattle.tcl_vars.specs.Scopes.{Table, Level, find_in, put_in, elements, value_in, with_value_in, level_bytes, take_out, with_elements, without_value_in}
+use Rattle.tcl_vars.specs.Scopes.{Table, Level, find_in, put_in, elements, value_in, with_value_in}
+use Rattle.tcl_vars.specs.Scopes.{level_bytes, take_out, with_elements, without_value_in}
 use Rattle.tcl_vars.specs.Tables.{IsInOrder, IsInOrderAt, index_bytes}
 use Rattle.tcl_vars.proofs.Inserted.{sum_by-insert}
 use Rattle.tcl_vars.proofs.Named.{lookup-at}

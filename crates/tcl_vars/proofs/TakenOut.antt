@@ -1,5 +1,6 @@
 -- What taking a name out, or giving it another value, leaves of a table, and of a sum over it.
-use Rattle.std.proofs.Common.{◌≡◌, ℕ, ◌+◌, cond, true, false, List, [], ◌∷◌, Option, Some, None, sym, refl, ap, ◌∙◌, arith, unwrap_or}
+use Rattle.std.proofs.Common.{◌≡◌, ℕ, ◌+◌, cond, true, false, List, [], ◌∷◌, Option, Some, None}
+use Rattle.std.proofs.Common.{sym, refl, ap, ◌∙◌, arith, unwrap_or}
 use Rattle.std.specs.Prelude.{sum_by}
 use Rattle.std.specs.Option.{option_map_or}
 use Rattle.std.specs.Map.{remove_entry, set_value}

@@ -1,7 +1,8 @@
 -- The variables that a script sees: static ones, and a level for the body and for each procedure
 -- call that hasn't ended (Tcl 8.4, proc(n): a procedure's variables are its own; array(n): an array
 -- has elements; iRules: `static::` variables).
-use Rattle.std.specs.Prelude.{ℕ, is_some, drop, ◌+◌, List, [], ◌∷◌, length, Bool, Option, Some, None, codes, nat_eq, if◌then◌else◌, sum_by, unwrap_or}
+use Rattle.std.specs.Prelude.{ℕ, is_some, drop, ◌+◌, List, [], ◌∷◌, length, Bool, Option, Some}
+use Rattle.std.specs.Prelude.{None, codes, nat_eq, if◌then◌else◌, sum_by, unwrap_or}
 use Rattle.std.specs.List.{starts_with}
 use Rattle.std.specs.Str.{bytes_eq}
 use Rattle.std.specs.Ordering.{nat_cmp}

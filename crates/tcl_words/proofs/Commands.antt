@@ -1,5 +1,7 @@
 -- One command: what is read is what is spelled.
-use Rattle.std.proofs.Common.{◌≡◌, ◌≢◌, ℕ, ◌+◌, List, [], ◌∷◌, ◌++◌, length, Bool, true, false, cond, ◌||◌, not, refl, sym, ap, ap₂, ◌∙◌, subst, arith, Option, Some, None, append_assoc, length-append, codes, option_map}
+use Rattle.std.proofs.Common.{◌≡◌, ◌≢◌, ℕ, ◌+◌, List, [], ◌∷◌, ◌++◌, length, Bool, true, false}
+use Rattle.std.proofs.Common.{cond, ◌||◌, not, refl, sym, ap, ap₂, ◌∙◌, subst, arith, Option, Some}
+use Rattle.std.proofs.Common.{None, append_assoc, length-append, codes, option_map}
 use Rattle.std.specs.List.{AllPass}
 use Rattle.std.specs.Str.{bytes_eq}
 use Rattle.std.proofs.lemmas.Bool.Decides.{nat_tests}
@@ -7,13 +9,16 @@ use Rattle.std.proofs.lemmas.List.Sums.{AllPass-from_list_all}
 use Rattle.std.proofs.lemmas.Slice.Eq.{bytes_eq-Decides}
 use Rattle.tcl_words.specs.Bytes.{in_class, in_gap, is_blank, is_separator, is_name, is_plain}
 use Rattle.tcl_words.specs.Run.{run_of, after, is_empty}
-use Rattle.tcl_words.specs.Command.{end_of, set_command, respond_command, set_reading, respond_reading, command_reading}
+use Rattle.tcl_words.specs.Command.{end_of, set_command, respond_command, set_reading}
+use Rattle.tcl_words.specs.Command.{respond_reading, command_reading}
 use Rattle.tcl_words.specs.Word.{last_reading}
-use Rattle.tcl_words.specs.Small.{span_of, bare_word, SpellsWord, AreBlanks, SpellsSet, SpellsRespond, SpellsWords, SpellsCommand, EndsCommand}
+use Rattle.tcl_words.specs.Small.{span_of, bare_word, SpellsWord, AreBlanks, SpellsSet}
+use Rattle.tcl_words.specs.Small.{SpellsRespond, SpellsWords, SpellsCommand, EndsCommand}
 use Rattle.tcl_words.specs.Tree.{Word, Words, no_words, and_word, Command, command}
 use Rattle.tcl_words.specs.declared.bytes.Class.TheVariants.{Blank, Name}
 use Rattle.tcl_words.specs.declared.bytes.Class.TheVariants as class
-use Rattle.tcl_words.proofs.Cuts.{or_false, first_passes, found_unless, Stops, run_is, after_is, run_joined, run_passes}
+use Rattle.tcl_words.proofs.Cuts.{or_false, first_passes, found_unless, Stops, run_is, after_is}
+use Rattle.tcl_words.proofs.Cuts.{run_joined, run_passes}
 use Rattle.tcl_words.proofs.Quotes.{some_bytes, some_is}
 use Rattle.tcl_words.proofs.Words.{end_is, word_starts, last_read, last_spelled}
 

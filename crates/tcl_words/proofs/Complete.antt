@@ -1,5 +1,6 @@
 -- What is spelled is read.
-use Rattle.std.proofs.Common.{◌≡◌, ℕ, zero, suc, ◌+◌, ◌-◌, ◌%◌, ◌<◌, List, [], ◌∷◌, ◌++◌, length, Bool, true, false, None, cond, sym, ap, ap₂, ◌∙◌, arith}
+use Rattle.std.proofs.Common.{◌≡◌, ℕ, zero, suc, ◌+◌, ◌-◌, ◌%◌, ◌<◌, List, [], ◌∷◌, ◌++◌, length}
+use Rattle.std.proofs.Common.{Bool, true, false, None, cond, sym, ap, ap₂, ◌∙◌, arith}
 use Rattle.std.proofs.lemmas.Bool.Decides.{nat_tests}
 use Rattle.std.specs.Prelude.{◌==◌, ◌&&◌, nat_lt, nat_le}
 use Rattle.tcl_words.specs.Escapes.{unit}
@@ -8,7 +9,8 @@ use Rattle.tcl_words.specs.Grammar.{SpellsRun, SpellsBraces}
 use Rattle.tcl_words.specs.Places.{stands, opens_name, starts_variable, ends_run}
 use Rattle.tcl_words.specs.Reading.{roomed, read_bracket, read_quoted, read_index, level}
 use Rattle.tcl_words.specs.Skips.{turns}
-use Rattle.tcl_words.specs.Values.{Read, joined, many, next_byte, run, brace_bytes, brace_unit_end, inner_after, deepened, braces}
+use Rattle.tcl_words.specs.Values.{Read, joined, many, next_byte, run, brace_bytes, brace_unit_end}
+use Rattle.tcl_words.specs.Values.{inner_after, deepened, braces}
 use Rattle.tcl_words.specs.declared.parse_fault.Fault.{Fault}
 use Rattle.tcl_words.specs.declared.parse_fault.Fault.TheVariants.{BadEscape, TooDeep}
 use Rattle.tcl_words.specs.declared.places.Closer.{Closer}

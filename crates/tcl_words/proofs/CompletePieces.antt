@@ -1,23 +1,33 @@
 -- Each kind of part and word that is spelled is read, where what stands inside it is.
-use Rattle.std.proofs.Common.{◌≡◌, ◌⊎◌, inl, inr, ℕ, suc, ◌+◌, ◌-◌, List, [], Bool, true, false, Option, Some, sym, ap, ap₂, ◌∙◌, arith}
+use Rattle.std.proofs.Common.{◌≡◌, ◌⊎◌, inl, inr, ℕ, suc, ◌+◌, ◌-◌, List, [], Bool, true, false}
+use Rattle.std.proofs.Common.{Option, Some, sym, ap, ap₂, ◌∙◌, arith}
 use Rattle.std.specs.Prelude.{slice_range}
 use Rattle.tcl_words.specs.Faults.{to, closed}
 use Rattle.tcl_words.specs.Finish.{raw_of, filled, finished}
-use Rattle.tcl_words.specs.Grammar.{Enclosed, SpellsBraces, SpellsName, SpellsVariable, SpellsBracedName, IsWhole, empty_part, SpellsPart, SpellsParts}
+use Rattle.tcl_words.specs.Grammar.{Enclosed, SpellsBraces, SpellsName, SpellsVariable}
+use Rattle.tcl_words.specs.Grammar.{SpellsBracedName, IsWhole, empty_part, SpellsPart, SpellsParts}
 use Rattle.tcl_words.specs.Places.{stands, closes, word_closer, ends_script, ends_command}
-use Rattle.tcl_words.specs.Reading.{roomed, read_braced, read_name, read_part, parts, read_word, words, read_command, commands, level}
+use Rattle.tcl_words.specs.Reading.{roomed, read_braced, read_name, read_part, parts, read_word}
+use Rattle.tcl_words.specs.Reading.{words, read_command, commands, level}
 use Rattle.tcl_words.specs.Skips.{turns, brace_end, blanks_end, gap_end}
-use Rattle.tcl_words.specs.Tree.{plain, variable, element, bracket, Parts, no_parts, and_part, word, Words, no_words, and_word, Commands, no_commands, and_command, from_to}
+use Rattle.tcl_words.specs.Tree.{plain, variable, element, bracket, Parts, no_parts, and_part, word}
+use Rattle.tcl_words.specs.Tree.{Words, no_words, and_word, Commands, no_commands, and_command}
+use Rattle.tcl_words.specs.Tree.{from_to}
 use Rattle.tcl_words.specs.Values.{Read, many, braces}
-use Rattle.tcl_words.specs.declared.parse_fault.Fault.TheVariants.{MissingBrace, MissingQuote, MissingBracket}
+use Rattle.tcl_words.specs.declared.parse_fault.Fault.TheVariants.{MissingBrace, MissingQuote}
+use Rattle.tcl_words.specs.declared.parse_fault.Fault.TheVariants.{MissingBracket}
 use Rattle.tcl_words.specs.declared.places.Closer.{Closer}
 use Rattle.tcl_words.specs.declared.places.Closer.TheVariants.{Quote, Paren}
 use Rattle.tcl_words.specs.declared.progress.Progress.{Progress}
 use Rattle.tcl_words.specs.declared.script.Form.{Form}
 use Rattle.tcl_words.specs.declared.script.Form.TheVariants.{Bare, Quoted, Braced}
 use Rattle.tcl_words.specs.declared.script.Span.{Span}
-use Rattle.tcl_words.proofs.Complete.{clean, all_turns, run_read, braces_turns, closes_well, has_room, bracket_in, quoted_in, index_in, not_bracket, not_name, name_starts}
-use Rattle.tcl_words.proofs.Levels.{level_name, variable_bare, variable_index, part_bracket, part_name, part_variable, part_plain, word_quoted, word_bare, trails_nothing, quoted_read}
+use Rattle.tcl_words.proofs.Complete.{clean, all_turns, run_read, braces_turns, closes_well}
+use Rattle.tcl_words.proofs.Complete.{has_room, bracket_in, quoted_in, index_in, not_bracket}
+use Rattle.tcl_words.proofs.Complete.{not_name, name_starts}
+use Rattle.tcl_words.proofs.Levels.{level_name, variable_bare, variable_index, part_bracket}
+use Rattle.tcl_words.proofs.Levels.{part_name, part_variable, part_plain, word_quoted, word_bare}
+use Rattle.tcl_words.proofs.Levels.{trails_nothing, quoted_read}
 use Rattle.tcl_words.proofs.Many.{many_stops}
 use Rattle.tcl_words.proofs.SoundLevels.{raw_filled}
 use Rattle.tcl_words.proofs.SoundWords.{some_parts}

@@ -1,8 +1,10 @@
 -- Parts, words and commands that are spelled are read.
-use Rattle.std.proofs.Common.{◌≡◌, ℕ, ◌+◌, ◌-◌, ◌<◌, List, [], length, Bool, true, false, sym, ap, ◌∙◌, arith}
+use Rattle.std.proofs.Common.{◌≡◌, ℕ, ◌+◌, ◌-◌, ◌<◌, List, [], length, Bool, true, false, sym, ap}
+use Rattle.std.proofs.Common.{◌∙◌, arith}
 use Rattle.std.proofs.lemmas.Bool.Decides.{nat_tests}
 use Rattle.tcl_words.specs.Faults.{to}
-use Rattle.tcl_words.specs.Grammar.{SpellsPart, SpellsParts, SpellsWord, SpellsWords, SpellsCommand, SpellsCommands}
+use Rattle.tcl_words.specs.Grammar.{SpellsPart, SpellsParts, SpellsWord, SpellsWords, SpellsCommand}
+use Rattle.tcl_words.specs.Grammar.{SpellsCommands}
 use Rattle.tcl_words.specs.Places.{closes, word_closer, ends_script, ends_command}
 use Rattle.tcl_words.specs.Reading.{read_part, read_word, read_command, commands, level}
 use Rattle.tcl_words.specs.Skips.{turns, blanks_end, gap_end}
@@ -30,10 +32,13 @@ use Rattle.tcl_words.specs.Values.{many}
 use Rattle.tcl_words.specs.declared.places.Closer.{Closer}
 use Rattle.tcl_words.specs.declared.places.Closer.TheVariants.{Quote, Paren}
 use Rattle.tcl_words.specs.declared.script.Form.TheVariants.{Bare, Quoted, Braced}
-use Rattle.tcl_words.proofs.CompletePieces.{variable_read, braced_read, parts_from, words_from, commands_from, plain_read, element_read, bracket_read, in_quotes, quoted_word, bare_word}
+use Rattle.tcl_words.proofs.CompletePieces.{variable_read, braced_read, parts_from, words_from}
+use Rattle.tcl_words.proofs.CompletePieces.{commands_from, plain_read, element_read, bracket_read}
+use Rattle.tcl_words.proofs.CompletePieces.{in_quotes, quoted_word, bare_word}
 use Rattle.tcl_words.proofs.Complete.{clean, Enough, all_turns, one_less, many_goes, not_quote}
 use Rattle.tcl_words.proofs.Further.{part_on, word_on, command_moves}
-use Rattle.tcl_words.proofs.Levels.{level_braced, closes_within, word_braced, trails_nothing, word_opens, command_read}
+use Rattle.tcl_words.proofs.Levels.{level_braced, closes_within, word_braced, trails_nothing}
+use Rattle.tcl_words.proofs.Levels.{word_opens, command_read}
 use Rattle.tcl_words.proofs.Many.{many_stops}
 use Rattle.tcl_words.proofs.Onward.{blanks_on, blanks_stop, gap_on}
 use Rattle.tcl_words.proofs.SoundWords.{some_parts}

@@ -1,12 +1,15 @@
 -- `set x 7; TCP::respond "hi $x"`, read, and texts that aren't of the small form.
-use Rattle.std.proofs.Common.{◌≡◌, ℕ, ◌+◌, List, [], ◌∷◌, ◌++◌, length, drop, refl, Some, None, codes}
+use Rattle.std.proofs.Common.{◌≡◌, ℕ, ◌+◌, List, [], ◌∷◌, ◌++◌, length, drop, refl, Some, None}
+use Rattle.std.proofs.Common.{codes}
 use Rattle.std.proofs.lemmas.List.Elements.{All-nil}
 use Rattle.tcl_words.specs.Bytes.{is_blank, is_separator, in_gap, is_name, is_plain, is_ordinary}
 use Rattle.tcl_words.specs.Run.{run_of, after}
 use Rattle.tcl_words.specs.Command.{set_reading, respond_reading, command_reading}
-use Rattle.tcl_words.specs.Word.{with_variable, quoted_reading, ends, ends_after_blanks, to_quote, bare_reading, last_reading}
+use Rattle.tcl_words.specs.Word.{with_variable, quoted_reading, ends, ends_after_blanks, to_quote}
+use Rattle.tcl_words.specs.Word.{bare_reading, last_reading}
 use Rattle.tcl_words.specs.Small.{SpellsSmall}
-use Rattle.tcl_words.specs.Tree.{plain, variable, no_parts, and_part, word, no_words, and_word, Command, command, no_commands, and_command}
+use Rattle.tcl_words.specs.Tree.{plain, variable, no_parts, and_part, word, no_words, and_word}
+use Rattle.tcl_words.specs.Tree.{Command, command, no_commands, and_command}
 use Rattle.tcl_words.specs.declared.bytes.Class.TheVariants.{Gap}
 use Rattle.tcl_words.specs.declared.script.Form.TheVariants.{Bare, Quoted}
 use Rattle.tcl_words.specs.declared.script.Span.{Span}

@@ -1,7 +1,10 @@
 -- What is spelled ends further on.
-use Rattle.std.proofs.Common.{◌≡◌, ◌⊎◌, inl, inr, ℕ, zero, suc, ◌+◌, ◌<◌, ◌≤◌, List, [], ◌∷◌, Bool, true, false, ap, ◌∙◌, arith}
+use Rattle.std.proofs.Common.{◌≡◌, ◌⊎◌, inl, inr, ℕ, zero, suc, ◌+◌, ◌<◌, ◌≤◌, List, [], ◌∷◌, Bool}
+use Rattle.std.proofs.Common.{true, false, ap, ◌∙◌, arith}
 use Rattle.tcl_words.specs.Escapes.{unit}
-use Rattle.tcl_words.specs.Grammar.{SpellsRun, SpellsBraces, SpellsName, SpellsVariable, SpellsBracedName, empty_part, SpellsPart, SpellsParts, SpellsWord, SpellsWords, SpellsCommand, SpellsCommands}
+use Rattle.tcl_words.specs.Grammar.{SpellsRun, SpellsBraces, SpellsName, SpellsVariable}
+use Rattle.tcl_words.specs.Grammar.{SpellsBracedName, empty_part, SpellsPart, SpellsParts}
+use Rattle.tcl_words.specs.Grammar.{SpellsWord, SpellsWords, SpellsCommand, SpellsCommands}
 use Rattle.tcl_words.specs.Places.{closes, word_closer, ends_run, ends_script, ends_command}
 use Rattle.tcl_words.specs.Skips.{blanks_end, gap_end}
 use Rattle.tcl_words.specs.Tree.{

@@ -1,5 +1,6 @@
 -- The reading and the grammar agree.
-use Rattle.std.proofs.Common.{◌≡◌, ℕ, List, false, Option, Some, None, Ok, Result, refl, ap, subst, arith}
+use Rattle.std.proofs.Common.{◌≡◌, ℕ, List, false, Option, Some, None, Ok, Result, refl, ap, subst}
+use Rattle.std.proofs.Common.{arith}
 use Rattle.tcl_words.specs.Grammar.{SpellsCommands, Spells}
 use Rattle.tcl_words.specs.Reading.{commands, level, limit, beginning, unless, judged, reading}
 use Rattle.tcl_words.specs.Tree.{Commands}

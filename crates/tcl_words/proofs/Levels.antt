@@ -1,6 +1,7 @@
 -- How an opener is read, by how many more may stand inside it, and a word or part by its first
 -- byte.
-use Rattle.std.proofs.Common.{◌≡◌, ℕ, zero, suc, ◌+◌, ◌-◌, ◌<◌, List, length, Bool, true, false, refl, sym, ap, ◌∙◌, arith}
+use Rattle.std.proofs.Common.{◌≡◌, ℕ, zero, suc, ◌+◌, ◌-◌, ◌<◌, List, length, Bool, true, false}
+use Rattle.std.proofs.Common.{refl, sym, ap, ◌∙◌, arith}
 use Rattle.std.proofs.lemmas.Bool.Decides.{nat_tests}
 use Rattle.std.specs.Prelude.{slice_range}
 use Rattle.tcl_words.specs.Faults.{noted, to, closed}
@@ -18,9 +19,12 @@ use Rattle.tcl_words.specs.Places.{
   word_closer,
   ends_run,
 }
-use Rattle.tcl_words.specs.Reading.{Level, passed, nothing, read_bracket, read_quoted, read_index, read_braced, read_name, named, read_variable, read_part, parts, trailing, bare, read_word, words, read_command, level}
+use Rattle.tcl_words.specs.Reading.{Level, passed, nothing, read_bracket, read_quoted, read_index}
+use Rattle.tcl_words.specs.Reading.{read_braced, read_name, named, read_variable, read_part, parts}
+use Rattle.tcl_words.specs.Reading.{trailing, bare, read_word, words, read_command, level}
 use Rattle.tcl_words.specs.Skips.{turns, blanks_end, name_end}
-use Rattle.tcl_words.specs.Tree.{bracket, plain, variable, element, Parts, no_parts, Word, Words, command, Commands, no_commands, from_to}
+use Rattle.tcl_words.specs.Tree.{bracket, plain, variable, element, Parts, no_parts, Word, Words}
+use Rattle.tcl_words.specs.Tree.{command, Commands, no_commands, from_to}
 use Rattle.tcl_words.specs.Values.{run}
 use Rattle.tcl_words.specs.declared.deep.Inside.TheVariants as inside
 use Rattle.tcl_words.specs.declared.parse_fault.Fault.TheVariants.{MissingQuote, ExtraAfter}

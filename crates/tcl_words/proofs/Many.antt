@@ -1,5 +1,6 @@
 -- The turns of a sequence.
-use Rattle.std.proofs.Common.{◌≡◌, ℕ, zero, suc, ◌+◌, ◌-◌, ◌<◌, ◌≤◌, List, length, Bool, true, false, cond, sym, ap, ◌∙◌, arith}
+use Rattle.std.proofs.Common.{◌≡◌, ℕ, zero, suc, ◌+◌, ◌-◌, ◌<◌, ◌≤◌, List, length, Bool, true}
+use Rattle.std.proofs.Common.{false, cond, sym, ap, ◌∙◌, arith}
 use Rattle.tcl_words.specs.Skips.{turns}
 use Rattle.tcl_words.specs.Values.{Read, joined, many}
 use Rattle.tcl_words.specs.declared.progress.Progress.{Progress}

@@ -1,5 +1,6 @@
 -- Places that lie further on.
-use Rattle.std.proofs.Common.{◌≡◌, ℕ, zero, suc, ◌+◌, ◌%◌, ◌<◌, ◌≤◌, List, length, Bool, true, false, cond, refl, arith}
+use Rattle.std.proofs.Common.{◌≡◌, ℕ, zero, suc, ◌+◌, ◌%◌, ◌<◌, ◌≤◌, List, length, Bool, true}
+use Rattle.std.proofs.Common.{false, cond, refl, arith}
 use Rattle.std.specs.Prelude.{◌&&◌, ◌==◌, nat_lt, slice_index}
 use Rattle.tcl_words.specs.Escapes.{is_digit, digits, letter, after_backslash, escape, unit}
 use Rattle.tcl_words.specs.Places.{

@@ -1,16 +1,20 @@
 -- What stands between quotes: what is read is what is spelled.
-use Rattle.std.proofs.Common.{◌≡◌, ◌≢◌, ℕ, suc, ◌+◌, ◌≤◌, List, [], ◌∷◌, ◌++◌, length, false, ◌||◌, not, eqb, refl, sym, ap, ap₂, ◌∙◌, subst, arith, Option, Some, None, append-nil, add-zero, inl, inr}
+use Rattle.std.proofs.Common.{◌≡◌, ◌≢◌, ℕ, suc, ◌+◌, ◌≤◌, List, [], ◌∷◌, ◌++◌, length, false, ◌||◌}
+use Rattle.std.proofs.Common.{not, eqb, refl, sym, ap, ap₂, ◌∙◌, subst, arith, Option, Some, None}
+use Rattle.std.proofs.Common.{append-nil, add-zero, inl, inr}
 use Rattle.std.specs.List.{AllPass}
 use Rattle.std.proofs.lemmas.List.Elements.{All-nil}
 use Rattle.tcl_words.specs.Bytes.{is_name, is_ordinary}
 use Rattle.tcl_words.specs.Run.{run_of, after, is_empty}
 use Rattle.tcl_words.specs.Parts.{piece, around}
 use Rattle.tcl_words.specs.Word.{quoted_word, with_variable, from_dollar, quoted_reading}
-use Rattle.tcl_words.specs.Small.{span_of, one_plain, goes_on, SpellsParts, variables, raw_of, SpellsInside}
+use Rattle.tcl_words.specs.Small.{span_of, one_plain, goes_on, SpellsParts, variables, raw_of}
+use Rattle.tcl_words.specs.Small.{SpellsInside}
 use Rattle.tcl_words.specs.Tree.{plain, variable, element, bracket, Parts, no_parts, and_part, Word}
 use Rattle.tcl_words.specs.View.{parts_of}
 use Rattle.tcl_words.specs.declared.bytes.Class.TheVariants.{Name, Ordinary}
-use Rattle.tcl_words.proofs.Cuts.{or_false, all_along, found_if, found_unless, same_byte, Stops, run_is, after_is, run_joined, run_passes}
+use Rattle.tcl_words.proofs.Cuts.{or_false, all_along, found_if, found_unless, same_byte, Stops}
+use Rattle.tcl_words.proofs.Cuts.{run_is, after_is, run_joined, run_passes}
 
 one_or_more : (n : ℕ) → suc n ≡ 0 → ⊥
 one_or_more n h = omega arith

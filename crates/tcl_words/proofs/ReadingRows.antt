@@ -1,6 +1,7 @@
 -- Outside rows, by computation.
 use Rattle.std.proofs.Common.{◌≡◌, [], ◌∷◌, ◌++◌, refl, codes, Ok, Err, None}
-use Rattle.tcl_words.specs.Escapes.{digit, is_digit, with_digit, digits, letter, after_backslash, escape, unit}
+use Rattle.tcl_words.specs.Escapes.{digit, is_digit, with_digit, digits, letter, after_backslash}
+use Rattle.tcl_words.specs.Escapes.{escape, unit}
 use Rattle.tcl_words.specs.Faults.{comes_first, noted, closed}
 use Rattle.tcl_words.specs.Finish.{is_literal}
 use Rattle.tcl_words.specs.Places.{
@@ -25,7 +26,9 @@ use Rattle.tcl_words.specs.Places.{
   after_comment_byte,
   in_gap,
 }
-use Rattle.tcl_words.specs.Reading.{read_braced, read_name, named, read_variable, read_part, parts, trailing, read_word, words, read_command, commands, level, limit, reading}
+use Rattle.tcl_words.specs.Reading.{read_braced, read_name, named, read_variable, read_part, parts}
+use Rattle.tcl_words.specs.Reading.{trailing, read_word, words, read_command, commands, level}
+use Rattle.tcl_words.specs.Reading.{limit, reading}
 use Rattle.tcl_words.specs.Skips.{
   skip,
   spaces_end,
@@ -36,7 +39,8 @@ use Rattle.tcl_words.specs.Skips.{
   after_gap_part,
   gap_end,
 }
-use Rattle.tcl_words.specs.Tree.{plain, variable, no_parts, and_part, word, no_words, and_word, command, no_commands, and_command, from_to}
+use Rattle.tcl_words.specs.Tree.{plain, variable, no_parts, and_part, word, no_words, and_word}
+use Rattle.tcl_words.specs.Tree.{command, no_commands, and_command, from_to}
 use Rattle.tcl_words.specs.Values.{
   many,
   next_byte,

@@ -1,11 +1,14 @@
 -- The sentences of the manual.
-use Rattle.std.proofs.Common.{◌≡◌, inl, inr, ℕ, ◌<◌, ◌≤◌, List, Bool, true, false, Option, Some, None, cond, refl, sym, ap, ◌∙◌, subst, arith}
+use Rattle.std.proofs.Common.{◌≡◌, inl, inr, ℕ, ◌<◌, ◌≤◌, List, Bool, true, false, Option, Some}
+use Rattle.std.proofs.Common.{None, cond, refl, sym, ap, ◌∙◌, subst, arith}
 use Rattle.std.proofs.lemmas.Bool.Decides.{nat_tests}
 use Rattle.std.specs.Prelude.{IfSome}
 use Rattle.tcl_words.specs.Escapes.{with_digit, unit}
 use Rattle.tcl_words.specs.Faults.{place_of, comes_first, least, noted}
 use Rattle.tcl_words.specs.Grammar.{SpellsPart, SpellsParts, SpellsWord}
-use Rattle.tcl_words.specs.Places.{stands, starts_variable, skips_newline, is_space, is_blank, after_blank, separates, closes, word_closer, ends_command, in_comment, after_comment_byte, in_gap}
+use Rattle.tcl_words.specs.Places.{stands, starts_variable, skips_newline, is_space, is_blank}
+use Rattle.tcl_words.specs.Places.{after_blank, separates, closes, word_closer, ends_command}
+use Rattle.tcl_words.specs.Places.{in_comment, after_comment_byte, in_gap}
 use Rattle.tcl_words.specs.Rules.{
   span_of_part,
   span_of_word,
@@ -31,7 +34,8 @@ use Rattle.tcl_words.specs.Rules.{
   LeastPlaceIsTold,
 }
 use Rattle.tcl_words.specs.Skips.{turns, blanks_end}
-use Rattle.tcl_words.specs.Tree.{Part, plain, variable, element, bracket, Parts, no_parts, and_part, Word, word, from_to}
+use Rattle.tcl_words.specs.Tree.{Part, plain, variable, element, bracket, Parts, no_parts, and_part}
+use Rattle.tcl_words.specs.Tree.{Word, word, from_to}
 use Rattle.tcl_words.specs.Values.{brace_bytes, inner_after}
 use Rattle.tcl_words.specs.declared.parse_fault.Fault.{Fault}
 use Rattle.tcl_words.specs.declared.places.Closer.{Closer}

@@ -1,5 +1,7 @@
 -- Command after command.
-use Rattle.std.proofs.Common.{◌≡◌, ◌≢◌, ℕ, ◌+◌, ◌-◌, ◌≤◌, ◌<◌, List, [], ◌∷◌, ◌++◌, length, drop, false, refl, sym, ap, ap₂, ◌∙◌, subst, arith, Some, None, append-nil, append_assoc, length-append, length-drop}
+use Rattle.std.proofs.Common.{◌≡◌, ◌≢◌, ℕ, ◌+◌, ◌-◌, ◌≤◌, ◌<◌, List, [], ◌∷◌, ◌++◌, length, drop}
+use Rattle.std.proofs.Common.{false, refl, sym, ap, ap₂, ◌∙◌, subst, arith, Some, None, append-nil}
+use Rattle.std.proofs.Common.{append_assoc, length-append, length-drop}
 use Rattle.std.specs.List.{AllPass}
 use Rattle.std.proofs.lemmas.List.{drop-drop}
 use Rattle.std.proofs.Math.Seq.{drop-append_seam}
@@ -8,7 +10,8 @@ use Rattle.tcl_words.specs.Run.{run_of, after}
 use Rattle.tcl_words.specs.Command.{command_reading}
 use Rattle.tcl_words.specs.Fault.{Fails}
 use Rattle.tcl_words.specs.Small.{SpellsWords, SpellsCommand, SpellsCommands, SpellsSmall}
-use Rattle.tcl_words.specs.Tree.{Words, no_words, and_word, Command, command, Commands, no_commands, and_command}
+use Rattle.tcl_words.specs.Tree.{Words, no_words, and_word, Command, command, Commands, no_commands}
+use Rattle.tcl_words.specs.Tree.{and_command}
 use Rattle.tcl_words.specs.Next.{command_end, Begins, RefusedNext}
 use Rattle.tcl_words.specs.View.{commands_of}
 use Rattle.tcl_words.specs.declared.bytes.Class.TheVariants.{Gap}

@@ -1,5 +1,6 @@
 -- What is read without a fault is spelled so.
-use Rattle.std.proofs.Common.{◌≡◌, ℕ, zero, suc, ◌%◌, ◌<◌, List, [], ◌∷◌, ◌++◌, Bool, true, false, Option, Some, None, cond, refl, sym, ap, ◌∙◌, arith}
+use Rattle.std.proofs.Common.{◌≡◌, ℕ, zero, suc, ◌%◌, ◌<◌, List, [], ◌∷◌, ◌++◌, Bool, true, false}
+use Rattle.std.proofs.Common.{Option, Some, None, cond, refl, sym, ap, ◌∙◌, arith}
 use Rattle.std.proofs.lemmas.Bool.Decides.{nat_tests}
 use Rattle.std.specs.Prelude.{nat_lt, nat_le, ◌&&◌}
 use Rattle.tcl_words.specs.Escapes.{unit}
@@ -7,7 +8,8 @@ use Rattle.tcl_words.specs.Faults.{comes_first, least, noted}
 use Rattle.tcl_words.specs.Grammar.{SpellsRun, SpellsBraces}
 use Rattle.tcl_words.specs.Places.{stands, ends_run}
 use Rattle.tcl_words.specs.Skips.{turns}
-use Rattle.tcl_words.specs.Values.{Read, joined, many, next_byte, run, inner_after, deepened, ends_braces, braces}
+use Rattle.tcl_words.specs.Values.{Read, joined, many, next_byte, run, inner_after, deepened}
+use Rattle.tcl_words.specs.Values.{ends_braces, braces}
 use Rattle.tcl_words.specs.declared.parse_fault.Fault.{Fault}
 use Rattle.tcl_words.specs.declared.parse_fault.Fault.TheVariants.{BadEscape, TooDeep}
 use Rattle.tcl_words.specs.declared.places.Closer.{Closer}

@@ -1,18 +1,21 @@
 -- What the readers of one depth after another give without a fault is spelled so.
-use Rattle.std.proofs.Common.{◌≡◌, ◌⊎◌, inl, inr, ℕ, zero, suc, ◌+◌, ◌-◌, List, true, false, None, cond, refl, sym, ap, ◌∙◌, subst, arith}
+use Rattle.std.proofs.Common.{◌≡◌, ◌⊎◌, inl, inr, ℕ, zero, suc, ◌+◌, ◌-◌, List, true, false, None}
+use Rattle.std.proofs.Common.{cond, refl, sym, ap, ◌∙◌, subst, arith}
 use Rattle.std.proofs.lemmas.Bool.Decides.{nat_tests}
 use Rattle.std.specs.Prelude.{◌==◌, slice_range}
 use Rattle.tcl_words.specs.Faults.{noted, to}
 use Rattle.tcl_words.specs.Finish.{is_literal, raw_of, filled}
 use Rattle.tcl_words.specs.Grammar.{empty_part, SpellsParts, SpellsCommands}
 use Rattle.tcl_words.specs.Places.{closes}
-use Rattle.tcl_words.specs.Reading.{passed, roomed, read_braced, read_name, parts, commands, read_bracket, read_quoted, read_index, level}
+use Rattle.tcl_words.specs.Reading.{passed, roomed, read_braced, read_name, parts, commands}
+use Rattle.tcl_words.specs.Reading.{read_bracket, read_quoted, read_index, level}
 use Rattle.tcl_words.specs.Skips.{turns, brace_end, gap_end}
 use Rattle.tcl_words.specs.Tree.{Parts, no_parts, and_part}
 use Rattle.tcl_words.specs.Values.{braces}
 use Rattle.tcl_words.specs.declared.deep.Inside.{Inside}
 use Rattle.tcl_words.specs.declared.deep.Inside.TheVariants as inside
-use Rattle.tcl_words.specs.declared.parse_fault.Fault.TheVariants.{MissingBrace, MissingQuote, MissingBracket, TooDeep}
+use Rattle.tcl_words.specs.declared.parse_fault.Fault.TheVariants.{MissingBrace, MissingQuote}
+use Rattle.tcl_words.specs.declared.parse_fault.Fault.TheVariants.{MissingBracket, TooDeep}
 use Rattle.tcl_words.specs.declared.places.Closer.TheVariants.{Quote, Paren}
 use Rattle.tcl_words.specs.declared.progress.Progress.{Progress}
 use Rattle.tcl_words.specs.declared.script.Form.{Form}

@@ -1,13 +1,19 @@
 -- What the readers of parts, words and commands give without a fault is spelled so.
-use Rattle.std.proofs.Common.{◌≡◌, inl, ℕ, ◌+◌, List, Bool, true, false, None, cond, refl, sym, ap, ◌∙◌, subst, arith}
+use Rattle.std.proofs.Common.{◌≡◌, inl, ℕ, ◌+◌, List, Bool, true, false, None, cond, refl, sym, ap}
+use Rattle.std.proofs.Common.{◌∙◌, subst, arith}
 use Rattle.std.specs.Prelude.{slice_range}
 use Rattle.tcl_words.specs.Faults.{noted, to, closed}
 use Rattle.tcl_words.specs.Finish.{raw_of, filled}
-use Rattle.tcl_words.specs.Grammar.{Enclosed, SpellsPart, SpellsParts, SpellsWord, SpellsWords, SpellsCommand, SpellsCommands}
-use Rattle.tcl_words.specs.Places.{stands, opens_name, starts_variable, closes, word_closer, ends_script, ends_command}
-use Rattle.tcl_words.specs.Reading.{Level, named, read_variable, read_part, parts, trailing, bare, enclosed, read_word, words, read_command, commands}
+use Rattle.tcl_words.specs.Grammar.{Enclosed, SpellsPart, SpellsParts, SpellsWord, SpellsWords}
+use Rattle.tcl_words.specs.Grammar.{SpellsCommand, SpellsCommands}
+use Rattle.tcl_words.specs.Places.{stands, opens_name, starts_variable, closes, word_closer}
+use Rattle.tcl_words.specs.Places.{ends_script, ends_command}
+use Rattle.tcl_words.specs.Reading.{Level, named, read_variable, read_part, parts, trailing, bare}
+use Rattle.tcl_words.specs.Reading.{enclosed, read_word, words, read_command, commands}
 use Rattle.tcl_words.specs.Skips.{turns, name_end, blanks_end, gap_end}
-use Rattle.tcl_words.specs.Tree.{Part, plain, variable, element, bracket, Parts, no_parts, and_part, Word, and_word, no_words, Commands, and_command, no_commands, from_to}
+use Rattle.tcl_words.specs.Tree.{Part, plain, variable, element, bracket, Parts, no_parts, and_part}
+use Rattle.tcl_words.specs.Tree.{Word, and_word, no_words, Commands, and_command, no_commands}
+use Rattle.tcl_words.specs.Tree.{from_to}
 use Rattle.tcl_words.specs.Values.{Read, run}
 use Rattle.tcl_words.specs.declared.parse_fault.Fault.{Fault}
 use Rattle.tcl_words.specs.declared.parse_fault.Fault.TheVariants.{ExtraAfter}

@@ -1,5 +1,6 @@
 -- The turns of a sequence, and lists that grow at their end.
-use Rattle.std.proofs.Common.{◌≡◌, ℕ, ◌<◌, ◌≤◌, List, [], ◌∷◌, ◌++◌, length, Bool, true, false, refl, ap, map}
+use Rattle.std.proofs.Common.{◌≡◌, ℕ, ◌<◌, ◌≤◌, List, [], ◌∷◌, ◌++◌, length, Bool, true, false}
+use Rattle.std.proofs.Common.{refl, ap, map}
 use Rattle.tcl_words.specs.Faults.{to}
 use Rattle.tcl_words.specs.Places.{closes, ends_command, ends_script}
 use Rattle.tcl_words.specs.Reading.{

@@ -3,7 +3,8 @@ use Rattle.std.proofs.Common.{◌≡◌, ℕ, List, map, rules, Vec}
 use Rattle.std.specs.declared.alloc.Global.{Global}
 use Rattle.tcl_words.specs.Next.{command_end}
 use Rattle.tcl_words.specs.Tree.{plain, variable, element, bracket, word, command}
-use Rattle.tcl_words.specs.View.{script_view, command_view, word_view, part_view, commands_of, words_of, parts_of}
+use Rattle.tcl_words.specs.View.{script_view, command_view, word_view, part_view, commands_of}
+use Rattle.tcl_words.specs.View.{words_of, parts_of}
 use Rattle.tcl_words.specs.declared.script.Command as code_command
 use Rattle.tcl_words.specs.declared.script.Command.{out-Command, roll-Command}
 use Rattle.tcl_words.specs.declared.script.Part as code

@@ -1,17 +1,24 @@
 -- The last word of a command: what is read is what is spelled.
-use Rattle.std.proofs.Common.{◌≡◌, ◌≢◌, ℕ, ◌+◌, List, [], ◌∷◌, ◌++◌, length, Bool, true, false, cond, ◌||◌, not, eqb, refl, sym, ap, ap₂, ◌∙◌, subst, arith, Some, None, append_assoc, length-append, inl, inr}
+use Rattle.std.proofs.Common.{◌≡◌, ◌≢◌, ℕ, ◌+◌, List, [], ◌∷◌, ◌++◌, length, Bool, true, false}
+use Rattle.std.proofs.Common.{cond, ◌||◌, not, eqb, refl, sym, ap, ap₂, ◌∙◌, subst, arith, Some}
+use Rattle.std.proofs.Common.{None, append_assoc, length-append, inl, inr}
 use Rattle.std.specs.List.{AllPass}
 use Rattle.std.proofs.lemmas.Bool.Decides.{nat_tests}
 use Rattle.std.proofs.lemmas.List.Elements.{All-nil}
 use Rattle.tcl_words.specs.Bytes.{in_class, is_name, is_plain, is_ordinary}
 use Rattle.tcl_words.specs.Run.{run_of, after, is_empty}
 use Rattle.tcl_words.specs.Command.{end_of}
-use Rattle.tcl_words.specs.Word.{quoted_word, quoted_reading, ends_after_blanks, from_quote, to_quote, bare_reading, last_reading}
-use Rattle.tcl_words.specs.Small.{bare_word, SpellsParts, variables, raw_of, SpellsInside, SpellsWord, EndsCommand}
-use Rattle.tcl_words.specs.Tree.{plain, variable, element, bracket, Parts, no_parts, and_part, Word, word}
+use Rattle.tcl_words.specs.Word.{quoted_word, quoted_reading, ends_after_blanks, from_quote}
+use Rattle.tcl_words.specs.Word.{to_quote, bare_reading, last_reading}
+use Rattle.tcl_words.specs.Small.{bare_word, SpellsParts, variables, raw_of, SpellsInside}
+use Rattle.tcl_words.specs.Small.{SpellsWord, EndsCommand}
+use Rattle.tcl_words.specs.Tree.{plain, variable, element, bracket, Parts, no_parts, and_part, Word}
+use Rattle.tcl_words.specs.Tree.{word}
 use Rattle.tcl_words.specs.declared.bytes.Class.TheVariants.{Plain, Inside}
 use Rattle.tcl_words.specs.declared.script.Form.TheVariants.{Bare, Quoted, Braced}
-use Rattle.tcl_words.proofs.Cuts.{or_false, all_along, all_joined, all_after, all_weaker, first_passes, found_if, found_unless, same_byte, Stops, run_is, after_is, run_joined, run_passes, after_stops}
+use Rattle.tcl_words.proofs.Cuts.{or_false, all_along, all_joined, all_after, all_weaker}
+use Rattle.tcl_words.proofs.Cuts.{first_passes, found_if, found_unless, same_byte, Stops, run_is}
+use Rattle.tcl_words.proofs.Cuts.{after_is, run_joined, run_passes, after_stops}
 use Rattle.tcl_words.proofs.Ends.{ends_seen, ends_spelled, no_plain}
 use Rattle.tcl_words.proofs.Quotes.{some_bytes, some_is, the_same, quoted_read, quoted_spelled}
 

@@ -34,7 +34,9 @@ use Rattle.tcl_words.specs.Places.{
   ends_command,
 }
 use Rattle.tcl_words.specs.Skips.{name_end, brace_end, blanks_end, gap_end}
-use Rattle.tcl_words.specs.Tree.{Part, plain, variable, element, bracket, Parts, no_parts, and_part, Word, word, Words, no_words, and_word, Command, command, Commands, no_commands, and_command, from_to}
+use Rattle.tcl_words.specs.Tree.{Part, plain, variable, element, bracket, Parts, no_parts, and_part}
+use Rattle.tcl_words.specs.Tree.{Word, word, Words, no_words, and_word, Command, command, Commands}
+use Rattle.tcl_words.specs.Tree.{no_commands, and_command, from_to}
 use Rattle.tcl_words.specs.Values.{brace_bytes, brace_unit_end, inner_after, ends_braces}
 use Rattle.tcl_words.specs.declared.places.Closer.{Closer}
 use Rattle.tcl_words.specs.declared.places.Closer.TheVariants.{Quote, Paren}
@@ -92,7 +94,8 @@ pub record SpellsBracedName (room : ℕ) (text : List ℕ) (at : ℕ) (name : Li
       × (name ≡ slice_range text (at + 2) close)) text 125 end
 
 -- a word stands from its first byte to its last, and its inner bytes between its quotes or braces
-pub record IsWhole (text : List ℕ) (form : Form) (at end start close : ℕ) (span inner : Span) (raw : Option (List ℕ)) (parts : Parts) : Type 0 where
+pub record IsWhole (text : List ℕ) (form : Form) (at end start close : ℕ) (span inner : Span)
+    (raw : Option (List ℕ)) (parts : Parts) : Type 0 where
   pub span_is : span ≡ from_to at end
   pub inner_is : inner ≡ from_to start close
   pub raw_is : raw ≡ raw_of form (slice_range text start close) parts

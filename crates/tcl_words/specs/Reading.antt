@@ -1,6 +1,7 @@
 -- What a text says, read from left to right. A text with faults is read on, so that each
 -- construct's end is known; the least fault is kept.
-use Rattle.std.specs.Prelude.{ℕ, zero, suc, ◌+◌, ◌-◌, List, slice_range, Bool, true, false, ◌==◌, Option, Some, None, Result, Ok, Err, if◌then◌else◌}
+use Rattle.std.specs.Prelude.{ℕ, zero, suc, ◌+◌, ◌-◌, List, slice_range, Bool, true, false, ◌==◌}
+use Rattle.std.specs.Prelude.{Option, Some, None, Result, Ok, Err, if◌then◌else◌}
 use Rattle.tcl_words.specs.Deep.{deep_end}
 use Rattle.tcl_words.specs.Faults.{noted, to, closed}
 use Rattle.tcl_words.specs.Finish.{finished}

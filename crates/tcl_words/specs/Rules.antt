@@ -1,6 +1,7 @@
 -- Sentences of the Tcl 8.4 manual, Tcl(n), and of this profile, said of the definitions, so that a
 -- slip in them would break a law.
-use Rattle.std.specs.Prelude.{◌≡◌, ◌⊎◌, ℕ, ◌+◌, ◌*◌, ◌%◌, ◌<◌, ◌≤◌, List, [], ◌∷◌, length, slice_index, Bool, true, false, Some, IfSome}
+use Rattle.std.specs.Prelude.{◌≡◌, ◌⊎◌, ℕ, ◌+◌, ◌*◌, ◌%◌, ◌<◌, ◌≤◌, List, [], ◌∷◌, length}
+use Rattle.std.specs.Prelude.{slice_index, Bool, true, false, Some, IfSome}
 use Rattle.tcl_words.specs.Escapes.{digit, with_digit, unit}
 use Rattle.tcl_words.specs.Faults.{place_of, noted}
 use Rattle.tcl_words.specs.Grammar.{

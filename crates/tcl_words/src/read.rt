@@ -31,7 +31,7 @@ use std::alloc::Global;
 impl Progress {
     /// Reads `$name` or `$name(index)`.
     #[cycle(script)]
-    fn variable(&mut self, alloc: Global, text: &[u8], depth: usize) -> M<Part>
+    pub fn variable(&mut self, alloc: Global, text: &[u8], depth: usize) -> M<Part>
         requires { self.old.at < length text.now }
         ensures value { IfOk result
             (λ v. read_variable (level depth) text.now self.old ≡ (part_view v, self.new)) }

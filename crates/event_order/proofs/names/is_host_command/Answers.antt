@@ -1,4 +1,5 @@
-use Rattle.std.proofs.Common.{◌≡◌, Option, Some, None, ap, ◌∙◌, ℕ, List, ◌↔◌, refl, sym, arith, true}
+use Rattle.std.proofs.Common.{◌≡◌, Option, Some, None, ap, ◌∙◌, ℕ, List, ◌↔◌, refl, sym, arith}
+use Rattle.std.proofs.Common.{true}
 use Rattle.std.specs.Option.{is_some}
 use Rattle.event_order.specs.Command.{IsHostCommand, command_row}
 use Rattle.event_order.specs.declared.command.HostCommand.{HostCommand}

@@ -2,8 +2,10 @@ use Rattle.std.proofs.Common.{◌≡◌, sym, ◌∙◌, arith, length, ◌+◌,
 use Rattle.std.specs.Prelude.{sum_by}
 use Rattle.rule_model.specs.Evaluator.{text_limit}
 use Rattle.plain_eval.specs.Stand.{setting_of, stand}
-use Rattle.plain_eval.proofs.Runs.{row_fails, row_too_long, row_next, row_done, command_unspent, command_fails, command_next, commands_done, unspent_is, sum_more}
-use Rattle.plain_eval.proofs.Trees.{word_gives, word_fails, command_gives, command_fails as command_stops, body_gives}
+use Rattle.plain_eval.proofs.Runs.{row_fails, row_too_long, row_next, row_done, command_unspent}
+use Rattle.plain_eval.proofs.Runs.{command_fails, command_next, commands_done, unspent_is, sum_more}
+use Rattle.plain_eval.proofs.Trees.{word_gives, word_fails, command_gives}
+use Rattle.plain_eval.proofs.Trees.{command_fails as command_stops, body_gives}
 use Rattle.plain_eval.proofs.tree.+plain.Goals as goal
 
 pub eval_commands-returns-in_err-spend-clause-used : goal.eval_commands-returns-in_err-spend-clause-used

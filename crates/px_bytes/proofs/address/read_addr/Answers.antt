@@ -1,4 +1,5 @@
-use Rattle.px_bytes.proofs.Addresses.{not_without_colon, not_without_ip, not_without_port, not_at_zero}
+use Rattle.px_bytes.proofs.Addresses.{not_without_colon, not_without_ip, not_without_port}
+use Rattle.px_bytes.proofs.Addresses.{not_at_zero}
 use Rattle.px_bytes.proofs.address.read_addr.Goals as goal
 
 pub returns-in_err-front-clause-none : goal.returns-in_err-front-clause-none

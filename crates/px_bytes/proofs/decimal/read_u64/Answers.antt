@@ -1,5 +1,6 @@
 use Rattle.std.proofs.lemmas.Bool.{false≢true}
-use Rattle.px_bytes.proofs.Decimals.{decimal_begins_plainly, decimal_is_utf8, parsed_is_decimal, unparsed_is_none}
+use Rattle.px_bytes.proofs.Decimals.{decimal_begins_plainly, decimal_is_utf8, parsed_is_decimal}
+use Rattle.px_bytes.proofs.Decimals.{unparsed_is_none}
 use Rattle.px_bytes.proofs.decimal.read_u64.Goals as goal
 
 pub returns-then-not-begins_plainly-clause-none : goal.returns-then-not-begins_plainly-clause-none

@@ -1,4 +1,5 @@
-use Rattle.std.proofs.Common.{◌≡◌, ℕ, ◌-◌, ◌≤◌, List, [], ◌∷◌, ◌++◌, length, get_or, take, drop, Option, Some, None, option_map, ap, refl, ◌∙◌, arith, append_assoc}
+use Rattle.std.proofs.Common.{◌≡◌, ℕ, ◌-◌, ◌≤◌, List, [], ◌∷◌, ◌++◌, length, get_or, take, drop}
+use Rattle.std.proofs.Common.{Option, Some, None, option_map, ap, refl, ◌∙◌, arith, append_assoc}
 use Rattle.std.proofs.lemmas.List.{take_rest}
 use Rattle.px_bytes.specs.HexRead.{hex_byte, byte_before, hex_pairs}
 use Rattle.px_bytes.proofs.hex_read.read_pairs.Goals as goal

@@ -1,7 +1,8 @@
 use Rattle.std.proofs.Common.{◌≡◌, ◌≤◌, length, get_or, sym, ap, ◌∙◌, arith}
 use Rattle.std.proofs.lemmas.Bool.Decides.{nat_tests}
 use Rattle.std.specs.Char.{digit_value}
-use Rattle.px_bytes.proofs.Wholes.{too_large_at_place, product_too_large, sum_too_large, digits_at_end}
+use Rattle.px_bytes.proofs.Wholes.{too_large_at_place, product_too_large, sum_too_large}
+use Rattle.px_bytes.proofs.Wholes.{digits_at_end}
 use Rattle.px_bytes.proofs.whole.read_digits.Goals as goal
 
 pub returns-in_err-checked_mul : goal.returns-in_err-checked_mul

@@ -3,7 +3,7 @@ use Rattle.std.specs.Prelude.{Err}
 use Rattle.std.specs.Int.{w64}
 use Rattle.std.proofs.lemmas.Int.{to_z-of_z}
 use Rattle.px_bytes.specs.declared.fault.Raise.TheVariants.{Fault}
-use Rattle.tcl_expr.specs.OperatorFaults.{Gives}
+use Rattle.px_bytes.specs.Gives.{Gives}
 use Rattle.tcl_expr.specs.Operators.{remainder}
 use Rattle.tcl_expr.proofs.Exact.{exactly, divisor_zero, divisor_other}
 use Rattle.tcl_expr.proofs.Values.{numbers_then, numbers_fault}

@@ -3,10 +3,11 @@ use Rattle.std.specs.Prelude.{Ok, Err}
 use Rattle.std.specs.Int.{w64, w128}
 use Rattle.std.proofs.lemmas.Int.{to_z-of_z}
 use mir.Val.{SFits}
-use Rattle.tcl_expr.specs.OperatorFaults.{Gives}
+use Rattle.px_bytes.specs.Gives.{Gives}
 use Rattle.tcl_expr.specs.Operators.{count_of, printed}
 use Rattle.tcl_expr.proofs.Exact.{exactly, widened, count_below, power, shift_fits}
-use Rattle.tcl_expr.proofs.Values.{numbers_then, numbers_fault, value_then, fault_then}
+use Rattle.px_bytes.proofs.Handed.{value_then, fault_then}
+use Rattle.tcl_expr.proofs.Values.{numbers_then, numbers_fault}
 use Rattle.tcl_expr.proofs.division.shifted_left.Goals as goal
 
 pub returns-in_err-a : goal.returns-in_err-a

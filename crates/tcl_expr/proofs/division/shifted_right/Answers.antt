@@ -2,10 +2,11 @@ use Rattle.std.proofs.Common.{◌≡◌, ℕ, pos, ◌^◌, ap, sym, subst, rule
 use Rattle.std.specs.Prelude.{Ok, Err}
 use Rattle.std.specs.Int.{w64}
 use Rattle.std.proofs.lemmas.Int.{to_z-of_z}
-use Rattle.tcl_expr.specs.OperatorFaults.{Gives}
+use Rattle.px_bytes.specs.Gives.{Gives}
 use Rattle.tcl_expr.specs.Operators.{count_of, printed, quotient}
 use Rattle.tcl_expr.proofs.Exact.{exactly, shifted_down}
-use Rattle.tcl_expr.proofs.Values.{numbers_then, numbers_fault, value_then, fault_then}
+use Rattle.px_bytes.proofs.Handed.{value_then, fault_then}
+use Rattle.tcl_expr.proofs.Values.{numbers_then, numbers_fault}
 use Rattle.tcl_expr.proofs.division.shifted_right.Goals as goal
 
 pub returns-in_err-a : goal.returns-in_err-a

@@ -1,6 +1,7 @@
 use Rattle.std.proofs.Common.{◌≡◌, ◌∷◌, [], refl, sym, ap, ◌∙◌, subst, arith}
 use Rattle.std.specs.Prelude.{reverse}
-use Rattle.tcl_words.proofs.Depths.{DeepTo, deep_begins, deep_turn, deep_at_end, deep_closed, deep_on, reverse_push, no_items}
+use Rattle.tcl_words.proofs.Depths.{DeepTo, deep_begins, deep_turn, deep_at_end, deep_closed}
+use Rattle.tcl_words.proofs.Depths.{deep_on, reverse_push, no_items}
 use Rattle.tcl_words.proofs.deep.deep_end.Goals as goal
 
 pub loop-at-init : goal.loop-at-init

@@ -2,7 +2,8 @@ use Rattle.std.proofs.Common.{◌≡◌, arith, rules, drop, length, length-drop
 use Rattle.std.proofs.lemmas.Bool.Decides.{nat_tests}
 use Rattle.tcl_words.specs.Next.{RefusedNext}
 use Rattle.tcl_words.specs.View.{command_view}
-use Rattle.tcl_words.proofs.Sequence.{parted, parted_none, parted_some, parted_refused, begins_onward, begins_within}
+use Rattle.tcl_words.proofs.Sequence.{parted, parted_none, parted_some, parted_refused}
+use Rattle.tcl_words.proofs.Sequence.{begins_onward, begins_within}
 use Rattle.tcl_words.proofs.next.next.Goals as goal
 
 pub returns-then-is_empty-clause-next : goal.returns-then-is_empty-clause-next

@@ -2,7 +2,8 @@ use Rattle.std.proofs.Common.{ap}
 use Rattle.std.specs.Prelude.{Err}
 use Rattle.tcl_words.specs.View.{script_view}
 use Rattle.proxy.specs.Config.Fault.{of_words, of_tree}
-use Rattle.proxy.proofs.ConfigRefusals.{handed_on, words_refused, tree_refused, no_script, script_built}
+use Rattle.proxy.proofs.ConfigRefusals.{handed_on, words_refused, tree_refused, no_script}
+use Rattle.proxy.proofs.ConfigRefusals.{script_built}
 use Rattle.proxy.proofs.config.rule.compile_rule.Goals as goal
 
 pub returns-in_default-clause-not_built : goal.returns-in_default-clause-not_built

@@ -2,7 +2,8 @@ use Rattle.std.proofs.Common.{◌∙◌, ◌+◌, ap, refl}
 use Rattle.proxy.specs.Report.{note_lines}
 use Rattle.proxy.specs.Stops.{StopsWith}
 use Rattle.proxy.specs.Taken.{with_took}
-use Rattle.proxy.proofs.Stopping.{out_of_memory, not_written, stands_front, written_front, Given, stands_next, front_in_notes, only_group}
+use Rattle.proxy.proofs.Stopping.{out_of_memory, not_written, stands_front, written_front, Given}
+use Rattle.proxy.proofs.Stopping.{stands_next, front_in_notes, only_group}
 use Rattle.proxy.proofs.replay.Replay.event.Goals as goal
 
 pub returns-in_err-reserve-clause-stops : goal.returns-in_err-reserve-clause-stops

@@ -1,6 +1,7 @@
 use Rattle.std.proofs.Common.{◌∙◌, ap, sym, Ok, refl}
 use Rattle.proxy.specs.Stops.{GoesOnWith, GoesOnBehind, StopsWith, StopsBehind}
-use Rattle.proxy.proofs.LineStops.{skips, follows, second, at_line, event_gives, second_gives_none, goes_behind, stops_behind}
+use Rattle.proxy.proofs.LineStops.{skips, follows, second, at_line, event_gives, second_gives_none}
+use Rattle.proxy.proofs.LineStops.{goes_behind, stops_behind}
 use Rattle.proxy.proofs.Stopping.{stands_front}
 use Rattle.proxy.proofs.replay.Replay.line.Goals as goal
 

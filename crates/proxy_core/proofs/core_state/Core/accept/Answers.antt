@@ -1,7 +1,8 @@
 use Rattle.std.proofs.Common.{arith}
 use Rattle.std.proofs.lemmas.List.{length-map}
 use Rattle.proxy_core.specs.Ready.{numbers}
-use Rattle.proxy_core.proofs.ReadyRing.{ring_within, fresh_not_in, distinct_push, accept_within, accept_known}
+use Rattle.proxy_core.proofs.ReadyRing.{ring_within, fresh_not_in, distinct_push, accept_within}
+use Rattle.proxy_core.proofs.ReadyRing.{accept_known}
 use Rattle.proxy_core.proofs.core_state.Core.accept.Goals as goal
 
 pub push_reserved-requires-2 : goal.push_reserved-requires-2

@@ -2,7 +2,8 @@ use Rattle.std.proofs.Common.{◌≡◌, ◌∷◌, sym, ◌∙◌, ap, refl, fa
 use Rattle.proxy_core.specs.Ready.{numbers}
 use Rattle.proxy_core.proofs.FrontRuns.{front_runs, none_popped, idle_runs}
 use Rattle.proxy_core.proofs.Places.{read_at, number_at, numbers_set, in_before, remove_set}
-use Rattle.proxy_core.proofs.ReadyRing.{popped, front_is_live, rest_distinct, rest_within, rest_removed}
+use Rattle.proxy_core.proofs.ReadyRing.{popped, front_is_live, rest_distinct, rest_within}
+use Rattle.proxy_core.proofs.ReadyRing.{rest_removed}
 use Rattle.proxy_core.proofs.core_state.Core.run.Goals as goal
 
 pub unreachable-requires : goal.unreachable-requires

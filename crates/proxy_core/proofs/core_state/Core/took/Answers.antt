@@ -3,9 +3,11 @@ use Rattle.std.proofs.lemmas.List.{length-map}
 use Rattle.proxy_core.specs.Live.{after_taking}
 use Rattle.proxy_core.specs.Ready.{numbers}
 use Rattle.proxy_core.specs.Changes.{closing}
-use Rattle.proxy_core.proofs.Places.{read_at, read_again, number_at, in_numbers, numbers_set, in_before, took_accepted}
+use Rattle.proxy_core.proofs.Places.{read_at, read_again, number_at, in_numbers, numbers_set}
+use Rattle.proxy_core.proofs.Places.{in_before, took_accepted}
 use Rattle.proxy_core.proofs.Queues.{not_over}
-use Rattle.proxy_core.proofs.ReadyRing.{ring_room, distinct_without, removed_within, ready_distinct, ready_within}
+use Rattle.proxy_core.proofs.ReadyRing.{ring_room, distinct_without, removed_within, ready_distinct}
+use Rattle.proxy_core.proofs.ReadyRing.{ready_within}
 use Rattle.proxy_core.proofs.core_state.Core.took.Goals as goal
 
 pub make_ready-requires : goal.make_ready-requires

@@ -1,7 +1,8 @@
 use Rattle.std.proofs.Common.{[], ap, sym, ◌∙◌, unwrap_or}
 use Rattle.tcl_vars.specs.Scopes.{find_in, take_out, replace_in}
 use Rattle.tcl_vars.proofs.Named.{named, found_in}
-use Rattle.tcl_vars.proofs.TakenOut.{take_out-named, replace_in-named, take_out-replaced, without_no_array, without_last_element, without_one_element}
+use Rattle.tcl_vars.proofs.TakenOut.{take_out-named, replace_in-named, take_out-replaced}
+use Rattle.tcl_vars.proofs.TakenOut.{without_no_array, without_last_element, without_one_element}
 use Rattle.tcl_vars.proofs.table.Table+Table+X.remove_element.Goals as goal
 use Rattle.tcl_vars.proofs.table.Table+Table+X.remove_element.Goals.{in-Some-1, in-None-1}
 
