@@ -1,7 +1,13 @@
+pub mod ExpressionRows
+pub mod ExpressionViews
+pub mod RowTurns
+pub mod ReadingCases
 pub mod Rows
 pub mod Seen
 pub mod Small
 pub mod Values
 pub mod Exact
+pub mod Places
+pub mod PrefixTurns
 pub mod TextTests
 pub mod Fronts

@@ -1,5 +1,10 @@
 pub mod Compile
+pub mod Expression
+pub mod ExpressionReading
+pub mod ExpressionView
 pub mod OperatorFaults
 pub mod Operators
+pub mod Outcome
 pub mod TextTests
+pub mod Tokens
 pub mod Truth

@@ -3,6 +3,7 @@
 #![tactic(auto)]
 
 mod bytes;
+mod expressions;
 mod lists;
 mod numbers;
 mod operators;
@@ -55,6 +56,9 @@ fn answer(alloc: Global, question: &Question) -> M<Option<Text>> {
         return Ok(Some(answer));
     }
     if let Some(answer) = operators::answer(alloc, question)? {
+        return Ok(Some(answer));
+    }
+    if let Some(answer) = expressions::answer(alloc, question)? {
         return Ok(Some(answer));
     }
     words::answer(alloc, question)

@@ -27,7 +27,7 @@ pub use fault::SmallFault;
 pub use laws::{one_reading, reading_is_grammar, rules_of_the_source};
 pub use parse_fault::{Fault, ParseFault};
 pub use parser::{LIMIT, parse};
-pub use places::{opens_name, stands, starts_variable};
+pub use places::{after_blank, opens_name, skips_newline, stands, starts_variable};
 pub use progress::Progress;
 pub use script::{Command, Form, Part, Script, Span, Word};
 pub use small::{one_script, parse_small};

@@ -124,7 +124,7 @@ pub fn starts_variable(text: &[u8], at: usize) -> bool
 
 /// Whether a backslash-newline stands at the place.
 #[tactic(auto, unfolding(crate::specs::Places::skips_newline, crate::specs::Places::stands))]
-fn skips_newline(text: &[u8], at: usize) -> bool
+pub fn skips_newline(text: &[u8], at: usize) -> bool
     requires { at ≤ length text.now }
     ensures { result ≡ skips_newline text.now at }
 {
