@@ -2,3 +2,5 @@ pub mod Scopes
 pub mod Names
 pub mod Tables
 pub mod Faults
+pub mod Appended
+pub mod Indexes

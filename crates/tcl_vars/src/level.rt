@@ -1,14 +1,19 @@
 // The variables of one level.
 
-ghost use Rattle.std.specs.Prelude.{◌≡◌, ◌≤◌, ℕ, List, ◌+◌, length, min, OnOk, OnErr};
+ghost use Rattle.std.specs.Prelude.{◌≡◌, ◌≤◌, ℕ, List, ◌+◌, length, min, IfOk, OnOk, OnErr};
+ghost use Rattle.std.specs.Cmp.Lexicographic.{slice_cmp};
+ghost use Rattle.std.specs.List.Sorted.{IsStrictlySortedBy};
+ghost use Rattle.std.specs.Ordering.{nat_cmp};
 ghost use Rattle.std.specs.Option.{option_copied};
 ghost use Rattle.tcl_vars.specs.Scopes.{Level as LevelValue};
 ghost use Rattle.tcl_vars.specs.Scopes.{no_level, value_in, with_value_in, level_bytes};
 ghost use Rattle.tcl_vars.specs.Scopes.{is_set_in, without_value_in};
 ghost use Rattle.tcl_vars.specs.Tables.{IsInOrderAt, index_bytes};
+ghost use Rattle.tcl_vars.specs.Appended.{appended_in};
+ghost use Rattle.tcl_vars.specs.Indexes.{indexes_in};
 
 use crate::table::Table;
-use px_bytes::{M, Text};
+use px_bytes::{M, Text, Texts};
 use std::alloc::Global;
 use std::marker::Model;
 
@@ -97,6 +102,58 @@ impl Level {
         }
         self.bytes = bytes;
         Ok(())
+    }
+
+    /// The bytes with more behind a value, or `usize::MAX` where they would be more than that.
+    pub(crate) fn bytes_appended(&self, name: &[u8], index: Option<&[u8]>, more: &[u8]) -> usize
+        ensures { let i = option_copied index.entry in
+            let text = appended_in self.now name.now i more.now in
+            result ≡ min (level_bytes (with_value_in name.now i text self.now)) usize.MAX }
+    {
+        let before = match self.get(name, index) {
+            Some(_) => self.bytes,
+            None => self
+                .bytes
+                .saturating_add(name.len())
+                .saturating_add(index_len(index)),
+        };
+        before.saturating_add(more.len())
+    }
+
+    /// Adds bytes behind the value of a variable or an element, which is empty where there is none.
+    pub(crate) fn append(
+        &mut self,
+        alloc: Global,
+        name: &[u8],
+        index: Option<&[u8]>,
+        more: &[u8],
+    ) -> M<()>
+        requires { let i = option_copied index in
+            let text = appended_in self.old name.now i more.now in
+            level_bytes (with_value_in name.now i text self.old) ≤ usize.MAX }
+        ensures ok { let i = option_copied index.entry in
+            let text = appended_in self.old name.now i more.now in
+            OnOk result (self.new ≡ with_value_in name.now i text self.old) }
+        ensures err { OnErr result (self.new ≡ self.old) }
+    {
+        let bytes = self.bytes_appended(name, index, more);
+        match index {
+            None => self.plain.append(alloc, name, more)?,
+            Some(index) => self.arrays.append_element(alloc, name, index, more)?,
+        }
+        self.bytes = bytes;
+        Ok(())
+    }
+
+    /// The indexes under which a name has values, in the order of their bytes.
+    pub(crate) fn indexes(&self, alloc: Global, name: &[u8]) -> M<Texts>
+        ensures indexes { IfOk result (λ names. names ≡ indexes_in self.now name.now) }
+        ensures sorted { IfOk result (λ names. IsStrictlySortedBy (slice_cmp nat_cmp) names) }
+    {
+        match self.arrays.get(name) {
+            Some(elements) => elements.names(alloc),
+            None => Ok(Texts::new(alloc)),
+        }
     }
 
     /// Takes a variable out, or an element: whether there was one.

@@ -1,15 +1,17 @@
 // A table of values by names.
 
-ghost use Rattle.std.specs.Prelude.{◌≡◌, ◌≤◌, ◌↔◌, ℕ, List, [], map, unwrap_or};
-ghost use Rattle.std.specs.Prelude.{IsTrue, OnOk, OnErr};
+ghost use Rattle.std.specs.Prelude.{◌≡◌, ◌≤◌, ◌↔◌, ◌++◌, ℕ, List, [], map, unwrap_or};
+ghost use Rattle.std.specs.Prelude.{IfOk, IsTrue, OnOk, OnErr};
 ghost use Rattle.std.specs.Option.{option_copied};
 ghost use Rattle.std.specs.Ordering.{nat_cmp};
 ghost use Rattle.std.specs.Cmp.Lexicographic.{slice_cmp};
+ghost use Rattle.std.specs.List.Sorted.{IsStrictlySortedBy};
+ghost use Rattle.std.specs.Map.{keys_of};
 ghost use Rattle.std.specs.BTreeMap.{IsOrdered};
 ghost use Rattle.tcl_vars.specs.Scopes.{find_in, put_in, take_out, with_elements};
 ghost use Rattle.tcl_vars.specs.Tables.{IsInOrder};
 
-use px_bytes::M;
+use px_bytes::{M, Text, Texts};
 use std::alloc::Global;
 use std::collections::BTreeMap;
 use std::marker::Model;
@@ -67,6 +69,18 @@ impl<X: Drop> Table<X> {
         self.tree.remove(name)
     }
 
+    /// The names, in the order of their bytes.
+    pub(crate) fn names(&self, alloc: Global) -> M<Texts>
+        ensures names { IfOk result (λ names. names ≡ keys_of self.now) }
+        ensures sorted { IfOk result (λ names. IsStrictlySortedBy (slice_cmp nat_cmp) names) }
+    {
+        let mut names = Texts::new(alloc);
+        for name in self.tree.keys() {
+            names.push(Text::new(alloc, name)?)?;
+        }
+        Ok(names)
+    }
+
     pub(crate) fn is_empty(&self) -> bool
         ensures { IsTrue result ↔ (self.now ≡ []) }
     {
@@ -102,5 +116,43 @@ impl<X: Drop> Table<Table<X>> {
             self.tree.remove(name);
         }
         old
+    }
+}
+
+impl Table<Text> {
+    /// Adds bytes behind the text of a name, which is empty where there is none.
+    pub(crate) fn append(&mut self, alloc: Global, name: &[u8], more: &[u8]) -> M<()>
+        ensures ok { let old = unwrap_or (find_in name.now self.old) [] in
+            OnOk result (self.new ≡ put_in name.now (old ++ more.now) self.old) }
+        ensures err { OnErr result (self.new ≡ self.old) }
+    {
+        if let Some(text) = self.tree.get_mut(name) {
+            return text.push(more);
+        }
+        self.put(alloc, name, Text::new(alloc, more)?)
+    }
+}
+
+impl Table<Table<Text>> {
+    /// Adds bytes behind the text of an element of a name's table.
+    pub(crate) fn append_element(
+        &mut self,
+        alloc: Global,
+        name: &[u8],
+        index: &[u8],
+        more: &[u8],
+    ) -> M<()>
+        ensures ok { let elements = unwrap_or (find_in name.now self.old) [] in
+            let old = unwrap_or (find_in index.now elements) [] in
+            OnOk result (self.new
+            ≡ put_in name.now (put_in index.now (old ++ more.now) elements) self.old) }
+        ensures err { OnErr result (self.new ≡ self.old) }
+    {
+        if let Some(elements) = self.tree.get_mut(name) {
+            return elements.append(alloc, index, more);
+        }
+        let mut elements = Table::new(alloc);
+        elements.append(alloc, index, more)?;
+        self.put(alloc, name, elements)
     }
 }

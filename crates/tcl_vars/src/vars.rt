@@ -1,16 +1,21 @@
 // The variables of a script.
 
 ghost use Rattle.std.specs.Prelude.{◌≡◌, ◌+◌, ◌<◌, ◌≤◌, ℕ, List, ◌∷◌, length, min, reverse, sum_by};
-ghost use Rattle.std.specs.Prelude.{IfErr, OnOk, OnErr};
+ghost use Rattle.std.specs.Prelude.{IfErr, IfOk, OnOk, OnErr};
+ghost use Rattle.std.specs.Cmp.Lexicographic.{slice_cmp};
+ghost use Rattle.std.specs.List.Sorted.{IsStrictlySortedBy};
 ghost use Rattle.std.specs.Option.{option_copied};
+ghost use Rattle.std.specs.Ordering.{nat_cmp};
 ghost use Rattle.px_bytes.specs.FaultText.{too_long};
 ghost use Rattle.tcl_vars.specs.Scopes.{Scopes, no_scopes, is_static, value_at, with_value};
 ghost use Rattle.tcl_vars.specs.Scopes.{is_set, without_value, in_proc, out_of_proc};
 ghost use Rattle.tcl_vars.specs.Scopes.{level_bytes, vars_bytes, vars_limit};
+ghost use Rattle.tcl_vars.specs.Appended.{appended};
 ghost use Rattle.tcl_vars.specs.Faults.{IfFault};
+ghost use Rattle.tcl_vars.specs.Indexes.{indexes_at};
 
 use crate::level::Level;
-use px_bytes::{M, Raise, TclFault, Text};
+use px_bytes::{M, Raise, TclFault, Text, Texts};
 use std::alloc::Global;
 use std::marker::Model;
 use std::mem;
@@ -98,8 +103,50 @@ impl Vars {
         Ok(())
     }
 
-    /// Takes a variable out, or an element, and a name with no index with all that it has: whether
-    /// there was one. It takes no memory.
+    /// Adds bytes behind the value of a variable or an element, which begins as the empty text
+    /// where there is none. That all variables would have more bytes than they may is a fault. It
+    /// costs what is added, amortised: the old value isn't copied.
+    pub fn append(&mut self, name: &[u8], index: Option<&[u8]>, more: &[u8]) -> Result<(), Raise>
+        ensures ok { let i = option_copied index.entry in
+            let text = appended self.old name.now i more.now in
+            OnOk result (self.new ≡ with_value name.now i text self.old) }
+        ensures room { OnOk result (vars_bytes self.new ≤ vars_limit) }
+        ensures err { OnErr result (self.new ≡ self.old) }
+
+        // A fault is `too_long`, and comes only where the variables would have too many bytes.
+        ensures fault { IfErr result (λ e. IfFault e (λ f. f ≡ too_long)) }
+        ensures over_limit { let i = option_copied index.entry in
+            let text = appended self.old name.now i more.now in
+            let bytes = vars_bytes (with_value name.now i text self.old) in
+            IfErr result (λ e. IfFault e (λ _. vars_limit < bytes)) }
+    {
+        let alloc = *self.outer.allocator();
+        if self.bytes_appended(name, index, more) > LIMIT {
+            return Err(Raise::Fault(TclFault::too_long(alloc)?));
+        }
+        if is_static(name) {
+            self.statics.append(alloc, name, index, more)?;
+        } else {
+            self.innermost.append(alloc, name, index, more)?;
+        }
+        Ok(())
+    }
+
+    /// The indexes under which a name has values, in the order of their bytes.
+    pub fn indexes(&self, name: &[u8]) -> M<Texts>
+        ensures indexes { IfOk result (λ names. names ≡ indexes_at self.now name.now) }
+        ensures sorted { IfOk result (λ names. IsStrictlySortedBy (slice_cmp nat_cmp) names) }
+    {
+        let alloc = *self.outer.allocator();
+        if is_static(name) {
+            self.statics.indexes(alloc, name)
+        } else {
+            self.innermost.indexes(alloc, name)
+        }
+    }
+
+    /// Takes out an element, or a name's plain value alone, whose elements stay: whether there was
+    /// one. It takes no memory.
     pub fn unset(&mut self, name: &[u8], index: Option<&[u8]>) -> bool
         ensures was_set { result ≡ is_set self.old name.now (option_copied index.entry) }
         ensures left { self.new ≡ without_value name.now (option_copied index.entry) self.old }
@@ -150,6 +197,25 @@ impl Vars {
             let others = self.statics.bytes() + self.outer_bytes;
             self.innermost
                 .bytes_with(name, index, text_len)
+                .saturating_add(others)
+        }
+    }
+
+    // The bytes with more behind a value, or `usize::MAX` where they would be more than that.
+    fn bytes_appended(&self, name: &[u8], index: Option<&[u8]>, more: &[u8]) -> usize
+        ensures { let i = option_copied index.entry in
+            let text = appended self.now name.now i more.now in
+            result ≡ min (vars_bytes (with_value name.now i text self.now)) usize.MAX }
+    {
+        if is_static(name) {
+            let others = self.innermost.bytes() + self.outer_bytes;
+            self.statics
+                .bytes_appended(name, index, more)
+                .saturating_add(others)
+        } else {
+            let others = self.statics.bytes() + self.outer_bytes;
+            self.innermost
+                .bytes_appended(name, index, more)
                 .saturating_add(others)
         }
     }

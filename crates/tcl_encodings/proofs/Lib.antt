@@ -1,0 +1,4 @@
+mod Networks
+mod Pieces
+mod Rows
+mod Sizes
