@@ -4,9 +4,9 @@ use Rattle.std.proofs.Common.{length, map, append_assoc, arith}
 use Rattle.std.specs.Prelude.{slice_get}
 use Rattle.std.proofs.lemmas.List.{length-append}
 use Rattle.std.proofs.lemmas.Option.{slice_get_past}
-use Rattle.rule_model.specs.Evaluator.{Act, Code, State, Outcome, Ends, Waits as Stops}
+use Rattle.rule_model.specs.Evaluator.{Act, Code, State, Outcome, Ends, Waits as Stops, uncaught_of}
 use Rattle.rule_model.specs.Laws.{state_after}
-use Rattle.connection_model.specs.Setup.{Handler, Setup, uncaught_of}
+use Rattle.connection_model.specs.Setup.{Handler, Setup}
 use Rattle.connection_model.specs.Item.{Ran}
 use Rattle.connection_model.specs.Trace.{Bodies, Running, TraceState, Waits, ForReply, EventRun}
 use Rattle.connection_model.specs.Trace.{accepted_run, selecting_run, closing_run, run_body}

@@ -9,7 +9,8 @@ use Rattle.rule_model.specs.Host as effect
 use Rattle.rule_model.specs.Evaluator.{Value, Did, Outcome, Ends, Meaning, state, in_order}
 use Rattle.rule_model.specs.Evaluator.{join_pieces, command, commands, eval, evaluate}
 use Rattle.rule_model.proofs.Trees.{IsWord, IsCommand, IsBody, word_is, command_is, body_is}
-use Rattle.connection_model.specs.Event.{EventName, ClientAccepted}
+use Rattle.event_order.specs.declared.event.EventName.{EventName}
+use Rattle.event_order.specs.declared.event.EventName.TheVariants.{ClientAccepted}
 use Rattle.connection_model.specs.Setup.{Handler, Setup, body_setting}
 use Rattle.connection_model.specs.Item.{Item, BeforeBodies, ToClient, Opened, Sent, Ran, Finished}
 use Rattle.connection_model.specs.declared.note.Cause.TheVariants.{Unselected}

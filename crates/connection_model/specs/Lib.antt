@@ -1,4 +1,3 @@
-pub mod Event
 pub mod Responder
 pub mod Setup
 pub mod Item

@@ -1,11 +1,10 @@
--- What a connection needs of the configuration, and how one of its bodies ends.
-use Rattle.std.specs.Prelude.{ℕ, List, ◌++◌, codes, Option, Some, None}
-use Rattle.px_bytes.specs.FaultText.{outside_loop}
-use Rattle.px_bytes.specs.declared.fault.TclFault.{TclFault}
+-- What a connection needs of the configuration, and the line that a fault of its bodies logs.
+use Rattle.std.specs.Prelude.{ℕ, List, ◌++◌, codes, Some}
 use Rattle.tcl_expr.specs.declared.tree.Tree.{Tree}
 use Rattle.tcl_vars.specs.Scopes.{Level}
-use Rattle.rule_model.specs.Evaluator.{Code, Value, Raised, Return, Break, Continue, Setting}
-use Rattle.connection_model.specs.Event.{EventName, event_text}
+use Rattle.event_order.specs.Event.{event_text}
+use Rattle.event_order.specs.declared.event.EventName.{EventName}
+use Rattle.rule_model.specs.Evaluator.{Setting}
 use Rattle.connection_model.specs.Responder.{respond_table}
 
 -- a body that a rule has for an event, with the rule's name
@@ -23,15 +22,6 @@ pub record Setup : Type 0 where
 -- the bodies read the static variables and use the host commands
 abbrev pub body_setting : Level → Setting (List ℕ)
 body_setting statics = record { statics = Some statics; table = respond_table }
-
--- the fault that a body leaves uncaught; `break` and `continue` may stand in a loop alone (Tcl 8.4,
--- break(n))
-abbrev pub uncaught_of : Code → Option TclFault
-uncaught_of (Value v) = None
-uncaught_of (Raised fault) = Some fault
-uncaught_of (Return v) = None
-uncaught_of Break = Some (outside_loop (codes "break"))
-uncaught_of Continue = Some (outside_loop (codes "continue"))
 
 -- the line that an uncaught fault logs: the rule, the event and the fault's text
 abbrev pub uncaught_line : List ℕ → EventName → List ℕ → List ℕ

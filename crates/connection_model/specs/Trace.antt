@@ -30,13 +30,18 @@ use Rattle.rule_model.specs.Evaluator.{
   Outcome,
   Ends,
   Waits as Stops,
-  Code,
   evaluate,
+  uncaught_of,
 }
 use Rattle.rule_model.specs.Evaluator as act
 use Rattle.rule_model.specs.Laws.{state_after}
-use Rattle.connection_model.specs.Event.{EventName, ClientAccepted, LbFailed, ClientClosed}
-use Rattle.connection_model.specs.Setup.{Handler, Setup, body_setting, uncaught_of, uncaught_line}
+use Rattle.event_order.specs.declared.event.EventName.{EventName}
+use Rattle.event_order.specs.declared.event.EventName.TheVariants.{
+  ClientAccepted,
+  LbFailed,
+  ClientClosed,
+}
+use Rattle.connection_model.specs.Setup.{Handler, Setup, body_setting, uncaught_line}
 use Rattle.connection_model.specs.Item.{BeforeBodies, Peer, ToClient, ToServer, Item, Opened, Ran}
 use Rattle.connection_model.specs.Item.{Called, Logged, Sent, Finished}
 use Rattle.connection_model.specs.declared.note.Cause.{Cause}

@@ -1,8 +1,8 @@
 // The evaluation of a tree on the replies that have come.
 
 ghost use Rattle.std.specs.Prelude.{◌≡◌, IfOk, option_map};
-ghost use Rattle.rule_model.specs.Evaluator.{evaluate};
-ghost use Rattle.plain_eval.specs.Plain.{IsOutcome, setting};
+ghost use Rattle.rule_model.specs.Evaluator.{evaluate, uncaught_of};
+ghost use Rattle.plain_eval.specs.Plain.{IsOutcome, code_of, setting};
 ghost use Rattle.plain_eval.specs.Stop.{plain_of};
 
 use crate::context::{Context, Progress};
@@ -22,6 +22,21 @@ pub enum PlainCode {
     Return(Text),
     Break,
     Continue,
+}
+
+impl PlainCode {
+    /// The fault that a body that ends so leaves uncaught.
+    pub fn uncaught(self, alloc: Global) -> M<Option<TclFault>>
+        ensures { IfOk result (λ fault. fault ≡ uncaught_of (code_of self)) }
+    {
+        Ok(match self {
+            PlainCode::Ends(_) => None,
+            PlainCode::Raised(fault) => Some(fault),
+            PlainCode::Return(_) => None,
+            PlainCode::Break => Some(TclFault::outside_loop(alloc, b"break")?),
+            PlainCode::Continue => Some(TclFault::outside_loop(alloc, b"continue")?),
+        })
+    }
 }
 
 /// What a body comes to on the replies that have come: its end, with how many of them it took, or

@@ -7,12 +7,10 @@ use Rattle.connection_model.specs.Trace.{Bodies, Phase, Does, bodies_next, next_
 use Rattle.connection_model.proofs.BodyItems.{ByBodies, accepted_by_bodies, selecting_by_bodies}
 use Rattle.connection_model.proofs.BodyItems.{closing_by_bodies}
 use Rattle.connection_model.proofs.Unfolding.{unfolds_on, unfolds_one}
-use Rattle.plain_trace.specs.declared.setup.PlainEvent.{PlainEvent}
-use Rattle.plain_trace.specs.declared.setup.PlainEvent.TheVariants.{ClientAccepted, LbFailed}
-use Rattle.plain_trace.specs.declared.setup.PlainEvent.TheVariants.{ClientClosed}
+use Rattle.event_order.specs.declared.event.EventName.{EventName}
+use Rattle.event_order.specs.declared.event.EventName.TheVariants.{ClientAccepted, ClientClosed}
 use Rattle.plain_trace.specs.declared.item.PlainItem.{PlainItem}
 use Rattle.plain_trace.specs.declared.run.Run.{Run}
-use Rattle.plain_trace.specs.Setup.{event_of}
 use Rattle.plain_trace.specs.Items.{item_of, without_cost}
 use Rattle.plain_trace.specs.Runs.{at, Adds, Goes, Stops, run_of}
 
@@ -49,16 +47,11 @@ pub goes_one : (g : Setup) (x y : Phase) (a b : Run) (p : PlainItem) (i : Item)
 goes_one g x y a b p i next is same = record { new = i ∷ []; unfolds = unfolds_one g (at x a) (at y b) i next; adds = adds_one a b p i is same }
 
 -- while the bodies of an event run, they say what comes next
-pub by_bodies : (g : Setup) (event : PlainEvent) → ByBodies g (run_of g event)
+pub by_bodies : (g : Setup) (event : EventName) → ByBodies g (run_of g event)
 by_bodies g ClientAccepted = accepted_by_bodies g
-by_bodies g LbFailed = selecting_by_bodies g
 by_bodies g ClientClosed = closing_by_bodies g
+by_bodies g event = selecting_by_bodies g
 
-pub next_is_of : (g : Setup) (event : PlainEvent) (bodies : Bodies) (run : Run)
+pub next_is_of : (g : Setup) (event : EventName) (bodies : Bodies) (run : Run)
     → next_item g (at ((run_of g event).while bodies) run) ≡ bodies_next g (run_of g event) bodies (at ((run_of g event).while bodies) run)
 next_is_of g event bodies run = by_bodies g event bodies (at ((run_of g event).while bodies) run)
-
-pub event_is : (g : Setup) (event : PlainEvent) → (run_of g event).event ≡ event_of event
-event_is g ClientAccepted = refl
-event_is g LbFailed = refl
-event_is g ClientClosed = refl

@@ -12,34 +12,34 @@ use Rattle.connection_model.specs.Trace.{Gated, Running, Failing, Phase, Finishi
 use Rattle.connection_model.specs.Trace.{Draining, closing, closing_run, entered, next_body}
 use Rattle.connection_model.specs.Trace.{after_body, next_item}
 use Rattle.connection_model.specs.declared.note.Cause.{Cause}
-use Rattle.plain_trace.specs.declared.setup.PlainEvent.{PlainEvent}
-use Rattle.plain_trace.specs.declared.setup.PlainEvent.TheVariants.{ClientClosed}
+use Rattle.event_order.specs.declared.event.EventName.{EventName}
+use Rattle.event_order.specs.declared.event.EventName.TheVariants.{ClientClosed}
 use Rattle.plain_trace.specs.declared.setup.PlainHandler.{PlainHandler}
 use Rattle.plain_trace.specs.declared.bodies.BodiesEnd.{BodiesEnd}
 use Rattle.plain_trace.specs.declared.bodies.BodiesEnd.TheVariants as bodies
 use Rattle.plain_trace.specs.declared.item.PlainItem.{PlainItem}
 use Rattle.plain_trace.specs.declared.item.PlainItem.TheVariants as item
 use Rattle.plain_trace.specs.declared.run.Run.{Run}
-use Rattle.plain_trace.specs.Setup.{handler_of, event_of}
+use Rattle.plain_trace.specs.Setup.{handler_of}
 use Rattle.plain_trace.specs.Runs.{at, Goes, Stops, run_of, BodiesGo, HandlerGoes, ComesToFinish}
 use Rattle.plain_trace.specs.Items.{item_of}
-use Rattle.plain_trace.proofs.Goes.{goes_on, goes_one, goes_stops, next_is_of, event_is}
+use Rattle.plain_trace.proofs.Goes.{goes_on, goes_one, goes_stops, next_is_of}
 
 -- with these items, and what was sent
 abbrev pub with_items : Run → List ℕ → List PlainItem → Run
 with_items run sent items = record { vars = run.vars; recorder = record { sent = sent; items = items } }
 
-pub fault_logged : (g : Setup) (event : PlainEvent) (h : Handler) (hs : List Handler) (here : Phase) (fault : TclFault) (line : List ℕ) (a b : Run) (items : List PlainItem)
-    → Goes g here a (after_body (run_of g event) h hs (Some fault)) b → line ≡ uncaught_line h.rule (event_of event) fault.text → items ≡ b.recorder.items ++ item.Logged line ∷ []
+pub fault_logged : (g : Setup) (event : EventName) (h : Handler) (hs : List Handler) (here : Phase) (fault : TclFault) (line : List ℕ) (a b : Run) (items : List PlainItem)
+    → (run_of g event).event ≡ event → Goes g here a (after_body (run_of g event) h hs (Some fault)) b → line ≡ uncaught_line h.rule event fault.text → items ≡ b.recorder.items ++ item.Logged line ∷ []
     → Goes g here a ((run_of g event).failed fault.kind hs) (with_items b b.recorder.sent items)
-fault_logged g event h hs here fault line a b items goes is added =
+fault_logged g event h hs here fault line a b items own goes is added =
     let told = uncaught_line h.rule (run_of g event).event fault.text in
-    let same : line ≡ told = is ∙ ap (λ e. uncaught_line h.rule e fault.text) (sym (event_is g event)) in
+    let same : line ≡ told = is ∙ ap (λ e. uncaught_line h.rule e fault.text) (sym own) in
     goes_on g here ((run_of g event).while (Failing fault.kind told hs)) ((run_of g event).failed fault.kind hs) a b (with_items b b.recorder.sent items) goes
     (goes_one g ((run_of g event).while (Failing fault.kind told hs)) ((run_of g event).failed fault.kind hs) b (with_items b b.recorder.sent items)
     (item.Logged line) (trace.Logged told) (next_is_of g event (Failing fault.kind told hs) b) added (ap (λ x. trace.Logged x) same))
 
-pub gate_opened : (g : Setup) (event : PlainEvent) (h : Handler) (hs : List Handler) (a : Run) (items : List PlainItem) → items ≡ a.recorder.items ++ item.Opened ∷ []
+pub gate_opened : (g : Setup) (event : EventName) (h : Handler) (hs : List Handler) (a : Run) (items : List PlainItem) → items ≡ a.recorder.items ++ item.Opened ∷ []
     → Goes g ((run_of g event).while (Gated h hs)) a ((run_of g event).while (Running h hs 0)) (with_items a [] items)
 gate_opened g event h hs a items added =
     goes_one g ((run_of g event).while (Gated h hs)) ((run_of g event).while (Running h hs 0)) a (with_items a [] items) item.Opened (trace.Opened BeforeBodies)
@@ -51,20 +51,20 @@ unfolding next_item
 finished g cause a items added = goes_one g (Finishing cause) (closing g) a (with_items a [] items) (item.Finished cause) (trace.Finished cause) refl added refl
 
 -- the bodies that are left, and the phase before them
-abbrev pub left : Setup → PlainEvent → List PlainHandler → Phase
+abbrev pub left : Setup → EventName → List PlainHandler → Phase
 left g event handlers = next_body (run_of g event).while (map handler_of handlers) (run_of g event).after
 
 pub handlers_at : (handlers : List PlainHandler) (i : ℕ) (h : PlainHandler) → i < length handlers → h ≡ get_or handlers i h → drop i handlers ≡ h ∷ drop (i + 1) handlers
 handlers_at handlers i h there is = grind (arith, drop-cons handlers i h there, is)
 
-pub body_went : (g : Setup) (event : PlainEvent) (here : Phase) (some rest : List PlainHandler) (h : PlainHandler) (a b c : Run) → some ≡ h ∷ rest
+pub body_went : (g : Setup) (event : EventName) (here : Phase) (some rest : List PlainHandler) (h : PlainHandler) (a b c : Run) → some ≡ h ∷ rest
     → Goes g here a (left g event some) b → HandlerGoes g (run_of g event) (handler_of h) (map handler_of rest) b bodies.Ran c
     → Goes g here a (left g event rest) c
 body_went g event here some rest h a b c is goes one =
     goes_on g here ((run_of g event).while (Running (handler_of h) (map handler_of rest) 0)) (left g event rest) a b c (rw is at goes) one
 
 -- an event that has bodies comes through its gate
-pub gate_passed : (g : Setup) (event : PlainEvent) (handlers : List PlainHandler) (none : Bool) (a b : Run) → none ≡ (length handlers == 0) → none ≡ false
+pub gate_passed : (g : Setup) (event : EventName) (handlers : List PlainHandler) (none : Bool) (a b : Run) → none ≡ (length handlers == 0) → none ≡ false
     → b.vars ≡ a.vars → b.recorder ≡ record { sent = []; items = a.recorder.items ++ item.Opened ∷ [] }
     → Goes g (entered (run_of g event).while (map handler_of handlers) (run_of g event).after) a (left g event handlers) b
 gate_passed g event [] none a b is some vars recorder = let never : true ≡ false = sym is ∙ some in absurd cc
@@ -72,7 +72,7 @@ gate_passed g event (h ∷ hs) none a b is some vars recorder =
     rw (vars, recorder) (gate_opened g event (handler_of h) (map handler_of hs) a (a.recorder.items ++ item.Opened ∷ []) refl)
 
 -- a body that failed or waits is the last
-pub body_stops : (g : Setup) (event : PlainEvent) (here : Phase) (some rest : List PlainHandler) (h : PlainHandler) (end : BodiesEnd) (a b c : Run) → some ≡ h ∷ rest → (end ≡ bodies.Ran → ⊥)
+pub body_stops : (g : Setup) (event : EventName) (here : Phase) (some rest : List PlainHandler) (h : PlainHandler) (end : BodiesEnd) (a b c : Run) → some ≡ h ∷ rest → (end ≡ bodies.Ran → ⊥)
     → Goes g here a (left g event some) b → HandlerGoes g (run_of g event) (handler_of h) (map handler_of rest) b end c
     → BodiesGo g (run_of g event) here a end c
 body_stops g event here some rest h bodies.Ran a b c is not goes one = absurd (not refl)
@@ -81,7 +81,7 @@ body_stops g event here some rest h (bodies.Failed kind) a b c is not goes one =
 body_stops g event here some rest h bodies.Unanswered a b c is not goes one =
     goes_stops g here ((run_of g event).while (Running (handler_of h) (map handler_of rest) 0)) a b c (rw is at goes) one
 
-pub bodies_behind : (g : Setup) (event : PlainEvent) (here mid : Phase) (end : BodiesEnd) (a b c : Run) → Goes g here a mid b → BodiesGo g (run_of g event) mid b end c → BodiesGo g (run_of g event) here a end c
+pub bodies_behind : (g : Setup) (event : EventName) (here mid : Phase) (end : BodiesEnd) (a b c : Run) → Goes g here a mid b → BodiesGo g (run_of g event) mid b end c → BodiesGo g (run_of g event) here a end c
 bodies_behind g event here mid bodies.Ran a b c goes more = goes_on g here mid (run_of g event).after a b c goes more
 bodies_behind g event here mid (bodies.Failed kind) a b c goes (hs, more) = (hs, goes_on g here mid ((run_of g event).failed kind hs) a b c goes more)
 bodies_behind g event here mid bodies.Unanswered a b c goes more = goes_stops g here mid a b c goes more

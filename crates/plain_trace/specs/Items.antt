@@ -13,7 +13,6 @@ use Rattle.plain_trace.specs.declared.item.PlainItem.TheVariants.{
 }
 use Rattle.plain_trace.specs.declared.item.PlainPeer.{PlainPeer}
 use Rattle.plain_trace.specs.declared.item.PlainPeer.TheVariants.{Client, Server}
-use Rattle.plain_trace.specs.Setup.{event_of}
 
 abbrev pub peer_of : PlainPeer → Peer
 peer_of Client = ToClient
@@ -21,7 +20,7 @@ peer_of (Server k) = ToServer k
 
 abbrev pub item_of : PlainItem → Item
 item_of Opened = trace.Opened BeforeBodies
-item_of (Ran event) = trace.Ran (event_of event) 0
+item_of (Ran event) = trace.Ran event 0
 item_of (Called call) = trace.Called call
 item_of (Logged text) = trace.Logged text
 item_of (Sent peer bytes) = trace.Sent (peer_of peer) bytes

@@ -1,6 +1,8 @@
 -- How far a run came, said of the trace.
 use Rattle.std.specs.Prelude.{◌≡◌, ℕ, List, ◌++◌, map, Option, Some, None}
 use Rattle.tcl_vars.specs.Scopes.{Scopes}
+use Rattle.event_order.specs.declared.event.EventName.{EventName}
+use Rattle.event_order.specs.declared.event.EventName.TheVariants.{ClientAccepted, ClientClosed}
 use Rattle.connection_model.specs.Setup.{Handler, Setup}
 use Rattle.connection_model.specs.Item.{Item}
 use Rattle.connection_model.specs.declared.note.Cause.{Cause}
@@ -23,12 +25,6 @@ use Rattle.connection_model.specs.Trace.{
   Unfolds,
   no_stream,
   no_answers,
-}
-use Rattle.plain_trace.specs.declared.setup.PlainEvent.{PlainEvent}
-use Rattle.plain_trace.specs.declared.setup.PlainEvent.TheVariants.{
-  ClientAccepted,
-  LbFailed,
-  ClientClosed,
 }
 use Rattle.plain_trace.specs.declared.bodies.BodyEnd.{BodyEnd}
 use Rattle.plain_trace.specs.declared.bodies.BodyEnd.TheVariants.{Ended, Unanswered}
@@ -78,11 +74,13 @@ pub record Stops (g : Setup) (here : Phase) (before after : Run) : Type 0 where
   pub adds : Adds before new after
   pub rests : Rests (next_item g last)
 
--- how the bodies of an event run
-abbrev pub run_of : Setup → PlainEvent → EventRun
+-- How the bodies of an event run: those of CLIENT_ACCEPTED, CLIENT_CLOSED and LB_FAILED each in a
+-- phase of their own. No phase of today runs the bodies of another event, for which this is the run
+-- of LB_FAILED.
+abbrev pub run_of : Setup → EventName → EventRun
 run_of g ClientAccepted = accepted_run g
-run_of g LbFailed = selecting_run g
 run_of g ClientClosed = closing_run g
+run_of g event = selecting_run g
 
 -- what a body does from its beginning: it ends, with this fault uncaught, or waits
 abbrev pub BodyGoes : Setup → EventRun → Handler → List Handler → Run → BodyEnd → Run → Type 0

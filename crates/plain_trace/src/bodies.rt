@@ -1,17 +1,18 @@
 // The bodies of an event.
 
 ghost use Rattle.std.specs.Prelude.{◌≡◌, List, IfOk, map};
-ghost use Rattle.connection_model.specs.Setup.{Handler, uncaught_line, uncaught_of};
-ghost use Rattle.connection_model.specs.Trace.{Failing, next_body};
-ghost use Rattle.plain_eval.specs.Plain.{code_of};
-ghost use Rattle.plain_trace.specs.Setup.{event_of, handler_of, setup_of};
+ghost use Rattle.connection_model.specs.Setup.{Handler};
+ghost use Rattle.connection_model.specs.Trace.{next_body};
+ghost use Rattle.plain_trace.specs.Setup.{handler_of, setup_of};
 ghost use Rattle.plain_trace.specs.Runs.{BodiesGo, BodyGoes, Goes, HandlerGoes, run_of};
 
 use crate::item::PlainItem;
 use crate::run::Run;
-use crate::setup::{PlainEvent, PlainHandler, PlainSetup};
-use plain_eval::{Plain, PlainCode, Replies, eval_plain};
-use px_bytes::{FaultKind, M, TclFault, Text};
+use crate::setup::{PlainHandler, PlainSetup};
+use connection_model::uncaught_line;
+use event_order::EventName;
+use plain_eval::{Plain, Replies, eval_plain};
+use px_bytes::{FaultKind, M, TclFault};
 use std::alloc::Global;
 
 /// How one body ends: with the fault that it leaves uncaught, or at a shared call that isn't
@@ -34,10 +35,11 @@ pub(crate) enum BodiesEnd {
 pub(crate) fn run_bodies(
     alloc: Global,
     setup: &PlainSetup,
-    event: PlainEvent,
+    event: EventName,
     handlers: &[PlainHandler],
     run: &mut Run,
 ) -> M<BodiesEnd>
+    requires { (run_of (setup_of setup.now) event).event ≡ event }
     ensures { let g = setup_of setup.now in let r = run_of g event in
         let here = next_body r.while (map handler_of handlers.now) r.after in
         IfOk result (λ end. BodiesGo g r here run.old end run.new) }
@@ -55,10 +57,11 @@ pub(crate) fn run_bodies(
 pub(crate) fn run_handler(
     alloc: Global,
     setup: &PlainSetup,
-    event: PlainEvent,
+    event: EventName,
     handler: &PlainHandler,
     run: &mut Run,
 ) -> M<BodiesEnd>
+    requires { (run_of (setup_of setup.now) event).event ≡ event }
     ensures { let g = setup_of setup.now in let r = run_of g event in
         let h = handler_of handler.now in
         IfOk result (λ end. (hs : List Handler) → HandlerGoes g r h hs run.old end run.new) }
@@ -78,10 +81,11 @@ pub(crate) fn run_handler(
 fn run_body(
     alloc: Global,
     setup: &PlainSetup,
-    event: PlainEvent,
+    event: EventName,
     handler: &PlainHandler,
     run: &mut Run,
 ) -> M<BodyEnd>
+    requires { (run_of (setup_of setup.now) event).event ≡ event }
     ensures { let g = setup_of setup.now in let r = run_of g event in
         let h = handler_of handler.now in
         IfOk result (λ end. (hs : List Handler) → BodyGoes g r h hs run.old end run.new) }
@@ -100,33 +104,8 @@ fn run_body(
     )? {
         Plain::Done { code, used: _ } => {
             run.recorder.items.push(PlainItem::Ran(event))?;
-            Ok(BodyEnd::Ended(uncaught_fault(alloc, code)?))
+            Ok(BodyEnd::Ended(code.uncaught(alloc)?))
         }
         Plain::Waits { call: _ } => Ok(BodyEnd::Unanswered),
     }
-}
-
-fn uncaught_fault(alloc: Global, code: PlainCode) -> M<Option<TclFault>>
-    ensures { IfOk result (λ fault. fault ≡ uncaught_of (code_of code)) }
-{
-    Ok(match code {
-        PlainCode::Ends(_) => None,
-        PlainCode::Raised(fault) => Some(fault),
-        PlainCode::Return(_) => None,
-        PlainCode::Break => Some(TclFault::outside_loop(alloc, b"break")?),
-        PlainCode::Continue => Some(TclFault::outside_loop(alloc, b"continue")?),
-    })
-}
-
-// The line that an uncaught fault logs.
-fn uncaught_line(alloc: Global, rule: &Text, event: PlainEvent, text: &Text) -> M<Text>
-    ensures { IfOk result (λ t. t ≡ uncaught_line rule.now (event_of event) text.now) }
-{
-    let mut line = Text::new(alloc, b"TCL error: ")?;
-    line.push(rule.as_bytes())?;
-    line.push(b" <")?;
-    line.push(event.text())?;
-    line.push(b"> - ")?;
-    line.push(text.as_bytes())?;
-    Ok(line)
 }

@@ -1,7 +1,7 @@
 // What a connection does, one thing after another.
 
-use crate::setup::PlainEvent;
 use connection_model::Cause;
+use event_order::EventName;
 use px_bytes::{Text, Texts};
 
 /// Where bytes go to.
@@ -18,7 +18,7 @@ pub enum PlainItem {
     /// It came through the gate before the bodies of an event.
     Opened,
     /// A body of the event ended.
-    Ran(PlainEvent),
+    Ran(EventName),
     /// A body made a shared call.
     Called(Texts),
     Logged(Text),

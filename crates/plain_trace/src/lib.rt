@@ -12,5 +12,5 @@ mod tests;
 mod trace;
 
 pub use item::{PlainItem, PlainPeer};
-pub use setup::{PlainEvent, PlainHandler, PlainSetup};
+pub use setup::{PlainHandler, PlainSetup};
 pub use trace::plain_trace;

@@ -1,20 +1,12 @@
 // What a connection needs of the configuration.
 
 ghost use Rattle.std.specs.Prelude.{◌≡◌, map};
-ghost use Rattle.connection_model.specs.Event.{event_text};
-ghost use Rattle.plain_trace.specs.Setup.{event_of, handler_of, handlers_of};
+ghost use Rattle.plain_trace.specs.Setup.{handler_of, handlers_of};
 
+use event_order::EventName;
 use px_bytes::{Seq, Text};
 use tcl_expr::{Procs, Tree};
 use tcl_vars::Vars;
-
-/// An event that today's phases of a connection run.
-#[derive(Clone, Copy, Debug, PartialEq, Eq)]
-pub enum PlainEvent {
-    ClientAccepted,
-    LbFailed,
-    ClientClosed,
-}
 
 /// A body that a rule has for an event, with the rule's name and procedures.
 #[derive(Drop)]
@@ -38,26 +30,14 @@ pub struct PlainSetup {
 
 impl PlainSetup {
     /// The bodies of an event, in their order.
-    pub(crate) fn handlers(&self, event: PlainEvent) -> &[PlainHandler]
-        ensures { map handler_of result.now ≡ handlers_of self.now (event_of event) }
+    pub(crate) fn handlers(&self, event: EventName) -> &[PlainHandler]
+        ensures { map handler_of result.now ≡ handlers_of self.now event }
     {
         match event {
-            PlainEvent::ClientAccepted => self.client_accepted.as_slice(),
-            PlainEvent::LbFailed => self.lb_failed.as_slice(),
-            PlainEvent::ClientClosed => self.client_closed.as_slice(),
-        }
-    }
-}
-
-impl PlainEvent {
-    /// Its name in a rule.
-    pub(crate) fn text(self) -> &'static [u8]
-        ensures { result.now ≡ event_text (event_of self) }
-    {
-        match self {
-            PlainEvent::ClientAccepted => b"CLIENT_ACCEPTED",
-            PlainEvent::LbFailed => b"LB_FAILED",
-            PlainEvent::ClientClosed => b"CLIENT_CLOSED",
+            EventName::ClientAccepted => self.client_accepted.as_slice(),
+            EventName::LbFailed => self.lb_failed.as_slice(),
+            EventName::ClientClosed => self.client_closed.as_slice(),
+            _ => &[],
         }
     }
 }

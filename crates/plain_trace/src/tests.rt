@@ -1,6 +1,6 @@
 // Worked rows.
 
-use crate::{PlainEvent, PlainHandler, PlainItem, PlainPeer, PlainSetup, plain_trace};
+use crate::{PlainHandler, PlainItem, PlainPeer, PlainSetup, plain_trace};
 use connection_model::Cause;
 use px_bytes::{FaultKind, M, Seq, Text};
 use std::alloc::Global;

@@ -3,15 +3,16 @@
 ghost use Rattle.std.specs.Prelude.{◌≡◌, IfOk, map};
 ghost use Rattle.connection_model.specs.Trace.{accepted, closing, entered, next_body, selecting};
 ghost use Rattle.connection_model.specs.Trace.{Finishing};
-ghost use Rattle.plain_trace.specs.Setup.{event_of, handler_of, setup_of};
+ghost use Rattle.plain_trace.specs.Setup.{handler_of, setup_of};
 ghost use Rattle.plain_trace.specs.Runs.{BodiesGo, ComesToFinish, Goes, Stops, run_of};
 ghost use Rattle.plain_trace.specs.Trace.{IsTrace};
 
 use crate::bodies::{BodiesEnd, run_bodies, run_handler};
 use crate::item::PlainItem;
 use crate::run::Run;
-use crate::setup::{PlainEvent, PlainHandler, PlainSetup};
+use crate::setup::{PlainHandler, PlainSetup};
 use connection_model::Cause;
+use event_order::EventName;
 use px_bytes::{M, Seq};
 use std::alloc::Global;
 
@@ -42,7 +43,7 @@ fn accept(alloc: Global, setup: &PlainSetup, run: &mut Run) -> M<Option<Cause>>
     ensures { let g = setup_of setup.now in
         IfOk result (λ cause. ComesToFinish g (accepted g) run.old cause run.new) }
 {
-    match run_event(alloc, setup, PlainEvent::ClientAccepted, run)? {
+    match run_event(alloc, setup, EventName::ClientAccepted, run)? {
         BodiesEnd::Ran => select(alloc, setup, run),
         BodiesEnd::Failed(kind) => Ok(Some(Cause::Tcl(kind))),
         BodiesEnd::Unanswered => Ok(None),
@@ -54,7 +55,7 @@ fn select(alloc: Global, setup: &PlainSetup, run: &mut Run) -> M<Option<Cause>>
     ensures { let g = setup_of setup.now in
         IfOk result (λ cause. ComesToFinish g (selecting g) run.old cause run.new) }
 {
-    match run_event(alloc, setup, PlainEvent::LbFailed, run)? {
+    match run_event(alloc, setup, EventName::LbFailed, run)? {
         BodiesEnd::Ran => Ok(Some(Cause::Unselected)),
         BodiesEnd::Failed(kind) => Ok(Some(Cause::Tcl(kind))),
         BodiesEnd::Unanswered => Ok(None),
@@ -62,9 +63,10 @@ fn select(alloc: Global, setup: &PlainSetup, run: &mut Run) -> M<Option<Cause>>
 }
 
 // Goes through the gate and runs the bodies of an event.
-fn run_event(alloc: Global, setup: &PlainSetup, event: PlainEvent, run: &mut Run) -> M<BodiesEnd>
+fn run_event(alloc: Global, setup: &PlainSetup, event: EventName, run: &mut Run) -> M<BodiesEnd>
+    requires { (run_of (setup_of setup.now) event).event ≡ event }
     ensures { let g = setup_of setup.now in let r = run_of g event in
-        let here = entered r.while (g.handlers (event_of event)) r.after in
+        let here = entered r.while (g.handlers event) r.after in
         IfOk result (λ end. BodiesGo g r here run.old end run.new) }
 {
     let handlers = setup.handlers(event);
@@ -76,7 +78,7 @@ fn run_event(alloc: Global, setup: &PlainSetup, event: PlainEvent, run: &mut Run
 fn open_gate(
     alloc: Global,
     setup: &PlainSetup,
-    event: PlainEvent,
+    event: EventName,
     handlers: &[PlainHandler],
     run: &mut Run,
 ) -> M<()>
@@ -104,7 +106,7 @@ fn close(alloc: Global, setup: &PlainSetup, run: &mut Run) -> M<()>
     ensures { let g = setup_of setup.now in
         IfOk result (λ _. Stops g (closing g) run.old run.new) }
 {
-    let event = PlainEvent::ClientClosed;
+    let event = EventName::ClientClosed;
     for handler in setup.handlers(event) {
         if let BodiesEnd::Unanswered = run_handler(alloc, setup, event, handler, run)? {
             return Ok(());

@@ -6,11 +6,12 @@ use Rattle.px_bytes.specs.declared.fault.FaultKind.{FaultKind}
 use Rattle.px_bytes.specs.declared.fault.TclFault.{TclFault}
 use Rattle.rule_model.specs.Host as effect
 use Rattle.rule_model.specs.Evaluator as act
-use Rattle.rule_model.specs.Evaluator.{Act, Did, Code, Outcome, Ends, Waits as Stops}
+use Rattle.rule_model.specs.Evaluator.{Act, Did, Code, Outcome, Ends, Waits as Stops, uncaught_of}
 use Rattle.connection_model.specs.declared.note.Cause.{Cause}
 use Rattle.connection_model.specs.declared.note.Cause.TheVariants.{Tcl, Unselected, Memory}
-use Rattle.connection_model.specs.Event.{ClientAccepted, LbFailed, ClientClosed}
-use Rattle.connection_model.specs.Setup.{Handler, Setup, uncaught_of}
+use Rattle.event_order.specs.declared.event.EventName.TheVariants.{ClientAccepted}
+use Rattle.event_order.specs.declared.event.EventName.TheVariants.{LbFailed, ClientClosed}
+use Rattle.connection_model.specs.Setup.{Handler, Setup}
 use Rattle.connection_model.specs.Item.{Item, Gate, Opened, Read, Ran, Called, Connected, Logged}
 use Rattle.connection_model.specs.Item.{Sent, Passed, Fired, Reused, Finished}
 use Rattle.connection_model.specs.Trace.{Bodies, Gated, Running, Failing, Phase, Accepted}

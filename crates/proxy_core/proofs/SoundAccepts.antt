@@ -8,7 +8,7 @@ use Rattle.px_bytes.specs.declared.addr.Addr.{Addr}
 use Rattle.connection_model.specs.declared.note.Cause.TheVariants.{Memory}
 use Rattle.connection_model.specs.declared.note.Note.{Note}
 use Rattle.connection_model.specs.declared.note.Note.TheVariants.{Finish}
-use Rattle.connection_model.specs.Event.{ClientAccepted, LbFailed}
+use Rattle.event_order.specs.declared.event.EventName.TheVariants.{ClientAccepted, LbFailed}
 use Rattle.connection_model.specs.Setup.{Handler, Setup}
 use Rattle.connection_model.specs.Gates.{no_bytes}
 use Rattle.connection_model.specs.Trace.{Accepted, Selecting, Finishing, TraceState, Over, entered}

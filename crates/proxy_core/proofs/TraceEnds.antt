@@ -13,16 +13,17 @@ use Rattle.rule_model.specs.Host as effect
 use Rattle.rule_model.specs.Host.{HostStep}
 use Rattle.rule_model.specs.Evaluator as act
 use Rattle.rule_model.specs.Evaluator.{Act, Did, State, state, Outcome, Ends, Waits as Stops, Code}
-use Rattle.rule_model.specs.Evaluator.{evaluate}
+use Rattle.rule_model.specs.Evaluator.{evaluate, uncaught_of}
 use Rattle.rule_model.specs.Laws.{state_after, Grows, StepShows, TableShows, ShowsActs}
 use Rattle.rule_model.proofs.Keeps.{eval_keeps}
 use Rattle.rule_model.proofs.Grown.{grows, shows}
 use Rattle.connection_model.specs.declared.note.Cause.{Cause}
 use Rattle.connection_model.specs.declared.note.Cause.TheVariants.{Tcl, Unselected}
 use Rattle.connection_model.specs.declared.note.Note.{Note}
-use Rattle.connection_model.specs.Event.{ClientAccepted, LbFailed, ClientClosed}
+use Rattle.event_order.specs.declared.event.EventName.TheVariants.{ClientAccepted}
+use Rattle.event_order.specs.declared.event.EventName.TheVariants.{LbFailed, ClientClosed}
 use Rattle.connection_model.specs.Responder.{respond, respond_table, respond_limit}
-use Rattle.connection_model.specs.Setup.{Handler, Setup, body_setting, uncaught_of, uncaught_line}
+use Rattle.connection_model.specs.Setup.{Handler, Setup, body_setting, uncaught_line}
 use Rattle.connection_model.specs.Item.{Item, Ran, Logged, Finished, to_client, client_output}
 use Rattle.connection_model.specs.Item.{note_of, notes_of}
 use Rattle.connection_model.specs.Gates.{Counts, may_give, sent_after, Met}

@@ -4,9 +4,9 @@ use Rattle.std.specs.Prelude.{ℕ, List, [], ◌∷◌, Option, Some, None}
 use Rattle.px_bytes.specs.declared.fault.FaultKind.{FaultKind}
 use Rattle.px_bytes.specs.declared.fault.TclFault.{TclFault}
 use Rattle.tcl_vars.specs.Scopes.{Scopes, Level}
-use Rattle.rule_model.specs.Evaluator.{Outcome, Ends, Waits, State, evaluate}
-use Rattle.connection_model.specs.Event.{ClientAccepted}
-use Rattle.connection_model.specs.Setup.{body_setting, uncaught_of, uncaught_line}
+use Rattle.rule_model.specs.Evaluator.{Outcome, Ends, Waits, State, evaluate, uncaught_of}
+use Rattle.event_order.specs.declared.event.EventName.TheVariants.{ClientAccepted}
+use Rattle.connection_model.specs.Setup.{body_setting, uncaught_line}
 use Rattle.proxy_core.specs.declared.config.Rule.{Rule}
 
 -- How the bodies end, with the variables and what they sent: all of them ran; or one raised a fault

@@ -1,7 +1,8 @@
 -- The setup of a connection, by the configuration and the name of its virtual server.
 use Rattle.std.specs.Prelude.{ℕ, List, [], map, slice_get, option_and_then}
 use Rattle.tcl_vars.specs.Scopes.{no_scopes}
-use Rattle.connection_model.specs.Event.{EventName, ClientAccepted}
+use Rattle.event_order.specs.declared.event.EventName.{EventName}
+use Rattle.event_order.specs.declared.event.EventName.TheVariants.{ClientAccepted}
 use Rattle.connection_model.specs.Setup.{Handler, Setup}
 use Rattle.connection_model.specs.Trace.{TraceState, start, no_stream, no_answers}
 use Rattle.proxy_core.specs.Changes.{rules_in}

@@ -1,15 +1,15 @@
 // The bodies of an event.
 
-ghost use Rattle.std.specs.Prelude.{◌≡◌, [], ◌++◌, IfOk};
+ghost use Rattle.std.specs.Prelude.{◌≡◌, [], IfOk};
 ghost use Rattle.rule_model.specs.Evaluator.{evaluate};
-ghost use Rattle.plain_eval.specs.Plain.{code_of};
-ghost use Rattle.connection_model.specs.Event.{ClientAccepted};
-ghost use Rattle.connection_model.specs.Setup.{body_setting, uncaught_of, uncaught_line};
+ghost use Rattle.connection_model.specs.Setup.{body_setting};
 ghost use Rattle.proxy_core.specs.Bodies.{bodies_end};
 
 use crate::config::Rule;
 use crate::responder::Responder;
-use plain_eval::{Plain, PlainCode, Replies, eval_plain};
+use connection_model::uncaught_line;
+use event_order::EventName;
+use plain_eval::{Plain, Replies, eval_plain};
 use px_bytes::{FaultKind, M, TclFault, Text};
 use std::alloc::Global;
 use tcl_vars::Vars;
@@ -38,7 +38,11 @@ pub fn run_bodies(
 {
     for rule in rules {
         if let Some(fault) = run_body(alloc, budget, statics, rule, vars, host)? {
-            return Ok(Some(logged(alloc, &rule.name, fault)?));
+            let line = uncaught_line(alloc, &rule.name, EventName::ClientAccepted, &fault.text)?;
+            return Ok(Some(Uncaught {
+                kind: fault.kind,
+                line,
+            }));
         }
     }
     Ok(None)
@@ -69,35 +73,7 @@ fn run_body(
         &replies,
         budget,
     )? {
-        Plain::Done { code, used: _ } => uncaught_fault(alloc, code),
+        Plain::Done { code, used: _ } => code.uncaught(alloc),
         Plain::Waits { call: _ } => unreachable!(),
     }
-}
-
-fn uncaught_fault(alloc: Global, code: PlainCode) -> M<Option<TclFault>>
-    ensures { IfOk result (λ fault. fault ≡ uncaught_of (code_of code)) }
-{
-    Ok(match code {
-        PlainCode::Ends(_) => None,
-        PlainCode::Raised(fault) => Some(fault),
-        PlainCode::Return(_) => None,
-        PlainCode::Break => Some(TclFault::outside_loop(alloc, b"break")?),
-        PlainCode::Continue => Some(TclFault::outside_loop(alloc, b"continue")?),
-    })
-}
-
-fn logged(alloc: Global, rule: &Text, fault: TclFault) -> M<Uncaught>
-    ensures { IfOk result
-        (λ u. u ≡ record { kind = fault.kind; line = uncaught_line rule.now ClientAccepted fault.text }) }
-{
-    let mut line = Text::new(alloc, b"TCL error: ")?;
-    line.push(rule.as_bytes())?;
-    line.push(b" <")?;
-    line.push(b"CLIENT_ACCEPTED")?;
-    line.push(b"> - ")?;
-    line.push(fault.text.as_bytes())?;
-    Ok(Uncaught {
-        kind: fault.kind,
-        line,
-    })
 }

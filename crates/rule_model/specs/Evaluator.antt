@@ -20,7 +20,14 @@ use Rattle.std.specs.Prelude.{
   sum_by,
 }
 use Rattle.std.specs.List.{flat_map}
-use Rattle.px_bytes.specs.FaultText.{no_variable, wrong_arity, too_long, budget_spent, static_set}
+use Rattle.px_bytes.specs.FaultText.{
+  no_variable,
+  wrong_arity,
+  too_long,
+  budget_spent,
+  static_set,
+  outside_loop,
+}
 use Rattle.px_bytes.specs.declared.fault.TclFault.{TclFault}
 use Rattle.px_bytes.specs.declared.fault.Reply.{Reply}
 use Rattle.px_bytes.specs.declared.fault.Reply.TheVariants as reply
@@ -57,6 +64,15 @@ pub data Code : Type 0 where
   Return : List ℕ → Code
   Break : Code
   Continue : Code
+
+-- the fault that a body leaves uncaught; `break` and `continue` may stand in a loop alone (Tcl 8.4,
+-- break(n))
+abbrev pub uncaught_of : Code → Option TclFault
+uncaught_of (Value v) = None
+uncaught_of (Raised fault) = Some fault
+uncaught_of (Return v) = None
+uncaught_of Break = Some (outside_loop (codes "break"))
+uncaught_of Continue = Some (outside_loop (codes "continue"))
 
 -- what was done so far, in order: an effect of a host command, or a shared call with the path to
 -- the node that made it

@@ -6,6 +6,7 @@ pub mod Rows
 pub mod Seen
 pub mod Small
 pub mod Values
+pub mod DivisionAddsUp
 pub mod Exact
 pub mod Places
 pub mod PrefixTurns

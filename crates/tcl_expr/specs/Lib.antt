@@ -1,10 +1,12 @@
 pub mod Compile
+pub mod DivisionLaw
 pub mod Expression
 pub mod ExpressionReading
 pub mod ExpressionView
 pub mod OperatorFaults
 pub mod Operators
 pub mod Outcome
+pub mod Precedence
 pub mod TextTests
 pub mod Tokens
 pub mod Truth

@@ -9,6 +9,8 @@ mod numbers;
 mod operators;
 mod question;
 mod script;
+#[cfg(test)]
+mod tests;
 mod words;
 mod write;
 

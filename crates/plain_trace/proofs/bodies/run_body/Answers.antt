@@ -11,8 +11,8 @@ returns-in-Done c = λ hs.
     let h = handler_of c.args.handler.now in
     let before = c.args.run.now in
     let after : Run = record { vars = c.eval_plain.new.vars; recorder = record { sent = c.eval_plain.new.host.sent; items = c.push.new.self } } in
-    rw c.in_ok-uncaught_fault-in-Done.ensures (
-    ended_goes g c.args.event h hs before after (recorded_body g h before) c.in-Done.code c.in-Done.used c.eval_plain.new.host
+    rw c.in_ok-uncaught-in-Done.ensures (
+    ended_goes g c.args.event h hs before after (recorded_body g h before) c.in-Done.code c.in-Done.used c.eval_plain.new.host c.requires
     (seen g h before) (kept g h before) (rw (c.in-Done.is, c.new-replies.ensures) at c.in_ok-code.ensures) refl c.in_ok-push-in-Done.ensures.ok)
 
 pub returns : goal.returns

@@ -11,7 +11,7 @@ pub returns-in_ok-push-in-Ended-Some : goal.returns-in_ok-push-in-Ended-Some
 returns-in_ok-push-in-Ended-Some c = λ hs.
     let g = setup_of c.args.setup.now in
     let h = handler_of c.args.handler.now in
-    fault_logged g c.args.event h hs ((run_of g c.args.event).while (Running h hs 0)) c.in-Ended-Some.fault c.in_ok-line-in-Ended-Some.line c.args.run.now c.run_body.new.run c.push.new.self
+    fault_logged g c.args.event h hs ((run_of g c.args.event).while (Running h hs 0)) c.in-Ended-Some.fault c.in_ok-line-in-Ended-Some.line c.args.run.now c.run_body.new.run c.push.new.self c.requires
     (rw (c.in-Ended-Some.is, c.in-Ended-Some.field-0-is) at (c.in_ok-run_body.ensures hs)) c.in_ok-line-in-Ended-Some.ensures c.in_ok-push-in-Ended-Some.ensures.ok
 
 pub returns-in-Unanswered : goal.returns-in-Unanswered

@@ -1,6 +1,6 @@
 use Rattle.std.proofs.Common.{drop}
 use Rattle.connection_model.specs.Trace.{closing}
-use Rattle.plain_trace.specs.declared.setup.PlainEvent.TheVariants.{ClientClosed}
+use Rattle.event_order.specs.declared.event.EventName.TheVariants.{ClientClosed}
 use Rattle.plain_trace.specs.Setup.{setup_of}
 use Rattle.plain_trace.specs.Runs.{Goes}
 use Rattle.plain_trace.proofs.Steps.{left}
