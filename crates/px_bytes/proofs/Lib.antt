@@ -1,7 +1,9 @@
+pub mod ByteSets
 pub mod Addresses
 pub mod Decimals
 pub mod Examples
 pub mod Globs
+pub mod GlobTests
 pub mod Handed
 pub mod HexReads
 pub mod Lowered

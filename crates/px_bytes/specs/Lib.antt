@@ -1,3 +1,4 @@
+pub mod ByteSet
 pub mod Address
 pub mod Decimal
 pub mod Escapes
@@ -5,9 +6,11 @@ pub mod FaultText
 pub mod Gives
 pub mod Glob
 pub mod GlobRun
+pub mod GlobTest
 pub mod HexRead
 pub mod Hexadecimal
 pub mod Letters
+pub mod Limit
 pub mod Net
 pub mod Position
 pub mod Roomy

@@ -1,7 +1,8 @@
 // Glob patterns.
 
-ghost use Rattle.std.specs.Prelude.{◌≤◌, ◌↔◌, [], IsTrue, length};
+ghost use Rattle.std.specs.Prelude.{◌≡◌, ◌≤◌, ◌↔◌, [], IsTrue, length};
 ghost use Rattle.px_bytes.specs.Glob.{Matches};
+ghost use Rattle.px_bytes.specs.GlobTest.{matches, MatchesIsGlob};
 ghost use Rattle.px_bytes.specs.GlobRun.{IsRun, Settles, left_of, starred};
 
 use crate::piece::behind_piece;
@@ -13,6 +14,18 @@ use crate::piece::behind_piece;
 /// Only the last `*` is ever tried at a further place, so each byte of the pattern is looked at
 /// once at most for each place in the text. It takes no memory.
 pub fn glob(pattern: &[u8], text: &[u8]) -> bool
+    ensures relation { IsTrue result ↔ Matches pattern.now text.now }
+    ensures value { result ≡ matches pattern.now text.now }
+{
+    run_matches(pattern, text)
+}
+
+/// The law that the test by a pattern is the relation.
+pub fn matches_is_glob()
+    ensures { MatchesIsGlob }
+{}
+
+fn run_matches(pattern: &[u8], text: &[u8]) -> bool
     ensures { IsTrue result ↔ Matches pattern.now text.now }
 {
     let mut run = run_to_star(pattern, text);

@@ -5,7 +5,7 @@ use Rattle.base64.specs.Engines.{standard}
 use Rattle.base64.specs.GeneralPurpose.{decode_of}
 use Rattle.base64.specs.Rfc4648.{encode}
 use Rattle.px_bytes.specs.declared.fault.TclFault.{TclFault}
-use Rattle.tcl_encodings.specs.Limit.{limited}
+use Rattle.px_bytes.specs.Limit.{limited}
 use Rattle.tcl_encodings.specs.Words.{of_one_word}
 
 -- table 1, the alphabet of base 64

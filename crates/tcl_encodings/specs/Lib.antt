@@ -2,6 +2,5 @@ pub mod Addresses
 pub mod Base64Text
 pub mod Digest
 pub mod Laws
-pub mod Limit
 pub mod Percent
 pub mod Words

@@ -23,7 +23,7 @@ use Rattle.std.specs.Char.{is_ascii_alphanumeric}
 use Rattle.std.specs.Fmt.{digit_glyph}
 use Rattle.percent_encoding.specs.Percent.{percent_decode}
 use Rattle.px_bytes.specs.declared.fault.TclFault.{TclFault}
-use Rattle.tcl_encodings.specs.Limit.{limited}
+use Rattle.px_bytes.specs.Limit.{limited}
 use Rattle.tcl_encodings.specs.Words.{of_one_word}
 
 -- the unreserved characters of RFC 3986, 2.3: letters, digits, `-`, `.`, `_` and `~`

@@ -7,16 +7,15 @@ ghost use Rattle.tcl_encodings.specs.Base64Text.{
   decoded,
   encoded,
 };
-ghost use Rattle.tcl_encodings.specs.Limit.{limited};
+ghost use Rattle.px_bytes.specs.Limit.{limited};
 
-use crate::limit::LIMIT;
 use base64::DecodeAllocError;
 use base64::engine::general_purpose::STANDARD;
-use px_bytes::{Raise, TclFault, Text};
+use px_bytes::{Raise, TEXT_LIMIT, TclFault, Text};
 use std::alloc::Global;
 
 /// The most bytes whose encoding, of four for each three, isn't too long.
-const PLAIN_LIMIT: usize = LIMIT / 4 * 3;
+const PLAIN_LIMIT: usize = TEXT_LIMIT / 4 * 3;
 
 /// `b64encode TEXT`: the text in standard base64, with padding.
 pub fn b64encode(alloc: Global, arguments: &[Text]) -> Result<Text, Raise>
@@ -54,7 +53,7 @@ fn decoded(alloc: Global, text: &[u8]) -> Result<Text, Raise>
     ensures { Gives result (limited (decoded text.now)) }
 {
     match STANDARD.decode(alloc, text) {
-        Ok(bytes) if bytes.len() > LIMIT => Err(Raise::Fault(TclFault::too_long(alloc)?)),
+        Ok(bytes) if bytes.len() > TEXT_LIMIT => Err(Raise::Fault(TclFault::too_long(alloc)?)),
         Ok(bytes) => Ok(Text::from_vec(bytes)),
         Err(DecodeAllocError::DecodeError(_)) => Ok(Text::empty(alloc)),
         Err(DecodeAllocError::OutOfMemory) => Err(Raise::Memory),

@@ -5,7 +5,6 @@ mod addresses;
 mod base64_text;
 mod digest;
 mod laws;
-mod limit;
 mod percent;
 
 pub use addresses::ip_addr;

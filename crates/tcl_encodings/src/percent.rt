@@ -5,7 +5,7 @@ ghost use Rattle.std.specs.Char.{is_digit};
 ghost use Rattle.std.specs.Fmt.{digit_glyph};
 ghost use Rattle.percent_encoding.specs.Percent.{KeepsFirst, percent_decode};
 ghost use Rattle.px_bytes.specs.Gives.{Gives};
-ghost use Rattle.tcl_encodings.specs.Limit.{limited};
+ghost use Rattle.px_bytes.specs.Limit.{limited};
 ghost use Rattle.tcl_encodings.specs.Percent.{
   GivesOneByte,
   escape,
@@ -15,9 +15,8 @@ ghost use Rattle.tcl_encodings.specs.Percent.{
   uri_encode_value,
 };
 
-use crate::limit::LIMIT;
 use percent_encoding::percent_decode;
-use px_bytes::{M, Raise, TclFault, Text};
+use px_bytes::{M, Raise, TEXT_LIMIT, TclFault, Text};
 use std::alloc::Global;
 
 /// `URI::encode TEXT`: the text with each byte but letters, digits and `- . _ ~` escaped.
@@ -34,7 +33,7 @@ fn encoded(alloc: Global, bytes: &[u8]) -> Result<Text, Raise>
     ensures { Gives result (limited (escaped bytes.now)) }
 {
     let size = escaped_len(bytes);
-    if size > LIMIT {
+    if size > TEXT_LIMIT {
         return Err(Raise::Fault(TclFault::too_long(alloc)?));
     }
     Ok(escape_all(alloc, bytes, size)?)
@@ -104,7 +103,7 @@ fn decoded(alloc: Global, text: &[u8]) -> Result<Text, Raise>
     ensures { Gives result (limited (percent_decode text.now)) }
 {
     let size = decoded_len(text);
-    if size > LIMIT {
+    if size > TEXT_LIMIT {
         return Err(Raise::Fault(TclFault::too_long(alloc)?));
     }
     let mut out = Vec::with_capacity(alloc, size)?;

@@ -8,7 +8,7 @@ use Rattle.std.proofs.lemmas.List.{length-map, take-map}
 use Rattle.std.proofs.lemmas.Slice.Eq.{bytes_eq-Decides}
 use Rattle.px_bytes.specs.Letters.{lowered}
 use Rattle.tcl_expr.specs.Truth.{is_front}
-use Rattle.tcl_expr.proofs.TextTests.{same_test}
+use Rattle.px_bytes.proofs.GlobTests.{same_test}
 
 pub front_test : (word text front : List ℕ) (t : Bool) → IsTrue t ↔ (lowered text ≡ lowered front) → front ≡ take (length text) word → 0 < length text → t ≡ is_front (lowered word) (lowered text)
 front_test word text front t h e some =

@@ -56,7 +56,8 @@ use Rattle.px_bytes.specs.FaultText.{out_of_range}
 use Rattle.px_bytes.specs.Gives.{with_value}
 use Rattle.px_bytes.specs.WholeWord.{number_of}
 use Rattle.tcl_expr.specs.OperatorFaults.{not_truth, divide_by_zero}
-use Rattle.tcl_expr.specs.TextTests.{contains, matches}
+use Rattle.px_bytes.specs.GlobTest.{matches}
+use Rattle.tcl_expr.specs.TextTests.{contains}
 use Rattle.tcl_expr.specs.Truth.{truth}
 use Rattle.tcl_expr.specs.declared.operator.Op1.{Op1}
 use Rattle.tcl_expr.specs.declared.operator.Op2.{Op2}

@@ -1,59 +1,8 @@
--- Tests of one text by another, as values: the iRules operators `contains` and `matches_glob`.
-use Rattle.std.specs.Prelude.{
-  ◌≡◌,
-  ℕ,
-  zero,
-  suc,
-  ◌↔◌,
-  Bool,
-  true,
-  false,
-  ◌||◌,
-  List,
-  [],
-  ◌∷◌,
-  length,
-  Option,
-  Some,
-  None,
-  nat_eq,
-  if◌then◌else◌,
-}
+-- The test of a text by a part, as a value: the iRules operator `contains`.
+use Rattle.std.specs.Prelude.{ℕ, List, Bool, nat_eq}
 use Rattle.std.specs.List.{starts_with}
-use Rattle.px_bytes.specs.Glob.{Matches, is_star, behind_piece}
-
--- whether the test holds of some end of the text, which may be all of it or nothing
-abbrev pub some_end : (List ℕ → Bool) → List ℕ → Bool
-some_end holds [] = holds []
-some_end holds (c ∷ cs) = holds (c ∷ cs) || some_end holds cs
+use Rattle.px_bytes.specs.GlobTest.{some_end}
 
 -- the text has the part somewhere; each text has the empty one
 abbrev pub contains : List ℕ → List ℕ → Bool
 contains text part = some_end (λ end. starts_with nat_eq end part) text
-
--- the test holds of what is left of the pattern, where something is
-abbrev pub holds_behind : (List ℕ → List ℕ → Bool) → Option (List ℕ) → List ℕ → Bool
-holds_behind test None rest = false
-holds_behind test (Some left) rest = test left rest
-
--- the piece that begins with `p` stands for the first byte, and the test holds of what is left
-abbrev pub piece_and : (List ℕ → List ℕ → Bool) → ℕ → List ℕ → List ℕ → Bool
-piece_and test p ps [] = false
-piece_and test p ps (byte ∷ rest) = holds_behind test (behind_piece p ps byte) rest
-
--- whether a pattern of at most n bytes matches the text
-abbrev pub matches_within : ℕ → List ℕ → List ℕ → Bool
-matches_within n [] [] = true
-matches_within n [] (c ∷ cs) = false
-matches_within zero (p ∷ ps) text = false
-matches_within (suc n) (p ∷ ps) text =
-    if is_star p then some_end (matches_within n ps) text
-    else piece_and (matches_within n) p ps text
-
--- whether a pattern matches the text
-abbrev pub matches : List ℕ → List ℕ → Bool
-matches pattern text = matches_within (length pattern) pattern text
-
--- the test is the relation
-abbrev pub MatchesIsGlob : Type 0
-MatchesIsGlob = (pattern text : List ℕ) → (matches pattern text ≡ true) ↔ Matches pattern text

@@ -5,12 +5,12 @@ ghost use Rattle.px_bytes.specs.Gives.{Gives};
 ghost use Rattle.tcl_expr.specs.Operators.{operator_value_1, operator_value_2, opposite_by};
 
 use crate::arithmetic::{bit_and, bit_or, bit_xor, difference, product, sum};
-use crate::comparison::{contains, matches, order};
+use crate::comparison::{contains, order};
 use crate::division::{quotient, remainder, shifted_left, shifted_right};
 use crate::number::{printed, tested};
 use crate::operator_fault::not_truth;
 use crate::{Op1, Op2, read_truth};
-use px_bytes::{Raise, Steps, Text, number};
+use px_bytes::{Raise, Steps, Text, glob, number};
 use std::alloc::Global;
 use std::sync::ledger::Ledger;
 
@@ -73,7 +73,7 @@ pub fn apply2<L: Ledger>(
         Op2::Contains => tested(alloc, contains(x, y)),
         Op2::StartsWith => tested(alloc, x.starts_with(y)),
         Op2::EndsWith => tested(alloc, x.ends_with(y)),
-        Op2::MatchesGlob => tested(alloc, matches(y, x)),
+        Op2::MatchesGlob => tested(alloc, glob(y, x)),
         Op2::BitAnd => bit_and(alloc, x, y),
         Op2::BitXor => bit_xor(alloc, x, y),
         Op2::BitOr => bit_or(alloc, x, y),

@@ -2,10 +2,10 @@
 
 ghost use Rattle.std.specs.Prelude.{◌≡◌};
 ghost use Rattle.tcl_expr.specs.Operators.{order};
-ghost use Rattle.tcl_expr.specs.TextTests.{contains, matches, MatchesIsGlob};
+ghost use Rattle.tcl_expr.specs.TextTests.{contains};
 
 use memchr::memmem;
-use px_bytes::{glob, read_whole};
+use px_bytes::read_whole;
 use std::cmp::Ordering;
 
 /// How two texts compare: as numbers where both are whole numbers, and else byte by byte.
@@ -24,15 +24,3 @@ pub(crate) fn contains(text: &[u8], part: &[u8]) -> bool
 {
     memmem::find(text, part).is_some()
 }
-
-/// Whether the pattern matches the text.
-pub(crate) fn matches(pattern: &[u8], text: &[u8]) -> bool
-    ensures { result ≡ matches pattern.now text.now }
-{
-    glob(pattern, text)
-}
-
-/// The law that the test by a pattern is the relation.
-pub fn matches_is_glob()
-    ensures { MatchesIsGlob }
-{}

@@ -24,7 +24,6 @@ mod tree;
 mod truth;
 
 pub use apply::{apply1, apply2};
-pub use comparison::matches_is_glob;
 pub use compile::{compile_small, small_is_built};
 pub use compile_fault::CompileFault;
 pub use expr::{Expr, Joint};

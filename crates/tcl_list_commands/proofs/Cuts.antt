@@ -7,7 +7,8 @@ use Rattle.std.specs.List.{onto_first, position_or_len, slice_split}
 use Rattle.std.proofs.lemmas.List.{drop-drop, length-drop, take_all, take_rest}
 use Rattle.std.proofs.lemmas.List.Splits.{slice_split_first}
 use Rattle.px_bytes.specs.declared.memory.Memory.{Memory}
-use Rattle.tcl_list_commands.specs.Splitting.{has, is_among, pieces_by}
+use Rattle.px_bytes.specs.ByteSet.{has_byte, is_among}
+use Rattle.tcl_list_commands.specs.Splitting.{pieces_by}
 
 -- tests that agree cut alike
 pub same_cuts : (p q : ℕ → Bool) → ((k : ℕ) → p k ≡ q k) → (text : List ℕ) → slice_split p text ≡ slice_split q text
@@ -42,9 +43,9 @@ module _ (p : ℕ → Bool) (rest other : List ℕ) (pieces all new : List (List
       ap₂ (λ l t. l ++ slice_split p t) pushed behind ∙ append_assoc pieces (take n rest ∷ []) (slice_split p (drop (n + 1) rest)) ∙ ap (λ l. pieces ++ l) (sym first) ∙ inv
 
 -- what a set cuts at
-pub cut_by_set : (set : List Bool) (chars text : List ℕ) (r : Result (List (List ℕ)) Memory) → 0 < length text → 0 < length chars → ((k : ℕ) → has set k ≡ is_among chars k)
-    → IfOk r (λ pieces. pieces ≡ slice_split (has set) text) → IfOk r (λ pieces. pieces ≡ pieces_by chars text)
+pub cut_by_set : (set : List Bool) (chars text : List ℕ) (r : Result (List (List ℕ)) Memory) → 0 < length text → 0 < length chars → ((k : ℕ) → has_byte set k ≡ is_among chars k)
+    → IfOk r (λ pieces. pieces ≡ slice_split (has_byte set) text) → IfOk r (λ pieces. pieces ≡ pieces_by chars text)
 cut_by_set set chars text (Err e) some any says h = h
 cut_by_set set chars [] (Ok pieces) some any says h = absurd (omega arith)
 cut_by_set set [] (b ∷ bs) (Ok pieces) some any says h = absurd (omega arith)
-cut_by_set set (c ∷ cs) (b ∷ bs) (Ok pieces) some any says h = h ∙ same_cuts (has set) (is_among (c ∷ cs)) says (b ∷ bs)
+cut_by_set set (c ∷ cs) (b ∷ bs) (Ok pieces) some any says h = h ∙ same_cuts (has_byte set) (is_among (c ∷ cs)) says (b ∷ bs)

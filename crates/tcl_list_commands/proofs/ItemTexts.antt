@@ -14,7 +14,7 @@ use Rattle.tcl_list_commands.specs.Items.{ordered_items, texts_of}
 use Rattle.tcl_list_commands.specs.Sorted.{inserted, last_of_equal, sorted}
 use Rattle.tcl_list_commands.specs.Sorting.{comparable, compared, in_order, number, ordered, rising}
 use Rattle.tcl_list_commands.specs.Sorting.{whole_elements}
-use Rattle.tcl_list_commands.specs.Writing.{fitting}
+use Rattle.px_bytes.specs.Limit.{limited}
 use Rattle.tcl_list_commands.specs.declared.order.Item.{Item}
 use Rattle.tcl_list_commands.specs.declared.order.Order.{Order}
 
@@ -114,9 +114,9 @@ item_texts false [] = refl
 item_texts false (x ∷ xs) = one_text (record { number = pos 0; text = x }) (items_of false xs) (Ok xs) (item_texts false xs)
 
 same_by : (order : Order) (r : Result (List Item) TclFault) → AllNumbered order.integer r
-    → with_value r (λ items. fitting (joined (texts_of (kept_items order (sorted (item_compared order) items))))) ≡ with_value (with_texts r) (λ known. fitting (joined (in_order order known)))
+    → with_value r (λ items. limited (joined (texts_of (kept_items order (sorted (item_compared order) items))))) ≡ with_value (with_texts r) (λ known. limited (joined (in_order order known)))
 same_by order (Ok items) all =
-    ap (λ l. fitting (joined l)) (kept_map (λ i. i.text) (item_compared order) (compared order) (Numbered order.integer)
+    ap (λ l. limited (joined l)) (kept_map (λ i. i.text) (item_compared order) (compared order) (Numbered order.integer)
     (λ a b p q. ap (λ o. cond order.decreasing (ordering_reverse o) o) (same_rising order.integer a b p q)) order.unique items all)
 same_by order (Err fault) all = refl
 
@@ -124,4 +124,4 @@ same_by order (Err fault) all = refl
 pub same_order : (order : Order) (elements : List (List ℕ)) → ordered_items order elements ≡ ordered order elements
 same_order order elements =
     same_by order (items_of order.integer elements) (all_numbered order.integer elements)
-    ∙ ap (λ r. with_value r (λ known. fitting (joined (in_order order known)))) (sym (item_texts order.integer elements))
+    ∙ ap (λ r. with_value r (λ known. limited (joined (in_order order known)))) (sym (item_texts order.integer elements))

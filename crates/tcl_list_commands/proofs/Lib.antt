@@ -1,10 +1,8 @@
 pub mod Cuts
-pub mod Globs
 pub mod ItemLists
 pub mod ItemOrder
 pub mod ItemTexts
 pub mod Rows
-pub mod Sets
 pub mod Spelled
 pub mod StableSort
 pub mod Widths

@@ -5,7 +5,7 @@ use Rattle.std.proofs.lemmas.Bool.Decides.{nat_tests}
 use Rattle.std.proofs.lemmas.List.{drop_more, drop_all}
 use Rattle.tcl_lists.specs.Write.{joined, spelled}
 use Rattle.std.specs.List.{flat_map}
-use Rattle.tcl_list_commands.specs.Writing.{limit}
+use Rattle.px_bytes.specs.Limit.{text_limit}
 use Rattle.tcl_list_commands.specs.Joining.{run_together}
 
 -- what each of the pieces takes, added up
@@ -47,7 +47,7 @@ joined_width : (x : List ℕ) (xs : List (List ℕ)) → length (joined (x ∷ x
 joined_width x [] = omega arith
 joined_width x (y ∷ ys) = omega (arith, length-append (spelled x) (32 ∷ joined (y ∷ ys)), joined_width y ys)
 
-pub joined_fits : (xs : List (List ℕ)) → nat_le (length (joined xs)) limit ≡ nat_le (widths width xs) (limit + 1)
+pub joined_fits : (xs : List (List ℕ)) → nat_le (length (joined xs)) text_limit ≡ nat_le (widths width xs) (text_limit + 1)
 joined_fits [] = refl
 joined_fits (x ∷ xs) = same_le _ _ _ _ (omega (arith, joined_width x xs))
 
@@ -62,6 +62,6 @@ module _ (between : List ℕ) where
   rest_width [] = refl
   rest_width (x ∷ xs) = omega (arith, length-append (between ++ x) (flat_map (λ y. between ++ y) xs), length-append between x, rest_width xs)
 
-  pub together_fits : (xs : List (List ℕ)) → nat_le (length (run_together between xs)) limit ≡ nat_le (widths gapped xs) (limit + length between)
-  together_fits [] = sym (is_le 0 (limit + length between) (omega arith))
+  pub together_fits : (xs : List (List ℕ)) → nat_le (length (run_together between xs)) text_limit ≡ nat_le (widths gapped xs) (text_limit + length between)
+  together_fits [] = sym (is_le 0 (text_limit + length between) (omega arith))
   together_fits (x ∷ xs) = same_le _ _ _ _ (omega (arith, length-append x (flat_map (λ y. between ++ y) xs), rest_width xs))

@@ -9,7 +9,7 @@ use Rattle.px_bytes.specs.WholeWord.{number_of}
 use Rattle.px_bytes.specs.declared.fault.TclFault.{TclFault}
 use Rattle.tcl_lists.specs.Write.{joined}
 use Rattle.tcl_list_commands.specs.Sorted.{last_of_equal, sorted}
-use Rattle.tcl_list_commands.specs.Writing.{fitting}
+use Rattle.px_bytes.specs.Limit.{limited}
 use Rattle.tcl_list_commands.specs.declared.order.Item.{Item}
 use Rattle.tcl_list_commands.specs.declared.order.Order.{Order}
 
@@ -48,7 +48,7 @@ texts_of items = map (λ item. item.text) items
 abbrev pub ordered_items : Order → List (List ℕ) → Result (List ℕ) TclFault
 ordered_items order elements =
     with_value (items_of order.integer elements)
-    (λ items. fitting (joined (texts_of (kept_items order (sorted (item_compared order) items)))))
+    (λ items. limited (joined (texts_of (kept_items order (sorted (item_compared order) items)))))
 
 -- whether a further item stands in place of this one
 abbrev pub is_replaced : Order → Item → List Item → Bool

@@ -6,7 +6,7 @@ use Rattle.px_bytes.specs.Gives.{with_value}
 use Rattle.px_bytes.specs.White.{trimmed}
 use Rattle.px_bytes.specs.declared.fault.TclFault.{TclFault}
 use Rattle.tcl_list_commands.specs.Reading.{elements_of}
-use Rattle.tcl_list_commands.specs.Writing.{fitting}
+use Rattle.px_bytes.specs.Limit.{limited}
 
 -- the pieces with a text between each two
 abbrev pub run_together : List ℕ → List (List ℕ) → List ℕ
@@ -22,12 +22,12 @@ trimmed_words words = filter has_bytes (map trimmed words)
 
 -- concat(n): it "joins each of its arguments together with spaces"
 abbrev pub concat_value : List (List ℕ) → Result (List ℕ) TclFault
-concat_value words = fitting (run_together (codes " ") (trimmed_words words))
+concat_value words = limited (run_together (codes " ") (trimmed_words words))
 
 -- the elements of a list with a text between each two
 abbrev pub joined_value : List ℕ → List ℕ → Result (List ℕ) TclFault
 joined_value list between =
-    with_value (elements_of (codes "join") list) (λ elements. fitting (run_together between elements))
+    with_value (elements_of (codes "join") list) (λ elements. limited (run_together between elements))
 
 -- join(n): the text "defaults to a space character"
 abbrev pub join_value : List (List ℕ) → Result (List ℕ) TclFault

@@ -2,7 +2,6 @@ pub mod Counting
 pub mod Items
 pub mod Joining
 pub mod Making
-pub mod Matching
 pub mod Options
 pub mod Picking
 pub mod Reading
@@ -10,4 +9,3 @@ pub mod Searching
 pub mod Sorted
 pub mod Sorting
 pub mod Splitting
-pub mod Writing

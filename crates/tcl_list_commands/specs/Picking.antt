@@ -7,7 +7,7 @@ use Rattle.px_bytes.specs.Position.{position_of}
 use Rattle.px_bytes.specs.declared.fault.TclFault.{TclFault}
 use Rattle.tcl_lists.specs.Write.{joined}
 use Rattle.tcl_list_commands.specs.Reading.{elements_of}
-use Rattle.tcl_list_commands.specs.Writing.{fitting}
+use Rattle.px_bytes.specs.Limit.{limited}
 
 -- lindex(n): where a place is negative or not below the number of elements, "an empty string is
 -- returned"
@@ -20,7 +20,7 @@ abbrev pub picked : List ℕ → List ℕ → Result (List ℕ) TclFault
 picked list place =
     with_value (elements_of (codes "lindex") list) (λ elements.
     with_value (position_of (length elements) place) (λ at.
-    fitting (element_at elements at)))
+    limited (element_at elements at)))
 
 -- lindex(n), with one place
 abbrev pub lindex_value : List (List ℕ) → Result (List ℕ) TclFault
@@ -51,7 +51,7 @@ picked_part list first last =
     with_value (elements_of (codes "lrange") list) (λ elements.
     with_value (position_of (length elements) first) (λ from.
     with_value (position_of (length elements) last) (λ to.
-    fitting (joined (part elements from to)))))
+    limited (joined (part elements from to)))))
 
 -- lrange(n)
 abbrev pub lrange_value : List (List ℕ) → Result (List ℕ) TclFault

@@ -5,7 +5,7 @@ use Rattle.std.specs.Str.{bytes_eq}
 use Rattle.px_bytes.specs.FaultText.{syntax_error, wrong_arity}
 use Rattle.px_bytes.specs.Gives.{with_value}
 use Rattle.px_bytes.specs.declared.fault.TclFault.{TclFault}
-use Rattle.tcl_list_commands.specs.Matching.{matches}
+use Rattle.px_bytes.specs.GlobTest.{matches}
 use Rattle.tcl_list_commands.specs.Reading.{elements_of}
 use Rattle.tcl_list_commands.specs.declared.searching.Search.{Search}
 use Rattle.tcl_list_commands.specs.declared.searching.Search.TheVariants.{Exact, Glob}

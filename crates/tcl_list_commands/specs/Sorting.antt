@@ -13,7 +13,7 @@ use Rattle.tcl_lists.specs.Write.{joined}
 use Rattle.tcl_list_commands.specs.Options.{order_by, plain}
 use Rattle.tcl_list_commands.specs.Reading.{elements_of}
 use Rattle.tcl_list_commands.specs.Sorted.{last_of_equal, sorted}
-use Rattle.tcl_list_commands.specs.Writing.{fitting}
+use Rattle.px_bytes.specs.Limit.{limited}
 use Rattle.tcl_list_commands.specs.declared.order.Order.{Order}
 
 -- the number that an element is; 0 where it is none, which isn't asked
@@ -48,7 +48,7 @@ comparable false elements = Ok elements
 
 abbrev pub ordered : Order → List (List ℕ) → Result (List ℕ) TclFault
 ordered order elements =
-    with_value (comparable order.integer elements) (λ known. fitting (joined (in_order order known)))
+    with_value (comparable order.integer elements) (λ known. limited (joined (in_order order known)))
 
 -- the elements of a list in order; an option that is none is a syntax error, before the list is
 -- tried

@@ -1,18 +1,11 @@
 -- Texts cut into lists: Tcl 8.4, split(n).
-use Rattle.std.specs.Prelude.{ℕ, Bool, false, List, [], ◌∷◌, map, codes, Result, Err, ◌==◌}
-use Rattle.std.specs.Prelude.{slice_index_or}
-use Rattle.std.specs.List.{list_any, slice_split}
+use Rattle.std.specs.Prelude.{ℕ, List, [], ◌∷◌, map, codes, Result, Err}
+use Rattle.std.specs.List.{slice_split}
+use Rattle.px_bytes.specs.ByteSet.{is_among}
 use Rattle.px_bytes.specs.FaultText.{wrong_arity}
 use Rattle.px_bytes.specs.declared.fault.TclFault.{TclFault}
 use Rattle.tcl_lists.specs.Write.{joined}
-use Rattle.tcl_list_commands.specs.Writing.{fitting}
-
-abbrev pub is_among : List ℕ → ℕ → Bool
-is_among bytes byte = list_any (λ other. other == byte) bytes
-
--- the same of a set that says so of each byte
-abbrev pub has : List Bool → ℕ → Bool
-has set byte = slice_index_or set byte false
+use Rattle.px_bytes.specs.Limit.{limited}
 
 abbrev pub alone : ℕ → List ℕ
 alone byte = byte ∷ []
@@ -32,6 +25,6 @@ white_space = 32 ∷ (9 ∷ (10 ∷ (11 ∷ (12 ∷ (13 ∷ [])))))
 -- split(n): the characters default "to the standard white-space characters"
 abbrev pub split_value : List (List ℕ) → Result (List ℕ) TclFault
 split_value [] = Err (wrong_arity (codes "split"))
-split_value (text ∷ []) = fitting (joined (pieces_by white_space text))
-split_value (text ∷ (chars ∷ [])) = fitting (joined (pieces_by chars text))
+split_value (text ∷ []) = limited (joined (pieces_by white_space text))
+split_value (text ∷ (chars ∷ [])) = limited (joined (pieces_by chars text))
 split_value (text ∷ (chars ∷ (word ∷ words))) = Err (wrong_arity (codes "split"))

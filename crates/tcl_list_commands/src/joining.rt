@@ -9,11 +9,10 @@ ghost use Rattle.tcl_list_commands.specs.Joining.{
   run_together,
   trimmed_words,
 };
-ghost use Rattle.tcl_list_commands.specs.Writing.{fitting, limit};
+ghost use Rattle.px_bytes.specs.Limit.{limited, text_limit};
 
 use crate::reading::{arity, elements};
-use crate::writing::LIMIT;
-use px_bytes::{M, Raise, TclFault, Text, Texts, trimmed};
+use px_bytes::{M, Raise, TEXT_LIMIT, TclFault, Text, Texts, trimmed};
 use std::alloc::Global;
 
 /// `concat ?WORD ..?`: the words without the white space around them, those that aren't empty, with
@@ -56,7 +55,7 @@ fn joined_elements(alloc: Global, list: &[u8], between: &[u8]) -> Result<Text, R
 }
 
 fn joined_by(alloc: Global, pieces: &[Text], between: &[u8]) -> Result<Text, Raise>
-    ensures { Gives result (fitting (run_together between.now pieces.now)) }
+    ensures { Gives result (limited (run_together between.now pieces.now)) }
 {
     if !fits(pieces, between) {
         return Err(Raise::Fault(TclFault::too_long(alloc)?));
@@ -67,9 +66,9 @@ fn joined_by(alloc: Global, pieces: &[Text], between: &[u8]) -> Result<Text, Rai
 // Whether the pieces and what stands between them are no longer than a value may be. Each piece
 // takes its own bytes and those behind it, the last one also; so there is more room by these.
 fn fits(pieces: &[Text], between: &[u8]) -> bool
-    ensures { result ≡ nat_le (length (run_together between.now pieces.now)) limit }
+    ensures { result ≡ nat_le (length (run_together between.now pieces.now)) text_limit }
 {
-    let mut room = LIMIT + between.len();
+    let mut room = TEXT_LIMIT + between.len();
     for piece in pieces {
         let size = piece.as_bytes().len() + between.len();
         if size > room {

@@ -10,10 +10,9 @@ ghost use Rattle.tcl_list_commands.specs.Searching.{
   suits,
 };
 
-use crate::matching::matches;
 use crate::reading::{arity, elements, syntax};
 use crate::writing::printed;
-use px_bytes::{M, Raise, Text};
+use px_bytes::{M, Raise, Text, glob};
 use std::alloc::Global;
 
 /// How an element is compared with what is searched.
@@ -80,7 +79,7 @@ fn suits(search: Search, pattern: &[u8], element: &[u8]) -> bool
 {
     match search {
         Search::Exact => pattern == element,
-        Search::Glob => matches(pattern, element),
+        Search::Glob => glob(pattern, element),
     }
 }
 

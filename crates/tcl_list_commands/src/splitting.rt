@@ -2,15 +2,15 @@
 
 ghost use Rattle.std.specs.Prelude.{◌≡◌, IfOk, map};
 ghost use Rattle.std.specs.List.{position_or_len, slice_split};
+ghost use Rattle.px_bytes.specs.ByteSet.{has_byte};
 ghost use Rattle.px_bytes.specs.Gives.{Gives};
 ghost use Rattle.tcl_lists.specs.Write.{joined};
-ghost use Rattle.tcl_list_commands.specs.Splitting.{alone, has, pieces_by, split_value};
-ghost use Rattle.tcl_list_commands.specs.Writing.{fitting};
+ghost use Rattle.tcl_list_commands.specs.Splitting.{alone, pieces_by, split_value};
+ghost use Rattle.px_bytes.specs.Limit.{limited};
 
-use crate::byte_set::{ByteSet, has, set_of};
 use crate::reading::arity;
 use crate::writing::written;
-use px_bytes::{M, Raise, Text, Texts};
+use px_bytes::{ByteSet, M, Raise, Text, Texts, byte_set, has_byte};
 use std::alloc::Global;
 
 /// `split TEXT ?CHARS?`: the pieces of the text between the bytes of CHARS, which is white space by
@@ -26,7 +26,7 @@ pub fn split_text(alloc: Global, arguments: &[Text]) -> Result<Text, Raise>
 }
 
 fn split_by(alloc: Global, text: &[u8], chars: &[u8]) -> Result<Text, Raise>
-    ensures { Gives result (fitting (joined (pieces_by chars.now text.now))) }
+    ensures { Gives result (limited (joined (pieces_by chars.now text.now))) }
 {
     written(alloc, &pieces_by(alloc, text, chars)?)
 }
@@ -40,7 +40,7 @@ fn pieces_by(alloc: Global, text: &[u8], chars: &[u8]) -> M<Texts>
     if chars.is_empty() {
         return each_alone(alloc, text);
     }
-    pieces(alloc, text, &set_of(chars))
+    pieces(alloc, text, &byte_set(chars))
 }
 
 fn each_alone(alloc: Global, text: &[u8]) -> M<Texts>
@@ -54,7 +54,7 @@ fn each_alone(alloc: Global, text: &[u8]) -> M<Texts>
 }
 
 fn pieces(alloc: Global, text: &[u8], cuts: &ByteSet) -> M<Texts>
-    ensures { IfOk result (λ pieces. pieces ≡ slice_split (has cuts.now) text.now) }
+    ensures { IfOk result (λ pieces. pieces ≡ slice_split (has_byte cuts.now) text.now) }
 {
     let mut pieces = Texts::new(alloc);
     let mut rest = text;
@@ -70,9 +70,9 @@ fn pieces(alloc: Global, text: &[u8], cuts: &ByteSet) -> M<Texts>
 
 // How many bytes stand before the first at which the text is cut.
 fn piece_len(text: &[u8], cuts: &ByteSet) -> usize
-    ensures { result ≡ position_or_len (has cuts.now) text.now }
+    ensures { result ≡ position_or_len (has_byte cuts.now) text.now }
 {
     text.iter()
-        .position(|byte| has(cuts, *byte))
+        .position(|byte| has_byte(cuts, *byte))
         .unwrap_or(text.len())
 }

@@ -4,19 +4,16 @@ ghost use Rattle.std.specs.Prelude.{◌≡◌, IfOk, length, nat_le};
 ghost use Rattle.std.specs.Fmt.{decimal};
 ghost use Rattle.px_bytes.specs.Gives.{Gives};
 ghost use Rattle.tcl_lists.specs.Write.{joined};
-ghost use Rattle.tcl_list_commands.specs.Writing.{fitting, limit};
+ghost use Rattle.px_bytes.specs.Limit.{limited, text_limit};
 
 use crate::form::written_len;
-use px_bytes::{M, Raise, TclFault, Text, Texts};
+use px_bytes::{M, Raise, TEXT_LIMIT, TclFault, Text, Texts};
 use std::alloc::Global;
 use tcl_lists::join_list;
 
-/// How many bytes a value has at most.
-pub(crate) const LIMIT: usize = 1_048_576;
-
 /// The elements as a list, where that isn't too long.
 pub(crate) fn written(alloc: Global, elements: &Texts) -> Result<Text, Raise>
-    ensures { Gives result (fitting (joined elements.now)) }
+    ensures { Gives result (limited (joined elements.now)) }
 {
     if !fits(elements.as_slice()) {
         return Err(Raise::Fault(TclFault::too_long(alloc)?));
@@ -26,9 +23,9 @@ pub(crate) fn written(alloc: Global, elements: &Texts) -> Result<Text, Raise>
 
 /// The bytes as a text, where they aren't too many.
 pub(crate) fn fitted(alloc: Global, bytes: &[u8]) -> Result<Text, Raise>
-    ensures { Gives result (fitting bytes.now) }
+    ensures { Gives result (limited bytes.now) }
 {
-    if bytes.len() > LIMIT {
+    if bytes.len() > TEXT_LIMIT {
         return Err(Raise::Fault(TclFault::too_long(alloc)?));
     }
     Ok(Text::new(alloc, bytes)?)
@@ -37,9 +34,9 @@ pub(crate) fn fitted(alloc: Global, bytes: &[u8]) -> Result<Text, Raise>
 // Whether the list of the elements is no longer than a value may be. An element takes its own bytes
 // and a blank, the last one also; so there is room for one byte more.
 fn fits(elements: &[Text]) -> bool
-    ensures { result ≡ nat_le (length (joined elements.now)) limit }
+    ensures { result ≡ nat_le (length (joined elements.now)) text_limit }
 {
-    let mut room = LIMIT + 1;
+    let mut room = TEXT_LIMIT + 1;
     for element in elements {
         let size = written_len(element.as_bytes());
         if size >= room {

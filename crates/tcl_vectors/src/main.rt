@@ -3,6 +3,7 @@
 #![tactic(auto)]
 
 mod bytes;
+mod commands;
 mod expressions;
 mod lists;
 mod numbers;
@@ -58,6 +59,9 @@ fn answer(alloc: Global, question: &Question) -> M<Option<Text>> {
         return Ok(Some(answer));
     }
     if let Some(answer) = operators::answer(alloc, question)? {
+        return Ok(Some(answer));
+    }
+    if let Some(answer) = commands::answer(alloc, question)? {
         return Ok(Some(answer));
     }
     if let Some(answer) = expressions::answer(alloc, question)? {

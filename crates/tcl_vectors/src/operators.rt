@@ -96,7 +96,7 @@ fn text_op(name: &str) -> Option<Op2> {
     }
 }
 
-fn value_text(alloc: Global, value: Result<Text, Raise>) -> M<Option<Text>> {
+pub fn value_text(alloc: Global, value: Result<Text, Raise>) -> M<Option<Text>> {
     match value {
         Ok(text) => {
             let mut out = Text::new(alloc, b"ok ")?;

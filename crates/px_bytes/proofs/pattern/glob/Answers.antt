@@ -1,5 +1,5 @@
-use Rattle.px_bytes.proofs.Globs.{settles_whole}
+use Rattle.px_bytes.proofs.GlobTests.{glob_is_test}
 use Rattle.px_bytes.proofs.pattern.glob.Goals as goal
 
-pub loop-run-init : goal.loop-run-init
-loop-run-init c = settles_whole _ _ c.run_to_star-run.result c.run_to_star-run.ensures
+pub returns-clause-value : goal.returns-clause-value
+returns-clause-value c = glob_is_test c.args.pattern.now c.args.text.now c.run_matches.result c.run_matches.ensures

@@ -1,0 +1,8 @@
+use Rattle.std.proofs.Common.{◌≡◌, drop}
+use Rattle.std.specs.List.{list_any}
+use Rattle.std.specs.Str.{bytes_eq}
+use Rattle.tcl_commands.proofs.kind.is_one_of.Given as goal
+
+abbrev pub invariant-loop-other : goal.invariant-loop-other
+invariant-loop-other l =
+    list_any (λ other. bytes_eq other.now l.name) (drop l.other-index l.names) ≡ list_any (λ other. bytes_eq other.now l.name) l.names

@@ -1,0 +1,15 @@
+pub mod Answer
+pub mod Case
+pub mod Conversion
+pub mod Field
+pub mod FieldText
+pub mod Fields
+pub mod Form
+pub mod FormatCommand
+pub mod Mapping
+pub mod Order
+pub mod Part
+pub mod Repetition
+pub mod Search
+pub mod StringCommand
+pub mod Trim
