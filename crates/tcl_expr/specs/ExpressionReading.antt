@@ -159,7 +159,12 @@ abbrev pub ended : List ℕ → Read Expression → Result Expression Misread
 ended text (Ok r) = if r.1 == length text then Ok r.0 else Err (Syntax r.1)
 ended text (Err e) = Err e
 
+-- the expression that a text is, in which no more constructs are open at any place than there is room
+-- for, or its fault
+abbrev pub expression_within : ℕ → List ℕ → Result Expression Misread
+expression_within room text = ended text (whole_at room (enclosed_at room text) text (white_end text 0))
+
 -- the expression that a text is, in which no more than a hundred constructs are open at any place,
 -- or its fault
 unfoldable pub expression : List ℕ → Result Expression Misread
-expression text = ended text (whole_at 100 (enclosed_at 100 text) text (white_end text 0))
+expression text = expression_within 100 text

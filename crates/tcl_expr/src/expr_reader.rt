@@ -1,7 +1,7 @@
 // The reader of expressions.
 
 ghost use Rattle.std.specs.Prelude.{◌≡◌};
-ghost use Rattle.tcl_expr.specs.ExpressionReading.{expression};
+ghost use Rattle.tcl_expr.specs.ExpressionReading.{expression, expression_within};
 ghost use Rattle.tcl_expr.specs.ExpressionView.{expr_view};
 ghost use Rattle.tcl_expr.specs.Outcome.{Outcome};
 
@@ -22,7 +22,14 @@ use tcl_words::LIMIT;
 pub fn parse_expr(alloc: Global, text: &[u8]) -> Result<Expr, ExprFault>
     ensures { Outcome expr_view result (expression text.now) }
 {
-    let (expr, end) = whole(alloc, text, white_end(text, 0), LIMIT)?;
+    parse_expr_within(alloc, text, LIMIT)
+}
+
+/// The same where so many constructs may be open at a place.
+pub fn parse_expr_within(alloc: Global, text: &[u8], room: usize) -> Result<Expr, ExprFault>
+    ensures { Outcome expr_view result (expression_within room text.now) }
+{
+    let (expr, end) = whole(alloc, text, white_end(text, 0), room)?;
     if end != text.len() {
         return Err(ExprFault::Fault(Misread::Syntax(end)));
     }

@@ -28,7 +28,7 @@ pub use compile::{compile_small, small_is_built};
 pub use compile_fault::CompileFault;
 pub use expr::{Expr, Joint};
 pub use expr_fault::{ExprFault, Misread};
-pub use expr_reader::parse_expr;
+pub use expr_reader::{parse_expr, parse_expr_within};
 pub use laws::{division_adds_up, precedence};
 pub use operator::{Op1, Op2};
 pub use procs::{Proc, Procs};

@@ -12,6 +12,7 @@ mod question;
 mod script;
 #[cfg(test)]
 mod tests;
+mod variables;
 mod words;
 mod write;
 
@@ -62,6 +63,9 @@ fn answer(alloc: Global, question: &Question) -> M<Option<Text>> {
         return Ok(Some(answer));
     }
     if let Some(answer) = commands::answer(alloc, question)? {
+        return Ok(Some(answer));
+    }
+    if let Some(answer) = variables::answer(alloc, question)? {
         return Ok(Some(answer));
     }
     if let Some(answer) = expressions::answer(alloc, question)? {
