@@ -1,5 +1,6 @@
 #!/usr/bin/env python3
-"""Times `parse` on texts that double up to 1 MiB, through `tcl_vectors`, which `rt run` builds.
+"""Times `parse` and `compile` on texts that double up to 1 MiB, through `tcl_vectors`, which `rt run`
+builds.
 
 A linear reader's times double with the text. Run it from the top of the repository.
 """
@@ -29,22 +30,28 @@ TEXTS = {
     "names in braces": lambda n: repeated(b"${", n),
     "blanks": lambda n: b" " * n,
     "digits": lambda n: b"\\x" + b"4" * n,
+    "loops": lambda n: repeated(b"while {$x < 9} {incr x}\n", n),
+    "conditions": lambda n: repeated(b"if {$a == 1} {b} elseif {$c} {d} else {e}\n", n),
+    "cases": lambda n: repeated(b"switch $x {a {b} c - default {d}}\n", n),
+    "one switch": lambda n: b"switch $x {" + repeated(b"a {b}\n", n) + b"}",
+    "one expression": lambda n: b"expr {" + repeated(b"[f $x] + ", n) + b"1}",
 }
 
 
-def seconds(text):
-    """How long the program takes for one `parse` of the text."""
-    question = b"parse " + text.hex().encode() + b"\n"
+def seconds(call, text):
+    """How long the program takes for one call on the text."""
+    question = call + b" " + text.hex().encode() + b"\n"
     start = time.perf_counter()
     subprocess.run([PROGRAM], input=question, stdout=subprocess.DEVNULL, check=True)
     return time.perf_counter() - start
 
 
 def main():
-    print("bytes".ljust(16), *(f"{size:>9}" for size in SIZES))
-    for name, text in TEXTS.items():
-        times = [min(seconds(text(size)) for _ in range(3)) for size in SIZES]
-        print(name.ljust(16), *(f"{took:9.3f}" for took in times))
+    for call in (b"parse", b"compile"):
+        print(call.decode().ljust(16), *(f"{size:>9}" for size in SIZES))
+        for name, text in TEXTS.items():
+            times = [min(seconds(call, text(size)) for _ in range(3)) for size in SIZES]
+            print(name.ljust(16), *(f"{took:9.3f}" for took in times))
 
 
 if __name__ == "__main__":

@@ -4,6 +4,7 @@
 
 mod bytes;
 mod commands;
+mod compiled;
 mod expressions;
 mod lists;
 mod numbers;
@@ -66,6 +67,9 @@ fn answer(alloc: Global, question: &Question) -> M<Option<Text>> {
         return Ok(Some(answer));
     }
     if let Some(answer) = variables::answer(alloc, question)? {
+        return Ok(Some(answer));
+    }
+    if let Some(answer) = compiled::answer(alloc, question)? {
         return Ok(Some(answer));
     }
     if let Some(answer) = expressions::answer(alloc, question)? {

@@ -29,14 +29,19 @@ fn parse_answer(alloc: Global, text: &[u8]) -> M<Text> {
 }
 
 fn fault_text(alloc: Global, fault: Fault) -> M<Text> {
-    let name = match fault {
+    let name = fault_name(fault);
+    let text = format!(in alloc; "fault {name} {}", fault.place())?;
+    Ok(Text::from_vec(text.into_bytes()))
+}
+
+/// The name of a fault in an answer.
+pub fn fault_name(fault: Fault) -> &'static str {
+    match fault {
         Fault::MissingBrace(_) => "missing_brace",
         Fault::MissingQuote(_) => "missing_quote",
         Fault::MissingBracket(_) => "missing_bracket",
         Fault::ExtraAfter(_) => "extra_after",
         Fault::BadEscape(_) => "bad_escape",
         Fault::TooDeep(_) => "too_deep",
-    };
-    let text = format!(in alloc; "fault {name} {}", fault.place())?;
-    Ok(Text::from_vec(text.into_bytes()))
+    }
 }

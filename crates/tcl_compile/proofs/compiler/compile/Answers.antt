@@ -1,0 +1,23 @@
+use Rattle.std.proofs.Common.{map, sym, ap, ◌∙◌}
+use Rattle.tcl_words.specs.View.{command_view}
+use Rattle.tcl_compile.specs.Compiled.{compiled, level, all_levels, beginning, judged, unless}
+use Rattle.tcl_compile.specs.Compiling.{script_at}
+use Rattle.tcl_compile.specs.TreeView.{node_view}
+use Rattle.tcl_compile.proofs.Levels.{script_commands}
+use Rattle.tcl_compile.proofs.compiler.compile.Goals as goal
+
+pub returns-in-None : goal.returns-in-None
+unfolding compiled
+returns-in-None c =
+    ap judged (ap (λ cs. script_at (level all_levels) 0 cs beginning)
+    (script_commands c.args.script.now ∙ ap (map command_view) (sym c.deref.ensures.value))
+    ∙ c.in_ok-node.ensures)
+    ∙ ap (λ f. unless f (node_view c.in_ok-node.node)) c.in-None.is
+
+pub returns-in-Some : goal.returns-in-Some
+unfolding compiled
+returns-in-Some c =
+    ap judged (ap (λ cs. script_at (level all_levels) 0 cs beginning)
+    (script_commands c.args.script.now ∙ ap (map command_view) (sym c.deref.ensures.value))
+    ∙ c.in_ok-node.ensures)
+    ∙ ap (λ f. unless f (node_view c.in_ok-node.node)) c.in-Some.is

@@ -1,0 +1,14 @@
+pub mod CaseList
+pub mod Compiled
+pub mod Compiling
+pub mod Conditions
+pub mod Flaws
+pub mod IfTurns
+pub mod Making
+pub mod Opened
+pub mod Outcome
+pub mod Pieces
+pub mod Reads
+pub mod Roles
+pub mod Tree
+pub mod TreeView

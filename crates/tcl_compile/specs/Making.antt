@@ -1,0 +1,68 @@
+-- How trees are made of pieces, and what is found meanwhile.
+use Rattle.std.specs.Prelude.{ℕ, ◌+◌, List, [], ◌∷◌, ◌++◌}
+use Rattle.tcl_words.specs.Tree.{Part, Parts, Word, Commands}
+use Rattle.tcl_words.specs.declared.parse_fault.Fault.TheVariants as fault
+use Rattle.tcl_compile.specs.Flaws.{noted}
+use Rattle.tcl_compile.specs.Tree.{Tree, element, word, script, command, trees_of}
+use Rattle.tcl_compile.specs.declared.compile_fault.Flaw.{Flaw}
+use Rattle.tcl_compile.specs.declared.compile_fault.Flaw.TheVariants.{Parse}
+use Rattle.tcl_compile.specs.declared.findings.Findings.{Findings}
+use Rattle.tcl_compile.specs.declared.node.Verb.{Verb}
+
+-- what was made, and what was found so far
+abbrev pub Made : Type 0 → Type 0
+Made A = A × Findings
+
+-- what stands for a tree that isn't made
+abbrev pub nothing : Tree
+nothing = script (trees_of [])
+
+abbrev pub flawed : Flaw → Findings → Made Tree
+flawed f s = (nothing, noted f s)
+
+abbrev pub unmade : Flaw → Findings → Made (List Tree)
+unmade f s = ([], noted f s)
+
+-- an opener that is one too many
+abbrev pub too_deep : ℕ → Flaw
+too_deep place = Parse (fault.TooDeep place)
+
+-- one item after another, each with its number; what they give is joined
+unfoldable pub gathered : {A B : Type 0} → (ℕ → A → Findings → Made (List B)) → ℕ → List A
+    → Findings → Made (List B)
+gathered item at [] s = ([], s)
+gathered item at (a ∷ items) s =
+    let first = item at a s in
+    let rest = gathered item (at + 1) items first.1 in
+    (first.0 ++ rest.0, rest.1)
+
+abbrev pub one : {B : Type 0} → Made B → Made (List B)
+one r = (r.0 ∷ [], r.1)
+
+abbrev pub element_of : List ℕ → Made (List Tree) → Made Tree
+element_of name r = (element name (trees_of r.0), r.1)
+
+abbrev pub word_of : Made (List Tree) → Made Tree
+word_of r = (word (trees_of r.0), r.1)
+
+abbrev pub script_of : Made (List Tree) → Made Tree
+script_of r = (script (trees_of r.0), r.1)
+
+abbrev pub command_of : Verb → Made (List Tree) → Made Tree
+command_of v r = (command v (trees_of r.0), r.1)
+
+-- How an opener and what it encloses are compiled. The texts begin at a place of the source,
+-- `base`.
+pub record Level : Type 0 where
+  -- the script of a bracket, and the parts of a quoted word or an index, at these places
+  pub script : (base at : ℕ) → Commands → Findings → Made Tree
+  pub parts : (base at : ℕ) → Parts → Findings → Made (List Tree)
+  -- a word as a body, and as a condition
+  pub body : (base : ℕ) → Word → Findings → Made Tree
+  pub condition : (base : ℕ) → Word → Findings → Made Tree
+  -- a word that holds patterns and bodies, of the command at the place
+  pub cases : (base at : ℕ) → Word → Findings → Made (List Tree)
+  -- parts around which one opener more than so many stands
+  pub under : (openers base : ℕ) → List Part → Findings → Made (List Tree)
+  -- a body in braces that begins at the place of the source
+  pub inside : (place : ℕ) → List ℕ → Findings → Made Tree

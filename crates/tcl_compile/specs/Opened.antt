@@ -1,0 +1,53 @@
+-- Which parentheses and question marks of an expression are open before an operand. They stand
+-- between operands; a `:` closes the question mark before it.
+use Rattle.std.specs.Prelude.{ℕ, zero, suc, ◌+◌, ◌-◌, List, [], ◌∷◌, ◌||◌, nat_lt, if◌then◌else◌}
+use Rattle.tcl_words.specs.Places.{stands}
+use Rattle.tcl_words.specs.Tree.{Part, plain, variable, element, bracket}
+use Rattle.tcl_words.specs.declared.script.Span.{Span}
+use Rattle.tcl_compile.specs.declared.opened.Opened.{Opened}
+
+-- one more, up to the greatest number of 64 bits
+unfoldable pub one_more : ℕ → ℕ
+one_more count = if nat_lt (count + 1) 18446744073709551615 then count + 1 else 18446744073709551615
+
+-- how many are open behind the byte at the place
+unfoldable pub turned : List ℕ → ℕ → ℕ → ℕ
+turned text at count =
+    if stands text at 40 || stands text at 63 then one_more count
+    else (if stands text at 41 || stands text at 58 then count - 1 else count)
+
+-- how many are open behind so many bytes from the place on
+abbrev pub counted : List ℕ → (bytes at count : ℕ) → ℕ
+counted text zero at count = count
+counted text (suc bytes) at count = counted text bytes (at + 1) (turned text at count)
+
+abbrev pub part_span : Part → Span
+part_span (plain span text) = span
+part_span (variable span name) = span
+part_span (element span name index) = span
+part_span (bracket span script) = span
+
+abbrev pub first_start : ℕ → List Part → ℕ
+first_start otherwise [] = otherwise
+first_start otherwise (p ∷ ps) = (part_span p).start
+
+abbrev pub last_end : ℕ → List Part → ℕ
+last_end otherwise [] = otherwise
+last_end otherwise (p ∷ ps) = last_end (part_span p).end ps
+
+-- at the start of an expression
+abbrev pub unopened : Opened
+unopened = record { at = 0; count = 0 }
+
+abbrev pub scanned_to : List ℕ → List Part → (start count : ℕ) → ℕ × Opened
+scanned_to text parts start count = (
+  if stands text (start - 1) 34 then one_more count else count,
+  record { at = last_end start parts; count = count },
+)
+
+-- how many openers stand around the parts of the next operand, which may stand in quotes, and what
+-- is open behind it
+unfoldable pub scanned : List ℕ → List Part → Opened → ℕ × Opened
+scanned text parts o =
+    let start = first_start o.at parts in
+    scanned_to text parts start (counted text (start - o.at) o.at o.count)

@@ -1,0 +1,114 @@
+// The braced word of a `switch`, read as a list.
+
+ghost use Rattle.std.specs.Prelude.{◌≡◌, IfOk, codes, option_map};
+ghost use Rattle.std.specs.Str.{bytes_eq};
+ghost use Rattle.tcl_words.specs.View.{word_view};
+ghost use Rattle.tcl_compile.specs.CaseList.{dash_at, item_from, items, opener_of, word_items};
+ghost use Rattle.tcl_compile.specs.Flaws.{noted, place_in};
+ghost use Rattle.tcl_compile.specs.TreeView.{node_view};
+ghost use Rattle.tcl_compile.specs.declared.compile_fault.Flaw.TheVariants.{BadBody};
+
+use crate::compile_fault::Flaw;
+use crate::findings::Findings;
+use crate::node::Node;
+use crate::notes::nothing;
+use crate::places::place_in;
+use px_bytes::{M, Memory, Text};
+use std::alloc::Global;
+use tcl_lists::{ListFault, Place, places, split};
+use tcl_words::{Word, stands};
+
+/// An element: its value, the places of its bytes and of its brace or quote, and whether it stands
+/// in braces.
+#[derive(Drop)]
+pub(crate) struct Item {
+    pub text: Text,
+    pub start: usize,
+    pub opener: usize,
+    pub braced: bool,
+}
+
+/// The place of the brace or quote of the element whose bytes begin here.
+fn opener_of(text: &[u8], start: usize) -> usize
+    ensures { result ≡ opener_of text.now start }
+{
+    let before = start.saturating_sub(1);
+    if stands(text, before, b'{') || stands(text, before, b'"') {
+        return before;
+    }
+    start
+}
+
+/// The element of the text at its place, with its value.
+fn item_from(text: &[u8], place: &Place, value: &Text) -> M<Item>
+    ensures { IfOk result (λ item. item ≡ item_from text.now place.now value.now) }
+{
+    Ok(Item {
+        text: value.copy()?,
+        start: place.start,
+        opener: opener_of(text, place.start),
+        braced: place.braced,
+    })
+}
+
+/// The elements of a list, or none where the text is none.
+pub(crate) fn items(alloc: Global, text: &[u8]) -> M<Option<Vec<Item>>>
+    ensures { IfOk result (λ r. option_map (λ v. v.items) r ≡ items text.now) }
+{
+    let places = match places(alloc, text) {
+        Ok(places) => places,
+        Err(ListFault::Memory) => return Err(Memory),
+        Err(_) => return Ok(None),
+    };
+    let values = match split(alloc, text) {
+        Ok(values) => values,
+        Err(ListFault::Memory) => return Err(Memory),
+        Err(_) => return Ok(None),
+    };
+    let mut items = Vec::new(alloc);
+    for at in 0..places.len() {
+        let (Some(place), Some(value)) = (places.get(at), values.get(at)) else {
+            return Ok(None);
+        };
+        let item = item_from(text, place, value)?;
+        items.push(item)?;
+    }
+    Ok(Some(items))
+}
+
+/// The elements that stand in a word without substitution, or none where it holds no list.
+pub(crate) fn word_items(alloc: Global, word: &Word) -> M<Option<Vec<Item>>>
+    ensures { IfOk result (λ r. option_map (λ v. v.items) r ≡ word_items (word_view word.now)) }
+{
+    match &word.raw {
+        Some(raw) => items(alloc, raw.as_bytes()),
+        None => Ok(None),
+    }
+}
+
+/// Whether `-` stands there.
+pub(crate) fn is_dash(item: &Item) -> bool
+    ensures { result ≡ bytes_eq item.now.text (codes "-") }
+{
+    item.text.as_bytes() == b"-".as_slice()
+}
+
+impl Findings {
+    /// Notes an element that is no body.
+    pub(crate) fn note_item(&mut self, place: usize, item: &Item)
+        ensures { self.new ≡ noted (BadBody (place_in place item.now.opener)) self.old }
+    {
+        self.note(Flaw::BadBody(place_in(place, item.opener)));
+    }
+
+    /// What stands for the body of a `-`.
+    pub(crate) fn dash(&mut self, alloc: Global, place: usize, last: bool, item: &Item) -> Node
+        ensures { dash_at place last item.now self.old ≡ (node_view result, self.new) }
+    {
+        if last {
+            self.note_item(place, item);
+            return nothing(alloc);
+        }
+        Node::NextBody
+    }
+}

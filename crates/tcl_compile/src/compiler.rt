@@ -1,0 +1,38 @@
+// Whole scripts.
+
+ghost use Rattle.tcl_words.specs.View.{script_view, word_view};
+ghost use Rattle.tcl_compile.specs.Compiled.{compiled, compiled_body};
+ghost use Rattle.tcl_compile.specs.Outcome.{Gives};
+
+use crate::compile_fault::CompileFault;
+use crate::findings::Findings;
+use crate::node::Node;
+use std::alloc::Global;
+use tcl_words::{LIMIT, Script, Word};
+
+/// The tree that the script becomes, or its flaw with the least place.
+///
+/// A byte is read once for each body that it stands in, of which there are no more than a hundred,
+/// and otherwise looked at a fixed number of times. The depth of the calls is that of what is open.
+pub fn compile(alloc: Global, script: &Script) -> Result<Node, CompileFault>
+    ensures { Gives result (compiled (script_view script.now)) }
+{
+    let mut findings = Findings { flaw: None };
+    let node = findings.script(alloc, 0, &script.commands, LIMIT + 1)?;
+    match findings.flaw {
+        None => Ok(node),
+        Some(flaw) => Err(CompileFault::Flaw(flaw)),
+    }
+}
+
+/// The tree of a word that is a body in the script of its text, or its flaw with the least place.
+pub fn compile_body(alloc: Global, word: &Word) -> Result<Node, CompileFault>
+    ensures { Gives result (compiled_body (word_view word.now)) }
+{
+    let mut findings = Findings { flaw: None };
+    let node = findings.body(alloc, 0, word, LIMIT + 1)?;
+    match findings.flaw {
+        None => Ok(node),
+        Some(flaw) => Err(CompileFault::Flaw(flaw)),
+    }
+}

@@ -1,0 +1,63 @@
+// The flaw to be told.
+
+ghost use Rattle.std.specs.Prelude.{◌≡◌};
+ghost use Rattle.tcl_compile.specs.Flaws.{comes_first, noted, order_of, place_of};
+
+use crate::compile_fault::Flaw;
+use tcl_expr::Misread;
+
+impl Flaw {
+    pub fn place(&self) -> usize
+        ensures { result ≡ place_of self.now }
+    {
+        match self {
+            Flaw::Parse(fault) => fault.place(),
+            Flaw::Expr(Misread::Syntax(at) | Misread::TooDeep(at)) => *at,
+            Flaw::Arity(at) | Flaw::BadBody(at) => *at,
+        }
+    }
+
+    /// Which flaw is told of several at one place: the least.
+    fn order(&self) -> u8
+        ensures { result ≡ order_of self.now }
+    {
+        match self {
+            Flaw::Parse(_) => 1,
+            Flaw::Expr(_) => 2,
+            Flaw::Arity(_) => 3,
+            Flaw::BadBody(_) => 4,
+        }
+    }
+
+    /// Whether this flaw is told in place of the other one.
+    #[tactic(auto, unfolding(crate::specs::Flaws::comes_first))]
+    fn comes_first(&self, other: &Flaw) -> bool
+        ensures { result ≡ comes_first self.now other.now }
+    {
+        self.place() < other.place()
+            || self.place() == other.place() && self.order() < other.order()
+    }
+}
+
+/// The flaw to be told of what was looked at so far.
+#[derive(Clone, Copy)]
+pub(crate) struct Findings {
+    pub flaw: Option<Flaw>,
+}
+
+impl Findings {
+    /// Keeps the flaw, if none comes before it.
+    #[tactic(auto, unfolding(crate::specs::Flaws::noted))]
+    pub(crate) fn note(&mut self, flaw: Flaw)
+        ensures { self.new ≡ noted flaw self.old }
+    {
+        match &self.flaw {
+            None => self.flaw = Some(flaw),
+            Some(first) => {
+                if flaw.comes_first(first) {
+                    self.flaw = Some(flaw);
+                }
+            }
+        }
+    }
+}

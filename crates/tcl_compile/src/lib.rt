@@ -1,0 +1,25 @@
+//! Scripts as whole trees: bodies and conditions of control commands are read from their bytes in
+//! the source.
+#![tactic(auto)]
+
+mod bodies;
+mod case_list;
+mod commands;
+mod compile_fault;
+mod compiler;
+mod conditions;
+mod findings;
+mod fits;
+mod if_roles;
+mod node;
+mod notes;
+mod opened;
+mod places;
+mod reads;
+mod roles;
+mod texts;
+mod verbs;
+
+pub use compile_fault::{CompileFault, Flaw};
+pub use compiler::{compile, compile_body};
+pub use node::{Node, Verb};
