@@ -12,3 +12,4 @@ pub mod Reads
 pub mod Roles
 pub mod Tree
 pub mod TreeView
+pub mod WholeResult

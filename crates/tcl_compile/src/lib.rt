@@ -19,7 +19,9 @@ mod reads;
 mod roles;
 mod texts;
 mod verbs;
+mod whole_result;
 
 pub use compile_fault::{CompileFault, Flaw};
 pub use compiler::{compile, compile_body};
 pub use node::{Node, Verb};
+pub use whole_result::{expression_result, result_alone};
