@@ -26,6 +26,7 @@ def shuffled(size):
 QUESTIONS = {
     "append": lambda n: [b"append", *[b"12345678"] * (n // 8)],
     "string map": lambda n: [b"pure", b"string", b"map", b"a b b a", repeated(b"ab", n)],
+    "string map keys": lambda n: [b"pure", b"string", b"map", b"a" * n + b"b c", b"a" * n],
     "string first": lambda n: [b"pure", b"string", b"first", b"aab", repeated(b"a", n)],
     "string range": lambda n: [b"pure", b"string", b"range", repeated(b"a", n), b"1", b"end-1"],
     "lsort": lambda n: [b"pure", b"lsort", shuffled(n)],

@@ -6,7 +6,7 @@ use Rattle.std.specs.Prelude.{true, false, ◌%◌, ◌==◌, codes}
 use Rattle.std.specs.Str.{bytes_eq}
 use Rattle.std.proofs.lemmas.Bool.Decides.{nat_tests}
 use Rattle.tcl_compile.specs.Pieces.{all_parts, all_words, all_commands}
-use Rattle.tcl_expr.specs.ExpressionReading.{expression_within, parts_of_word}
+use Rattle.tcl_expr.specs.ExpressionReading.{parts_of_word}
 use Rattle.tcl_words.proofs.Views.{word-parts, script-commands, command-words, view-Bracket}
 use Rattle.tcl_words.specs.declared.script.Command as code_command
 use Rattle.tcl_words.specs.declared.script.Command.{out-Command}
@@ -32,13 +32,13 @@ use Rattle.tcl_words.specs.declared.script.Word.{out-Word}
 use Rattle.tcl_compile.specs.Compiled.{level, body_at, body_of, condition_at, condition_of}
 use Rattle.tcl_compile.specs.Compiled.{cases_at_word, inner_place, text_at, script_within}
 use Rattle.tcl_compile.specs.Compiled.{room_inside}
-use Rattle.tcl_compile.specs.Compiled.{read_expression}
+use Rattle.tcl_compile.specs.Compiled.{expression_text_at}
 use Rattle.tcl_compile.specs.Compiling.{parts_at, script_at, word_place, word_at, command_at}
 use Rattle.tcl_compile.specs.Compiling.{words_at, judged_at}
 use Rattle.tcl_compile.specs.Compiling.{is_switch, fitting_at, switch_at, children_at, part_at}
 use Rattle.tcl_compile.specs.Conditions.{parts_under}
 use Rattle.tcl_compile.specs.Flaws.{place_in, noted}
-use Rattle.tcl_compile.specs.Making.{Level, nothing, flawed, unmade, too_deep, word_of, command_of}
+use Rattle.tcl_compile.specs.Making.{Level, nothing, flawed, unmade, one_too_many, word_of, command_of}
 use Rattle.tcl_compile.specs.Tree.{plain}
 use Rattle.tcl_compile.specs.TreeView.{node_view, nodes_view}
 use Rattle.tcl_compile.specs.declared.compile_fault.Flaw.{Flaw}
@@ -65,13 +65,13 @@ script_commands v = ap all_commands (script-commands v) ∙ all_commands-of (map
 
 abbrev deepest : Level
 deepest = record {
-  script = λ base at commands. flawed (too_deep (place_in base at));
-  parts = λ base at parts. unmade (too_deep (place_in base at));
-  body = λ base w. flawed (too_deep (place_in base (word_place w)));
-  condition = λ base w. flawed (too_deep (place_in base (word_place w)));
-  cases = λ base at w. unmade (too_deep (place_in base (word_place w)));
-  under = λ openers base parts. unmade (too_deep base);
-  inside = λ place text. flawed (too_deep place);
+  script = λ base at commands. flawed (one_too_many (place_in base at));
+  parts = λ base at parts. unmade (one_too_many (place_in base at));
+  body = λ base w. flawed (one_too_many (place_in base (word_place w)));
+  condition = λ base w. flawed (one_too_many (place_in base (word_place w)));
+  cases = λ base at w. unmade (one_too_many (place_in base (word_place w)));
+  under = λ openers base parts. unmade (one_too_many base);
+  inside = λ place text. flawed (one_too_many place);
 }
 
 abbrev below : ℕ → Level
@@ -105,7 +105,7 @@ under_within (suc n) (suc k) base ps h =
     under_within n k base ps (omega arith) ∙ ap (λ m. parts_at (level m) base ps) e
 
 pub under_beyond : (n k : ℕ) (base : ℕ) (ps : List Part) → n < k
-    → parts_under (level n) base k ps ≡ unmade (too_deep base)
+    → parts_under (level n) base k ps ≡ unmade (one_too_many base)
 unfolding level
 under_beyond n zero base ps h = absurd (omega arith)
 under_beyond zero (suc k) base ps h = refl
@@ -126,10 +126,10 @@ module _ (w : code_word.Word) where
 
   -- what was noted of a word's place
   pub deep_at : (base place : ℕ) (s s2 : Findings) → place ≡ place_in base (out-Word w).span.start
-      → s2 ≡ noted (too_deep place) s
-      → s2 ≡ noted (too_deep (place_in base (word_place (word_view w)))) s
+      → s2 ≡ noted (one_too_many place) s
+      → s2 ≡ noted (one_too_many (place_in base (word_place (word_view w)))) s
   deep_at base place s s2 at note =
-      note ∙ ap (λ p. noted (too_deep p) s) (at ∙ ap (place_in base) (sym place_seen))
+      note ∙ ap (λ p. noted (one_too_many p) s) (at ∙ ap (place_in base) (sym place_seen))
 
   module _ (level : Level) (room base : ℕ) (s : Findings) where
     pub body_none : (out-Word w).raw ≡ None
@@ -157,8 +157,8 @@ module _ (w : code_word.Word) where
 
     pub condition_some : (raw : List ℕ) → (out-Word w).raw ≡ Some raw
         → condition_at level room base (word_view w) s
-        ≡ read_expression level (place_in base (out-Word w).inner.start) raw
-        (expression_within (room_inside room (out-Word w).form) raw) s
+        ≡ expression_text_at level (room_inside room (out-Word w).form)
+        (place_in base (out-Word w).inner.start) raw s
     condition_some raw e =
         ap (λ x. condition_at level room base x s) (word-parts w)
         ∙ ap (λ r. condition_of level room base (out-Word w).span (out-Word w).form (out-Word w).inner r s) e

@@ -3,6 +3,7 @@ pub mod ExpressionTurns
 pub mod IfRoles
 pub mod Levels
 pub mod ListItems
+pub mod Named
 pub mod OpenedTurns
 pub mod TreeViews
 pub mod Turns

@@ -15,7 +15,7 @@ use Rattle.tcl_compile.specs.CaseList.{word_items, listed_of}
 use Rattle.tcl_compile.specs.Compiling.{parts_at, script_at, word_place}
 use Rattle.tcl_compile.specs.Conditions.{MadeTo, parts_under, expression_at}
 use Rattle.tcl_compile.specs.Flaws.{place_in, moved_fault, moved_misread}
-use Rattle.tcl_compile.specs.Making.{Made, Level, flawed, unmade, too_deep}
+use Rattle.tcl_compile.specs.Making.{Made, Level, flawed, unmade, one_too_many}
 use Rattle.tcl_compile.specs.Opened.{unopened}
 use Rattle.tcl_compile.specs.Tree.{Tree}
 use Rattle.tcl_compile.specs.declared.compile_fault.Flaw.{Flaw}
@@ -42,6 +42,10 @@ read_expression level place text (Err f) s = flawed (Expr (moved_misread place f
 abbrev pub text_at : Level → (room place : ℕ) → List ℕ → Findings → Made Tree
 text_at level room place text = read_script level place (script_within room text)
 
+abbrev pub expression_text_at : Level → (room place : ℕ) → List ℕ → Findings → Made Tree
+expression_text_at level room place text =
+    read_expression level place text (expression_within room text)
+
 -- how many openers more may be open inside a word of the form
 abbrev pub room_inside : ℕ → Form → ℕ
 room_inside room Bare = room
@@ -62,8 +66,7 @@ abbrev pub condition_of : Level → (room base : ℕ) → Span → Form → Span
     → Made Tree
 condition_of level room base span form inner None s = flawed (BadBody (place_in base span.start)) s
 condition_of level room base span form inner (Some raw) s =
-    read_expression level (place_in base inner.start) raw
-    (expression_within (room_inside room form) raw) s
+    expression_text_at level (room_inside room form) (place_in base inner.start) raw s
 
 abbrev pub condition_at : Level → (room base : ℕ) → Word → Findings → Made Tree
 condition_at level room base (source.word span form inner raw parts) =
@@ -81,13 +84,13 @@ cases_at_word level base at w =
 -- level further down.
 unfoldable pub level : ℕ → Level
 level zero = record {
-  script = λ base at commands. flawed (too_deep (place_in base at));
-  parts = λ base at parts. unmade (too_deep (place_in base at));
-  body = λ base w. flawed (too_deep (place_in base (word_place w)));
-  condition = λ base w. flawed (too_deep (place_in base (word_place w)));
-  cases = λ base at w. unmade (too_deep (place_in base (word_place w)));
-  under = λ openers base parts. unmade (too_deep base);
-  inside = λ place text. flawed (too_deep place);
+  script = λ base at commands. flawed (one_too_many (place_in base at));
+  parts = λ base at parts. unmade (one_too_many (place_in base at));
+  body = λ base w. flawed (one_too_many (place_in base (word_place w)));
+  condition = λ base w. flawed (one_too_many (place_in base (word_place w)));
+  cases = λ base at w. unmade (one_too_many (place_in base (word_place w)));
+  under = λ openers base parts. unmade (one_too_many base);
+  inside = λ place text. flawed (one_too_many place);
 }
 level (suc levels) = record {
   script = λ base at commands. script_at (level levels) base (all_commands commands);
@@ -120,3 +123,8 @@ compiled commands = judged (script_at (level all_levels) 0 (all_commands command
 -- the same of a word that is a body in the script of its text
 unfoldable pub compiled_body : Word → Result Tree Flaw
 compiled_body w = judged ((level all_levels).body 0 w beginning)
+
+-- the tree of an expression that is a text of its own, in which a hundred constructs may be open at
+-- a place, or its flaw
+unfoldable pub compiled_expression : List ℕ → Result Tree Flaw
+compiled_expression text = judged (expression_text_at (level all_levels) 100 0 text beginning)

@@ -1,5 +1,5 @@
 -- The flaws of a script, of which the one with the least place is told.
-use Rattle.std.specs.Prelude.{ℕ, ◌+◌, Bool, ◌&&◌, ◌||◌, ◌==◌, Option, Some, None, nat_lt}
+use Rattle.std.specs.Prelude.{ℕ, ◌+◌, Bool, true, false, ◌&&◌, ◌||◌, ◌==◌, Option, Some, None, nat_lt}
 use Rattle.std.specs.Prelude.{if◌then◌else◌}
 use Rattle.tcl_words.specs.Faults as words
 use Rattle.tcl_words.specs.declared.parse_fault.Fault.{Fault}
@@ -57,3 +57,9 @@ least (Some e) f = if comes_first f e then Some f else Some e
 
 unfoldable pub noted : Flaw → Findings → Findings
 noted f s = record { flaw = least s.flaw f }
+
+-- nesting passes a hundred
+abbrev pub too_deep : Flaw → Bool
+too_deep (Parse (fault.TooDeep at)) = true
+too_deep (Expr (TooDeep at)) = true
+too_deep f = false

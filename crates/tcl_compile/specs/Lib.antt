@@ -8,6 +8,7 @@ pub mod Making
 pub mod Opened
 pub mod Outcome
 pub mod Pieces
+pub mod Procedures
 pub mod Reads
 pub mod Roles
 pub mod Tree

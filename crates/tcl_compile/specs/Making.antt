@@ -24,8 +24,8 @@ abbrev pub unmade : Flaw → Findings → Made (List Tree)
 unmade f s = ([], noted f s)
 
 -- an opener that is one too many
-abbrev pub too_deep : ℕ → Flaw
-too_deep place = Parse (fault.TooDeep place)
+abbrev pub one_too_many : ℕ → Flaw
+one_too_many place = Parse (fault.TooDeep place)
 
 -- one item after another, each with its number; what they give is joined
 unfoldable pub gathered : {A B : Type 0} → (ℕ → A → Findings → Made (List B)) → ℕ → List A

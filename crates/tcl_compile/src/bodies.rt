@@ -3,7 +3,7 @@
 ghost use Rattle.std.specs.Prelude.{◌≡◌, ◌<◌, IfOk};
 ghost use Rattle.tcl_words.specs.View.{word_view};
 ghost use Rattle.tcl_compile.specs.CaseList.{case_item, listed};
-ghost use Rattle.tcl_compile.specs.Compiled.{level, room_inside, text_at};
+ghost use Rattle.tcl_compile.specs.Compiled.{expression_text_at, level, room_inside, text_at};
 ghost use Rattle.tcl_compile.specs.TreeView.{node_view, nodes_view};
 
 use crate::case_list::{Item, is_dash, word_items};
@@ -55,6 +55,34 @@ impl Findings {
         }
     }
 
+    /// The expression that a text is, which begins at the place of the source.
+    #[cycle(compiled)]
+    pub(crate) fn expression_text(
+        &mut self,
+        alloc: Global,
+        place: usize,
+        text: &[u8],
+        room: usize,
+        levels: usize,
+    ) -> M<Node>
+        ensures { IfOk result (λ v. expression_text_at (level levels) room place text.now self.old
+            ≡ (node_view v, self.new)) }
+    {
+        match read_expression(alloc, text, room)? {
+            Ok(expr) => {
+                let opened = Opened { at: 0, count: 0 };
+                let (node, _) = self.expression(
+                    alloc, place, text, &expr, opened, levels, NESTING,
+                )?;
+                Ok(node)
+            }
+            Err(fault) => {
+                self.note(Flaw::Expr(moved_misread(place, fault)));
+                Ok(nothing(alloc))
+            }
+        }
+    }
+
     /// A word as a body.
     #[cycle(compiled)]
     pub(crate) fn body(&mut self, alloc: Global, base: usize, word: &Word, levels: usize) -> M<Node>
@@ -100,26 +128,7 @@ impl Findings {
         };
         let place = place_in(base, word.inner.start);
         let room = room_inside(levels - 1, word.form);
-        match read_expression(alloc, raw.as_bytes(), room)? {
-            Ok(expr) => {
-                let opened = Opened { at: 0, count: 0 };
-                let text = raw.as_bytes();
-                let (node, _) = self.expression(
-                    alloc,
-                    place,
-                    text,
-                    &expr,
-                    opened,
-                    levels - 1,
-                    NESTING,
-                )?;
-                Ok(node)
-            }
-            Err(fault) => {
-                self.note(Flaw::Expr(moved_misread(place, fault)));
-                Ok(nothing(alloc))
-            }
-        }
+        self.expression_text(alloc, place, raw.as_bytes(), room, levels - 1)
     }
 
     /// The pattern or body at the place of the list in the braced word of a `switch`.

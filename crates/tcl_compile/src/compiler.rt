@@ -1,7 +1,7 @@
 // Whole scripts.
 
 ghost use Rattle.tcl_words.specs.View.{script_view, word_view};
-ghost use Rattle.tcl_compile.specs.Compiled.{compiled, compiled_body};
+ghost use Rattle.tcl_compile.specs.Compiled.{compiled, compiled_body, compiled_expression};
 ghost use Rattle.tcl_compile.specs.Outcome.{Gives};
 
 use crate::compile_fault::CompileFault;
@@ -31,6 +31,23 @@ pub fn compile_body(alloc: Global, word: &Word) -> Result<Node, CompileFault>
 {
     let mut findings = Findings { flaw: None };
     let node = findings.body(alloc, 0, word, LIMIT + 1)?;
+    match findings.flaw {
+        None => Ok(node),
+        Some(flaw) => Err(CompileFault::Flaw(flaw)),
+    }
+}
+
+/// The tree of an expression that is a text of its own, made while a script runs, or its flaw with
+/// the least place, counted from 0 in the text.
+///
+/// A hundred constructs may be open at a place. That more are is told apart from other flaws by
+/// `is_too_deep`: they are `Flaw::Parse(Fault::TooDeep(_))`, in a body inside a bracket, and
+/// `Flaw::Expr(Misread::TooDeep(_))`.
+pub fn compile_expression(alloc: Global, text: &[u8]) -> Result<Node, CompileFault>
+    ensures { Gives result (compiled_expression text.now) }
+{
+    let mut findings = Findings { flaw: None };
+    let node = findings.expression_text(alloc, 0, text, LIMIT, LIMIT + 1)?;
     match findings.flaw {
         None => Ok(node),
         Some(flaw) => Err(CompileFault::Flaw(flaw)),

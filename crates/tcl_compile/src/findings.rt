@@ -1,10 +1,11 @@
 // The flaw to be told.
 
 ghost use Rattle.std.specs.Prelude.{◌≡◌};
-ghost use Rattle.tcl_compile.specs.Flaws.{comes_first, noted, order_of, place_of};
+ghost use Rattle.tcl_compile.specs.Flaws.{comes_first, noted, order_of, place_of, too_deep};
 
 use crate::compile_fault::Flaw;
 use tcl_expr::Misread;
+use tcl_words::Fault;
 
 impl Flaw {
     pub fn place(&self) -> usize
@@ -37,6 +38,16 @@ impl Flaw {
         self.place() < other.place()
             || self.place() == other.place() && self.order() < other.order()
     }
+}
+
+/// Whether the flaw is that more than a hundred constructs stand inside one another.
+pub fn is_too_deep(flaw: Flaw) -> bool
+    ensures { result ≡ too_deep flaw }
+{
+    matches!(
+        flaw,
+        Flaw::Parse(Fault::TooDeep(_)) | Flaw::Expr(Misread::TooDeep(_))
+    )
 }
 
 /// The flaw to be told of what was looked at so far.

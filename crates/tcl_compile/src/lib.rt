@@ -2,6 +2,7 @@
 //! the source.
 #![tactic(auto)]
 
+mod binding;
 mod bodies;
 mod case_list;
 mod commands;
@@ -15,13 +16,17 @@ mod node;
 mod notes;
 mod opened;
 mod places;
+mod procs;
 mod reads;
 mod roles;
 mod texts;
 mod verbs;
 mod whole_result;
 
+pub use binding::bound_values;
 pub use compile_fault::{CompileFault, Flaw};
-pub use compiler::{compile, compile_body};
+pub use compiler::{compile, compile_body, compile_expression};
+pub use findings::is_too_deep;
 pub use node::{Node, Verb};
+pub use procs::{Parameter, Proc, Procs};
 pub use whole_result::{expression_result, result_alone};

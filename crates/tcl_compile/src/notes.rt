@@ -4,7 +4,7 @@ ghost use Rattle.std.specs.Prelude.{◌≡◌, ◌++◌, OnOk};
 ghost use Rattle.tcl_words.specs.View.{word_view};
 ghost use Rattle.tcl_compile.specs.Compiling.{word_place};
 ghost use Rattle.tcl_compile.specs.Flaws.{noted, place_in};
-ghost use Rattle.tcl_compile.specs.Making.{nothing, too_deep};
+ghost use Rattle.tcl_compile.specs.Making.{nothing, one_too_many};
 ghost use Rattle.tcl_compile.specs.TreeView.{node_list, node_view, nodes_view};
 ghost use Rattle.tcl_compile.specs.declared.compile_fault.Flaw.TheVariants.{BadBody};
 
@@ -37,7 +37,7 @@ pub(crate) fn add(nodes: &mut Vec<Node>, node: Option<Node>) -> M<()>
 impl Findings {
     /// Notes an opener at a place of the source that is one too many.
     pub(crate) fn note_deep(&mut self, place: usize)
-        ensures { self.new ≡ noted (too_deep place) self.old }
+        ensures { self.new ≡ noted (one_too_many place) self.old }
     {
         self.note(Flaw::Parse(Fault::TooDeep(place)));
     }

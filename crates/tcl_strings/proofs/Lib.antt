@@ -1,6 +1,11 @@
+pub mod Climbing
 pub mod Formats
+pub mod Growing
 pub mod Mapped
+pub mod Numbering
 pub mod Parts
+pub mod Prefixes
 pub mod Repeats
 pub mod Searches
 pub mod Rows
+pub mod Stepping

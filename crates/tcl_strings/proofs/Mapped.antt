@@ -1,9 +1,10 @@
 -- Keys that are replaced, one after another.
-use Rattle.std.proofs.Common.{◌≡◌, ℕ, zero, suc, ◌+◌, ◌≤◌, ◌<◌, Bool, true, false, cond, List, [], ◌∷◌, ◌++◌}
+use Rattle.std.proofs.Common.{◌≡◌, ℕ, zero, suc, ◌+◌, ◌*◌, ◌≤◌, ◌<◌, Bool, true, false, cond, List, [], ◌∷◌, ◌++◌}
 use Rattle.std.proofs.Common.{length, drop, Option, Some, None, sym, ap, subst, refl, ◌∙◌, arith}
-use Rattle.std.proofs.Common.{get_or, length-append}
+use Rattle.std.proofs.Common.{length-append}
 use Rattle.tcl_strings.specs.Search.{begins_with, more_of}
 use Rattle.tcl_strings.specs.Mapping.{first_pair, written_at, more_for, more_at, mapped}
+use Rattle.tcl_strings.specs.FirstKeys.{keys_of, pair_in, first_number}
 use Rattle.tcl_strings.proofs.Searches.{begins_within}
 
 skipped : (pairs : List (List ℕ)) (skip : ℕ) (text : List ℕ) → mapped pairs skip text ≡ mapped pairs 0 (drop skip text)
@@ -54,14 +55,28 @@ module _ (pairs : List (List ℕ)) (text key value : List ℕ) (is : Some (key, 
   pub key_within : length key ≤ length text
   key_within = (begins_within key text key_stands).1
 
-pair_by : (key value : List ℕ) (more : List (List ℕ)) (text : List ℕ) → begins_with key text ≡ false → first_pair (key ∷ value ∷ more) text ≡ first_pair more text
-pair_by key value more text e = ap (λ b. cond b (Some (key, value)) (first_pair more text)) e
+pair_by : (here : Bool) (key value : List ℕ) (more : List (List ℕ)) (text : List ℕ) → pair_in (drop (2 * first_number (keys_of more) text) more) ≡ first_pair more text → pair_in (drop (2 * cond here 0 (suc (first_number (keys_of more) text))) (key ∷ value ∷ more)) ≡ cond here (Some (key, value)) (first_pair more text)
+pair_by true key value more text e = refl
+pair_by false key value more text e =
+    let n = first_number (keys_of more) text in
+    let two : 2 * suc n ≡ suc (suc (2 * n)) = omega arith in
+    ap (λ m. pair_in (drop m (key ∷ value ∷ more))) two ∙ e
 
--- a key that doesn't stand at the front is passed over
-pub next_pair : (pairs : List (List ℕ)) (text key : List ℕ) → 2 ≤ length pairs → key ≡ get_or pairs 0 key → begins_with key text ≡ false → first_pair pairs text ≡ first_pair (drop 2 pairs) text
-next_pair [] text key two is e = absurd (omega arith)
-next_pair (a ∷ []) text key two is e = absurd (omega arith)
-next_pair (a ∷ b ∷ more) text key two is e = pair_by a b more text (ap (λ k. begins_with k text) (sym is) ∙ e)
+number_by : (here : Bool) (n size : ℕ) → 2 * n ≤ size → 2 * cond here 0 (suc n) ≤ suc (suc size)
+number_by true n size h = omega arith
+number_by false n size h = omega arith
+
+-- the pair of the first key's number
+pub pair_of : (pairs : List (List ℕ)) (text : List ℕ) → pair_in (drop (2 * first_number (keys_of pairs) text) pairs) ≡ first_pair pairs text
+pair_of [] text = refl
+pair_of (key ∷ []) text = refl
+pair_of (key ∷ value ∷ more) text = pair_by (begins_with key text) key value more text (pair_of more text)
+
+-- the number is within the list
+pub number_within : (pairs : List (List ℕ)) (text : List ℕ) → 2 * first_number (keys_of pairs) text ≤ length pairs
+number_within [] text = omega arith
+number_within (key ∷ []) text = omega arith
+number_within (key ∷ value ∷ more) text = number_by (begins_with key text) (first_number (keys_of more) text) (length more) (number_within more text)
 
 module _ (pairs : List (List ℕ)) (rest w : List ℕ) (n : ℕ) (some : 0 < length rest) (taken : n ≡ more_at pairs rest + 1) (written : w ≡ written_at pairs rest) where
   pub step_is : mapped pairs 0 rest ≡ w ++ mapped pairs 0 (drop n rest)

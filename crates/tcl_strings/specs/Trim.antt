@@ -1,6 +1,6 @@
 -- Bytes that are taken off the ends of a text: Tcl 8.4, string(n), `string trim`, `string
 -- trimleft`, `string trimright`.
-use Rattle.std.specs.Prelude.{ℕ, ◌-◌, Bool, false, List, [], ◌∷◌, ◌++◌, codes, length, take, drop}
+use Rattle.std.specs.Prelude.{ℕ, ◌-◌, Bool, List, [], ◌∷◌, ◌++◌, codes, length, take, drop}
 use Rattle.std.specs.List.{prefix_len, suffix_len}
 
 -- without "any leading characters" of a set, which is given by a test

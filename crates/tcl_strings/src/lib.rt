@@ -4,19 +4,23 @@
 mod answer;
 mod case;
 mod conversion;
+mod edges;
 mod field;
 mod field_text;
+mod first_keys;
 mod flaw;
 mod form;
 mod form_words;
 mod format_command;
 mod getfield_command;
+mod levels;
 mod mapping;
 mod order;
 mod part;
 mod repetition;
 mod search;
 mod string_command;
+mod suffixes;
 mod trim;
 mod words;
 

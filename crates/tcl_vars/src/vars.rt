@@ -161,6 +161,7 @@ impl Vars {
     /// Begins a procedure call, which has no variables yet.
     pub fn enter_proc(&mut self) -> M<()>
         ensures ok { OnOk result (self.new ≡ in_proc self.old) }
+        ensures entered { OnOk result (1 < length self.new.levels) }
         ensures err { OnErr result (self.new ≡ self.old) }
     {
         self.outer.reserve(1)?;

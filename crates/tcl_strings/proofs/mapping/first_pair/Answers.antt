@@ -1,14 +1,24 @@
-use Rattle.std.proofs.Common.{◌≡◌, ◌-◌, false, take, drop, length, length-drop, ap, sym, ◌∙◌, arith}
-use Rattle.std.proofs.lemmas.List.{take_all}
-use Rattle.tcl_strings.specs.Mapping.{first_pair}
-use Rattle.tcl_strings.specs.Search.{begins_with}
-use Rattle.tcl_strings.proofs.Mapped.{next_pair}
+use Rattle.std.proofs.Common.{rules, ◌-◌, ◌*◌, ◌<◌, length, drop, ap, ◌∙◌, arith}
+use Rattle.tcl_strings.specs.FirstKeys.{keys_of, pair_in}
+use Rattle.tcl_strings.proofs.Mapped.{pair_of, number_within}
+use Rattle.tcl_strings.proofs.Numbering.{table_front}
 use Rattle.tcl_strings.proofs.mapping.first_pair.Goals as goal
 
-pub loop-rest-preserved : goal.loop-rest-preserved
-loop-rest-preserved c =
-    let pairs = c.loop-rest.rest.now in
-    let same : take (length pairs - 2) (drop 2 pairs) ≡ drop 2 pairs = take_all (length pairs - 2) (drop 2 pairs) (omega (arith, length-drop 2 pairs)) in
-    let other : begins_with c.key-item.result c.args.text.now ≡ false = ap (λ k. begins_with k c.args.text.now) (sym c.as_bytes.ensures) ∙ sym c.begins_with.ensures ∙ c.if-begins_with.false in
-    ap (λ l. first_pair l c.args.text.now) same
-    ∙ sym (next_pair pairs c.args.text.now c.key-item.result c.in-len2-up.len_at_least c.key-item.is other) ∙ c.loop-rest.invariant
+pub bounds-numbers-text : goal.bounds-numbers-text
+bounds-numbers-text c = (table_front (keys_of c.args.pairs.now) c.args.numbers.now c.args.text.now c.requires.some c.requires.numbers).0
+
+pub pair_at-requires : goal.pair_at-requires
+pair_at-requires c =
+    let front = table_front (keys_of c.args.pairs.now) c.args.numbers.now c.args.text.now c.requires.some c.requires.numbers in
+    omega (arith, front.1, number_within c.args.pairs.now c.args.text.now)
+
+pub returns : goal.returns
+returns c =
+    let front = table_front (keys_of c.args.pairs.now) c.args.numbers.now c.args.text.now c.requires.some c.requires.numbers in
+    c.pair_at.ensures ∙ ap (λ n. pair_in (drop (2 * n) c.args.pairs.now)) front.1 ∙ pair_of c.args.pairs.now c.args.text.now
+
+pub offset_bounds-numbers-text : goal.offset_bounds-numbers-text
+offset_bounds-numbers-text c =
+    let front = table_front (keys_of c.args.pairs.now) c.args.numbers.now c.args.text.now c.requires.some c.requires.numbers in
+    let within : length c.args.text.now - 1 < length c.args.numbers.now = front.0 in
+    search rules

@@ -1,13 +1,12 @@
 use Rattle.std.proofs.Common.{◌≡◌, ◌-◌, [], ◌∷◌, length, map, Some, None, sym, ap, subst, ◌∙◌, arith, true, false, rules}
 use Rattle.std.proofs.lemmas.Result.{IfOk-weaker}
-use Rattle.tcl_expr.specs.ExpressionReading.{expression_within}
 use Rattle.tcl_expr.proofs.ExpressionViews as read
 use Rattle.tcl_expr.specs.ExpressionView.{expr_view, more_view, cases_view}
 use Rattle.std.specs.Prelude.{option_map, ◌%◌, ◌==◌}
 use Rattle.std.proofs.lemmas.List.{length-map}
 use Rattle.tcl_compile.specs.Conditions.{operands_at, values_at, row_of, choice_of, word_to, operand_at}
 use Rattle.tcl_compile.specs.Compiled.{tree_of}
-use Rattle.tcl_compile.specs.Opened.{scanned, unopened}
+use Rattle.tcl_compile.specs.Opened.{scanned}
 use Rattle.tcl_compile.specs.Making.{word_of, command_of}
 use Rattle.tcl_compile.specs.Tree.{row, choice, operands_of, values_of}
 use Rattle.tcl_compile.specs.TreeView.{node_list, operands_view, values_view}
@@ -17,11 +16,11 @@ use Rattle.tcl_words.specs.declared.script.Command.{out-Command}
 use Rattle.tcl_compile.specs.declared.roles.Sequence.TheVariants as sequence
 use Rattle.tcl_words.specs.View.{command_view, part_view, word_view, parts_of, script_view}
 use Rattle.tcl_compile.specs.CaseList.{case_item, listed, listed_of}
-use Rattle.tcl_compile.specs.Compiled.{level, text_at, read_script, read_expression}
+use Rattle.tcl_compile.specs.Compiled.{level, text_at, read_script, read_expression, expression_text_at}
 use Rattle.tcl_compile.specs.Compiling.{child_at, command_at, part_at, parts_at, script_at}
 use Rattle.tcl_compile.specs.Conditions.{expression_at}
 use Rattle.tcl_compile.specs.Flaws.{noted, place_in}
-use Rattle.tcl_compile.specs.Making.{one, too_deep}
+use Rattle.tcl_compile.specs.Making.{one, one_too_many}
 use Rattle.tcl_compile.specs.Reads.{seen_expression, seen_script}
 use Rattle.tcl_compile.specs.Roles.{due_role}
 use Rattle.tcl_compile.specs.TreeView.{node_view, nodes_view}
@@ -80,7 +79,7 @@ pub enclosed-returns-then-levels-eq0 : goal.enclosed-returns-then-levels-eq0
 enclosed-returns-then-levels-eq0 t c =
     ap (λ l. l.parts c.args.base c.args.at (parts_of (map part_view c.args.parts.now)) c.args.self.now) (level_none c.args.levels c.if-levels-eq0.true)
     ∙ shown_none _ c.args.self.now c.note_deep.new.self c.new.result.items c.new.ensures.items
-    (subst (λ p. c.note_deep.new.self ≡ noted (too_deep p) c.args.self.now) c.place_in.ensures c.note_deep.ensures)
+    (subst (λ p. c.note_deep.new.self ≡ noted (one_too_many p) c.args.self.now) c.place_in.ensures c.note_deep.ensures)
 
 pub enclosed-returns : goal.enclosed-returns
 enclosed-returns t c =
@@ -129,19 +128,25 @@ children-loop-at-init t c =
     gathered_none (λ i w. child_at (level c.args.levels) c.args.base (due_role c.args.row c.args.roles.now (length (map word_view c.args.words.now)) i w) w) c.args.self.now
     ∙ ap (λ l. (nodes_view l, c.args.self.now)) (sym c.new-nodes.ensures.items)
 
-pub condition-returns-in-Err : goal.condition-returns-in-Err
-condition-returns-in-Err t c =
+pub condition-returns : goal.condition-returns
+condition-returns t c =
     let w = c.args.word.now in
     let inner = level (c.args.levels - 1) in
     let s = c.args.self.now in
     let same = ap (λ l. l.condition c.args.base (word_view w) s) (level_some c.args.levels (omega arith))
     ∙ condition_some w inner (c.args.levels - 1) c.args.base s c.in-Some.raw c.in-Some.is
-    ∙ ap (λ r. read_expression inner (place_in c.args.base (out-Word w).inner.start) c.in-Some.raw (expression_within r c.in-Some.raw) s) (sym c.room_inside-room.ensures)
-    ∙ ap (λ p. read_expression inner p c.in-Some.raw (expression_within c.room_inside-room.result c.in-Some.raw) s) (sym c.place_in-place.ensures)
-    ∙ ap (λ b. read_expression inner c.place_in-place.result c.in-Some.raw (expression_within c.room_inside-room.result b) s) (sym c.as_bytes.ensures) in
-    same ∙ ap (λ r. read_expression inner c.place_in-place.result c.in-Some.raw r s) c.in_ok-expr.ensures
-    ∙ ap (λ r. read_expression inner c.place_in-place.result c.in-Some.raw (seen_expression r) s) c.in-Err.is
-    ∙ shown _ s c.note.new.self c.nothing-in-Err.result c.nothing-in-Err.ensures
+    ∙ ap (λ r. expression_text_at inner r (place_in c.args.base (out-Word w).inner.start) c.in-Some.raw s) (sym c.room_inside-room.ensures)
+    ∙ ap (λ p. expression_text_at inner c.room_inside-room.result p c.in-Some.raw s) (sym c.place_in-place.ensures)
+    ∙ ap (λ b. expression_text_at inner c.room_inside-room.result c.place_in-place.result b s) (sym c.as_bytes.ensures) in
+    IfOk-weaker c.expression_text.result _ _ (λ v is. same ∙ is) c.expression_text.ensures
+
+pub expression_text-returns-in-Err : goal.expression_text-returns-in-Err
+expression_text-returns-in-Err t c =
+    let s = c.args.self.now in
+    let inner = level c.args.levels in
+    ap (λ r. read_expression inner c.args.place c.args.text.now r s) c.in_ok-expr.ensures
+    ∙ ap (λ r. read_expression inner c.args.place c.args.text.now (seen_expression r) s) c.in-Err.is
+    ∙ shown _ s c.note.new.self c.nothing.result c.nothing.ensures
     (c.note.ensures ∙ ap (λ f. noted (Expr f) s) c.moved_misread.ensures)
 
 pub text-returns-in-Ok : goal.text-returns-in-Ok
@@ -160,7 +165,7 @@ part-returns-then-levels-eq0 t c =
     bracket_part (level c.args.levels) c.args.base s c.args.part.now c.in-Bracket.span c.in-Bracket.script c.in-Bracket.is
     ∙ ap (λ l. l.script c.args.base c.in-Bracket.span.start (script_view c.in-Bracket.script) s) (level_none c.args.levels c.if-levels-eq0.true)
     ∙ shown _ s c.note_deep.new.self c.nothing.result c.nothing.ensures
-    (subst (λ p. c.note_deep.new.self ≡ noted (too_deep p) s) c.place_in.ensures c.note_deep.ensures)
+    (subst (λ p. c.note_deep.new.self ≡ noted (one_too_many p) s) c.place_in.ensures c.note_deep.ensures)
 
 pub part-returns-else-levels-eq0 : goal.part-returns-else-levels-eq0
 part-returns-else-levels-eq0 t c =
@@ -337,7 +342,7 @@ case_item-returns-then-levels-eq0 t c =
     (sym c.is_dash.ensures ∙ c.if-is_dash.false) braced in
     same ∙ ap (λ l. l.inside (place_in c.args.place item.start) item.text s) (level_none c.args.levels c.if-levels-eq0.true)
     ∙ shown _ s c.note_deep.new.self c.nothing-then-levels-eq0.result c.nothing-then-levels-eq0.ensures
-    (c.note_deep.ensures ∙ ap (λ p. noted (too_deep p) s) c.place_in-start.ensures)
+    (c.note_deep.ensures ∙ ap (λ p. noted (one_too_many p) s) c.place_in-start.ensures)
 
 pub case_item-returns : goal.case_item-returns
 case_item-returns t c =
@@ -365,20 +370,12 @@ under-returns t c =
     let same = ap (λ f. f c.args.self.now) (under_within c.args.levels c.args.openers c.args.base (map part_view c.args.parts.now) (omega arith)) in
     IfOk-weaker c.parts.result _ _ (λ v is. same ∙ is) c.parts.ensures
 
-pub condition-returns-in_ok-node-in-Ok : goal.condition-returns-in_ok-node-in-Ok
-condition-returns-in_ok-node-in-Ok t c =
-    let w = c.args.word.now in
-    let inner = level (c.args.levels - 1) in
+pub expression_text-returns-in_ok-node-in-Ok : goal.expression_text-returns-in_ok-node-in-Ok
+expression_text-returns-in_ok-node-in-Ok t c =
     let s = c.args.self.now in
-    let same = ap (λ l. l.condition c.args.base (word_view w) s) (level_some c.args.levels (omega arith))
-    ∙ condition_some w inner (c.args.levels - 1) c.args.base s c.in-Some.raw c.in-Some.is
-    ∙ ap (λ r. read_expression inner (place_in c.args.base (out-Word w).inner.start) c.in-Some.raw (expression_within r c.in-Some.raw) s) (sym c.room_inside-room.ensures)
-    ∙ ap (λ p. read_expression inner p c.in-Some.raw (expression_within c.room_inside-room.result c.in-Some.raw) s) (sym c.place_in-place.ensures)
-    ∙ ap (λ b. read_expression inner c.place_in-place.result c.in-Some.raw (expression_within c.room_inside-room.result b) s) (sym c.as_bytes.ensures) in
-    same
-    ∙ ap (λ r. read_expression inner c.place_in-place.result c.in-Some.raw r s) c.in_ok-expr.ensures
-    ∙ ap (λ r. read_expression inner c.place_in-place.result c.in-Some.raw (seen_expression r) s) c.in-Ok.is
-    ∙ ap (λ t. tree_of (expression_at inner c.place_in-place.result t (expr_view c.in-Ok.expr) unopened s)) (sym c.as_bytes-text.ensures)
+    let inner = level c.args.levels in
+    ap (λ r. read_expression inner c.args.place c.args.text.now r s) c.in_ok-expr.ensures
+    ∙ ap (λ r. read_expression inner c.args.place c.args.text.now (seen_expression r) s) c.in-Ok.is
     ∙ ap tree_of c.in_ok-node-in-Ok.ensures
 
 pub expression-returns-in_ok-nodes-in-Parts : goal.expression-returns-in_ok-nodes-in-Parts

@@ -64,6 +64,9 @@ decreases-script l = at_level l.levels 11
 abbrev pub decreases-text : goal.decreases-text
 decreases-text l = at_level l.levels 12
 
+abbrev pub decreases-expression_text : goal.decreases-expression_text
+decreases-expression_text l = at_level l.levels 9000
+
 abbrev pub decreases-expression : goal.decreases-expression
 decreases-expression l = at_level l.levels (2 * l.nesting + 3)
 

@@ -1,0 +1,40 @@
+// Laws of the evaluator.
+
+ghost use Rattle.language_model.specs.Laws.{
+  ActsStay,
+  AskedByNoneWaitsNever,
+  CallersVariablesStay,
+  HostShowsActs,
+  MoreRepliesOnlyLengthen,
+  WiderHostAgrees,
+};
+
+/// What was done before an evaluation stays, its cost never falls, and its budget never rises.
+pub fn acts_stay<H>()
+    ensures { ActsStay H }
+{}
+
+/// Replies behind those that an evaluation took don't change it.
+pub fn more_replies_only_lengthen<H>()
+    ensures { MoreRepliesOnlyLengthen H }
+{}
+
+/// A host's state may hold something of all that was done.
+pub fn host_shows_acts<H, M>()
+    ensures { HostShowsActs H M }
+{}
+
+/// A host that also holds what no command reads evaluates alike.
+pub fn wider_host_agrees<H, K>()
+    ensures { WiderHostAgrees H K }
+{}
+
+/// Where no host command asks, no evaluation waits.
+pub fn asked_by_none_waits_never<H>()
+    ensures { AskedByNoneWaitsNever H }
+{}
+
+/// A procedure leaves its callers' variables as they are.
+pub fn callers_variables_stay<H>()
+    ensures { CallersVariablesStay H }
+{}

@@ -1,0 +1,84 @@
+-- The host commands that a tree names.
+use Rattle.std.specs.Prelude.{◌≡◌, ℕ, List, [], ◌∷◌, ◌++◌, codes, Bool, ◌||◌, not, find, is_some}
+use Rattle.std.specs.List.{All, list_all}
+use Rattle.std.specs.Str.{bytes_eq}
+use Rattle.event_order.specs.Command.{IsHostCommand, command_row, every_command}
+use Rattle.tcl_compile.specs.Tree.{Tree, plain, variable, element, word, script, command, cases}
+use Rattle.tcl_compile.specs.Tree.{next_body, prefixed, row, choice, Trees, no_trees, and_tree}
+use Rattle.tcl_compile.specs.Tree.{Operands, no_operands, and_operand, Values, no_values, and_value}
+use Rattle.tcl_compile.specs.declared.node.Verb.{Verb}
+use Rattle.tcl_compile.specs.declared.node.Verb.TheVariants.{Named}
+
+-- the text of a word of one plain part, and none for any other
+abbrev pub plain_text : Tree → List (List ℕ)
+plain_text (plain text) = text ∷ []
+plain_text t = []
+
+abbrev pub only_text : Trees → List (List ℕ)
+only_text (and_tree t no_trees) = plain_text t
+only_text ts = []
+
+abbrev pub literal : Tree → List (List ℕ)
+literal (word parts) = only_text parts
+literal t = []
+
+-- Tcl(n), Evaluation: "the first word is used to locate a command procedure"; the name of a command
+-- that isn't a control command, where its first word tells it
+abbrev pub first_literal : Trees → List (List ℕ)
+first_literal no_trees = []
+first_literal (and_tree t ts) = literal t
+
+abbrev pub name_of : Verb → Trees → List (List ℕ)
+name_of Named children = first_literal children
+name_of v children = []
+
+-- the names of all commands in a tree, in order: in brackets, bodies, expressions and cases too
+abbrev mutual
+  pub names_in : Tree → List (List ℕ)
+  names_in (plain text) = []
+  names_in (variable name) = []
+  names_in (element name index) = names_in_all index
+  names_in (word parts) = names_in_all parts
+  names_in (script commands) = names_in_all commands
+  names_in (command v children) = name_of v children ++ names_in_all children
+  names_in (cases bodies) = names_in_all bodies
+  names_in next_body = []
+  names_in (prefixed operators operand) = names_in operand
+  names_in (row first behind) = names_in first ++ names_in_operands behind
+  names_in (choice values last) = names_in_values values ++ names_in last
+
+  pub names_in_all : Trees → List (List ℕ)
+  names_in_all no_trees = []
+  names_in_all (and_tree t ts) = names_in t ++ names_in_all ts
+
+  pub names_in_operands : Operands → List (List ℕ)
+  names_in_operands no_operands = []
+  names_in_operands (and_operand joint t behind) = names_in t ++ names_in_operands behind
+
+  pub names_in_values : Values → List (List ℕ)
+  names_in_values no_values = []
+  names_in_values (and_value condition t behind) =
+      (names_in condition ++ names_in t) ++ names_in_values behind
+
+-- a host command has this name
+unfoldable pub is_host_name : List ℕ → Bool
+is_host_name name = is_some (find (λ c. bytes_eq (command_row c).name name) every_command)
+
+-- the host command that can be run today
+abbrev pub built_name : List ℕ
+built_name = codes "TCP::respond"
+
+-- a name may stand in a rule; one that nothing has is a fault when it runs
+abbrev pub may_stand : List ℕ → Bool
+may_stand name = bytes_eq name built_name || not (is_host_name name)
+
+abbrev pub may_all_stand : List (List ℕ) → Bool
+may_all_stand names = list_all may_stand names
+
+-- each host command that the tree names can be run
+abbrev pub is_built : Tree → Bool
+is_built t = may_all_stand (names_in t)
+
+-- the same, name by name
+abbrev pub NamesBuilt : Tree → Type 0
+NamesBuilt t = All (λ name. IsHostCommand name → name ≡ built_name) (names_in t)

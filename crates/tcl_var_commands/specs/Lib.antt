@@ -1,0 +1,10 @@
+pub mod Changed
+pub mod Reading
+pub mod Assigning
+pub mod Set
+pub mod Unset
+pub mod Incr
+pub mod Append
+pub mod Lappend
+pub mod Array
+pub mod Info
