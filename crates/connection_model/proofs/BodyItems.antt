@@ -4,7 +4,7 @@ use Rattle.std.proofs.Common.{length, map, append_assoc, arith}
 use Rattle.std.specs.Prelude.{slice_get}
 use Rattle.std.proofs.lemmas.List.{length-append}
 use Rattle.std.proofs.lemmas.Option.{slice_get_past}
-use Rattle.rule_model.specs.Evaluator.{Act, Code, State, Outcome, Ends, Waits as Stops, uncaught_of}
+use Rattle.rule_model.specs.Outcome.{Act, Code, State, Outcome, Ends, Waits as Stops, uncaught_of}
 use Rattle.rule_model.specs.Laws.{state_after}
 use Rattle.connection_model.specs.Setup.{Handler, Setup}
 use Rattle.connection_model.specs.Item.{Ran}

@@ -2,9 +2,10 @@
 use Rattle.std.proofs.Common.{◌≡◌, refl, sym, ap, subst, ◌∙◌, ℕ, zero, suc, List, [], ◌∷◌, ◌++◌}
 use Rattle.std.proofs.Common.{Option, Some, None}
 use Rattle.std.specs.Prelude.{slice_get}
-use Rattle.rule_model.specs.Evaluator.{Act, Outcome, Ends, Waits as Stops, state}
+use Rattle.rule_model.specs.Evaluator.{evaluate, inner_limit}
+use Rattle.rule_model.specs.Outcome.{Act, Outcome, Ends, Waits as Stops, state}
 use Rattle.rule_model.specs.Laws.{state_after, Lengthens}
-use Rattle.rule_model.proofs.Longer.{eval_longer}
+use Rattle.rule_model.proofs.Pairs.{more_replies}
 use Rattle.connection_model.specs.Setup.{Handler, Setup, body_setting}
 use Rattle.connection_model.specs.Item.{Item}
 use Rattle.connection_model.specs.Trace.{
@@ -70,10 +71,15 @@ body_same : (f : Further) (r : EventRun) (h : Handler) (hs : List Handler) (n : 
 body_same f r h hs n l (Ends code st) o' is = rw is (act_same f r h hs n l (slice_get st.acts n) _ _ (refl, refl))
 body_same f r h hs n l (Stops path call st) o' is = waits_same f r h hs n l st.acts is.0 (slice_get st.acts n) _ o' refl is.1
 
+run_longer : (f : Further) (g : Setup) (h : Handler) (l : TraceState) → Lengthens f.replies (run_body g h l) (run_body g h (longer f l))
+unfolding evaluate
+run_longer f g h l =
+    more_replies (body_setting g.statics h.procedures) inner_limit inner_limit h.body [] (state l.vars l.host l.answers.replies g.budget 0 []) f.replies
+
 bodies_same : (f : Further) (g : Setup) (r : EventRun) (bodies : Bodies) (l : TraceState) → Same f l (bodies_next g r bodies l) (bodies_next g r bodies (longer f l))
 bodies_same f g r (Gated h hs) l = (refl, refl)
 bodies_same f g r (Running h hs n) l =
-    body_same f r h hs n l (run_body g h l) (run_body g h (longer f l)) (eval_longer (body_setting g.statics) h.body [] (state l.vars l.host l.answers.replies g.budget 0 []) f.replies)
+    body_same f r h hs n l (run_body g h l) (run_body g h (longer f l)) (run_longer f g h l)
 bodies_same f g r (Failing kind line hs) l = (refl, refl)
 
 phase_same : (f : Further) (g : Setup) (phase : Phase) (l : TraceState) → Same f l (phase_next g phase l) (phase_next g phase (longer f l))

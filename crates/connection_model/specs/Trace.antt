@@ -23,17 +23,9 @@ use Rattle.px_bytes.specs.declared.fault.Reply.{Reply}
 use Rattle.px_bytes.specs.declared.fault.TclFault.{TclFault}
 use Rattle.tcl_vars.specs.Scopes.{Scopes, no_scopes}
 use Rattle.rule_model.specs.Host as effect
-use Rattle.rule_model.specs.Evaluator.{
-  Act,
-  Did,
-  State,
-  Outcome,
-  Ends,
-  Waits as Stops,
-  evaluate,
-  uncaught_of,
-}
-use Rattle.rule_model.specs.Evaluator as act
+use Rattle.rule_model.specs.Evaluator.{evaluate}
+use Rattle.rule_model.specs.Outcome.{Act, Did, State, Outcome, Ends, Waits as Stops, uncaught_of}
+use Rattle.rule_model.specs.Outcome as act
 use Rattle.rule_model.specs.Laws.{state_after}
 use Rattle.event_order.specs.declared.event.EventName.{EventName}
 use Rattle.event_order.specs.declared.event.EventName.TheVariants.{
@@ -176,7 +168,8 @@ no_host = []
 
 -- what a body does on the variables, the host's state and the replies where it begins
 abbrev pub run_body : Setup → Handler → TraceState → Outcome (List ℕ)
-run_body g h l = evaluate (body_setting g.statics) h.body l.vars l.host l.answers.replies g.budget
+run_body g h l =
+    evaluate (body_setting g.statics h.procedures) h.body l.vars l.host l.answers.replies g.budget
 
 abbrev pub peer_of : ℕ → Side → Peer
 peer_of servers Client = ToClient

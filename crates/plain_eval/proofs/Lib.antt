@@ -1,5 +1,13 @@
+pub mod Told
 pub mod Comes
-pub mod Rows
-pub mod Runs
-pub mod Trees
+pub mod Turns
+pub mod Repeats
+pub mod Calls
+pub mod Lists
+pub mod Views
+pub mod Ended
 pub mod Outcomes
+pub mod CallsOf
+pub mod OperandsOf
+pub mod LoopsOf
+pub mod RowsOf

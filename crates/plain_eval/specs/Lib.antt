@@ -1,4 +1,11 @@
 pub mod Plain
 pub mod Stop
+pub mod Ends
 pub mod Stand
+pub mod Trees
+pub mod Steps
+pub mod Leaves
+pub mod Verdict
+pub mod Choice
+pub mod Leaving
 pub mod TestHost

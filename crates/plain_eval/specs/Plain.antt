@@ -3,20 +3,12 @@ use Rattle.std.specs.Prelude.{◌≡◌, ℕ, ◌≤◌, List, length, drop, Opt
 use Rattle.px_bytes.specs.declared.fault.Reply.{Reply}
 use Rattle.px_bytes.specs.declared.fault.HostAnswer.{HostAnswer}
 use Rattle.px_bytes.specs.declared.fault.HostAnswer.TheVariants as answer
+use Rattle.tcl_compile.specs.Procedures.{Procedure}
 use Rattle.tcl_vars.specs.Scopes.{Scopes, Level}
 use Rattle.rule_model.specs.Host.{HostStep, Gives, Faults, Asks}
-use Rattle.rule_model.specs.Evaluator.{
-  Code,
-  Value,
-  Raised,
-  Return,
-  Break,
-  Continue,
-  Outcome,
-  Ends,
-  Waits,
-  Setting,
-}
+use Rattle.rule_model.specs.Outcome.{Code, Value, Raised, Return, Break, Continue, Outcome, Ends}
+use Rattle.rule_model.specs.Outcome.{Waits}
+use Rattle.rule_model.specs.Setting.{Setting}
 use Rattle.plain_eval.specs.declared.plain.PlainCode.{PlainCode}
 use Rattle.plain_eval.specs.declared.plain.PlainCode.TheVariants as code
 use Rattle.plain_eval.specs.declared.plain.Plain.{Plain}
@@ -58,6 +50,9 @@ IsOutcome (Waits path asked st) (Done c used) vars host answers = ⊥
 IsOutcome (Waits path asked st) (WaitsFor call) vars host answers =
     (asked ≡ call) × (st.vars ≡ vars) × (st.host ≡ host)
 
--- the setting with these static variables, where they are only read, and this table
-abbrev pub setting : {H : Type 0} → Option Level → (H → List (List ℕ) → HostStep H) → Setting H
-setting statics table = record { statics = statics; table = table }
+-- the setting with these static variables, where they are only read, this table and these
+-- procedures
+abbrev pub setting : {H : Type 0} → Option Level → (H → List (List ℕ) → HostStep H)
+    → List Procedure → Setting H
+setting statics table procedures =
+    record { statics = statics; table = table; procedures = procedures }

@@ -1,12 +1,6 @@
--- A host in memory, for the tests: `TCP::respond TEXT` sends, and any other command asks a shared
--- call.
-use Rattle.std.specs.Prelude.{ℕ, List, [], ◌∷◌, ◌++◌, codes, if◌then◌else◌}
-use Rattle.std.specs.Str.{bytes_eq}
-use Rattle.px_bytes.specs.declared.addr.Side.TheVariants.{Client}
-use Rattle.rule_model.specs.Host.{HostStep, Sent, Gives, Asks}
+-- A host for the tests, whose commands all ask a shared call of their words.
+use Rattle.std.specs.Prelude.{ℕ, List}
+use Rattle.rule_model.specs.Host.{HostStep, Asks}
 
-abbrev pub test_table : ℕ → List (List ℕ) → List (List ℕ) → HostStep (List (List ℕ))
-test_table env sent (name ∷ text ∷ []) =
-    if bytes_eq name (codes "TCP::respond")
-    then Gives [] (sent ++ text ∷ []) (Sent Client text ∷ []) else Asks [] sent
-test_table env sent words = Asks [] sent
+abbrev pub asking_table : {H : Type 0} → ℕ → H → List (List ℕ) → HostStep H
+asking_table env host words = Asks words host

@@ -2,15 +2,24 @@
 //! anew from its beginning, with that reply behind the others.
 #![tactic(auto)]
 
+mod caught;
 mod commands;
 mod context;
+mod control;
+mod expressions;
+mod foreach;
 mod host;
+mod leaving;
+mod loops;
+mod nested;
+mod operators;
 mod plain;
+mod progress;
+mod rows;
 mod stop;
-#[cfg(test)]
-mod tests;
+mod switch;
 mod tree;
-mod variables;
+mod values;
 
 pub use host::PlainHost;
 pub use plain::{Plain, PlainCode, Replies, eval_plain};

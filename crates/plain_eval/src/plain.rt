@@ -1,17 +1,21 @@
 // The evaluation of a tree on the replies that have come.
 
 ghost use Rattle.std.specs.Prelude.{◌≡◌, IfOk, option_map};
-ghost use Rattle.rule_model.specs.Evaluator.{evaluate, uncaught_of};
+ghost use Rattle.tcl_compile.specs.Procedures.{procs_view};
+ghost use Rattle.tcl_compile.specs.TreeView.{node_view};
+ghost use Rattle.rule_model.specs.Evaluator.{evaluate};
+ghost use Rattle.rule_model.specs.Outcome.{uncaught_of};
 ghost use Rattle.plain_eval.specs.Plain.{IsOutcome, code_of, setting};
 ghost use Rattle.plain_eval.specs.Stop.{plain_of};
 
-use crate::context::{Context, Progress};
+use crate::context::{Context, Room};
 use crate::host::PlainHost;
+use crate::progress::Progress;
 use crate::stop::Stop;
 use crate::tree::eval_tree;
 use px_bytes::{M, Memory, Reply, Seq, TclFault, Text, Texts};
 use std::alloc::Global;
-use tcl_expr::{Procs, Tree};
+use tcl_compile::{Node, Procs};
 use tcl_vars::Vars;
 
 /// How a body ends.
@@ -50,13 +54,20 @@ pub enum Plain {
 /// The replies to a body's shared calls, in order.
 pub type Replies = Seq<Reply>;
 
+/// The most calls, and the most expressions that are read when they run, inside one another.
+const INNER_LIMIT: usize = 100;
+
+/// The most trees inside one another that the stack has room for.
+const LEVELS: usize = 40_000;
+
 /// What a tree comes to, from its beginning, on these replies. `statics` are the static variables
 /// where they are only read; with `None` they are those of `vars`. After want of memory `vars` and
 /// `host` are not to be used.
+#[inline(never)]
 pub fn eval_plain<H: PlainHost>(
     alloc: Global,
-    tree: &Tree,
-    _procs: &Procs,
+    tree: &Node,
+    procs: &Procs,
     statics: Option<&Vars>,
     vars: &mut Vars,
     host: &mut H,
@@ -65,8 +76,9 @@ pub fn eval_plain<H: PlainHost>(
     budget: u32,
 ) -> M<Plain>
     ensures { let level = option_map (λ v. v.now.statics) statics.entry in
-        let given = setting level (H.table env.now) in
-        let outcome = evaluate given tree.now vars.old host.old answers.now budget in
+        let given = setting level (H.table env.now) (procs_view procs.now) in
+        let tree = node_view tree.now in
+        let outcome = evaluate given tree vars.old host.old answers.now budget in
         IfOk result (λ plain. IsOutcome outcome plain vars.new host.new answers.now) }
 {
     let context = Context {
@@ -74,13 +86,23 @@ pub fn eval_plain<H: PlainHost>(
         statics,
         env,
         answers,
+        procs,
+        room: Room {
+            calls: INNER_LIMIT,
+            expressions: INNER_LIMIT,
+        },
     };
-    let mut progress = Progress { used: 0, budget };
-    let end = eval_tree(&context, tree, vars, host, &mut progress);
-    told(end, progress.used)
+    let mut progress = Progress {
+        used: 0,
+        budget,
+        end: Ok(Text::empty(alloc)),
+    };
+    let _ = eval_tree(&context, LEVELS, tree, true, vars, host, &mut progress);
+    told(progress.end, progress.used)
 }
 
 // An end or a wait, told to the caller.
+#[inline(never)]
 fn told(end: Result<Text, Stop>, used: usize) -> M<Plain>
     ensures { result ≡ plain_of used end }
 {

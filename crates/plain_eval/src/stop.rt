@@ -15,6 +15,10 @@ pub(crate) enum Stop {
     Memory,
 }
 
+/// What was evaluated has no value: its end says why.
+#[derive(Clone, Copy)]
+pub(crate) struct Halted;
+
 impl From<Memory> for Stop {
     ghost use Rattle.plain_eval.specs.declared.stop.Stop.TheVariants.{Memory as OutOfMemory};
 

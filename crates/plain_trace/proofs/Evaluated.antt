@@ -2,7 +2,7 @@
 use Rattle.std.proofs.Common.{◌≡◌, refl, sym, ap, subst, ◌∙◌, ℕ, List, [], ◌∷◌, ◌++◌, drop, length}
 use Rattle.std.proofs.Common.{map}
 use Rattle.std.proofs.Math.Seq.{drop-nil}
-use Rattle.rule_model.specs.Evaluator.{Code, Outcome, Ends, Waits, State, uncaught_of}
+use Rattle.rule_model.specs.Outcome.{Code, Outcome, Ends, Waits, State, uncaught_of}
 use Rattle.rule_model.specs.Laws.{state_after, state_seen, outcome_seen}
 use Rattle.plain_eval.specs.declared.plain.PlainCode.{PlainCode}
 use Rattle.plain_eval.specs.declared.plain.Plain.TheVariants.{Done, Waits as WaitsFor}

@@ -5,12 +5,12 @@ use Rattle.std.specs.List.{flat_map}
 use Rattle.px_bytes.specs.declared.addr.Side.TheVariants as side
 use Rattle.rule_model.specs.Host as host
 use Rattle.rule_model.specs.Host.{Effect, HostStep, Gives, Faults, Asks}
-use Rattle.rule_model.specs.Evaluator.{Act, Did, Outcome, State, state, evaluate}
+use Rattle.rule_model.specs.Evaluator.{evaluate, inner_limit}
+use Rattle.rule_model.specs.Outcome.{Act, Did, Outcome, State, state}
 use Rattle.rule_model.specs.Laws.{state_after, StepShows, ShowsActs, step_seen, outcome_seen}
 use Rattle.rule_model.specs.Laws.{SeenAs}
-use Rattle.rule_model.proofs.Keeps.{eval_keeps}
-use Rattle.rule_model.proofs.Grown.{shows}
-use Rattle.rule_model.proofs.Seen.{eval_agrees}
+use Rattle.rule_model.proofs.Facts.{host_shows}
+use Rattle.rule_model.proofs.Pairs.{wider_agrees}
 use Rattle.plain_eval.specs.Plain.{setting}
 use Rattle.connection_model.specs.Setup.{Handler, Setup, body_setting}
 use Rattle.connection_model.specs.Responder.{respond_table}
@@ -34,7 +34,7 @@ shown_of act = without_cost (act_item 0 act) ∷ []
 
 -- what a body comes to on the recording host
 abbrev pub recorded_body : Setup → Handler → Run → Outcome Recorder
-recorded_body g h run = evaluate (setting (Some g.statics) record_table) h.body run.vars run.recorder [] g.budget
+recorded_body g h run = evaluate (setting (Some g.statics) record_table h.procedures) h.body run.vars run.recorder [] g.budget
 
 step_is : (items : List PlainItem) (step : HostStep (List ℕ)) → step_seen sent_of (recorded items step) ≡ step
 step_is items (Gives v sent effects) = refl
@@ -58,11 +58,12 @@ step_shows before (Faults f sent effects) =
 step_shows before (Asks call sent) = λ path. map-append item_of before.items _
 
 -- seen as the connection's host
-pub seen : (g : Setup) (h : Handler) (run : Run) → outcome_seen sent_of (recorded_body g h run) ≡ evaluate (body_setting g.statics) h.body run.vars run.recorder.sent [] g.budget
+pub seen : (g : Setup) (h : Handler) (run : Run) → outcome_seen sent_of (recorded_body g h run) ≡ evaluate (body_setting g.statics h.procedures) h.body run.vars run.recorder.sent [] g.budget
+unfolding evaluate
 seen g h run =
-    let same : SeenAs sent_of (setting (Some g.statics) record_table) (body_setting g.statics) =
-    record { statics = refl; steps = λ r words. step_is r.items (respond_table r.sent words) } in
-    eval_agrees sent_of (setting (Some g.statics) record_table) (body_setting g.statics) same h.body [] (state run.vars run.recorder [] g.budget 0 [])
+    let same : SeenAs sent_of (setting (Some g.statics) record_table h.procedures) (body_setting g.statics h.procedures) =
+    record { statics = refl; procedures = refl; steps = λ r words. step_is r.items (respond_table r.sent words) } in
+    wider_agrees sent_of (setting (Some g.statics) record_table h.procedures) (body_setting g.statics h.procedures) same inner_limit inner_limit h.body [] (state run.vars run.recorder [] g.budget 0 [])
 
 acts_shown : (acts : List Act) → flat_map shown_of acts ≡ map without_cost (map (act_item 0) acts)
 acts_shown [] = refl
@@ -71,9 +72,10 @@ acts_shown (a ∷ acts) = ap (λ x. without_cost (act_item 0 a) ∷ x) (acts_sho
 -- the items that it kept are those of the acts
 pub kept : (g : Setup) (h : Handler) (run : Run)
     → items_of (state_after (recorded_body g h run)).host ≡ items_of run.recorder ++ map without_cost (map (act_item 0) (state_after (recorded_body g h run)).acts)
+unfolding evaluate
 kept g h run =
-    let s = setting (Some g.statics) record_table in
+    let s = setting (Some g.statics) record_table h.procedures in
     let begin : State Recorder = state run.vars run.recorder [] g.budget 0 [] in
     let all : ShowsActs shown_of items_of begin (state_after (recorded_body g h run)) =
-    eval_keeps (ShowsActs shown_of items_of) s (shows shown_of items_of record_table (λ r words. step_shows r (respond_table r.sent words))) h.body [] begin in
+    host_shows s shown_of items_of (λ r words. step_shows r (respond_table r.sent words)) inner_limit inner_limit h.body [] begin in
     all.grown ∙ ap (λ x. items_of run.recorder ++ flat_map shown_of x) (sym all.acts) ∙ ap (λ x. items_of run.recorder ++ x) (acts_shown (state_after (recorded_body g h run)).acts)

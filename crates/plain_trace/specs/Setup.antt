@@ -6,12 +6,18 @@ use Rattle.event_order.specs.declared.event.EventName.TheVariants.{
   LbFailed,
   ClientClosed,
 }
+use Rattle.tcl_compile.specs.Procedures.{procs_view}
+use Rattle.tcl_compile.specs.TreeView.{node_view}
 use Rattle.connection_model.specs.Setup.{Handler, Setup}
 use Rattle.plain_trace.specs.declared.setup.PlainHandler.{PlainHandler}
 use Rattle.plain_trace.specs.declared.setup.PlainSetup.{PlainSetup}
 
 abbrev pub handler_of : PlainHandler → Handler
-handler_of h = record { rule = h.rule; body = h.body }
+handler_of h = record {
+  rule = h.rule;
+  procedures = procs_view h.procs;
+  body = node_view h.body;
+}
 
 -- no other event has a body
 abbrev pub handlers_of : PlainSetup → EventName → List Handler

@@ -5,7 +5,7 @@ ghost use Rattle.plain_trace.specs.Setup.{handler_of, handlers_of};
 
 use event_order::EventName;
 use px_bytes::{Seq, Text};
-use tcl_expr::{Procs, Tree};
+use tcl_compile::{Node, Procs};
 use tcl_vars::Vars;
 
 /// A body that a rule has for an event, with the rule's name and procedures.
@@ -13,7 +13,7 @@ use tcl_vars::Vars;
 pub struct PlainHandler {
     pub rule: Text,
     pub procs: Procs,
-    pub body: Tree,
+    pub body: Node,
 }
 
 /// What a virtual server runs.

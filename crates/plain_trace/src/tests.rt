@@ -5,43 +5,43 @@ use connection_model::Cause;
 use px_bytes::{FaultKind, M, Seq, Text};
 use std::alloc::Global;
 use std::test::Fail;
-use tcl_expr::{Procs, Tree, Verb};
+use tcl_compile::{Node, Procs, Verb};
 use tcl_vars::Vars;
 
-fn plain_word(alloc: Global, text: &[u8]) -> M<Tree> {
-    Ok(Tree::Word(vec![in alloc; Tree::Plain(Text::new(alloc, text)?)]?))
+fn plain_word(alloc: Global, text: &[u8]) -> M<Node> {
+    Ok(Node::Word(vec![in alloc; Node::Plain(Text::new(alloc, text)?)]?))
 }
 
 // `set x 7`
-fn set_x(alloc: Global) -> M<Tree> {
+fn set_x(alloc: Global) -> M<Node> {
     let set = plain_word(alloc, b"set")?;
     let x = plain_word(alloc, b"x")?;
     let seven = plain_word(alloc, b"7")?;
-    Ok(Tree::Command(Verb::Set, vec![in alloc; set, x, seven]?))
+    Ok(Node::Command(Verb::Set, vec![in alloc; set, x, seven]?))
 }
 
 // `set y $x`
-fn set_y(alloc: Global) -> M<Tree> {
+fn set_y(alloc: Global) -> M<Node> {
     let set = plain_word(alloc, b"set")?;
     let y = plain_word(alloc, b"y")?;
-    let x = Tree::Word(vec![in alloc; Tree::Variable(Text::new(alloc, b"x")?)]?);
-    Ok(Tree::Command(Verb::Set, vec![in alloc; set, y, x]?))
+    let x = Node::Word(vec![in alloc; Node::Variable(Text::new(alloc, b"x")?)]?);
+    Ok(Node::Command(Verb::Set, vec![in alloc; set, y, x]?))
 }
 
 // `TCP::respond "hi $x"`
-fn greet(alloc: Global) -> M<Tree> {
-    let hi = Tree::Plain(Text::new(alloc, b"hi ")?);
-    let x = Tree::Variable(Text::new(alloc, b"x")?);
-    let text = Tree::Word(vec![in alloc; hi, x]?);
+fn greet(alloc: Global) -> M<Node> {
+    let hi = Node::Plain(Text::new(alloc, b"hi ")?);
+    let x = Node::Variable(Text::new(alloc, b"x")?);
+    let text = Node::Word(vec![in alloc; hi, x]?);
     let name = plain_word(alloc, b"TCP::respond")?;
-    Ok(Tree::Command(Verb::Named, vec![in alloc; name, text]?))
+    Ok(Node::Command(Verb::Named, vec![in alloc; name, text]?))
 }
 
-fn handler(alloc: Global, rule: &[u8], commands: Vec<Tree>) -> M<PlainHandler> {
+fn handler(alloc: Global, rule: &[u8], commands: Vec<Node>) -> M<PlainHandler> {
     Ok(PlainHandler {
         rule: Text::new(alloc, rule)?,
         procs: Procs::new(alloc),
-        body: Tree::Body(commands),
+        body: Node::Script(commands),
     })
 }
 

@@ -1,12 +1,11 @@
 -- What is read from a document is what it says.
-use Rattle.std.proofs.Common.{◌≡◌, ℕ, ℤ, pos, List, [], ◌∷◌, true, cond, ◌&&◌, Option, Some, None}
+use Rattle.std.proofs.Common.{◌≡◌, ℕ, ℤ, pos, List, [], ◌∷◌, Bool, true, false, cond, ◌&&◌, Option, Some, None}
 use Rattle.std.proofs.Common.{refl, sym, ap, ◌∙◌, codes}
 use Rattle.std.specs.Prelude.{option_and_then}
 use Rattle.std.specs.Str.{bytes_eq}
 use Rattle.std.proofs.lemmas.Bool.{and_parts}
 use Rattle.std.proofs.lemmas.Bool.Decides.{Decides-int_eq}
 use Rattle.std.proofs.lemmas.Option.{option_and_then_some}
-use Rattle.tcl_words.proofs.Cuts.{found_if}
 use Rattle.toml.specs.Data.{Data, string, integer, table, Members, no_members, member, as_str}
 use Rattle.toml.specs.Data.{as_integer}
 use Rattle.proxy.specs.Config.Table.{has_keys, only_text, only_table, integer_at, only_table_at}
@@ -16,6 +15,11 @@ use Rattle.proxy.specs.Config.Reading.{rule_with, rule_reading, settings_with, i
 use Rattle.proxy.specs.Config.Reading.{settings_reading}
 use Rattle.proxy.proofs.ConfigTable.{same_bytes, bytes_same, first_key, no_keys, text_is}
 use Rattle.proxy.proofs.ConfigTable.{integer_is, only_text_is, only_table_is}
+
+-- a value that is found under a test
+found_if : {A : Type 0} (t : Bool) (x : Option A) (w : A) → cond t x None ≡ Some w → (t ≡ true) × (x ≡ Some w)
+found_if true x w h = (refl, h)
+found_if false x w h = absurd (cc)
 
 -- the members of the virtual server and of the rule
 abbrev server_members : Data → Data → Data → Members

@@ -9,7 +9,6 @@ pub mod ScheduleRows
 pub mod ConfigBuilds
 pub mod ConfigDocument
 pub mod ConfigRefusals
-pub mod ConfigRule
 pub mod ConfigTable
 pub mod Stopping
 pub mod LineStops

@@ -19,15 +19,15 @@ use Rattle.std.specs.Prelude.{
 use Rattle.std.specs.List.{AllPass}
 use Rattle.px_bytes.specs.Address.{addr_text, IsAddr}
 use Rattle.px_bytes.specs.declared.addr.Addr.{Addr}
-use Rattle.tcl_expr.specs.declared.tree.Tree.{Tree}
+use Rattle.rule_loader.specs.RuleText.{rule_body}
+use Rattle.tcl_compile.specs.TreeView.{node_view}
+use Rattle.tcl_compile.specs.declared.node.Node.{Node}
 use Rattle.toml.specs.Parse.{parse_document}
 use Rattle.proxy_core.specs.declared.config.Config.{Config}
 use Rattle.proxy.specs.Config.Document.{Texts, document_of}
-use Rattle.proxy.specs.Config.Rule.{RuleIs}
 pub mod Document
 pub mod Fault
 pub mod Reading
-pub mod Rule
 pub mod Table
 
 -- what a name is made of: ASCII letters and digits, `_`, `-`, `.` and `/`
@@ -42,7 +42,7 @@ IsName text = (0 < length text) × (length text ≤ 64) × AllPass is_name_byte 
 
 -- one virtual server with one rule, which has no procedures; the budget and the connections are
 -- those of every proxy today
-abbrev pub config_of : Texts → Addr → Tree → Config
+abbrev pub config_of : Texts → Addr → Node → Config
 config_of texts listen body =
     record {
       budget = 100000;
@@ -61,8 +61,8 @@ pub record Builds (texts : Texts) (C : Config) : Type 0 where
   pub listen : Addr
   pub listen_is : texts.listen ≡ addr_text listen
   pub listen_fits : IsAddr listen
-  pub body : Tree
-  pub rule : RuleIs texts.text body
+  pub body : Node
+  pub rule : rule_body texts.text ≡ Some (node_view body)
   pub config : C ≡ config_of texts listen body
 
 -- the bytes are UTF-8 and a TOML document (toml.io, v1.1.0), and that document is one of a virtual

@@ -7,16 +7,15 @@ ghost use Rattle.proxy.specs.Config.Reading.{seen};
 
 mod document;
 mod fault;
-mod rule;
 mod table;
 
 use crate::config::document::{Settings, read_settings};
-use crate::config::rule::compile_rule;
 pub use fault::ConfigFault;
 use proxy_core::{Config, Rule, Virtual};
 use px_bytes::{Addr, M, Seq, Text, read_addr};
+use rule_loader::read_rule;
 use std::alloc::Global;
-use tcl_expr::Tree;
+use tcl_compile::{Node, Procs};
 
 /// How many units each body may spend.
 const BUDGET: u32 = 100_000;
@@ -53,13 +52,13 @@ fn is_name(text: &[u8]) -> bool
 }
 
 /// The configuration of one virtual server with one rule.
-fn one_server(alloc: Global, settings: Settings<'_>, listen: Addr, body: Tree) -> M<Config>
+fn one_server(alloc: Global, settings: Settings<'_>, listen: Addr, body: Node) -> M<Config>
     ensures { IfOk result (λ C. C ≡ config_of (seen settings.entry) listen body) }
 {
     let mut rules = Seq::new(alloc);
     rules.push(Rule {
         name: Text::new(alloc, settings.rule)?,
-        procs: Seq::new(alloc),
+        procs: Procs::new(alloc),
         body,
     })?;
     let mut virtuals = Seq::new(alloc);
@@ -86,7 +85,7 @@ fn build(alloc: Global, settings: Settings<'_>) -> Result<Config, ConfigFault>
     let Some(listen) = read_addr(settings.listen) else {
         return Err(ConfigFault::NotBuilt);
     };
-    let body = compile_rule(alloc, settings.text)?;
+    let body = read_rule(alloc, settings.text)?;
     Ok(one_server(alloc, settings, listen, body)?)
 }
 

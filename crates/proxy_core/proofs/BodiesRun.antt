@@ -6,9 +6,13 @@ use Rattle.std.proofs.Math.Seq.{drop-cons}
 use Rattle.px_bytes.specs.declared.fault.TclFault.{TclFault}
 use Rattle.px_bytes.specs.declared.fault.Reply.{Reply}
 use Rattle.tcl_vars.specs.Scopes.{Scopes, Level}
-use Rattle.tcl_expr.specs.declared.tree.Tree.{Tree}
+use Rattle.tcl_compile.specs.Procedures.{Procedure}
+use Rattle.tcl_compile.specs.Tree.{Tree}
 use Rattle.rule_model.specs.Host.{HostStep}
-use Rattle.rule_model.specs.Evaluator.{Outcome, Ends, Waits, evaluate, state}
+use Rattle.rule_model.specs.Evaluator.{evaluate, inner_limit}
+use Rattle.rule_model.specs.Laws.{waits, asks}
+use Rattle.rule_model.specs.Outcome.{Outcome, Ends, Waits, state}
+use Rattle.rule_model.proofs.Facts.{never_waits}
 use Rattle.plain_eval.specs.declared.plain.Plain.{Plain}
 use Rattle.plain_eval.specs.declared.plain.Plain.TheVariants.{Waits as WaitsFor}
 use Rattle.plain_eval.specs.Plain.{IsOutcome}
@@ -18,7 +22,6 @@ use Rattle.connection_model.specs.Setup.{body_setting, uncaught_line}
 use Rattle.proxy_core.specs.Bodies.{BodiesEnd, Uncaught, after_body}
 use Rattle.proxy_core.specs.Runs.{BodyRuns}
 use Rattle.proxy_core.specs.declared.config.Rule.{Rule}
-use Rattle.proxy_core.proofs.NeverWaits.{waits, asks, eval_moves}
 
 if_asks : (b : Bool) (x y : HostStep (List ℕ)) → asks x ≡ false → asks y ≡ false → asks (if b then x else y) ≡ false
 if_asks true x y h k = h
@@ -38,12 +41,13 @@ no_wait (Ends c st) call vars sent replies w h = h
 no_wait (Waits p q st) call vars sent replies w h = cc
 
 -- a body that answers its client waits for nothing
-pub body_moves : (statics : Level) (tree : Tree) (vars : Scopes) (sent : List ℕ) (replies : List Reply) (budget : ℕ) → waits (evaluate (body_setting statics) tree vars sent replies budget) ≡ false
-body_moves statics tree vars sent replies budget = eval_moves (body_setting statics) table_answers tree [] (state vars sent replies budget 0 [])
+pub body_moves : (statics : Level) (procs : List Procedure) (tree : Tree) (vars : Scopes) (sent : List ℕ) (replies : List Reply) (budget : ℕ) → waits (evaluate (body_setting statics procs) tree vars sent replies budget) ≡ false
+unfolding evaluate
+body_moves statics procs tree vars sent replies budget = never_waits (body_setting statics procs) table_answers inner_limit inner_limit tree [] (state vars sent replies budget 0 [])
 
-pub body_ends : (statics : Level) (tree : Tree) (vars : Scopes) (sent : List ℕ) (replies : List Reply) (budget : ℕ) (plain : Plain) (call : List (List ℕ)) (vars' : Scopes) (sent' : List ℕ) → plain ≡ WaitsFor call → IsOutcome (evaluate (body_setting statics) tree vars sent replies budget) plain vars' sent' replies → ⊥
-body_ends statics tree vars sent replies budget plain call vars' sent' e h =
-    no_wait (evaluate (body_setting statics) tree vars sent replies budget) call vars' sent' replies (body_moves statics tree vars sent replies budget) (rw e at h)
+pub body_ends : (statics : Level) (procs : List Procedure) (tree : Tree) (vars : Scopes) (sent : List ℕ) (replies : List Reply) (budget : ℕ) (plain : Plain) (call : List (List ℕ)) (vars' : Scopes) (sent' : List ℕ) → plain ≡ WaitsFor call → IsOutcome (evaluate (body_setting statics procs) tree vars sent replies budget) plain vars' sent' replies → ⊥
+body_ends statics procs tree vars sent replies budget plain call vars' sent' e h =
+    no_wait (evaluate (body_setting statics procs) tree vars sent replies budget) call vars' sent' replies (body_moves statics procs tree vars sent replies budget) (rw e at h)
 
 -- where a body left no fault, the next goes on
 pub body_went : (name : List ℕ) (o : Outcome (List ℕ)) (vars : Scopes) (sent : List ℕ) (go : Scopes → List ℕ → BodiesEnd) → BodyRuns o None vars sent → after_body name o go ≡ go vars sent

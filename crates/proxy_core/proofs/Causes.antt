@@ -5,8 +5,8 @@ use Rattle.std.proofs.Common.{◌∷◌, ◌++◌, Bool, true, false, Option, So
 use Rattle.px_bytes.specs.declared.fault.FaultKind.{FaultKind}
 use Rattle.px_bytes.specs.declared.fault.TclFault.{TclFault}
 use Rattle.rule_model.specs.Host as effect
-use Rattle.rule_model.specs.Evaluator as act
-use Rattle.rule_model.specs.Evaluator.{Act, Did, Code, Outcome, Ends, Waits as Stops, uncaught_of}
+use Rattle.rule_model.specs.Outcome as act
+use Rattle.rule_model.specs.Outcome.{Act, Did, Code, Outcome, Ends, Waits as Stops, uncaught_of}
 use Rattle.connection_model.specs.declared.note.Cause.{Cause}
 use Rattle.connection_model.specs.declared.note.Cause.TheVariants.{Tcl, Unselected, Memory}
 use Rattle.event_order.specs.declared.event.EventName.TheVariants.{ClientAccepted}

@@ -1,4 +1,3 @@
-pub mod NeverWaits
 pub mod ReadyRing
 pub mod Places
 pub mod Queues

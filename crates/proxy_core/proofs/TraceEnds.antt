@@ -11,12 +11,13 @@ use Rattle.px_bytes.specs.declared.fault.TclFault.{TclFault}
 use Rattle.tcl_vars.specs.Scopes.{Scopes}
 use Rattle.rule_model.specs.Host as effect
 use Rattle.rule_model.specs.Host.{HostStep}
-use Rattle.rule_model.specs.Evaluator as act
-use Rattle.rule_model.specs.Evaluator.{Act, Did, State, state, Outcome, Ends, Waits as Stops, Code}
-use Rattle.rule_model.specs.Evaluator.{evaluate, uncaught_of}
-use Rattle.rule_model.specs.Laws.{state_after, Grows, StepShows, TableShows, ShowsActs}
-use Rattle.rule_model.proofs.Keeps.{eval_keeps}
-use Rattle.rule_model.proofs.Grown.{grows, shows}
+use Rattle.rule_model.specs.Outcome as act
+use Rattle.rule_model.specs.Outcome.{Act, Did, State, state, Outcome, Ends, Waits as Stops, Code, uncaught_of}
+use Rattle.rule_model.specs.Evaluator.{evaluate, inner_limit}
+use Rattle.rule_model.specs.Laws.{waits, state_after, StepShows, TableShows}
+use Rattle.rule_model.proofs.Facts.{acts_stay, host_shows}
+use Rattle.tcl_compile.specs.Procedures.{procs_view}
+use Rattle.tcl_compile.specs.TreeView.{node_view}
 use Rattle.connection_model.specs.declared.note.Cause.{Cause}
 use Rattle.connection_model.specs.declared.note.Cause.TheVariants.{Tcl, Unselected}
 use Rattle.connection_model.specs.declared.note.Note.{Note}
@@ -39,7 +40,6 @@ use Rattle.proxy_core.specs.Changes.{finish_notes, sent_at}
 use Rattle.proxy_core.specs.Setup.{handler_of}
 use Rattle.proxy_core.specs.declared.config.Rule.{Rule}
 use Rattle.proxy_core.proofs.BodiesRun.{body_moves}
-use Rattle.proxy_core.proofs.NeverWaits.{waits}
 
 -- the same items lead to one place
 same_does : (i : Item) (a b : TraceState) (o : Next) → o ≡ Does i a → o ≡ Does i b → a ≡ b
@@ -103,14 +103,14 @@ no_front [] left e = sym e
 no_front (r ∷ taken) left e = cc
 
 body_acts : (g : Setup) (c : ℕ) (h : Handler) (l : TraceState) → BodyActs c l (run_body g h l)
-unfolding bytes_of notes_by
+unfolding bytes_of notes_by evaluate
 body_acts g c h l =
-    let s = body_setting g.statics in
+    let s = body_setting g.statics h.procedures in
     let first = state l.vars l.host l.answers.replies g.budget 0 [] in
     let o = run_body g h l in
-    let sends = eval_keeps (ShowsActs (bytes_of l.servers) (λ x. x)) s (shows (bytes_of l.servers) (λ x. x) s.table (table_sends l.servers)) h.body [] first in
-    let logs = eval_keeps (ShowsActs (notes_by c l.servers) (λ x. [])) s (shows (notes_by c l.servers) (λ x. []) s.table (table_logs c l.servers)) h.body [] first in
-    let kept = eval_keeps Grows s (grows s.table) h.body [] first in
+    let sends = host_shows s (bytes_of l.servers) (λ x. x) (table_sends l.servers) inner_limit inner_limit h.body [] first in
+    let logs = host_shows s (notes_by c l.servers) (λ x. []) (table_logs c l.servers) inner_limit inner_limit h.body [] first in
+    let kept = acts_stay s inner_limit inner_limit h.body [] first in
     record {
       output = sends.grown ∙ ap (λ x. l.host ++ x) (sym (flat_map-map to_client (act_item l.servers) sends.new) ∙ ap (λ acts. client_output (map (act_item l.servers) acts)) (sym sends.acts));
       notes = ap (λ acts. notes_of c (map (act_item l.servers) acts)) logs.acts ∙ flat_map-map (note_of c) (act_item l.servers) logs.new ∙ sym logs.grown;
@@ -232,7 +232,8 @@ runs_to_end g only c [] l phase none = unselects g only c l phase
 runs_to_end g only c (rule ∷ rules) l phase none =
     let h = handler_of rule in
     let o = run_body g h l in
-    let same : o ≡ evaluate (body_setting g.statics) rule.body l.vars l.host [] g.budget = ap (λ r. evaluate (body_setting g.statics) rule.body l.vars l.host r g.budget) none in
-    let k = one_body g only c rule rules l o refl (body_moves g.statics rule.body l.vars l.host l.answers.replies g.budget) (body_acts g c h l) none (runs_to_end g only c rules) in
+    let given = body_setting g.statics (procs_view rule.procs) in
+    let same : o ≡ evaluate given (node_view rule.body) l.vars l.host [] g.budget = ap (λ r. evaluate given (node_view rule.body) l.vars l.host r g.budget) none in
+    let k = one_body g only c rule rules l o refl (body_moves g.statics (procs_view rule.procs) (node_view rule.body) l.vars l.host l.answers.replies g.budget) (body_acts g c h l) none (runs_to_end g only c rules) in
     let P : TraceState → Outcome (List ℕ) → Type 0 = λ s x. ToEnd g c s (goes_on rule.name x (bodies_end g.statics g.budget rules)) in
     subst (λ x. P l x) same (subst (λ s. P s o) (in_phase l (Accepted (Running h (map handler_of rules) 0)) phase) k)

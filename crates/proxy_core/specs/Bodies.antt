@@ -4,7 +4,10 @@ use Rattle.std.specs.Prelude.{ℕ, List, [], ◌∷◌, Option, Some, None}
 use Rattle.px_bytes.specs.declared.fault.FaultKind.{FaultKind}
 use Rattle.px_bytes.specs.declared.fault.TclFault.{TclFault}
 use Rattle.tcl_vars.specs.Scopes.{Scopes, Level}
-use Rattle.rule_model.specs.Evaluator.{Outcome, Ends, Waits, State, evaluate, uncaught_of}
+use Rattle.tcl_compile.specs.Procedures.{procs_view}
+use Rattle.tcl_compile.specs.TreeView.{node_view}
+use Rattle.rule_model.specs.Evaluator.{evaluate}
+use Rattle.rule_model.specs.Outcome.{Outcome, Ends, Waits, State, uncaught_of}
 use Rattle.event_order.specs.declared.event.EventName.TheVariants.{ClientAccepted}
 use Rattle.connection_model.specs.Setup.{body_setting, uncaught_line}
 use Rattle.proxy_core.specs.declared.config.Rule.{Rule}
@@ -32,5 +35,6 @@ after_body rule (Waits path call st) go = AtCall call st.vars st.host
 abbrev pub bodies_end : Level → ℕ → List Rule → Scopes → List ℕ → BodiesEnd
 bodies_end statics budget [] vars sent = AllRan vars sent
 bodies_end statics budget (rule ∷ rules) vars sent =
-    after_body rule.name (evaluate (body_setting statics) rule.body vars sent [] budget)
+    let given = body_setting statics (procs_view rule.procs) in
+    after_body rule.name (evaluate given (node_view rule.body) vars sent [] budget)
     (bodies_end statics budget rules)

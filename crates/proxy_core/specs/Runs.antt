@@ -3,7 +3,7 @@ use Rattle.std.specs.Prelude.{◌≡◌, ◌≤◌, ℕ, List, [], ◌∷◌, �
 use Rattle.px_bytes.specs.Roomy.{Roomy}
 use Rattle.px_bytes.specs.declared.fault.TclFault.{TclFault}
 use Rattle.tcl_vars.specs.Scopes.{Scopes, Level}
-use Rattle.rule_model.specs.Evaluator.{Outcome, Ends, Waits, uncaught_of}
+use Rattle.rule_model.specs.Outcome.{Outcome, Ends, Waits, uncaught_of}
 use Rattle.proxy_core.specs.Bodies.{BodiesEnd, AllRan, Uncaught, bodies_end}
 use Rattle.proxy_core.specs.Changes.{rules_of}
 use Rattle.proxy_core.specs.declared.config.Config.{Config}

@@ -1,5 +1,7 @@
 -- The setup of a connection, by the configuration and the name of its virtual server.
 use Rattle.std.specs.Prelude.{ℕ, List, [], map, slice_get, option_and_then}
+use Rattle.tcl_compile.specs.Procedures.{procs_view}
+use Rattle.tcl_compile.specs.TreeView.{node_view}
 use Rattle.tcl_vars.specs.Scopes.{no_scopes}
 use Rattle.event_order.specs.declared.event.EventName.{EventName}
 use Rattle.event_order.specs.declared.event.EventName.TheVariants.{ClientAccepted}
@@ -11,7 +13,11 @@ use Rattle.proxy_core.specs.declared.config.Config.{Config}
 use Rattle.proxy_core.specs.declared.config.Rule.{Rule}
 
 abbrev pub handler_of : Rule → Handler
-handler_of rule = record { rule = rule.name; body = rule.body }
+handler_of rule = record {
+  rule = rule.name;
+  procedures = procs_view rule.procs;
+  body = node_view rule.body;
+}
 
 -- the bodies of an event, in order: today's rules have one for CLIENT_ACCEPTED
 abbrev pub handlers_in : List Rule → EventName → List Handler

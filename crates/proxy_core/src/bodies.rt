@@ -3,6 +3,8 @@
 ghost use Rattle.std.specs.Prelude.{◌≡◌, [], IfOk};
 ghost use Rattle.rule_model.specs.Evaluator.{evaluate};
 ghost use Rattle.connection_model.specs.Setup.{body_setting};
+ghost use Rattle.tcl_compile.specs.Procedures.{procs_view};
+ghost use Rattle.tcl_compile.specs.TreeView.{node_view};
 ghost use Rattle.proxy_core.specs.Bodies.{bodies_end};
 
 use crate::config::Rule;
@@ -57,8 +59,9 @@ fn run_body(
     vars: &mut Vars,
     host: &mut Responder,
 ) -> M<Option<TclFault>>
-    ensures { IfOk result (λ fault. BodyRuns
-        (evaluate (body_setting statics.now.statics) rule.now.body vars.old host.old [] budget)
+    ensures { let given = body_setting statics.now.statics (procs_view rule.now.procs) in
+        let tree = node_view rule.now.body in
+        IfOk result (λ fault. BodyRuns (evaluate given tree vars.old host.old [] budget)
         fault vars.new host.new) }
 {
     let replies = Replies::new(alloc);

@@ -1,14 +1,14 @@
 // What a proxy serves.
 
 use px_bytes::{Addr, Seq, Text};
-use tcl_expr::{Procs, Tree};
+use tcl_compile::{Node, Procs};
 
 /// A rule: its procedures, and the body that it runs at CLIENT_ACCEPTED.
 #[derive(Drop)]
 pub struct Rule {
     pub name: Text,
     pub procs: Procs,
-    pub body: Tree,
+    pub body: Node,
 }
 
 /// A virtual server, with its rules in order.

@@ -1,6 +1,7 @@
-pub mod Keeps
-pub mod Grown
-pub mod Longer
-pub mod Seen
+pub mod Alike
+pub mod Pieces
+pub mod Bodies
+pub mod Calls
 pub mod Trees
-pub mod Rows
+pub mod Facts
+pub mod Pairs

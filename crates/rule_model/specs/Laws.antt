@@ -1,11 +1,17 @@
 -- What holds of every evaluation.
-use Rattle.std.specs.Prelude.{◌≡◌, ℕ, ◌≤◌, List, ◌++◌, map}
+use Rattle.std.specs.Prelude.{◌≡◌, ℕ, ◌≤◌, List, ◌∷◌, ◌++◌, map, Bool, true, false}
 use Rattle.std.specs.List.{flat_map}
 use Rattle.px_bytes.specs.declared.fault.Reply.{Reply}
-use Rattle.tcl_expr.specs.declared.tree.Tree.{Tree}
+use Rattle.tcl_vars.specs.Scopes.{Level}
+use Rattle.tcl_compile.specs.Tree.{Tree}
 use Rattle.rule_model.specs.Host.{HostStep, Gives, Faults, Asks}
-use Rattle.rule_model.specs.Evaluator.{Act, Did, Called, State, state, Outcome, Ends, Waits}
-use Rattle.rule_model.specs.Evaluator.{Setting, eval}
+use Rattle.rule_model.specs.Outcome.{Act, Did, Called, State, state, Outcome, Ends, Waits, Meaning}
+use Rattle.rule_model.specs.Setting.{Setting}
+use Rattle.rule_model.specs.Evaluator.{eval, inner}
+
+-- a tree's meaning where so many expressions and calls may still stand inside one another
+abbrev pub meaning : {H : Type 0} → Setting H → (expressions calls : ℕ) → Tree → Meaning H
+meaning g expressions calls tree = eval g (inner g expressions calls) tree
 
 -- where an evaluation stands when it ends or waits
 abbrev pub state_after : {H : Type 0} → Outcome H → State H
@@ -22,8 +28,9 @@ pub record Grows {H : Type 0} (before after : State H) : Type 0 where
 
 -- what was done before an evaluation stays in front of all that it does
 abbrev pub ActsStay : Type 0 → Type 0
-ActsStay H = (g : Setting H) (tree : Tree) (path : List ℕ) (st : State H)
-    → Grows st (state_after (eval g tree path st))
+ActsStay H =
+    (g : Setting H) (expressions calls : ℕ) (tree : Tree) (path : List ℕ) (st : State H)
+    → Grows st (state_after (meaning g expressions calls tree path st))
 
 -- the state with these replies behind its own
 abbrev pub with_more : {H : Type 0} → List Reply → State H → State H
@@ -39,8 +46,10 @@ Lengthens more (Waits path call st) longer =
 -- replies that are added behind those that an evaluation took don't change it
 abbrev pub MoreRepliesOnlyLengthen : Type 0 → Type 0
 MoreRepliesOnlyLengthen H =
-    (g : Setting H) (tree : Tree) (path : List ℕ) (st : State H) (more : List Reply)
-    → Lengthens more (eval g tree path st) (eval g tree path (with_more more st))
+    (g : Setting H) (expressions calls : ℕ) (tree : Tree) (path : List ℕ) (st : State H)
+    (more : List Reply)
+    → Lengthens more (meaning g expressions calls tree path st)
+    (meaning g expressions calls tree path (with_more more st))
 
 -- A host command adds to what is shown of the host's state what is shown of its acts.
 abbrev pub StepShows : {H M : Type 0} → (Act → List M) → (H → List M) → H → HostStep H → Type 0
@@ -68,8 +77,8 @@ pub record ShowsActs {H M : Type 0} (of : Act → List M) (shown : H → List M)
 abbrev pub HostShowsActs : Type 0 → Type 0 → Type 0
 HostShowsActs H M =
     (g : Setting H) (of : Act → List M) (shown : H → List M) → TableShows of shown g.table
-    → (tree : Tree) (path : List ℕ) (st : State H)
-    → ShowsActs of shown st (state_after (eval g tree path st))
+    → (expressions calls : ℕ) (tree : Tree) (path : List ℕ) (st : State H)
+    → ShowsActs of shown st (state_after (meaning g expressions calls tree path st))
 
 -- what a host command gives, where only this view of the host's state is seen
 abbrev pub step_seen : {H K : Type 0} → (K → H) → HostStep K → HostStep H
@@ -84,10 +93,11 @@ abbrev pub outcome_seen : {H K : Type 0} → (K → H) → Outcome K → Outcome
 outcome_seen view (Ends code st) = Ends code (state_seen view st)
 outcome_seen view (Waits path call st) = Waits path call (state_seen view st)
 
--- The two settings read the same static variables, and each host command of the wider one, where
--- only the view of its host is seen, is that of the other.
+-- The two settings have the same static variables and procedures, and each host command of the wider
+-- one, where only the view of its host is seen, is that of the other.
 pub record SeenAs {H K : Type 0} (view : K → H) (wide : Setting K) (plain : Setting H) : Type 0 where
   pub statics : wide.statics ≡ plain.statics
+  pub procedures : wide.procedures ≡ plain.procedures
   pub steps : (host : K) (words : List (List ℕ))
       → step_seen view (wide.table host words) ≡ plain.table (view host) words
 
@@ -96,5 +106,35 @@ pub record SeenAs {H K : Type 0} (view : K → H) (wide : Setting K) (plain : Se
 abbrev pub WiderHostAgrees : Type 0 → Type 0 → Type 0
 WiderHostAgrees H K =
     (view : K → H) (wide : Setting K) (plain : Setting H) → SeenAs view wide plain
-    → (tree : Tree) (path : List ℕ) (st : State K)
-    → outcome_seen view (eval wide tree path st) ≡ eval plain tree path (state_seen view st)
+    → (expressions calls : ℕ) (tree : Tree) (path : List ℕ) (st : State K)
+    → outcome_seen view (meaning wide expressions calls tree path st)
+    ≡ meaning plain expressions calls tree path (state_seen view st)
+
+-- a host command asks no shared call
+abbrev pub asks : {H : Type 0} → HostStep H → Bool
+asks (Gives v host effects) = false
+asks (Faults f host effects) = false
+asks (Asks call host) = true
+
+abbrev pub waits : {H : Type 0} → Outcome H → Bool
+waits (Ends code st) = false
+waits (Waits path call st) = true
+
+-- where no host command asks, no evaluation waits
+abbrev pub AskedByNoneWaitsNever : Type 0 → Type 0
+AskedByNoneWaitsNever H =
+    (g : Setting H) → ((host : H) (words : List (List ℕ)) → asks (g.table host words) ≡ false)
+    → (expressions calls : ℕ) (tree : Tree) (path : List ℕ) (st : State H)
+    → waits (meaning g expressions calls tree path st) ≡ false
+
+-- the levels outside the innermost are as they were, where an evaluation ends
+abbrev pub KeepsOuter : {H : Type 0} → List Level → Outcome H → Type 0
+KeepsOuter outer (Ends code st) = (level : Level) × (st.vars.levels ≡ level ∷ outer)
+KeepsOuter outer (Waits path call st) = Unit {0}
+
+-- proc(n): a procedure sees variables of its own, so those of its callers stay as they are
+abbrev pub CallersVariablesStay : Type 0 → Type 0
+CallersVariablesStay H =
+    (g : Setting H) (expressions calls : ℕ) (tree : Tree) (path : List ℕ) (st : State H)
+    (level : Level) (outer : List Level) → st.vars.levels ≡ level ∷ outer
+    → KeepsOuter outer (meaning g expressions calls tree path st)

@@ -2,6 +2,8 @@
 
 ghost use Rattle.rule_model.specs.Laws.{
   ActsStay,
+  AskedByNoneWaitsNever,
+  CallersVariablesStay,
   HostShowsActs,
   MoreRepliesOnlyLengthen,
   WiderHostAgrees,
@@ -25,4 +27,14 @@ pub fn host_shows_acts<H, M>()
 /// A host that also holds what no command reads evaluates alike.
 pub fn wider_host_agrees<H, K>()
     ensures { WiderHostAgrees H K }
+{}
+
+/// Where no host command asks, no evaluation waits.
+pub fn asked_by_none_waits_never<H>()
+    ensures { AskedByNoneWaitsNever H }
+{}
+
+/// A procedure leaves its callers' variables as they are.
+pub fn callers_variables_stay<H>()
+    ensures { CallersVariablesStay H }
 {}

@@ -1,10 +1,10 @@
 -- Quotients times their divisor, and remainders, add up.
 use Rattle.std.proofs.Common.{◌≡◌, ℤ, pos, negsuc, neg_ℤ, ◌+ℤ◌, ◌*ℤ◌, ℕ, zero, suc, ◌+◌, ◌-◌, ◌*◌}
-use Rattle.std.proofs.Common.{◌/◌, ◌%◌, ◌<◌, ap, refl, sym, ◌∙◌, arith}
+use Rattle.std.proofs.Common.{◌/◌, ◌%◌, ◌<◌, ap, refl, arith}
 use Rattle.std.proofs.lemmas.Nat.{div-add-mod'}
 use Rattle.tcl_expr.specs.Operators.{quotient, remainder}
-use Rattle.tcl_expr.specs.DivisionLaw.{IsLeftBy, Divides, DivisionAddsUp}
-use borrow.Author.Differences.{up, down, same_in, same_out, sum_is_lem, neg_is, product_is}
+use Rattle.tcl_expr.specs.DivisionLaw.{DivisionAddsUp}
+use borrow.Author.Differences.{same_in, same_out, sum_is_lem, neg_is, product_is}
 
 succ_times : (m d : ℕ) → suc m * d ≡ m * d + d
 succ_times m d = omega arith

@@ -1,21 +1,17 @@
 -- Expressions as the tables give them.
-use Rattle.std.proofs.Common.{◌≡◌, ℕ, List, [], ◌∷◌, refl, Ok, Err}
+use Rattle.std.proofs.Common.{◌≡◌, refl, Err}
 use Rattle.std.specs.Prelude.{codes}
 use Rattle.tcl_words.specs.Faults.{noted, closed, comes_first}
 use Rattle.tcl_words.specs.Reading.{read_braced}
 use Rattle.tcl_words.specs.Skips.{skip, spaces_end}
 use Rattle.tcl_words.specs.Values.{many, braces, ends_braces, brace_unit_end, deepened}
 use Rattle.tcl_words.specs.Places.{after_blank, stands, opens_name, starts_variable, skips_newline}
-use Rattle.tcl_expr.specs.Expression.{Expression, literal, prefixed, row, choice, no_more, more, no_cases, case}
 use Rattle.tcl_expr.specs.Precedence.{Precedence}
 use Rattle.tcl_expr.specs.ExpressionReading.{expression, enclosed_at, whole_at, cases_at, row_at, more_at}
 use Rattle.tcl_expr.specs.ExpressionReading.{prefixes_at, operand_at, literal_at, closed_by, taken}
 use Rattle.tcl_expr.specs.Tokens.{white_stands, white_end, reads_word, prefix_at, joint_at}
 use Rattle.tcl_expr.specs.Tokens.{digit_stands, digits_end, number_end}
-use Rattle.tcl_expr.specs.declared.expr.Joint.TheVariants.{Both, And, Or}
-use Rattle.tcl_expr.specs.declared.expr_fault.Misread.TheVariants.{Syntax, TooDeep}
-use Rattle.tcl_expr.specs.declared.operator.Op1.TheVariants.{Neg, Not}
-use Rattle.tcl_expr.specs.declared.operator.Op2.TheVariants.{Mul, Add, Sub, NumEq}
+use Rattle.tcl_expr.specs.declared.expr_fault.Misread.TheVariants.{Syntax}
 
 record Rows : Type 0 where
   -- a text that ends too soon

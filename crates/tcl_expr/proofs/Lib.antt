@@ -2,9 +2,6 @@ pub mod ExpressionRows
 pub mod ExpressionViews
 pub mod RowTurns
 pub mod ReadingCases
-pub mod Rows
-pub mod Seen
-pub mod Small
 pub mod Values
 pub mod DivisionAddsUp
 pub mod Exact

@@ -1,13 +1,13 @@
 -- The turns of a row of operators, and of conditions with their values.
 use Rattle.std.proofs.Common.{◌≡◌, ℕ, zero, suc, ◌+◌, ◌-◌, ◌<◌, ◌≤◌, List, [], ◌∷◌, ◌++◌, length}
 use Rattle.std.specs.declared.alloc.Global.{Global}
-use Rattle.std.proofs.Common.{Vec, Option, Some, None, Bool, true, false, cond, refl, sym, ap, ◌∙◌, arith}
-use Rattle.std.specs.Prelude.{Result, Ok, Err}
+use Rattle.std.proofs.Common.{Vec, Some, None, true, false, cond, refl, sym, ap, ◌∙◌, arith}
+use Rattle.std.specs.Prelude.{Ok, Err}
 use Rattle.tcl_words.specs.Places.{stands}
 use Rattle.tcl_words.specs.Skips.{turns}
 use Rattle.tcl_expr.specs.Expression.{Expression, More, no_more, more, Cases, no_cases, case}
 use Rattle.tcl_expr.specs.ExpressionReading.{Read, and_then, closed_by, with_joint, more_at}
-use Rattle.tcl_expr.specs.ExpressionReading.{with_case, cases_at, choice_of}
+use Rattle.tcl_expr.specs.ExpressionReading.{with_case, cases_at}
 use Rattle.tcl_expr.specs.ExpressionView.{expr_view, more_view, cases_view}
 use Rattle.tcl_expr.specs.Tokens.{joint_at, white_end}
 use Rattle.tcl_expr.specs.declared.expr.Expr as code

@@ -1,5 +1,5 @@
 -- Tests of one text by another.
-use Rattle.std.proofs.Common.{◌≡◌, ℕ, ◌≤◌, Bool, true, List, length, take, drop, nat_eq}
+use Rattle.std.proofs.Common.{◌≡◌, ℕ, ◌≤◌, true, List, length, take, drop, nat_eq}
 use Rattle.std.proofs.Common.{Option, Some, None, is_some, sym, ap, arith}
 use Rattle.std.specs.List.{starts_with}
 use Rattle.std.proofs.lemmas.Bool.{false_from_ne_true}

@@ -1,4 +1,3 @@
-pub mod Compile
 pub mod DivisionLaw
 pub mod Expression
 pub mod ExpressionReading

@@ -1,6 +1,5 @@
 -- What a reader of expressions gave, beside what the text says. Want of memory is free.
 use Rattle.std.specs.Prelude.{◌≡◌, ℕ, Result, Ok, Err, ⊤}
-use Rattle.tcl_expr.specs.Expression.{Expression}
 use Rattle.tcl_expr.specs.ExpressionReading.{Read}
 use Rattle.tcl_expr.specs.declared.expr_fault.ExprFault.{ExprFault}
 use Rattle.tcl_expr.specs.declared.expr_fault.ExprFault.TheVariants.{Fault, Memory}

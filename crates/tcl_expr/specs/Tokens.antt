@@ -11,7 +11,6 @@ use Rattle.tcl_expr.specs.declared.expr.Joint.{Joint}
 use Rattle.tcl_expr.specs.declared.expr.Joint.TheVariants.{Both, And, Or}
 use Rattle.tcl_expr.specs.declared.operator.Op1.{Op1}
 use Rattle.tcl_expr.specs.declared.operator.Op1.TheVariants.{Plus, Neg, BitNot, Not}
-use Rattle.tcl_expr.specs.declared.operator.Op2.{Op2}
 use Rattle.tcl_expr.specs.declared.operator.Op2.TheVariants.{
   Mul,
   Div,

@@ -1,11 +1,9 @@
-//! Scripts as trees, and the operators of expressions.
+//! Expressions as they are read, and the operators of expressions.
 #![tactic(auto)]
 
 mod apply;
 mod arithmetic;
 mod comparison;
-mod compile;
-mod compile_fault;
 mod division;
 mod expr;
 mod expr_fault;
@@ -18,19 +16,13 @@ mod operator;
 mod operator_fault;
 mod operator_rows;
 mod prefixes;
-mod procs;
 mod tokens;
-mod tree;
 mod truth;
 
 pub use apply::{apply1, apply2};
-pub use compile::{compile_small, small_is_built};
-pub use compile_fault::CompileFault;
 pub use expr::{Expr, Joint};
 pub use expr_fault::{ExprFault, Misread};
 pub use expr_reader::{parse_expr, parse_expr_within};
 pub use laws::{division_adds_up, precedence};
 pub use operator::{Op1, Op2};
-pub use procs::{Proc, Procs};
-pub use tree::{Tree, Verb};
 pub use truth::read_truth;

@@ -5,7 +5,9 @@
 mod bytes;
 mod commands;
 mod compiled;
+mod evaluated;
 mod expressions;
+mod host;
 mod lists;
 mod numbers;
 mod operators;
@@ -73,6 +75,9 @@ fn answer(alloc: Global, question: &Question) -> M<Option<Text>> {
         return Ok(Some(answer));
     }
     if let Some(answer) = expressions::answer(alloc, question)? {
+        return Ok(Some(answer));
+    }
+    if let Some(answer) = evaluated::answer(alloc, question)? {
         return Ok(Some(answer));
     }
     words::answer(alloc, question)

@@ -1,7 +1,6 @@
 -- The trees of values, one level at a time.
 use Rattle.std.proofs.Common.{◌≡◌, ℕ, List, map, rules, Vec}
 use Rattle.std.specs.declared.alloc.Global.{Global}
-use Rattle.tcl_words.specs.Next.{command_end}
 use Rattle.tcl_words.specs.Tree.{plain, variable, element, bracket, word, command}
 use Rattle.tcl_words.specs.View.{script_view, command_view, word_view, part_view, commands_of}
 use Rattle.tcl_words.specs.View.{words_of, parts_of}
@@ -16,9 +15,6 @@ use Rattle.tcl_words.specs.declared.script.Word.{out-Word}
 
 pub view-Script : (v : Vec code_command.Command Global) → script_view (roll-Script (record { commands = v })) ≡ commands_of (map command_view v.items)
 view-Script v = search (rules, the_lemmas)
-
-pub view-end : (c : code_command.Command) → command_end (command_view c) ≡ (out-Command c).span.end
-view-end c = search (rules, the_lemmas)
 
 -- for the crates that go over a script
 pub script-commands : (s : Script) → script_view s ≡ commands_of (map command_view (out-Script s).commands.items)

@@ -3,8 +3,7 @@
 ghost use Rattle.std.specs.Prelude.{◌≡◌};
 
 use px_bytes::Memory;
-use tcl_expr::CompileFault;
-use tcl_words::SmallFault;
+use rule_loader::RuleFault;
 
 /// Why no configuration was given: the document isn't one that is built today, or memory was
 /// refused.
@@ -26,28 +25,15 @@ impl From<Memory> for ConfigFault {
     }
 }
 
-impl From<SmallFault> for ConfigFault {
-    ghost use Rattle.proxy.specs.Config.Fault.{of_words};
+impl From<RuleFault> for ConfigFault {
+    ghost use Rattle.proxy.specs.Config.Fault.{of_rule};
 
-    ghost from_gives = { λ f e. e ≡ of_words f };
+    ghost from_gives = { λ f e. e ≡ of_rule f };
 
-    fn from(fault: SmallFault) -> Self {
+    fn from(fault: RuleFault) -> Self {
         match fault {
-            SmallFault::NotBuilt => ConfigFault::NotBuilt,
-            SmallFault::Memory => ConfigFault::Memory,
-        }
-    }
-}
-
-impl From<CompileFault> for ConfigFault {
-    ghost use Rattle.proxy.specs.Config.Fault.{of_tree};
-
-    ghost from_gives = { λ f e. e ≡ of_tree f };
-
-    fn from(fault: CompileFault) -> Self {
-        match fault {
-            CompileFault::NotBuilt => ConfigFault::NotBuilt,
-            CompileFault::Memory => ConfigFault::Memory,
+            RuleFault::NotBuilt => ConfigFault::NotBuilt,
+            RuleFault::Memory => ConfigFault::Memory,
         }
     }
 }

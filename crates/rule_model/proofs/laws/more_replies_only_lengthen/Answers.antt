@@ -1,5 +1,5 @@
-use Rattle.rule_model.proofs.Longer.{eval_longer}
+use Rattle.rule_model.proofs.Pairs.{more_replies}
 use Rattle.rule_model.proofs.laws.more_replies_only_lengthen.Goals as goal
 
 pub returns : goal.returns
-returns g c = eval_longer
+returns g c = more_replies

@@ -1,5 +1,5 @@
-use Rattle.rule_model.proofs.Seen.{eval_agrees}
+use Rattle.rule_model.proofs.Pairs.{wider_agrees}
 use Rattle.rule_model.proofs.laws.wider_host_agrees.Goals as goal
 
 pub returns : goal.returns
-returns g c = eval_agrees
+returns g c = wider_agrees

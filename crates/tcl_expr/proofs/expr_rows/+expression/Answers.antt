@@ -1,4 +1,4 @@
-use Rattle.std.proofs.Common.{◌≡◌, ◌-◌, List, [], sym, ap, subst, ◌∙◌, arith, true, false, refl, rules}
+use Rattle.std.proofs.Common.{◌≡◌, ◌-◌, sym, ap, subst, ◌∙◌, arith, true, false, rules}
 use Rattle.std.specs.Prelude.{Ok, Err}
 use Rattle.tcl_expr.specs.ExpressionReading.{and_then, closed_by, operand_at, row_at, enclosed_at, more_at}
 use Rattle.tcl_expr.specs.ExpressionReading.{whole_at, row_of, prefixed_by}

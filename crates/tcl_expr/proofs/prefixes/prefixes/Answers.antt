@@ -1,4 +1,4 @@
-use Rattle.std.proofs.Common.{◌≡◌, ◌++◌, ◌∷◌, [], List, sym, ap, subst, ◌∙◌, arith}
+use Rattle.std.proofs.Common.{sym, subst, ◌∙◌, arith}
 use Rattle.tcl_expr.proofs.PrefixTurns.{PrefixesTo, prefixes_begin, prefixes_turn, prefixes_end, none_left}
 use Rattle.tcl_expr.proofs.prefixes.prefixes.Goals as goal
 

@@ -1,4 +1,4 @@
-use Rattle.std.proofs.Common.{rules, ◌≡◌, ◌<◌, length, subst, sym, arith}
+use Rattle.std.proofs.Common.{rules, ◌<◌, length, subst, sym, arith}
 use Rattle.std.proofs.lemmas.List.Elements.{All-get_or}
 use Rattle.tcl_expr.proofs.tokens.first_word.Goals as goal
 

@@ -1,4 +1,4 @@
-use Rattle.std.proofs.Common.{◌≡◌, ◌≤◌, length, drop, map}
+use Rattle.std.proofs.Common.{◌≡◌, drop, map}
 use Rattle.tcl_expr.specs.Tokens.{first_word}
 use Rattle.tcl_expr.proofs.tokens.first_word.Given as goal
 

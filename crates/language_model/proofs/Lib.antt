@@ -1,7 +1,0 @@
-pub mod Alike
-pub mod Pieces
-pub mod Bodies
-pub mod Calls
-pub mod Trees
-pub mod Facts
-pub mod Pairs

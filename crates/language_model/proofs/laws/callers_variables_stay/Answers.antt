@@ -1,5 +1,0 @@
-use Rattle.language_model.proofs.Facts.{callers_stay}
-use Rattle.language_model.proofs.laws.callers_variables_stay.Goals as goal
-
-pub returns : goal.returns
-returns g c = callers_stay

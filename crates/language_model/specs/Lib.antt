@@ -1,9 +1,0 @@
-pub mod Host
-pub mod Outcome
-pub mod Words
-pub mod Expressions
-pub mod Control
-pub mod Setting
-pub mod Commands
-pub mod Evaluator
-pub mod Laws

@@ -1,9 +1,0 @@
-//! What a rule does: the evaluator's definition and its laws.
-#![tactic(auto)]
-
-mod laws;
-
-pub use laws::{
-    acts_stay, asked_by_none_waits_never, callers_variables_stay, host_shows_acts,
-    more_replies_only_lengthen, wider_host_agrees,
-};
