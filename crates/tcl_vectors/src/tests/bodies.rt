@@ -1,4 +1,4 @@
-// Bodies that ask shared calls, and the deepest nesting.
+// Bodies that ask shared calls, one that never ends, and the deepest nesting.
 
 ghost use Rattle.std.specs.Prelude.{◌≡◌, IfOk};
 ghost use Rattle.tcl_vectors.specs.Host.{asks_always};
@@ -52,7 +52,15 @@ fn run(alloc: Global, tree: &Node, procs: &Procs, answers: &Replies) -> M<Plain>
     let mut vars = Vars::new(alloc);
     let mut host = AskingHost {};
     eval_plain(
-        alloc, tree, procs, None, &mut vars, &mut host, &(), answers, 1_000_000,
+        alloc,
+        tree,
+        procs,
+        None,
+        &mut vars,
+        &mut host,
+        &(),
+        answers,
+        1_000_000,
     )
 }
 
@@ -79,7 +87,8 @@ fn joined(alloc: Global, words: &Texts) -> M<Text> {
     Ok(text)
 }
 
-const CAUGHT: &[u8] = b"set c [catch { foreach k {a b} { lappend r [expr {[table lookup $k] + 1}] } } m]; return \"$c $m $r\"";
+const CAUGHT: &[u8] = b"set c [catch { foreach k {a b} { \
+    lappend r [expr {[table lookup $k] + 1}] } } m]; return \"$c $m $r\"";
 
 #[test]
 fn a_fault_of_a_shared_call_is_caught(rt: HostRuntime) -> Result<(), Fail> {
@@ -98,6 +107,16 @@ fn a_fault_of_a_shared_call_is_caught(rt: HostRuntime) -> Result<(), Fail> {
     }))?;
     let end = told(alloc, run(alloc, &tree, &procs, &answers)?)?;
     assert_eq!(rt; end.as_bytes(), b"1 session table full 5".as_slice());
+    Ok(())
+}
+
+#[test]
+fn a_loop_without_end_spends_the_greatest_budget(rt: HostRuntime) -> Result<(), Fail> {
+    let alloc = rt.alloc();
+    let tree = tree_of(alloc, b"set turns 0; while 1 {incr turns}")?;
+    let plain = run(alloc, &tree, &Procs::new(alloc), &Replies::new(alloc))?;
+    let end = told(alloc, plain)?;
+    assert_eq!(rt; end.as_bytes(), b"step budget spent".as_slice());
     Ok(())
 }
 
