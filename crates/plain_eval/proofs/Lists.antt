@@ -11,12 +11,29 @@ use Rattle.px_bytes.specs.Gives.{with_value as if_ok}
 use Rattle.px_bytes.specs.declared.fault.TclFault.{TclFault}
 use Rattle.tcl_expr.specs.Operators.{operator_value_1}
 use Rattle.tcl_expr.specs.declared.operator.Op1.{Op1}
-use Rattle.rule_model.specs.Control.{is_glob, Row, with_row}
+use Rattle.rule_model.specs.Control.{hits, is_glob, Row, with_row}
 use Rattle.rule_model.specs.Expressions.{prefixed_value}
 use Rattle.tcl_compile.specs.declared.node.Node.{Node, out-Node}
-use Rattle.plain_eval.specs.Choice.{first_body_of, is_next_in}
+use Rattle.plain_eval.specs.Choice.{first_body_of, first_hit, is_next_in}
 use Rattle.plain_eval.specs.declared.stop.Halted.{Halted}
 use Rattle.plain_eval.specs.Trees.{cases_among, cases_within, pairs}
+
+-- ---- the first pattern that is hit
+shifted : (at : ℕ) (x : Option ℕ) → option_map (λ k. (at + 1) + k) x ≡ option_map (λ k. at + k) (option_map suc x)
+shifted at None = refl
+shifted at (Some k) = let e : (at + 1) + k ≡ at + suc k = omega arith in ap Some e
+
+pub hit_start : (x : Option ℕ) → option_map (λ k. 0 + k) x ≡ x
+hit_start None = refl
+hit_start (Some k) = let e : 0 + k ≡ k = omega arith in ap Some e
+
+pub hit_here : (at : ℕ) (glob : Bool) (text p : List ℕ) (more : List (List ℕ)) (x : Option ℕ) → hits glob text p more ≡ true
+    → option_map (λ k. at + k) (first_hit glob text (p ∷ more)) ≡ x → Some at ≡ x
+hit_here at glob text p more x is h = let e : at ≡ at + 0 = omega arith in ap Some e ∙ (rw is at h)
+
+pub hit_behind : (at : ℕ) (glob : Bool) (text p : List ℕ) (more : List (List ℕ)) (x : Option ℕ) → hits glob text p more ≡ false
+    → option_map (λ k. at + k) (first_hit glob text (p ∷ more)) ≡ x → option_map (λ k. (at + 1) + k) (first_hit glob text more) ≡ x
+hit_behind at glob text p more x is h = shifted at (first_hit glob text more) ∙ (rw is at h)
 
 if_ok_ok : (r : Result (List ℕ) TclFault) → if_ok r (λ w. Ok w) ≡ r
 if_ok_ok (Ok v) = refl

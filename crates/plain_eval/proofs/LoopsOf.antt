@@ -13,7 +13,7 @@ use Rattle.tcl_compile.specs.declared.node.Verb.{Verb}
 use Rattle.tcl_compile.specs.declared.node.Verb.TheVariants as verb
 use Rattle.tcl_vars.specs.Scopes.{Level, Scopes}
 use Rattle.tcl_var_commands.specs.Changed.{Changed}
-use Rattle.rule_model.specs.Control.{Row, for_command, last_of, loop, most_turns, nothing, row_loop, rows_command, rows_of, turn_assigned, while_command}
+use Rattle.rule_model.specs.Control.{Row, for_command, last_of, loop, most_turns, nothing, row_loop, rows_command, turn_assigned, while_command}
 use Rattle.rule_model.specs.Evaluator.{eval}
 use Rattle.rule_model.specs.Outcome.{Act, Meaning, changed, code_of, then_value}
 use Rattle.rule_model.specs.Setting.{Setting, Inner}
@@ -123,18 +123,6 @@ some_is : (o : Option (List Row)) (rows : List Row) → if_some o ≡ Ok rows �
 some_is (Some rs) rows is = cc
 some_is None rows is = cc
 
-none_from : (x : Node) (xs : List Node) → None ≡ slice_get (x ∷ xs) (length xs) → ⊥
-none_from x [] is = cc
-none_from x (y ∷ ys) is = none_from y ys is
-
-pub none_last : (nodes : List Node) → None ≡ slice_get nodes (length nodes - 1) → nodes ≡ []
-none_last [] is = refl
-none_last (x ∷ xs) is = let e : suc (length xs) - 1 ≡ length xs = omega arith in absurd (none_from x xs (rw e at is))
-
-pub no_more : {A : Type 0} (xs : List A) → length xs ≤ 0 → xs ≡ []
-no_more [] few = refl
-no_more (x ∷ xs) few = absurd (omega arith)
-
 module _ {H : Type 0} where
   pub rows_told : (statics : Option Level) (body : Meaning H) (o : Option (List Row)) (rows : List Row) (most : ℕ) (before : Stand H) (r : Result (List ℕ) Stop) (last : Stand H)
       → if_some o ≡ Ok rows → most ≡ most_turns rows → Comes true (row_loop statics rows body most 0) before r last → Comes true (rows_command statics body o) before r last
@@ -142,9 +130,6 @@ module _ {H : Type 0} where
 
   pub rows_start : (statics : Option Level) (rows : List Row) (body : Meaning H) (most n : ℕ) (before : Stand H) → n ≡ most → RowsLeft statics rows body most before n 0 before
   rows_start statics rows body most n before is r last h = rw (sym is) h
-
-  pub rows_no_values : (statics : Option Level) (body : Meaning H) (values : List (List ℕ)) (s : Stand H) → values ≡ [] → Comes true (rows_command statics body (rows_of values)) s (Ok []) s
-  rows_no_values statics body values s is = rw is (λ path cost acts. comes.value_matches true [] (Ok []) (from s cost acts) s refl (refl, refl, refl, refl))
 
   -- the variables of a turn weren't set
   unset : (c : Changed) (new : Scopes) (mid : Stand H) (e : Stop) → FaultBy c (Err e) new → (cost : ℕ) (acts : List Act) → Matches true (changed c (from mid cost acts)) (Err e) (with_vars new mid)
@@ -179,3 +164,13 @@ module _ {H : Type 0} (g : Setting H) (i : Inner H) where
   last_follows [] (x ∷ xs) n f is = absurd f
   last_follows (m ∷ ms) [] n f is = absurd f
   last_follows (m ∷ ms) (x ∷ xs) n f is = let e : suc (length xs) - 1 ≡ length xs = omega arith in last_from m ms x xs n f.0 f.1 (rw e at is)
+
+  none_from : (x : Node) (xs : List Node) → None ≡ slice_get (x ∷ xs) (length xs) → ⊥
+  none_from x [] is = cc
+  none_from x (y ∷ ys) is = none_from y ys is
+
+  pub last_none : (ms : List (Meaning H)) (nodes : List Node) (w : Bool) (s : Stand H) → FollowAll g i ms nodes → None ≡ slice_get nodes (length nodes - 1) → Comes w (last_of nothing ms) s (Ok []) s
+  last_none [] [] w s f is = λ path cost acts. comes.value_matches w [] (Ok []) (from s cost acts) s refl (refl, refl, refl, refl)
+  last_none (m ∷ ms) [] w s f is = absurd f
+  last_none [] (x ∷ xs) w s f is = absurd f
+  last_none (m ∷ ms) (x ∷ xs) w s f is = let e : suc (length xs) - 1 ≡ length xs = omega arith in absurd (none_from x xs (rw e at is))

@@ -1,9 +1,12 @@
 -- What rows of values come to: words, elements, commands, and the cases of a `switch`.
-use Rattle.std.proofs.Common.{◌≡◌, refl, sym, ap, ◌∙◌, ℕ, zero, suc, ◌+◌, ◌-◌, List, [], ◌∷◌, ◌++◌, length, map, take, drop, Bool, true, false, Option, Some, None, Result, Ok, Err, arith, rules, Vec, ◌<◌, ◌≤◌, slice_get, option_map, ◌⊎◌, inl, inr}
-use Rattle.std.specs.Prelude.{if◌then◌else◌, sum_by, unwrap_or}
-use Rattle.std.proofs.lemmas.List.{drop_all}
+use Rattle.std.proofs.Common.{◌≡◌, refl, sym, ap, ◌∙◌, ℕ, zero, suc, ◌+◌, ◌-◌, List, [], ◌∷◌, ◌++◌, length, map, take, drop, Bool, true, false, Option, Some, None, Result, Ok, Err, arith, rules, Vec, ◌<◌, ◌≤◌, slice_get, option_map}
+use Rattle.std.specs.Prelude.{if◌then◌else◌, nat_lt, sum_by, unwrap_or}
+use Rattle.std.specs.Bool.{MatchBool}
+use Rattle.std.proofs.lemmas.Bool.Decides.{nat_tests}
+use Rattle.std.proofs.lemmas.List.{append-nil, drop_all}
 use Rattle.std.proofs.lemmas.List.Sums.{sum_by-append}
 use Rattle.std.specs.declared.alloc.Global.{Global}
+use Rattle.px_bytes.specs.FaultText.{too_long}
 use Rattle.px_bytes.specs.Limit.{text_limit}
 use Rattle.tcl_compile.specs.Tree.{Tree, Trees, plain, variable, element, word, script, command, cases, next_body, prefixed, row, choice, trees_of}
 use Rattle.tcl_compile.specs.TreeView.{node_view, nodes_view, node_step}
@@ -17,13 +20,13 @@ use Rattle.rule_model.specs.Control.{choose, chosen, first_body, hits, is_glob, 
 use Rattle.rule_model.specs.Evaluator.{eval, evals, parts, cases_in, cases_of, cases_from, pattern_of, body_of, read_element}
 use Rattle.rule_model.specs.Outcome.{Act, Value, Ends, Meaning, below}
 use Rattle.rule_model.specs.Setting.{Setting, Inner}
-use Rattle.rule_model.specs.Words.{in_order, joined}
-use Rattle.plain_eval.specs.Choice.{body_chosen, choice_of, first_body_of, first_hit, is_next_in}
-use Rattle.plain_eval.specs.Ends.{IsValue, Told}
+use Rattle.rule_model.specs.Words.{in_order, join_pieces, joined}
+use Rattle.plain_eval.specs.Choice.{body_at, body_chosen, chosen_by, first_body_of, first_hit, hit_in, is_next_in}
+use Rattle.plain_eval.specs.Ends.{IsFault, IsValue, Limited, Told}
 use Rattle.plain_eval.specs.Leaving.{words_command}
 use Rattle.plain_eval.specs.Leaves.{element_read}
 use Rattle.plain_eval.specs.Stand.{Stand, Comes, Matches, from}
-use Rattle.plain_eval.specs.Trees.{Follows, FollowAll, FollowCases, BodyFollows, cases_among, cases_within, children_of, finish_in, front_of, pairs, row_in, row_of, words_of}
+use Rattle.plain_eval.specs.Trees.{Follows, FollowAll, FollowCases, BodyFollows, cases_among, cases_within, children_of, finish_in, front_of, pairs, parts_in, parts_of, row_in, row_of, words_of}
 use Rattle.plain_eval.specs.declared.stop.Stop.{Stop}
 use Rattle.plain_eval.specs.declared.stop.Stop.TheVariants as stop
 use Rattle.plain_eval.proofs.Comes as comes
@@ -42,6 +45,9 @@ view-Command v ns = search (rules, the_lemmas)
 
 view-Cases : (ns : Vec Node Global) → node_view (code.Cases ns) ≡ cases (trees_of (nodes_view ns.items))
 view-Cases ns = search (rules, the_lemmas)
+
+is-Word : (n : Node) (ns : Vec Node Global) → out-Node n ≡ Node-F.Word ns → n ≡ code.Word ns
+is-Word n ns is = search (rules, the_lemmas)
 
 is-Element : (n : Node) (t : List ℕ) (ns : Vec Node Global) → out-Node n ≡ Node-F.Element t ns → n ≡ code.Element t ns
 is-Element n t ns is = search (rules, the_lemmas)
@@ -83,22 +89,11 @@ one_longer vs new v is = ap length is ∙ snoc_length vs v
 pub row_split : {A B : Type 0} (xs : List A) (vs : List B) (n : ℕ) (x : A) → n ≡ length vs → Some x ≡ slice_get xs n → drop (length vs) xs ≡ x ∷ drop (length vs + 1) xs
 row_split xs vs n x at is = item_there xs (length vs) x (is ∙ ap (slice_get xs) at)
 
-pub row_counted : {A B : Type 0} (xs : List A) (vs new : List B) (v : B) (n : ℕ) (x : A) → n ≡ length vs → Some x ≡ slice_get xs n → new ≡ vs ++ v ∷ [] → length new ≤ length xs
-row_counted xs vs new v n x at is more =
-    let a = item_below xs n x is in
-    let b = one_longer vs new v more in
-    omega (arith, a, b, at)
-
 pub row_smaller : {A B : Type 0} (xs : List A) (vs new : List B) (v : B) (n : ℕ) (x : A) → n ≡ length vs → Some x ≡ slice_get xs n → new ≡ vs ++ v ∷ [] → length xs - length new < length xs - length vs
 row_smaller xs vs new v n x at is more =
     let a = item_below xs n x is in
     let b = one_longer vs new v more in
     omega (arith, a, b, at)
-
-pub row_filled : {A B : Type 0} (xs : List A) (vs : List B) (n : ℕ) → n ≡ length vs → None ≡ slice_get xs n → length vs ≤ length xs → length vs ≡ length xs
-row_filled xs vs n at is few =
-    let a = none_there xs n is in
-    omega (arith, a, at, few)
 
 pub row_over_is : {A B : Type 0} (xs : List A) (vs : List B) (n : ℕ) → n ≡ length vs → None ≡ slice_get xs n → drop (length vs) xs ≡ []
 row_over_is xs vs n at is =
@@ -119,28 +114,6 @@ some_is f r a x h is = ap (option_map f) (sym is) ∙ h
 
 pub none_is : {A B : Type 0} (f : A → B) (r : Option A) (x : Option B) → option_map f r ≡ x → r ≡ None → None ≡ x
 none_is f r x h is = ap (option_map f) (sym is) ∙ h
-
-drop_length : {A : Type 0} (n : ℕ) (xs : List A) → length (drop n xs) ≡ length xs - n
-drop_length zero xs = let e : length xs ≡ length xs - 0 = omega arith in e
-drop_length (suc n) [] = let e : 0 ≡ 0 - suc n = omega arith in e
-drop_length (suc n) (x ∷ xs) = let b = drop_length n xs in let e : length xs - n ≡ suc (length xs) - suc n = omega arith in b ∙ e
-
-firsts_length : {A B : Type 0} (xs : List A) (ys : List (A × B)) → length (xs ++ map (λ c. c.0) ys) ≡ length xs + length ys
-firsts_length [] [] = refl
-firsts_length [] (y ∷ ys) = let b = firsts_length [] ys in omega (arith, b)
-firsts_length (x ∷ xs) ys = let b = firsts_length xs ys in omega (arith, b)
-
-pub patterns_left : (nodes : List Node) (values : List (List ℕ)) → length values ≡ length (words_of verb.Switch nodes) → length (drop (length (front_of nodes)) values) ≡ length (cases_among nodes)
-patterns_left nodes values h =
-    let a = drop_length (length (front_of nodes)) values in
-    let b = firsts_length (front_of nodes) (cases_among nodes) in
-    omega (arith, a, b, h)
-
-pub switch_count : (tree : Node) (v : Verb) (ns : Vec Node Global) (values : List (List ℕ)) → tree ≡ code.Command v ns → v ≡ verb.Switch → length values ≡ length (row_of tree) → length values ≡ length (words_of verb.Switch (children_of tree))
-switch_count tree v ns values is by few =
-    let at : tree ≡ code.Command verb.Switch ns = is ∙ ap (λ k. code.Command k ns) by in
-    let kids : children_of tree ≡ ns.items = ap children_of at ∙ children-Command verb.Switch ns in
-    few ∙ ap length (ap row_of at ∙ row_command verb.Switch ns) ∙ ap (λ xs. length (words_of verb.Switch xs)) (sym kids)
 
 module _ {H : Type 0} (g : Setting H) (i : Inner H) where
   -- what a row is done with
@@ -165,11 +138,47 @@ module _ {H : Type 0} (g : Setting H) (i : Inner H) where
       let done = h (parts g i 0 ts) (rw items (parts_follow g i ns.items 0)) in
       rw view (comes.paid_comes w 1 (in_order (read_element g name) (parts g i 0 ts) []) before end after (rw view at done))
 
-  pub piece_comes : (tree : Node) (w : Bool) (before : Stand H) (end : Result (List ℕ) Stop) (after : Stand H)
-      → ((ns : Vec Node Global) × (tree ≡ code.Word ns)) ⊎ ((name : List ℕ) × (ns : Vec Node Global) × (tree ≡ code.Element name ns))
-      → RowDone tree w before end after → Comes w (eval g i (node_view tree)) before end after
-  piece_comes tree w before end after (inl (ns, is)) h = word_comes tree ns w before end after is h
-  piece_comes tree w before end after (inr (name, ns, is)) h = element_comes tree name ns w before end after is h
+  -- ---- a word of one part
+  one_by : (f : Node-F Node) (t : Tree) (p : Node) → t ≡ node_step (map-Node Node Tree node_view f) → parts_in f ≡ p ∷ [] → (row_in f ≡ p ∷ []) × (finish_in g i t ≡ join_pieces)
+  one_by (Node-F.Plain x) t p is at = cc
+  one_by (Node-F.Variable x) t p is at = cc
+  one_by (Node-F.Element x y) t p is at = cc
+  one_by (Node-F.Word ns) t p is at = (at, rw is refl)
+  one_by (Node-F.Script x) t p is at = cc
+  one_by (Node-F.Command x y) t p is at = cc
+  one_by (Node-F.Cases x) t p is at = cc
+  one_by Node-F.NextBody t p is at = cc
+  one_by (Node-F.Prefixed x y) t p is at = cc
+  one_by (Node-F.Row x y) t p is at = cc
+  one_by (Node-F.Choice x y) t p is at = cc
+
+  abbrev PartDone : Node → Bool → Stand H → Result (List ℕ) Stop → Stand H → Type 0
+  PartDone p w before end after = turns.RowAll g i w join_pieces [] (p ∷ []) before end after
+
+  piece_done : (w : Bool) (v : List ℕ) (s : Stand H) → Comes w (join_pieces (v ∷ [])) s (Ok v) s
+  piece_done w v s path cost acts = comes.value_matches w (joined (v ∷ [])) (Ok v) (from s cost acts) s (sym (append-nil v)) (refl, refl, refl, refl)
+
+  part_by : (long w : Bool) (p : Node) (v : List ℕ) (before : Stand H) (end : Result (List ℕ) Stop) (after : Stand H) → long ≡ nat_lt text_limit (length v)
+      → Comes true (eval g i (node_view p)) before (Ok v) after → MatchBool long (IsFault too_long end) (end ≡ Ok v) → PartDone p w before end after
+  part_by true w p v before end after is one told =
+      let same : 0 + length v ≡ length v = omega arith in
+      let over : nat_lt text_limit (0 + length v) ≡ true = ap (nat_lt text_limit) same ∙ sym is in
+      turns.row_over g i w join_pieces [] v 0 p [] before after end one refl (rw over told)
+  part_by false w p v before end after is one told =
+      let short : length v ≤ text_limit = grind (arith, nat_tests) in
+      let fits : 0 + length v ≤ text_limit = omega (arith, short) in
+      rw told (turns.row_goes g i w join_pieces [] v p [] before after (Ok v) after one fits (turns.row_rest g i w join_pieces (v ∷ []) after (Ok v) after (piece_done w v after)))
+
+  part_ends : (w : Bool) (p : Node) (old : Result (List ℕ) Stop) (before : Stand H) (end : Result (List ℕ) Stop) (after : Stand H)
+      → Comes true (eval g i (node_view p)) before old after → Limited old end → PartDone p w before end after
+  part_ends w p (Ok v) before end after one told = part_by (nat_lt text_limit (length v)) w p v before end after refl one told
+  part_ends w p (Err e) before end after one told = rw told (turns.row_halt g i w join_pieces [] p [] before after e one)
+
+  pub part_comes : (tree p : Node) (w : Bool) (old : Result (List ℕ) Stop) (before : Stand H) (end : Result (List ℕ) Stop) (after : Stand H) → parts_of tree ≡ p ∷ []
+      → Comes true (eval g i (node_view p)) before old after → Limited old end → RowDone tree w before end after
+  part_comes tree p w old before end after is one told =
+      let one_part = one_by (out-Node tree) (node_view tree) p (fold_out-Node Tree node_step tree) is in
+      rw (one_part.0, one_part.1) (part_ends w p old before end after one told)
 
   -- ---- commands that hold bodies
   taken : (k : ℕ) (ms : List (Meaning H)) (ns : List Node) → FollowAll g i ms ns → FollowAll g i (take k ms) (take k ns)
@@ -396,31 +405,35 @@ module _ {H : Type 0} (g : Setting H) (i : Inner H) where
       rw (ap node_view at ∙ view-Command verb.Switch ns, same) (rw kids at (h cs (rw kids (cases_follow ns.items 0))))
 
   -- ---- a row of any other tree: of a word, or of none
-  nothing_done : (values : List (List ℕ)) (w : Bool) (s : Stand H) (end : Result (List ℕ) Stop) → length values ≡ 0 → IsValue (joined values) end → Comes w nothing s end s
-  nothing_done [] w s end few h = λ path cost acts. comes.value_matches w [] end (from s cost acts) s h (refl, refl, refl, refl)
-  nothing_done (v ∷ vs) w s end few h = absurd (omega (arith, few))
+  pub nothing_comes : (w : Bool) (s : Stand H) → Comes w nothing s (Ok []) s
+  nothing_comes w s path cost acts = comes.value_matches w [] (Ok []) (from s cost acts) s refl (refl, refl, refl, refl)
 
-  rest_by : (f : Node-F Node) (t : Tree) (values : List (List ℕ)) (w : Bool) (s : Stand H) (end : Result (List ℕ) Stop) → t ≡ node_step (map-Node Node Tree node_view f)
+  pub word_done : (tree : Node) (ns : Vec Node Global) (values : List (List ℕ)) (w : Bool) (s : Stand H) (end : Result (List ℕ) Stop) → tree ≡ code.Word ns
+      → IsValue (joined values) end → Comes w (finish_in g i (node_view tree) values) s end s
+  word_done tree ns values w s end is h =
+      rw (ap node_view is ∙ view-Word ns) (λ path cost acts. comes.value_matches w (joined values) end (from s cost acts) s h (refl, refl, refl, refl))
+
+  rest_by : (f : Node-F Node) (t : Tree) (values : List (List ℕ)) (w : Bool) (s : Stand H) → t ≡ node_step (map-Node Node Tree node_view f)
       → ((name : List ℕ) (ns : Vec Node Global) → f ≡ Node-F.Element name ns → ⊥) → ((v : Verb) (ns : Vec Node Global) → f ≡ Node-F.Command v ns → ⊥)
-      → length values ≡ length (row_in f) → IsValue (joined values) end → Comes w (finish_in g i t values) s end s
-  rest_by (Node-F.Plain x) t values w s end is a b few h = rw is (nothing_done values w s end few h)
-  rest_by (Node-F.Variable x) t values w s end is a b few h = rw is (nothing_done values w s end few h)
-  rest_by (Node-F.Element x y) t values w s end is a b few h = absurd (a x y refl)
-  rest_by (Node-F.Word x) t values w s end is a b few h = rw is (λ path cost acts. comes.value_matches w (joined values) end (from s cost acts) s h (refl, refl, refl, refl))
-  rest_by (Node-F.Script x) t values w s end is a b few h = rw is (nothing_done values w s end few h)
-  rest_by (Node-F.Command x y) t values w s end is a b few h = absurd (b x y refl)
-  rest_by (Node-F.Cases x) t values w s end is a b few h = rw is (nothing_done values w s end few h)
-  rest_by Node-F.NextBody t values w s end is a b few h = rw is (nothing_done values w s end few h)
-  rest_by (Node-F.Prefixed x y) t values w s end is a b few h = rw is (nothing_done values w s end few h)
-  rest_by (Node-F.Row x y) t values w s end is a b few h = rw is (nothing_done values w s end few h)
-  rest_by (Node-F.Choice x y) t values w s end is a b few h = rw is (nothing_done values w s end few h)
+      → ((ns : Vec Node Global) → f ≡ Node-F.Word ns → ⊥) → Comes w (finish_in g i t values) s (Ok []) s
+  rest_by (Node-F.Plain x) t values w s is a b d = rw is (nothing_comes w s)
+  rest_by (Node-F.Variable x) t values w s is a b d = rw is (nothing_comes w s)
+  rest_by (Node-F.Element x y) t values w s is a b d = absurd (a x y refl)
+  rest_by (Node-F.Word x) t values w s is a b d = absurd (d x refl)
+  rest_by (Node-F.Script x) t values w s is a b d = rw is (nothing_comes w s)
+  rest_by (Node-F.Command x y) t values w s is a b d = absurd (b x y refl)
+  rest_by (Node-F.Cases x) t values w s is a b d = rw is (nothing_comes w s)
+  rest_by Node-F.NextBody t values w s is a b d = rw is (nothing_comes w s)
+  rest_by (Node-F.Prefixed x y) t values w s is a b d = rw is (nothing_comes w s)
+  rest_by (Node-F.Row x y) t values w s is a b d = rw is (nothing_comes w s)
+  rest_by (Node-F.Choice x y) t values w s is a b d = rw is (nothing_comes w s)
 
-  pub rest_done : (tree : Node) (values : List (List ℕ)) (w : Bool) (s : Stand H) (end : Result (List ℕ) Stop)
+  pub rest_done : (tree : Node) (values : List (List ℕ)) (w : Bool) (s : Stand H)
       → ((name : List ℕ) (ns : Vec Node Global) → tree ≡ code.Element name ns → ⊥) → ((v : Verb) (ns : Vec Node Global) → tree ≡ code.Command v ns → ⊥)
-      → length values ≡ length (row_of tree) → IsValue (joined values) end → Comes w (finish_in g i (node_view tree) values) s end s
-  rest_done tree values w s end a b few h =
-      rest_by (out-Node tree) (node_view tree) values w s end (fold_out-Node Tree node_step tree)
-      (λ name ns is. a name ns (is-Element tree name ns is)) (λ v ns is. b v ns (is-Command tree v ns is)) few h
+      → ((ns : Vec Node Global) → tree ≡ code.Word ns → ⊥) → Comes w (finish_in g i (node_view tree) values) s (Ok []) s
+  rest_done tree values w s a b d =
+      rest_by (out-Node tree) (node_view tree) values w s (fold_out-Node Tree node_step tree)
+      (λ name ns is. a name ns (is-Element tree name ns is)) (λ v ns is. b v ns (is-Command tree v ns is)) (λ ns is. d ns (is-Word tree ns is))
 
   -- ---- the body of the case that is chosen
   abbrev pub body_does : Option Node → Meaning H
@@ -463,41 +476,42 @@ module _ {H : Type 0} (g : Setting H) (i : Inner H) where
   first_body_comes (c ∷ cs) (n ∷ ns) w before end after f h =
       body_case c.body (out-Node n.1) n.1 (first_body cs) (first_body_of ns) w before end after f.1 (λ k. first_body_comes cs ns w before end after f.2 k) h
 
-  hit_by : (b : Bool) (x : ℕ) (here behind : Meaning H) (n : Node × Node) (ns : List (Node × Node)) (w : Bool) (before : Stand H) (end : Result (List ℕ) Stop) (after : Stand H)
-      → (BodyComes (first_body_of (n ∷ ns)) w before end after → Comes w here before end after) → (BodyComes (first_body_of (drop x ns)) w before end after → Comes w behind before end after)
-      → BodyComes (first_body_of (drop (if b then zero else suc x) (n ∷ ns))) w before end after → Comes w (if b then here else behind) before end after
-  hit_by true x here behind n ns w before end after k j h = k h
-  hit_by false x here behind n ns w before end after k j h = j h
+  none_at : (hit : Option ℕ) → body_at [] hit ≡ None
+  none_at None = refl
+  none_at (Some n) = first_none n
+
+  hit_by : (b : Bool) (hit : Option ℕ) (here behind : Meaning H) (n : Node × Node) (ns : List (Node × Node)) (w : Bool) (before : Stand H) (end : Result (List ℕ) Stop) (after : Stand H)
+      → (BodyComes (first_body_of (n ∷ ns)) w before end after → Comes w here before end after) → (BodyComes (body_at ns hit) w before end after → Comes w behind before end after)
+      → BodyComes (body_at (n ∷ ns) (if b then Some zero else option_map suc hit)) w before end after → Comes w (if b then here else behind) before end after
+  hit_by true hit here behind n ns w before end after k j h = k h
+  hit_by false None here behind n ns w before end after k j h = j h
+  hit_by false (Some x) here behind n ns w before end after k j h = j h
 
   chosen_comes : (glob : Bool) (text : List ℕ) (cs : List (Case H)) (patterns : List (List ℕ)) (ns : List (Node × Node)) (w : Bool) (before : Stand H) (end : Result (List ℕ) Stop) (after : Stand H)
-      → FollowCases g i cs ns → length patterns ≡ length ns → BodyComes (first_body_of (drop (first_hit glob text patterns) ns)) w before end after → Comes w (chosen glob text cs patterns) before end after
-  chosen_comes glob text [] patterns [] w before end after f few h = rw (first_none (first_hit glob text patterns)) at h
-  chosen_comes glob text (c ∷ cs) patterns [] w before end after f few h = absurd f
-  chosen_comes glob text [] patterns (n ∷ ns) w before end after f few h = absurd f
-  chosen_comes glob text (c ∷ cs) [] (n ∷ ns) w before end after f few h = absurd (omega (arith, few))
-  chosen_comes glob text (c ∷ cs) (p ∷ more) (n ∷ ns) w before end after f few h =
+      → FollowCases g i cs ns → BodyComes (body_at ns (first_hit glob text patterns)) w before end after → Comes w (chosen glob text cs patterns) before end after
+  chosen_comes glob text [] patterns [] w before end after f h = rw (none_at (first_hit glob text patterns)) at h
+  chosen_comes glob text (c ∷ cs) patterns [] w before end after f h = absurd f
+  chosen_comes glob text [] patterns (n ∷ ns) w before end after f h = absurd f
+  chosen_comes glob text (c ∷ cs) [] (n ∷ ns) w before end after f h = h
+  chosen_comes glob text (c ∷ cs) (p ∷ more) (n ∷ ns) w before end after f h =
       hit_by (hits glob text p more) (first_hit glob text more) (first_body (c ∷ cs)) (chosen glob text cs more) n ns w before end after
-      (λ k. first_body_comes (c ∷ cs) (n ∷ ns) w before end after f k)
-      (λ k. chosen_comes glob text cs more ns w before end after f.2 (omega (arith, few)) k) h
+      (λ k. first_body_comes (c ∷ cs) (n ∷ ns) w before end after f k) (λ k. chosen_comes glob text cs more ns w before end after f.2 k) h
 
-  choose_comes : (o : Option Bool) (text : List ℕ) (cs : List (Case H)) (patterns : List (List ℕ)) (nodes : List Node) (r : Option Node) (w : Bool) (before : Stand H) (end : Result (List ℕ) Stop) (after : Stand H)
-      → body_chosen nodes (option_map (λ glob. first_hit glob text patterns) o) ≡ Ok r → FollowCases g i cs (cases_among nodes) → length patterns ≡ length (cases_among nodes)
-      → BodyComes r w before end after → Comes w (choose o text cs patterns) before end after
-  choose_comes None text cs patterns nodes r w before end after is f few h = cc
-  choose_comes (Some glob) text cs patterns nodes r w before end after is f few h =
-      let e : first_body_of (drop (first_hit glob text patterns) (cases_among nodes)) ≡ r = cc in
-      let all = chosen_comes glob text cs patterns (cases_among nodes) w before end after f few (rw e h) in
+  choose_comes : (o : Option Bool) (cs : List (Case H)) (nodes : List Node) (words : List (List ℕ)) (r : Option Node) (w : Bool) (before : Stand H) (end : Result (List ℕ) Stop) (after : Stand H)
+      → chosen_by o nodes words ≡ Ok r → FollowCases g i cs (cases_among nodes) → BodyComes r w before end after
+      → let n = length (front_of nodes) in Comes w (choose o (unwrap_or (slice_get words (n - 1)) []) cs (drop n words)) before end after
+  choose_comes None cs nodes words r w before end after is f h = cc
+  choose_comes (Some glob) cs nodes words r w before end after is f h =
+      let n = length (front_of nodes) in
+      let e : body_at (cases_among nodes) (hit_in glob n words) ≡ r = cc in
+      let all = chosen_comes glob (unwrap_or (slice_get words (n - 1)) []) cs (drop n words) (cases_among nodes) w before end after f (rw e h) in
       λ path cost acts. all path cost acts
 
-  -- the values are the options, the text and as many patterns as there are cases
-  pub switch_comes : (n : ℕ) (words : List (List ℕ)) (cs : List (Case H)) (nodes : List Node) (r : Option Node) (w : Bool) (before : Stand H) (end : Result (List ℕ) Stop) (after : Stand H)
-      → body_chosen nodes (choice_of n words) ≡ Ok r → FollowCases g i cs (cases_among nodes) → length (drop n words) ≡ length (cases_among nodes)
-      → BodyComes r w before end after → Comes w (switch_words n cs words) before end after
-  switch_comes n words cs nodes r w before end after is f few h =
-      choose_comes (is_glob false (take (n - 1) words)) (unwrap_or (slice_get words (n - 1)) []) cs (drop n words) nodes r w before end after is f few h
-
-  pub nothing_comes : (w : Bool) (s : Stand H) → Comes w (body_does None) s (Ok []) s
-  nothing_comes w s path cost acts = comes.value_matches w [] (Ok []) (from s cost acts) s refl (refl, refl, refl, refl)
+  -- the values are the options, the text and the patterns
+  pub switch_comes : (words : List (List ℕ)) (cs : List (Case H)) (nodes : List Node) (r : Option Node) (w : Bool) (before : Stand H) (end : Result (List ℕ) Stop) (after : Stand H)
+      → body_chosen nodes words ≡ Ok r → FollowCases g i cs (cases_among nodes) → BodyComes r w before end after → Comes w (switch_words (length (front_of nodes)) cs words) before end after
+  switch_comes words cs nodes r w before end after is f h =
+      choose_comes (is_glob false (take (length (front_of nodes) - 1) words)) cs nodes words r w before end after is f h
 
   -- ---- the commands that evaluate more than their words
   pub foreach_done : (tree : Node) (v : Verb) (ns : Vec Node Global) (values : List (List ℕ)) (w : Bool) (before : Stand H) (end : Result (List ℕ) Stop) (after : Stand H) → tree ≡ code.Command v ns → v ≡ verb.Foreach

@@ -243,7 +243,7 @@ module _ {H : Type 0} (g : Setting H) (i : Inner H) where
   pub sum_more : (values : List (List ℕ)) (v : List ℕ) → sum_by length (values ++ v ∷ []) ≡ sum_by length values + length v
   sum_more values v = let h = sum_by-append length values (v ∷ []) in omega (arith, h)
 
-  row_goes : (w : Bool) (finish : List (List ℕ) → Meaning H) (values : List (List ℕ)) (v : List ℕ) (c : Node) (behind : List Node) (mid next : Stand H) (r : Result (List ℕ) Stop) (last : Stand H)
+  pub row_goes : (w : Bool) (finish : List (List ℕ) → Meaning H) (values : List (List ℕ)) (v : List ℕ) (c : Node) (behind : List Node) (mid next : Stand H) (r : Result (List ℕ) Stop) (last : Stand H)
       → Comes true (eval g i (node_view c)) mid (Ok v) next → sum_by length values + length v ≤ text_limit → RowAll w finish (values ++ v ∷ []) behind next r last → RowAll w finish values (c ∷ behind) mid r last
   row_goes w finish values v c behind mid next r last one fits rest [] f = absurd f
   row_goes w finish values v c behind mid next r last one fits rest (m ∷ ms) f =
@@ -259,7 +259,7 @@ module _ {H : Type 0} (g : Setting H) (i : Inner H) where
   row_next w finish all before values v rest mid next c behind is left one fits r last h =
       left r last (rw is (row_goes w finish values v c behind mid next r last one fits h))
 
-  row_halt : (w : Bool) (finish : List (List ℕ) → Meaning H) (values : List (List ℕ)) (c : Node) (behind : List Node) (mid next : Stand H) (e : Stop)
+  pub row_halt : (w : Bool) (finish : List (List ℕ) → Meaning H) (values : List (List ℕ)) (c : Node) (behind : List Node) (mid next : Stand H) (e : Stop)
       → Comes true (eval g i (node_view c)) mid (Err e) next → RowAll w finish values (c ∷ behind) mid (Err e) next
   row_halt w finish values c behind mid next e one [] f = absurd f
   row_halt w finish values c behind mid next e one (m ∷ ms) f =
@@ -279,7 +279,7 @@ module _ {H : Type 0} (g : Setting H) (i : Inner H) where
   long_by false over true o end st s is h at = rw h tt
   long_by false over false o end st s is h at = rw h tt
 
-  row_over : (w : Bool) (finish : List (List ℕ) → Meaning H) (values : List (List ℕ)) (v : List ℕ) (total : ℕ) (c : Node) (behind : List Node) (mid next : Stand H) (end : Result (List ℕ) Stop)
+  pub row_over : (w : Bool) (finish : List (List ℕ) → Meaning H) (values : List (List ℕ)) (v : List ℕ) (total : ℕ) (c : Node) (behind : List Node) (mid next : Stand H) (end : Result (List ℕ) Stop)
       → Comes true (eval g i (node_view c)) mid (Ok v) next → total ≡ sum_by length values → MatchBool (nat_lt text_limit (total + length v)) (IsFault too_long end) (end ≡ Err stop.Memory)
       → RowAll w finish values (c ∷ behind) mid end next
   row_over w finish values v total c behind mid next end one sum long [] f = absurd f
@@ -295,7 +295,7 @@ module _ {H : Type 0} (g : Setting H) (i : Inner H) where
   row_long w finish all before values v total rest mid next c behind end is left one sum long =
       left end next (rw is (row_over w finish values v total c behind mid next end one sum long))
 
-  row_rest : (w : Bool) (finish : List (List ℕ) → Meaning H) (values : List (List ℕ)) (mid : Stand H) (r : Result (List ℕ) Stop) (last : Stand H) → Comes w (finish values) mid r last → RowAll w finish values [] mid r last
+  pub row_rest : (w : Bool) (finish : List (List ℕ) → Meaning H) (values : List (List ℕ)) (mid : Stand H) (r : Result (List ℕ) Stop) (last : Stand H) → Comes w (finish values) mid r last → RowAll w finish values [] mid r last
   row_rest w finish values mid r last done [] f = done
   row_rest w finish values mid r last done (m ∷ ms) f = absurd f
 

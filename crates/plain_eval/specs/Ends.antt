@@ -1,6 +1,8 @@
 -- The end of what was evaluated last, as the plain evaluator notes it.
-use Rattle.std.specs.Prelude.{◌≡◌, ℕ, ◌-◌, ◌<◌, List, [], Result, Ok, Err}
-use Rattle.px_bytes.specs.FaultText.{budget_spent}
+use Rattle.std.specs.Prelude.{◌≡◌, ℕ, ◌-◌, ◌<◌, List, [], length, nat_lt, Result, Ok, Err}
+use Rattle.std.specs.Bool.{MatchBool}
+use Rattle.px_bytes.specs.FaultText.{budget_spent, too_long}
+use Rattle.px_bytes.specs.Limit.{text_limit}
 use Rattle.px_bytes.specs.declared.fault.Raise.{Raise}
 use Rattle.px_bytes.specs.declared.fault.TclFault.{TclFault}
 use Rattle.px_bytes.specs.declared.memory.Memory.{Memory}
@@ -51,6 +53,11 @@ IsFault f (Err stop.Memory) = Unit {0}
 abbrev pub Told : Result (List ℕ) TclFault → Result (List ℕ) Stop → Type 0
 Told (Ok v) end = IsValue v end
 Told (Err f) end = IsFault f end
+
+-- what was noted stays, unless it is a value that is too long
+abbrev pub Limited : Result (List ℕ) Stop → Result (List ℕ) Stop → Type 0
+Limited (Ok v) end = MatchBool (nat_lt text_limit (length v)) (IsFault too_long end) (end ≡ Ok v)
+Limited (Err e) end = end ≡ Err e
 
 -- one unit of budget is taken, unless there is none
 abbrev pub Spends : Progress → Result (Unit {0}) Halted → Progress → Type 0

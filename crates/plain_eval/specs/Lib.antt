@@ -8,4 +8,3 @@ pub mod Leaves
 pub mod Verdict
 pub mod Choice
 pub mod Leaving
-pub mod TestHost

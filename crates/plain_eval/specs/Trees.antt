@@ -31,6 +31,14 @@ children_in node = []
 abbrev pub children_of : Node → List Node
 children_of node = children_in (out-Node node)
 
+-- the parts of a word
+abbrev pub parts_in : Node-F Node → List Node
+parts_in (Node-F.Word parts) = parts.items
+parts_in node = []
+
+abbrev pub parts_of : Node → List Node
+parts_of node = parts_in (out-Node node)
+
 -- two by two; a last one alone is left out
 abbrev pub pairs : {A : Type 0} → List A → List (A × A)
 pairs [] = []

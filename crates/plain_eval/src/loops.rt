@@ -1,6 +1,6 @@
 // Loops.
 
-ghost use Rattle.std.specs.Prelude.{Err, IfErr, length, option_map, true, ◌≡◌, ◌≤◌};
+ghost use Rattle.std.specs.Prelude.{Err, IfErr, false, length, option_map, true, ◌≡◌, ◌≤◌};
 ghost use Rattle.rule_model.specs.Control.{
   for_command,
   last_of,
@@ -201,8 +201,7 @@ pub(crate) fn eval_foreach<H: PlainHost>(
     host: &mut H,
     progress: &mut Progress,
 ) -> Result<(), Halted>
-    requires used { progress.old.used ≤ length context.now.answers.now }
-    requires count { length values.now ≤ length (children_of tree.now) }
+    requires { progress.old.used ≤ length context.now.answers.now }
     ensures used { progress.new.used ≤ length context.now.answers.now }
     ensures ended { result ≡ ended progress.new.end }
     ensures comes { let answers = context.now.answers.now in
@@ -214,16 +213,39 @@ pub(crate) fn eval_foreach<H: PlainHost>(
         Comes true done before progress.new.end after) }
 {
     let rows = rows_of(context.alloc, values, progress)?;
-    let Some(body) = children(tree).last() else {
-        return progress.nothing(context.alloc);
-    };
     for number in 0..most_turns(&rows) {
         progress.spend(context.alloc)?;
         set_turn(context, number, &rows, vars, progress)?;
-        let _ = eval_tree(context, levels, body, false, vars, host, progress);
+        let _ = eval_last(context, levels, tree, vars, host, progress);
         if !after_body(progress)? {
             return progress.nothing(context.alloc);
         }
     }
     progress.nothing(context.alloc)
+}
+
+// The last child, where there is one.
+#[inline(never)]
+#[cycle(plain)]
+fn eval_last<H: PlainHost>(
+    context: &Context<'_, H::Env>,
+    levels: usize,
+    tree: &Node,
+    vars: &mut Vars,
+    host: &mut H,
+    progress: &mut Progress,
+) -> Result<(), Halted>
+    requires { progress.old.used ≤ length context.now.answers.now }
+    ensures used { progress.new.used ≤ length context.now.answers.now }
+    ensures ended { result ≡ ended progress.new.end }
+    ensures comes { let answers = context.now.answers.now in
+        let before = stand answers vars.old host.old progress.old in
+        let after = stand answers vars.new host.new progress.new in
+        OfAll H.table context.now (children_of tree.now)
+        (λ ms. Comes false (last_of nothing ms) before progress.new.end after) }
+{
+    match children(tree).last() {
+        Some(body) => eval_tree(context, levels, body, false, vars, host, progress),
+        None => progress.nothing(context.alloc),
+    }
 }

@@ -1,10 +1,10 @@
 // How far an evaluation is.
 
 ghost use Rattle.std.specs.Prelude.{Err, Ok, [], ◌≡◌};
-ghost use Rattle.plain_eval.specs.Ends.{Spends, end_of, ended, fault_end, value_in};
+ghost use Rattle.plain_eval.specs.Ends.{Limited, Spends, end_of, ended, fault_end, value_in};
 
 use crate::stop::{Halted, Stop};
-use px_bytes::{M, Raise, TclFault, Text};
+use px_bytes::{M, Raise, TEXT_LIMIT, TclFault, Text};
 use std::alloc::Global;
 use std::mem;
 
@@ -88,6 +88,23 @@ impl Progress {
         match &self.end {
             Ok(value) => value.as_bytes(),
             Err(_) => b"",
+        }
+    }
+
+    /// Keeps what was noted, unless it is a value that is longer than a text may be.
+    #[inline(never)]
+    pub(crate) fn limit(&mut self, alloc: Global) -> Result<(), Halted>
+        ensures ended { result ≡ ended self.new.end }
+        ensures same { self.new ≡ record self.old { end = self.new.end } }
+        ensures value { Limited self.old.end self.new.end }
+    {
+        if self.value().len() > TEXT_LIMIT {
+            return Err(self.raise(TclFault::too_long(alloc)));
+        }
+        if self.end.is_err() {
+            Err(Halted)
+        } else {
+            Ok(())
         }
     }
 

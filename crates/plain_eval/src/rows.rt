@@ -4,7 +4,7 @@ ghost use Rattle.std.specs.Prelude.{length, map, option_map, slice_get, ◌<◌,
 ghost use Rattle.px_bytes.specs.Limit.{text_limit};
 ghost use Rattle.tcl_compile.specs.declared.node.Node.{out-Node};
 ghost use Rattle.plain_eval.specs.Trees.{cases_among, cases_within, children_of, front_of, pairs};
-ghost use Rattle.plain_eval.specs.Trees.{row_of, words_of};
+ghost use Rattle.plain_eval.specs.Trees.{parts_of, row_of, words_of};
 ghost use Rattle.plain_eval.specs.Ends.{value_in};
 ghost use Rattle.plain_eval.specs.Leaves.{AddsValue};
 
@@ -20,6 +20,16 @@ pub(crate) fn children(tree: &Node) -> &[Node]
 {
     match tree {
         Node::Script(all) | Node::Command(_, all) => all,
+        _ => &[],
+    }
+}
+
+/// The parts of a word.
+pub(crate) fn parts(tree: &Node) -> &[Node]
+    ensures { result.now ≡ parts_of tree.now }
+{
+    match tree {
+        Node::Word(all) => all,
         _ => &[],
     }
 }

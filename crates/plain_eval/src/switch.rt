@@ -1,13 +1,14 @@
 // The choice of a `switch`.
 
-ghost use Rattle.std.specs.Prelude.{List, [], drop, false, length, option_map, slice_get, take, unwrap_or, ◌-◌, ◌≡◌, ◌≤◌};
+ghost use Rattle.std.specs.Prelude.{List, [], drop, false, length, option_map, slice_get, take};
+ghost use Rattle.std.specs.Prelude.{unwrap_or, ◌-◌, ◌≡◌, ◌≤◌};
 ghost use Rattle.tcl_compile.specs.declared.node.Node.{out-Node};
 ghost use Rattle.rule_model.specs.Control.{Case, hits, is_glob, switch_words};
-ghost use Rattle.plain_eval.specs.Trees.{FollowCases, cases_among, children_of, front_of, pairs, words_of};
+ghost use Rattle.plain_eval.specs.Trees.{FollowCases, cases_among, children_of, front_of, pairs};
 ghost use Rattle.plain_eval.specs.Ends.{ended};
 ghost use Rattle.plain_eval.specs.Stand.{Comes, inner_of, setting_of, stand};
 ghost use Rattle.plain_eval.specs.Leaves.{ToldAs};
-ghost use Rattle.plain_eval.specs.Choice.{body_chosen, choice_of, first_body_of, first_hit, is_next_in};
+ghost use Rattle.plain_eval.specs.Choice.{body_chosen, first_body_of, first_hit, hit_in, is_next_in};
 
 use crate::context::Context;
 use crate::host::PlainHost;
@@ -17,7 +18,7 @@ use crate::stop::Halted;
 use crate::tree::eval_tree;
 use px_bytes::{TclFault, Text, Texts, glob};
 use std::alloc::Global;
-use tcl_compile::{Node, Verb};
+use tcl_compile::Node;
 use tcl_vars::Vars;
 
 /// The body of the case that the values choose.
@@ -33,8 +34,7 @@ pub(crate) fn eval_chosen<H: PlainHost>(
     host: &mut H,
     progress: &mut Progress,
 ) -> Result<(), Halted>
-    requires used { progress.old.used ≤ length context.now.answers.now }
-    requires count { length values.now ≡ length (words_of Verb.Switch (children_of tree.now)) }
+    requires { progress.old.used ≤ length context.now.answers.now }
     ensures used { progress.new.used ≤ length context.now.answers.now }
     ensures ended { result ≡ ended progress.new.end }
     ensures comes { let answers = context.now.answers.now in
@@ -60,26 +60,26 @@ fn chosen<'a>(
     values: &Texts,
     progress: &mut Progress,
 ) -> Result<Option<&'a Node>, Halted>
-    ensures { let all = children_of tree.now in
-        let body = body_chosen all (choice_of (length (front_of all)) values.now) in
+    ensures { let body = body_chosen (children_of tree.now) values.now in
         ToldAs (option_map (λ n. n.now)) body result progress.old progress.new }
 {
     let all = children(tree);
     let front = all_but_last(all).len();
-    match choice(front, values.as_slice()) {
+    let Some(glob) = is_glob(options(front, values.as_slice())) else {
+        return Err(progress.raise(TclFault::syntax_error(alloc, b"switch")));
+    };
+    match hit_in(glob, front, values.as_slice()) {
         Some(number) => Ok(first_body(all, number)),
-        None => Err(progress.raise(TclFault::syntax_error(alloc, b"switch"))),
+        None => Ok(None),
     }
 }
 
-// The number of the first case whose pattern is hit, or of one behind the last; none where an
-// option is none. The first so many values are the options and the text.
-fn choice(front: usize, values: &[Text]) -> Option<usize>
-    ensures { result ≡ choice_of front values.now }
+// The number of the first case whose pattern is hit. The first so many values are the options and
+// the text.
+fn hit_in(by_glob: bool, front: usize, values: &[Text]) -> Option<usize>
+    ensures { result ≡ hit_in by_glob front values.now }
 {
-    let glob = is_glob(options(front, values))?;
-    let text = text_of(front, values);
-    Some(first_hit(glob, text, patterns(front, values)))
+    first_hit(by_glob, text_of(front, values), patterns(front, values))
 }
 
 fn options(front: usize, values: &[Text]) -> &[Text]
@@ -131,19 +131,19 @@ fn is_glob(options: &[Text]) -> Option<bool>
     Some(glob)
 }
 
-fn first_hit(by_glob: bool, text: &[u8], patterns: &[Text]) -> usize
+fn first_hit(by_glob: bool, text: &[u8], patterns: &[Text]) -> Option<usize>
     ensures { result ≡ first_hit by_glob text.now patterns.now }
 {
     let mut at = 0;
     let mut rest = patterns;
     while let [pattern, more @ ..] = rest {
         if hits(by_glob, text, pattern.as_bytes(), more) {
-            return at;
+            return Some(at);
         }
         at += 1;
         rest = more;
     }
-    at
+    None
 }
 
 fn hits(by_glob: bool, text: &[u8], pattern: &[u8], more: &[Text]) -> bool

@@ -16,7 +16,7 @@ use crate::host::PlainHost;
 use crate::loops::{eval_for, eval_foreach, eval_while};
 use crate::nested::{eval_call, eval_expression};
 use crate::progress::Progress;
-use crate::rows::{add_value, children, row_item};
+use crate::rows::{add_value, children, parts, row_item};
 use crate::stop::Halted;
 use crate::switch::eval_chosen;
 use crate::values::{element, literal, variable, word};
@@ -70,9 +70,8 @@ pub(crate) fn eval_tree<H: PlainHost>(
             Verb::Catch => eval_catch(context, levels, tree, vars, host, progress),
             _ => eval_row(context, levels, tree, wanted, vars, host, progress),
         },
-        Node::Word(_) | Node::Element(_, _) => {
-            eval_row(context, levels, tree, wanted, vars, host, progress)
-        }
+        Node::Word(_) => eval_word(context, levels, tree, wanted, vars, host, progress),
+        Node::Element(_, _) => eval_row(context, levels, tree, wanted, vars, host, progress),
     }
 }
 
@@ -107,6 +106,35 @@ fn eval_commands<H: PlainHost>(
         rest = behind;
     }
     progress.nothing(context.alloc)
+}
+
+// The parts of a word, joined. A word of one part has its value, and copies nothing.
+#[inline(never)]
+#[cycle(plain)]
+fn eval_word<H: PlainHost>(
+    context: &Context<'_, H::Env>,
+    levels: usize,
+    tree: &Node,
+    wanted: bool,
+    vars: &mut Vars,
+    host: &mut H,
+    progress: &mut Progress,
+) -> Result<(), Halted>
+    requires { progress.old.used ≤ length context.now.answers.now }
+    ensures used { progress.new.used ≤ length context.now.answers.now }
+    ensures ended { result ≡ ended progress.new.end }
+    ensures comes { let answers = context.now.answers.now in
+        let before = stand answers vars.old host.old progress.old in
+        let after = stand answers vars.new host.new progress.new in
+        let finish = finish_of H.table context.now tree.now in
+        OfAll H.table context.now (row_of tree.now)
+        (λ ms. Comes wanted (in_order finish ms []) before progress.new.end after) }
+{
+    let [part] = parts(tree) else {
+        return eval_row(context, levels, tree, wanted, vars, host, progress);
+    };
+    let _ = eval_tree(context, levels, part, true, vars, host, progress);
+    progress.limit(context.alloc)
 }
 
 // The values of a row, and then what is done with them.
@@ -153,8 +181,7 @@ fn finish<H: PlainHost>(
     host: &mut H,
     progress: &mut Progress,
 ) -> Result<(), Halted>
-    requires used { progress.old.used ≤ length context.now.answers.now }
-    requires count { length values.now ≡ length (row_of tree.now) }
+    requires { progress.old.used ≤ length context.now.answers.now }
     ensures used { progress.new.used ≤ length context.now.answers.now }
     ensures ended { result ≡ ended progress.new.end }
     ensures comes { let answers = context.now.answers.now in
@@ -174,6 +201,7 @@ fn finish<H: PlainHost>(
             Verb::ExprOfWords => eval_expression(context, levels, values, vars, host, progress),
             _ => by_words(context, *verb, values, wanted, vars, host, progress),
         },
-        _ => word(context.alloc, values, progress),
+        Node::Word(_) => word(context.alloc, values, progress),
+        _ => progress.nothing(context.alloc),
     }
 }

@@ -23,18 +23,20 @@ refused_false told named bytes C e loads r =
     r.refused C (subst (λ b. Loads b C) (sym same) loads)
 
 by_end : (words : List (List ℕ)) (told : List ℕ → Option (List ℕ)) (old new : Option (List ℕ)) (rb rn b n : ℕ) (end : End) (m : MayReplay words told rb rn b n) → ReplaysFiles m.named told old new rb rn b n end
-    → (end ≡ Done) ⊎ (end ≡ Memory) ⊎ ((end ≡ Schedule) × ((C : configured.Config) × MeetsRefusal C m.schedule old new))
+    → (end ≡ Done) ⊎ (end ≡ Memory) ⊎ ((end ≡ Schedule) × ((C : configured.Config) × Loads m.bytes C × MeetsRefusal C m.schedule old new))
 by_end words told old new rb rn b n Done m k = inl refl
 by_end words told old new rb rn b n Usage m k = absurd k
 by_end words told old new rb rn b n Config m k = absurd (refused_false told m.named m.bytes m.C m.config m.loads k.0)
 by_end words told old new rb rn b n Schedule m k =
     let same : k.schedule ≡ m.schedule = told_is (told m.named.schedule) k.schedule m.schedule m.schedule_is k.schedule_contents in
     let r : Replayed k.C m.schedule old new b n Schedule = subst (λ s. Replayed k.C s old new b n Schedule) same k.replayed in
-    by_fault r
+    let config : k.bytes ≡ m.bytes = told_is (told m.named.config) k.bytes m.bytes m.config k.contents in
+    by_fault r (subst (λ bytes. Loads bytes k.C) config k.loads)
   where
-    by_fault : {D : configured.Config} → MeetsFault D m.schedule old new ⊎ MeetsRefusal D m.schedule old new → (Schedule ≡ Done) ⊎ (Schedule ≡ Memory) ⊎ ((Schedule ≡ Schedule) × ((C : configured.Config) × MeetsRefusal C m.schedule old new))
-    by_fault (inl f) = absurd (whole_has_no_fault m.schedule f.text f.rest m.number f.number m.events _ m.reads f.schedule_is f.reports.reads f.faulty)
-    by_fault {D = D} (inr r) = inr (inr (refl, (D, r)))
+    by_fault : {D : configured.Config} → MeetsFault D m.schedule old new ⊎ MeetsRefusal D m.schedule old new → Loads m.bytes D
+        → (Schedule ≡ Done) ⊎ (Schedule ≡ Memory) ⊎ ((Schedule ≡ Schedule) × ((C : configured.Config) × Loads m.bytes C × MeetsRefusal C m.schedule old new))
+    by_fault (inl f) loads = absurd (whole_has_no_fault m.schedule f.text f.rest m.number f.number m.events _ m.reads f.schedule_is f.reports.reads f.faulty)
+    by_fault {D = D} (inr r) loads = inr (inr (refl, (D, loads, r)))
 by_end words told old new rb rn b n ReadFault m k = absurd (m.no_read_fault k.0)
 by_end words told old new rb rn b n WriteFault m k = absurd (m.no_write_fault k.0)
 by_end words told old new rb rn b n Memory m k = inr (inl refl)

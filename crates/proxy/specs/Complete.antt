@@ -34,4 +34,5 @@ abbrev pub Completes : List (List ℕ) → (List ℕ → Option (List ℕ)) → 
 Completes words told old new reads_before reads_now before now end =
     (m : MayReplay words told reads_before reads_now before now)
     → (end ≡ Done) ⊎ (end ≡ Memory)
-    ⊎ ((end ≡ Schedule) × ((C : configured.Config) × MeetsRefusal C m.schedule old new))
+    ⊎ ((end ≡ Schedule)
+    × ((C : configured.Config) × Loads m.bytes C × MeetsRefusal C m.schedule old new))

@@ -1,19 +1,23 @@
 -- What an evaluation leaves of the state before it: laws of one evaluation.
 use Rattle.std.proofs.Common.{◌≡◌, refl, sym, ap, ◌∙◌, ℕ, ◌≤◌, List, [], ◌∷◌, ◌++◌, map, Bool, true, false, if◌then◌else◌}
-use Rattle.std.proofs.Common.{append_assoc, arith, drop}
+use Rattle.std.proofs.Common.{append_assoc, arith, drop, zero, suc, Option, Some, None, Result, Ok, Err}
 use Rattle.std.proofs.lemmas.List.{append-nil}
 use Rattle.std.proofs.lemmas.Grind.{flat_map-append}
 use Rattle.std.specs.List.{flat_map}
 use Rattle.px_bytes.specs.declared.fault.Reply.{Reply}
 use Rattle.px_bytes.specs.declared.fault.Reply.TheVariants as reply
+use Rattle.px_bytes.specs.declared.fault.TclFault.{TclFault}
+use Rattle.tcl_compile.specs.Procedures.{Procedure, procedure_named, values_bound}
 use Rattle.tcl_compile.specs.Tree.{Tree}
 use Rattle.tcl_vars.specs.Scopes.{Level, Scopes, no_level, innermost, with_innermost, with_value_in, without_value_in, is_static, in_proc}
-use Rattle.tcl_var_commands.proofs.Kept.{Changing}
+use Rattle.tcl_var_commands.specs.Assigning.{row_assigned}
+use Rattle.tcl_var_commands.proofs.Kept.{Changing, row_kept}
 use Rattle.rule_model.specs.Host.{HostStep, Gives, Faults, Asks}
-use Rattle.rule_model.specs.Outcome.{Act, Did, Called, Code, Value, Raised, Return, Break, Continue, State, Outcome, Ends, Waits, then_code, paid, ask_in, answered}
+use Rattle.rule_model.specs.Outcome.{Act, Did, Called, Code, Value, Raised, Return, Break, Continue, State, Outcome, Ends, Waits, then_code, then_value, code_of, changed, paid, ask_in, answered}
 use Rattle.rule_model.specs.Setting.{Setting}
-use Rattle.rule_model.specs.Commands.{left, leave}
-use Rattle.rule_model.specs.Laws.{meaning, state_after, Grows, StepShows, TableShows, ShowsActs, asks, waits, KeepsOuter}
+use Rattle.rule_model.specs.Commands.{left, leave, deeper, entered, call_bound, call_named, call_command}
+use Rattle.rule_model.specs.Evaluator.{inner}
+use Rattle.rule_model.specs.Laws.{meaning, state_after, Grows, StepShows, TableShows, ShowsActs, asks, waits, KeepsOuter, KeepsLevels}
 use Rattle.rule_model.proofs.Alike.{with_vars, spent, Fact, Alike}
 use Rattle.rule_model.proofs.Trees.{meaning_same}
 
@@ -252,3 +256,52 @@ within table = record {
 
 pub callers_stay : {H : Type 0} (g : Setting H) (expressions calls : ℕ) (tree : Tree) (path : List ℕ) (st : State H) (level : Level) (outer : List Level) → st.vars.levels ≡ level ∷ outer → KeepsOuter outer (meaning g expressions calls tree path st)
 callers_stay g expressions calls tree path st level outer e = holds Outer outer_kept Within g (within g.table) expressions calls tree path st level outer e
+
+-- a call's own level goes with it
+leave_exactly : {H : Type 0} (outer : List Level) (c : Code) (d : State H) → (left d).vars.levels ≡ outer → KeepsLevels outer (leave c d)
+leave_exactly outer (Value v) d h = h
+leave_exactly outer (Raised f) d h = h
+leave_exactly outer (Return v) d h = h
+leave_exactly outer Break d h = h
+leave_exactly outer Continue d h = h
+
+left_levels : {H : Type 0} (outer : List Level) (p : Outcome H) → KeepsOuter outer p → KeepsLevels outer (then_code p leave)
+left_levels outer (Ends c d) h = leave_exactly outer c d (ap (drop 1) h.1)
+left_levels outer (Waits path call d) h = tt
+
+value_outer : {H : Type 0} (outer : List Level) (r : Result (List ℕ) TclFault) (d : State H) (go : List ℕ → State H → Outcome H) → (level : Level) × (d.vars.levels ≡ level ∷ outer)
+    → ((v : List ℕ) → KeepsOuter outer (go v d)) → KeepsOuter outer (then_value (Ends (code_of r) d) go)
+value_outer outer (Ok v) d go now h = h v
+value_outer outer (Err f) d go now h = now
+
+body_outer : {H : Type 0} (g : Setting H) (expressions calls : ℕ) (tree : Tree) (path : List ℕ) (d : State H) (level : Level) (outer : List Level) → d.vars.levels ≡ level ∷ outer
+    → KeepsOuter outer (deeper (inner g expressions calls).call tree path d)
+body_outer g expressions zero tree path d level outer e = (level, e)
+body_outer g expressions (suc calls) tree path d level outer e = callers_stay g expressions calls tree path d level outer e
+
+entered_levels : {H : Type 0} (g : Setting H) (expressions calls : ℕ) (p : Procedure) (values : List (List ℕ)) (path : List ℕ) (st : State H)
+    → KeepsLevels st.vars.levels (entered g (inner g expressions calls) p values path st)
+entered_levels {H} g expressions calls p values path st =
+    let names = map (λ q. q.name) p.parameters in
+    let set = row_assigned g.statics names values (in_proc st.vars) in
+    let inside : State H = record st { vars = set.vars } in
+    let now = row_kept Outer outer_kept g.statics names values (in_proc st.vars) no_level st.vars.levels refl in
+    left_levels st.vars.levels (then_value (changed set st) (λ v t. deeper (inner g expressions calls).call p.body path t))
+    (value_outer st.vars.levels set.value inside (λ v t. deeper (inner g expressions calls).call p.body path t) now
+    (λ v. body_outer g expressions calls p.body path inside now.0 st.vars.levels now.1))
+
+bound_levels : {H : Type 0} (g : Setting H) (expressions calls : ℕ) (p : Procedure) (o : Option (List (List ℕ))) (path : List ℕ) (st : State H)
+    → KeepsLevels st.vars.levels (call_bound g (inner g expressions calls) p o path st)
+bound_levels g expressions calls p None path st = refl
+bound_levels g expressions calls p (Some values) path st = entered_levels g expressions calls p values path st
+
+named_levels : {H : Type 0} (g : Setting H) (expressions calls : ℕ) (o : Option Procedure) (name : List ℕ) (words : List (List ℕ)) (path : List ℕ) (st : State H)
+    → KeepsLevels st.vars.levels (call_named g (inner g expressions calls) o name words path st)
+named_levels g expressions calls None name words path st = refl
+named_levels g expressions calls (Some p) name words path st = bound_levels g expressions calls p (values_bound p.parameters words) path st
+
+pub calls_keep : {H : Type 0} (g : Setting H) (expressions calls : ℕ) (words : List (List ℕ)) (path : List ℕ) (st : State H)
+    → KeepsLevels st.vars.levels (call_command g (inner g expressions calls) words path st)
+calls_keep g expressions calls [] path st = refl
+calls_keep g expressions calls (verb ∷ []) path st = refl
+calls_keep g expressions calls (verb ∷ (name ∷ words)) path st = named_levels g expressions calls (procedure_named name g.procedures) name words path st

@@ -6,6 +6,7 @@ use Rattle.tcl_vars.specs.Scopes.{Level}
 use Rattle.tcl_compile.specs.Tree.{Tree}
 use Rattle.rule_model.specs.Host.{HostStep, Gives, Faults, Asks}
 use Rattle.rule_model.specs.Outcome.{Act, Did, Called, State, state, Outcome, Ends, Waits, Meaning}
+use Rattle.rule_model.specs.Commands.{call_command}
 use Rattle.rule_model.specs.Setting.{Setting}
 use Rattle.rule_model.specs.Evaluator.{eval, inner}
 
@@ -132,9 +133,20 @@ abbrev pub KeepsOuter : {H : Type 0} → List Level → Outcome H → Type 0
 KeepsOuter outer (Ends code st) = (level : Level) × (st.vars.levels ≡ level ∷ outer)
 KeepsOuter outer (Waits path call st) = Unit {0}
 
--- proc(n): a procedure sees variables of its own, so those of its callers stay as they are
+-- proc(n): a procedure sees variables of its own; whatever its body does, those of its callers stay
 abbrev pub CallersVariablesStay : Type 0 → Type 0
 CallersVariablesStay H =
     (g : Setting H) (expressions calls : ℕ) (tree : Tree) (path : List ℕ) (st : State H)
     (level : Level) (outer : List Level) → st.vars.levels ≡ level ∷ outer
     → KeepsOuter outer (meaning g expressions calls tree path st)
+
+-- all levels are as they were, where an evaluation ends
+abbrev pub KeepsLevels : {H : Type 0} → List Level → Outcome H → Type 0
+KeepsLevels levels (Ends code st) = st.vars.levels ≡ levels
+KeepsLevels levels (Waits path call st) = Unit {0}
+
+-- proc(n): a call's own variables go with it, and its caller's own are as they were too
+abbrev pub CallsKeepLevels : Type 0 → Type 0
+CallsKeepLevels H =
+    (g : Setting H) (expressions calls : ℕ) (words : List (List ℕ)) (path : List ℕ) (st : State H)
+    → KeepsLevels st.vars.levels (call_command g (inner g expressions calls) words path st)

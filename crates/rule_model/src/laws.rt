@@ -4,6 +4,7 @@ ghost use Rattle.rule_model.specs.Laws.{
   ActsStay,
   AskedByNoneWaitsNever,
   CallersVariablesStay,
+  CallsKeepLevels,
   HostShowsActs,
   MoreRepliesOnlyLengthen,
   WiderHostAgrees,
@@ -34,7 +35,12 @@ pub fn asked_by_none_waits_never<H>()
     ensures { AskedByNoneWaitsNever H }
 {}
 
-/// A procedure leaves its callers' variables as they are.
+/// What a procedure's body does leaves its callers' variables as they are.
 pub fn callers_variables_stay<H>()
     ensures { CallersVariablesStay H }
+{}
+
+/// A call's own variables go with it, and its caller's are as they were.
+pub fn calls_keep_levels<H>()
+    ensures { CallsKeepLevels H }
 {}

@@ -4,6 +4,6 @@
 mod laws;
 
 pub use laws::{
-    acts_stay, asked_by_none_waits_never, callers_variables_stay, host_shows_acts,
-    more_replies_only_lengthen, wider_host_agrees,
+    acts_stay, asked_by_none_waits_never, callers_variables_stay, calls_keep_levels,
+    host_shows_acts, more_replies_only_lengthen, wider_host_agrees,
 };

@@ -1,9 +1,9 @@
-use Rattle.std.proofs.Common.{◌≡◌, refl, sym, ap, ◌∙◌, arith, length, take, drop, ◌+◌, ◌-◌, ◌<◌, ◌≤◌, Ok, true, false, [], ◌∷◌, suc, zero, map, option_map, ◌*◌, Some, None}
+use Rattle.std.proofs.Common.{◌≡◌, refl, sym, ap, ◌∙◌, arith, length, take, drop, ◌+◌, ◌-◌, ◌<◌, ◌≤◌, Ok, true, false, [], ◌∷◌, suc, zero, map, option_map, Some, None}
 use Rattle.std.proofs.lemmas.List.{drop_more, drop_all}
 use Rattle.tcl_expr.specs.Truth.{truth}
 use Rattle.plain_eval.specs.Ends.{value_in, fault_end}
 use Rattle.plain_eval.specs.Stand.{setting_of, inner_of, stand}
-use Rattle.plain_eval.specs.Trees.{children_of, cases_among, finish_of, front_of, row_of}
+use Rattle.plain_eval.specs.Trees.{children_of, finish_of, row_of}
 use Rattle.plain_eval.proofs.Lists.{one_more, two_more, just_one, nothing_there, halted_as, halted_is}
 use Rattle.tcl_compile.specs.Procedures.{procedure_view}
 use Rattle.tcl_vars.specs.Scopes.{in_proc}
@@ -16,7 +16,6 @@ use Rattle.plain_eval.proofs.Comes.{spent}
 use Rattle.rule_model.specs.Control.{last_of, nothing, rows_of}
 use Rattle.plain_eval.specs.Leaves.{row_view}
 use Rattle.plain_eval.proofs.Repeats.{with_vars}
-use Rattle.tcl_compile.specs.declared.node.Node.{Node}
 use Rattle.px_bytes.specs.Limit.{text_limit}
 use Rattle.plain_eval.proofs.Comes as comes
 use Rattle.plain_eval.proofs.Turns as turns
@@ -936,7 +935,7 @@ loops::eval_foreach-loop-number-init g t c =
     let most = c.most_turns-number-end.result in
     let told = c.in_ok-rows.ensures in
     record {
-      used = rw told.1 c.requires.used;
+      used = rw told.1 c.requires;
       rest = λ ms f. rw told.1 (loops.rows_start statics rows (last_of nothing ms) most (most - 0) before (omega arith));
     }
 
@@ -1014,16 +1013,12 @@ loops::eval_foreach-returns-in_err-after_body-clause-comes g t c =
     let done = rw c.deref-in-loop-number.ensures.value at set.0 in
     let same = rw c.deref-in-loop-number.ensures.value at set.1 in
     let new = c.set_turn.new.vars in
-    let end = c.eval_tree.new.progress.end in
-    let out = stand answers c.eval_tree.new.vars c.eval_tree.new.host c.eval_tree.new.progress in
-    let one = rw (set.2, paid.1) at c.eval_tree.ensures.comes in
-    let s = setting_of g.H.PlainHost.table c.args.context.now in
-    let i = inner_of g.H.PlainHost.table c.args.context.now in
-    let nodes = children_of c.args.tree.now in
-    let last = rw c.children.ensures at c.in-Some.ensures.value in
+    let end = c.eval_last.new.progress.end in
+    let out = stand answers c.eval_last.new.vars c.eval_last.new.host c.eval_last.new.progress in
+    let one = rw (set.2, paid.1) at c.eval_last.ensures.comes in
     λ ms f. loops.rows_told statics (last_of nothing ms) all rows most before end out told.0 count
     (repeats.rows_halt statics rows (last_of nothing ms) most before n m k mid out new end c.in_err-after_body.field-0.0 is (c.loop-number.invariant.rest ms f) paid.0 (done, same)
-    (loops.last_follows s i ms nodes c.in-Some.body.now f last false (with_vars new (spent mid)) end out one) (sym c.in_err-after_body.ensures))
+    (one ms f) (sym c.in_err-after_body.ensures))
 
 pub loops::eval_foreach-returns-then-not-branch-clause-comes : goal.loops::eval_foreach-returns-then-not-branch-clause-comes
 loops::eval_foreach-returns-then-not-branch-clause-comes g t c =
@@ -1045,17 +1040,13 @@ loops::eval_foreach-returns-then-not-branch-clause-comes g t c =
     let done = rw c.deref-in-loop-number.ensures.value at set.0 in
     let same = rw c.deref-in-loop-number.ensures.value at set.1 in
     let new = c.set_turn.new.vars in
-    let end = c.eval_tree.new.progress.end in
-    let out = stand answers c.eval_tree.new.vars c.eval_tree.new.host c.eval_tree.new.progress in
-    let one = rw (set.2, paid.1) at c.eval_tree.ensures.comes in
-    let s = setting_of g.H.PlainHost.table c.args.context.now in
-    let i = inner_of g.H.PlainHost.table c.args.context.now in
-    let nodes = children_of c.args.tree.now in
-    let last = rw c.children.ensures at c.in-Some.ensures.value in
+    let end = c.eval_last.new.progress.end in
+    let out = stand answers c.eval_last.new.vars c.eval_last.new.host c.eval_last.new.progress in
+    let one = rw (set.2, paid.1) at c.eval_last.ensures.comes in
     let goes = rw c.if-not-branch.true at c.in_ok-after_body.ensures in
-    λ ms f. rw c.nothing-then-not-branch.ensures.noted (loops.rows_told statics (last_of nothing ms) all rows most before (Ok []) out told.0 count
+    λ ms f. rw c.nothing.ensures.noted (loops.rows_told statics (last_of nothing ms) all rows most before (Ok []) out told.0 count
     (repeats.rows_out statics rows (last_of nothing ms) most before n m k mid out new end is (c.loop-number.invariant.rest ms f) paid.0 (done, same)
-    (loops.last_follows s i ms nodes c.in-Some.body.now f last false (with_vars new (spent mid)) end out one) (sym goes)))
+    (one ms f) (sym goes)))
 
 pub loops::eval_foreach-loop-number-preserved : goal.loops::eval_foreach-loop-number-preserved
 loops::eval_foreach-loop-number-preserved g t c =
@@ -1077,18 +1068,14 @@ loops::eval_foreach-loop-number-preserved g t c =
     let done = rw c.deref-in-loop-number.ensures.value at set.0 in
     let same = rw c.deref-in-loop-number.ensures.value at set.1 in
     let new = c.set_turn.new.vars in
-    let end = c.eval_tree.new.progress.end in
-    let out = stand answers c.eval_tree.new.vars c.eval_tree.new.host c.eval_tree.new.progress in
-    let one = rw (set.2, paid.1) at c.eval_tree.ensures.comes in
-    let s = setting_of g.H.PlainHost.table c.args.context.now in
-    let i = inner_of g.H.PlainHost.table c.args.context.now in
-    let nodes = children_of c.args.tree.now in
-    let last = rw c.children.ensures at c.in-Some.ensures.value in
+    let end = c.eval_last.new.progress.end in
+    let out = stand answers c.eval_last.new.vars c.eval_last.new.host c.eval_last.new.progress in
+    let one = rw (set.2, paid.1) at c.eval_last.ensures.comes in
     let goes = rw c.if-not-branch.false at c.in_ok-after_body.ensures in
     record {
-      used = c.eval_tree.ensures.used;
+      used = c.eval_last.ensures.used;
       rest = λ ms f. repeats.rows_next statics rows (last_of nothing ms) most before n m k mid out new end is (c.loop-number.invariant.rest ms f) paid.0 (done, same)
-          (loops.last_follows s i ms nodes c.in-Some.body.now f last false (with_vars new (spent mid)) end out one) (sym goes);
+          (one ms f) (sym goes);
     }
 
 pub loops::eval_foreach-returns-clause-used : goal.loops::eval_foreach-returns-clause-used
@@ -1112,18 +1099,24 @@ loops::eval_foreach-returns-clause-comes g t c =
     λ ms f. rw c.nothing-2.ensures.noted (loops.rows_told statics (last_of nothing ms) all rows most before (Ok []) mid told.0 count
     (repeats.rows_done statics rows (last_of nothing ms) most before n k mid is (c.loop-number.invariant.rest ms f)))
 
-pub loops::eval_foreach-returns-in_default-clause-comes : goal.loops::eval_foreach-returns-in_default-clause-comes
-loops::eval_foreach-returns-in_default-clause-comes g t c =
+pub loops::eval_last-returns-in-Some-clause-comes : goal.loops::eval_last-returns-in-Some-clause-comes
+loops::eval_last-returns-in-Some-clause-comes g t c =
+    let s = setting_of g.H.PlainHost.table c.args.context.now in
+    let i = inner_of g.H.PlainHost.table c.args.context.now in
     let answers = c.args.context.now.answers.now in
     let before = stand answers c.args.vars.now c.args.host.now c.args.progress.now in
-    let statics = option_map (λ v. v.now.statics) c.args.context.now.statics in
-    let told = c.in_ok-rows.ensures in
-    let values = c.args.values.now in
-    let nodes = children_of c.args.tree.now in
-    let none : nodes ≡ [] = loops.none_last nodes (rw c.children.ensures at c.in_default.ensures.value) in
-    let few : length values ≤ length {A = Node} [] = rw none at c.requires.count in
-    let empty : values ≡ [] = loops.no_more values few in
-    λ ms f. rw (c.nothing.ensures.noted, told.1) (loops.rows_no_values statics (last_of nothing ms) values before empty)
+    let last = stand answers c.eval_tree.new.vars c.eval_tree.new.host c.eval_tree.new.progress in
+    let at = rw (c.in-Some.is, c.children.ensures) at c.last.ensures.value in
+    λ ms f. loops.last_follows s i ms (children_of c.args.tree.now) c.in-Some.body.now f at false before c.eval_tree.new.progress.end last c.eval_tree.ensures.comes
+
+pub loops::eval_last-returns-in-None-clause-comes : goal.loops::eval_last-returns-in-None-clause-comes
+loops::eval_last-returns-in-None-clause-comes g t c =
+    let s = setting_of g.H.PlainHost.table c.args.context.now in
+    let i = inner_of g.H.PlainHost.table c.args.context.now in
+    let answers = c.args.context.now.answers.now in
+    let before = stand answers c.args.vars.now c.args.host.now c.args.progress.now in
+    let at = rw (c.in-None.is, c.children.ensures) at c.last.ensures.value in
+    λ ms f. rw c.nothing.ensures.noted (loops.last_none s i ms (children_of c.args.tree.now) false before f at)
 
 pub tree::eval_row-returns-in_err-eval_tree-clause-comes : goal.tree::eval_row-returns-in_err-eval_tree-clause-comes
 tree::eval_row-returns-in_err-eval_tree-clause-comes g t c =
@@ -1187,17 +1180,8 @@ tree::eval_row-loop-item-preserved g t c =
       used = rw h.3 c.in_ok-eval_tree.ensures.used;
       total = rows_of.row_total c.in_ok-total.total c.loop-item.total done c.add_value.new.values v h.0 c.loop-item.invariant.total h.2;
       fits = h.1;
-      count = rows_of.row_counted all done c.add_value.new.values v c.len.result item c.len.ensures c.in-Some.ensures h.2;
       rest = rw h.3 (rows_of.row_more s i c.args.wanted finish all before done c.add_value.new.values v mid next item h.2 split c.loop-item.invariant.rest one fits);
     }
-
-pub tree::eval_row-finish-requires : goal.tree::eval_row-finish-requires
-tree::eval_row-finish-requires g t c =
-    let all = row_of c.args.tree.now in
-    let full = rows_of.row_filled all c.loop-item.values c.len.result c.len.ensures c.in_default.ensures c.loop-item.invariant.count in
-    let at : 16 * c.args.levels + 4 ≡ t = c.decreases in
-    let falls : 16 * c.args.levels + 3 < t = omega (arith, at) in
-    λ κs h. (falls, (h.0, (h.1, (c.loop-item.invariant.used, full))))
 
 pub tree::eval_row-returns-clause-comes : goal.tree::eval_row-returns-clause-comes
 tree::eval_row-returns-clause-comes g t c =
@@ -1221,10 +1205,9 @@ switch::eval_chosen-returns-in-Some-clause-comes g t c =
     let before = stand answers c.args.vars.now c.args.host.now c.args.progress.now in
     let nodes = children_of c.args.tree.now in
     let told = rw c.in-Some.is at c.in_ok-body.ensures in
-    let few : length (drop (length (front_of nodes)) c.args.values.now) ≡ length (cases_among nodes) = rows_of.patterns_left nodes c.args.values.now c.requires.count in
     let last = stand answers c.eval_tree.new.vars c.eval_tree.new.host c.eval_tree.new.progress in
     let body = rw told.1 at c.eval_tree.ensures.comes in
-    λ cs f. rows_of.switch_comes s i (length (front_of nodes)) c.args.values.now cs nodes (Some c.in-Some.body.now) c.args.wanted before c.eval_tree.new.progress.end last told.0 f few body
+    λ cs f. rows_of.switch_comes s i c.args.values.now cs nodes (Some c.in-Some.body.now) c.args.wanted before c.eval_tree.new.progress.end last told.0 f body
 
 pub switch::eval_chosen-returns-in-None-clause-comes : goal.switch::eval_chosen-returns-in-None-clause-comes
 switch::eval_chosen-returns-in-None-clause-comes g t c =
@@ -1234,8 +1217,18 @@ switch::eval_chosen-returns-in-None-clause-comes g t c =
     let before = stand answers c.args.vars.now c.args.host.now c.args.progress.now in
     let nodes = children_of c.args.tree.now in
     let told = rw c.in-None.is at c.in_ok-body.ensures in
-    let few : length (drop (length (front_of nodes)) c.args.values.now) ≡ length (cases_among nodes) = rows_of.patterns_left nodes c.args.values.now c.requires.count in
-    λ cs f. rw (c.nothing.ensures.noted, told.1) (rows_of.switch_comes s i (length (front_of nodes)) c.args.values.now cs nodes None c.args.wanted before (Ok []) before told.0 f few (rows_of.nothing_comes s i c.args.wanted before))
+    λ cs f. rw (c.nothing.ensures.noted, told.1) (rows_of.switch_comes s i c.args.values.now cs nodes None c.args.wanted before (Ok []) before told.0 f (rows_of.nothing_comes s i c.args.wanted before))
+
+pub tree::eval_word-returns-clause-comes : goal.tree::eval_word-returns-clause-comes
+tree::eval_word-returns-clause-comes g t c =
+    let s = setting_of g.H.PlainHost.table c.args.context.now in
+    let i = inner_of g.H.PlainHost.table c.args.context.now in
+    let answers = c.args.context.now.answers.now in
+    let before = stand answers c.args.vars.now c.args.host.now c.args.progress.now in
+    let next = stand answers c.eval_tree.new.vars c.eval_tree.new.host c.eval_tree.new.progress in
+    let part = c.part-item.result in
+    let alone = sym c.parts.ensures ∙ just_one c.parts.result.now part c.in-len1.len_at_least c.in-len1.len_below c.part-item.is in
+    rw c.limit.ensures.same (rows_of.part_comes s i c.args.tree.now part c.args.wanted c.eval_tree.new.progress.end before c.limit.new.self.end next alone c.eval_tree.ensures.comes c.limit.ensures.value)
 
 pub tree::eval_tree-returns-in-Word-clause-comes : goal.tree::eval_tree-returns-in-Word-clause-comes
 tree::eval_tree-returns-in-Word-clause-comes g t c =
@@ -1243,8 +1236,17 @@ tree::eval_tree-returns-in-Word-clause-comes g t c =
     let i = inner_of g.H.PlainHost.table c.args.context.now in
     let answers = c.args.context.now.answers.now in
     let before = stand answers c.args.vars.now c.args.host.now c.args.progress.now in
-    let last = stand answers c.eval_row-in-Word.new.vars c.eval_row-in-Word.new.host c.eval_row-in-Word.new.progress in
-    rows_of.piece_comes s i c.args.tree.now c.args.wanted before c.eval_row-in-Word.new.progress.end last c.in-Word.is c.eval_row-in-Word.ensures.comes
+    let last = stand answers c.eval_word.new.vars c.eval_word.new.host c.eval_word.new.progress in
+    rows_of.word_comes s i c.args.tree.now c.in-Word.field-0 c.args.wanted before c.eval_word.new.progress.end last c.in-Word.is c.eval_word.ensures.comes
+
+pub tree::eval_tree-returns-in-Element-clause-comes : goal.tree::eval_tree-returns-in-Element-clause-comes
+tree::eval_tree-returns-in-Element-clause-comes g t c =
+    let s = setting_of g.H.PlainHost.table c.args.context.now in
+    let i = inner_of g.H.PlainHost.table c.args.context.now in
+    let answers = c.args.context.now.answers.now in
+    let before = stand answers c.args.vars.now c.args.host.now c.args.progress.now in
+    let last = stand answers c.eval_row-in-Element.new.vars c.eval_row-in-Element.new.host c.eval_row-in-Element.new.progress in
+    rows_of.element_comes s i c.args.tree.now c.in-Element.field-0 c.in-Element.field-1 c.args.wanted before c.eval_row-in-Element.new.progress.end last c.in-Element.is c.eval_row-in-Element.ensures.comes
 
 pub tree::finish-returns-in-Element-clause-comes : goal.tree::finish-returns-in-Element-clause-comes
 tree::finish-returns-in-Element-clause-comes g t c =
@@ -1253,13 +1255,6 @@ tree::finish-returns-in-Element-clause-comes g t c =
     let answers = c.args.context.now.answers.now in
     let before = stand answers c.args.vars.now c.args.host.now c.args.progress.now in
     λ path cost acts. rw c.element.ensures.same (rows_of.element_done s i c.args.tree.now c.in-Element.name c.in-Element.field-1 c.args.values.now c.args.wanted before c.element.new.progress.end c.in-Element.is c.element.ensures.value path cost acts)
-
-pub tree::finish-eval_chosen-requires : goal.tree::finish-eval_chosen-requires
-tree::finish-eval_chosen-requires g t c =
-    let at : 16 * c.args.levels + 3 ≡ t = c.decreases in
-    let falls : 16 * c.args.levels + 1 < t = omega (arith, at) in
-    let count = rows_of.switch_count c.args.tree.now c.in-Command.verb c.in-Command.field-1 c.args.values.now c.in-Command.is c.in-Switch.is c.requires.count in
-    λ κs h. (falls, (h.0, (h.1, (c.requires.used, count))))
 
 pub tree::finish-returns-in-Switch-clause-comes : goal.tree::finish-returns-in-Switch-clause-comes
 tree::finish-returns-in-Switch-clause-comes g t c =
@@ -1285,16 +1280,25 @@ tree::finish-returns-in_default-verb g t c =
           no.not-Foreach no.not-Switch no.not-Call no.not-ExprOfWords c.by_words.ensures.comes;
     }
 
+pub tree::finish-returns-in-Word-clause-comes : goal.tree::finish-returns-in-Word-clause-comes
+tree::finish-returns-in-Word-clause-comes g t c =
+    let s = setting_of g.H.PlainHost.table c.args.context.now in
+    let i = inner_of g.H.PlainHost.table c.args.context.now in
+    let answers = c.args.context.now.answers.now in
+    let before = stand answers c.args.vars.now c.args.host.now c.args.progress.now in
+    λ path cost acts. rw c.word.ensures.same (rows_of.word_done s i c.args.tree.now c.in-Word.field-0 c.args.values.now c.args.wanted before c.word.new.progress.end c.in-Word.is c.word.ensures.value path cost acts)
+
 pub tree::finish-returns-in_default : goal.tree::finish-returns-in_default
 tree::finish-returns-in_default g t c =
     let s = setting_of g.H.PlainHost.table c.args.context.now in
     let i = inner_of g.H.PlainHost.table c.args.context.now in
     let answers = c.args.context.now.answers.now in
     let before = stand answers c.args.vars.now c.args.host.now c.args.progress.now in
+    let no = c.in_default in
     record {
-      used = rw c.word.ensures.same c.requires.used;
-      ended = c.word.ensures.ended;
-      comes = λ path cost acts. rw c.word.ensures.same (rows_of.rest_done s i c.args.tree.now c.args.values.now c.args.wanted before c.word.new.progress.end c.in_default.not-Element c.in_default.not-Command c.requires.count c.word.ensures.value path cost acts);
+      used = rw c.nothing.ensures.noted c.requires;
+      ended = rw c.nothing.ensures.noted c.nothing.ensures.ended;
+      comes = rw c.nothing.ensures.noted (rows_of.rest_done s i c.args.tree.now c.args.values.now c.args.wanted before no.not-Element no.not-Command no.not-Word);
     }
 
 pub tree::eval_tree-returns-in_default : goal.tree::eval_tree-returns-in_default

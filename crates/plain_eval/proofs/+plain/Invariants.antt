@@ -52,7 +52,10 @@ abbrev pub decreases-loops::eval_for : goal.decreases-loops::eval_for
 decreases-loops::eval_for g l = at_level l.levels 4
 
 abbrev pub decreases-loops::eval_foreach : goal.decreases-loops::eval_foreach
-decreases-loops::eval_foreach g l = at_level l.levels 1
+decreases-loops::eval_foreach g l = at_level l.levels 2
+
+abbrev pub decreases-loops::eval_last : goal.decreases-loops::eval_last
+decreases-loops::eval_last g l = at_level l.levels 1
 
 abbrev pub decreases-switch::eval_chosen : goal.decreases-switch::eval_chosen
 decreases-switch::eval_chosen g l = at_level l.levels 1
@@ -71,6 +74,9 @@ decreases-tree::finish g l = at_level l.levels 3
 
 abbrev pub decreases-tree::eval_row : goal.decreases-tree::eval_row
 decreases-tree::eval_row g l = at_level l.levels 4
+
+abbrev pub decreases-tree::eval_word : goal.decreases-tree::eval_word
+decreases-tree::eval_word g l = at_level l.levels 5
 
 abbrev pub decreases-tree::eval_commands : goal.decreases-tree::eval_commands
 decreases-tree::eval_commands g l = at_level l.levels 1
@@ -129,7 +135,6 @@ invariant-tree::eval_row-loop-item g l =
       used : l.progress.used ≤ length answers;
       total : l.total ≡ sum_by length l.values;
       fits : l.total ≤ text_limit;
-      count : length l.values ≤ length (row_of l.tree);
       rest : RowLeft s i l.wanted (finish_of g.H.PlainHost.table l.context l.tree) (row_of l.tree) before l.values
           (drop (length l.values) (row_of l.tree)) mid;
     }

@@ -1,10 +1,11 @@
 use Rattle.std.proofs.Common.{◌≡◌, ◌+◌, length}
+use Rattle.std.specs.Prelude.{option_map}
 use Rattle.plain_eval.specs.Choice.{first_hit}
 use Rattle.plain_eval.proofs.switch.first_hit.Given as goal
 
 abbrev pub invariant-loop-rest : goal.invariant-loop-rest
 invariant-loop-rest l = record {
-  hit : l.at + first_hit l.by_glob l.text l.rest ≡ first_hit l.by_glob l.text l.patterns;
+  hit : option_map (λ k. l.at + k) (first_hit l.by_glob l.text l.rest) ≡ first_hit l.by_glob l.text l.patterns;
   count : l.at + length l.rest ≡ length l.patterns;
 }
 
