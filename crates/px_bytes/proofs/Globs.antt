@@ -69,11 +69,11 @@ if_short true ps r x = let same : ps ≡ r = cc in omega (arith, ap length same)
 if_short false ps r x = cc
 
 same_escape : (b c : ℕ) (ps r s : List ℕ) → behind_escape b ps ≡ Some r → behind_escape c ps ≡ Some s → r ≡ s
-same_escape b c [] r s x y = cc
+same_escape b c [] r s x y = if_same (b == 92) (c == 92) [] r s x y
 same_escape b c (p ∷ ps) r s x y = if_same (p == b) (p == c) ps r s x y
 
 escape_shorter : (b : ℕ) (ps r : List ℕ) → behind_escape b ps ≡ Some r → length r ≤ length ps
-escape_shorter b [] r x = cc
+escape_shorter b [] r x = if_short (b == 92) [] r x
 escape_shorter b (p ∷ ps) r x = let less = if_short (p == b) ps r x in omega arith
 
 -- the same choice for two bytes

@@ -1,20 +1,7 @@
 -- The spelling of addresses: `A.B.C.D` is IPv4address of RFC 3986, 3.2.2, which has no needless
 -- zeros. `A.B.C.D:PORT`, with neither needless zeros nor port 0, is this project's own.
-use Rattle.std.specs.Prelude.{
-  ◌≡◌,
-  ℕ,
-  ◌/◌,
-  ◌%◌,
-  ◌^◌,
-  ◌<◌,
-  Bool,
-  List,
-  ◌++◌,
-  length,
-  codes,
-  decimal,
-  ◌==◌,
-}
+use Rattle.std.specs.Prelude.{◌≡◌, ℕ, ◌/◌, ◌%◌, ◌^◌, ◌<◌, Bool, List, ◌++◌, length, codes, decimal}
+use Rattle.std.specs.Prelude.{◌==◌}
 use Rattle.std.specs.List.{position_or_len}
 use Rattle.std.specs.Net.Text.{dotted_text}
 use Rattle.px_bytes.specs.declared.addr.Addr.{Addr}

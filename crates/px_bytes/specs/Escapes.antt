@@ -1,18 +1,6 @@
 -- Bytes as printable ASCII text, in this project's own spelling.
-use Rattle.std.specs.Prelude.{
-  ℕ,
-  Bool,
-  ◌||◌,
-  List,
-  [],
-  ◌∷◌,
-  ◌++◌,
-  flat_map,
-  codes,
-  nat_lt,
-  ◌==◌,
-  if◌then◌else◌,
-}
+use Rattle.std.specs.Prelude.{ℕ, Bool, ◌||◌, List, [], ◌∷◌, ◌++◌, flat_map, codes, nat_lt, ◌==◌}
+use Rattle.std.specs.Prelude.{if◌then◌else◌}
 use Rattle.px_bytes.specs.Hexadecimal.{hex_pair}
 
 -- a byte below a space or above `~`, or `\`

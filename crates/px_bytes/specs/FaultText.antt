@@ -1,17 +1,9 @@
 -- The faults of commands with their texts. Where Tcl 8.4 has the fault, the text is Tcl's own
 -- (set(n), Tcl(n)).
 use Rattle.std.specs.Prelude.{ℕ, List, ◌++◌, codes}
-use Rattle.px_bytes.specs.declared.fault.FaultKind.TheVariants.{
-  NoVariable,
-  NoCommand,
-  Arity,
-  NotWhole,
-  OutOfRange,
-  TooLong,
-  Budget,
-  Context,
-  Syntax,
-}
+use Rattle.px_bytes.specs.declared.fault.FaultKind.TheVariants.{NoVariable, NoCommand, Arity}
+use Rattle.px_bytes.specs.declared.fault.FaultKind.TheVariants.{NotWhole, OutOfRange, TooLong}
+use Rattle.px_bytes.specs.declared.fault.FaultKind.TheVariants.{Budget, Context, Syntax}
 use Rattle.px_bytes.specs.declared.fault.TclFault.{TclFault}
 
 -- a variable that isn't there was read

@@ -1,37 +1,17 @@
 -- How a pattern matches a whole text: Tcl 8.4, string(n), `string match`, by bytes. Other than in
--- Tcl, a set that isn't closed has no byte at all.
-use Rattle.std.specs.Prelude.{
-  ◌≡◌,
-  ℕ,
-  zero,
-  suc,
-  Bool,
-  true,
-  false,
-  ◌&&◌,
-  ◌||◌,
-  List,
-  [],
-  ◌∷◌,
-  length,
-  drop,
-  Option,
-  Some,
-  None,
-  nat_lt,
-  nat_le,
-  ◌==◌,
-  slice_index,
-  if◌then◌else◌,
-}
+-- Tcl, a set that isn't closed has no byte at all, a `-` just before the `]` of a set is itself, and
+-- so is a `\` that ends the pattern.
+use Rattle.std.specs.Prelude.{◌≡◌, ℕ, zero, suc, Bool, true, false, ◌&&◌, ◌||◌, not, List, [], ◌∷◌}
+use Rattle.std.specs.Prelude.{length, drop, Option, Some, None, nat_lt, nat_le, ◌==◌, slice_index}
+use Rattle.std.specs.Prelude.{if◌then◌else◌}
 
 -- `*`
 abbrev pub is_star : ℕ → Bool
 is_star piece = piece == 42
 
--- a `-` and a further byte: an item of a set that goes on so is a range
+-- a `-` and a further byte other than `]`: an item of a set that goes on so is a range
 abbrev pub goes_on_as_range : List ℕ → Bool
-goes_on_as_range ps = slice_index ps 0 == 45 && nat_lt 1 (length ps)
+goes_on_as_range ps = slice_index ps 0 == 45 && nat_lt 1 (length ps) && not (slice_index ps 1 == 93)
 
 abbrev pub range_has : ℕ → ℕ → ℕ → Bool
 range_has a z byte = (nat_le a byte && nat_le byte z) || (nat_le z byte && nat_le byte a)
@@ -46,7 +26,7 @@ abbrev pub item_more : List ℕ → ℕ
 item_more ps = if goes_on_as_range ps then 2 else 0
 
 -- What stands behind a set, from one of its items on, behind `skip` bytes, where one of its items
--- has the byte, or where `found` says so of those before: it ends at the `]` that isn't in a range.
+-- has the byte, or where `found` says so of those before: it ends at its first `]`.
 abbrev pub behind_set : ℕ → Bool → ℕ → List ℕ → Option (List ℕ)
 behind_set byte found skip [] = None
 behind_set byte found (suc skip) (a ∷ ps) = behind_set byte found skip ps
@@ -54,9 +34,9 @@ behind_set byte found zero (a ∷ ps) =
     if a == 93 then (if found then Some ps else None)
     else behind_set byte (found || item_has a ps byte) (item_more ps) ps
 
--- what stands behind `\x` where x is the byte
+-- what stands behind `\x` where x is the byte, or behind a last `\` where that is the byte
 abbrev pub behind_escape : ℕ → List ℕ → Option (List ℕ)
-behind_escape byte [] = None
+behind_escape byte [] = if byte == 92 then Some [] else None
 behind_escape byte (x ∷ ps) = if x == byte then Some ps else None
 
 -- What stands behind the first piece, which begins with `p` and isn't `*`, where it stands for the

@@ -1,23 +1,6 @@
 -- The test of a text by a glob pattern, as a value: Tcl 8.4, string(n), `string match`.
-use Rattle.std.specs.Prelude.{
-  ◌≡◌,
-  ℕ,
-  zero,
-  suc,
-  ◌↔◌,
-  Bool,
-  true,
-  false,
-  ◌||◌,
-  List,
-  [],
-  ◌∷◌,
-  length,
-  Option,
-  Some,
-  None,
-  if◌then◌else◌,
-}
+use Rattle.std.specs.Prelude.{◌≡◌, ℕ, zero, suc, ◌↔◌, Bool, true, false, ◌||◌, List, [], ◌∷◌}
+use Rattle.std.specs.Prelude.{length, Option, Some, None, if◌then◌else◌}
 use Rattle.px_bytes.specs.Glob.{Matches, is_star, behind_piece}
 
 -- whether the test holds of some end of the text, which may be all of it or nothing

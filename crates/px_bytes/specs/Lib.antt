@@ -9,6 +9,7 @@ pub mod GlobRun
 pub mod GlobTest
 pub mod HexRead
 pub mod Hexadecimal
+pub mod Host
 pub mod Letters
 pub mod Limit
 pub mod Net

@@ -1,29 +1,8 @@
 -- Whole numbers: the integers of Tcl 8.4, expr(n), of 64 bits, written in decimal, octal or
 -- hexadecimal.
-use Rattle.std.specs.Prelude.{
-  ℕ,
-  ◌+◌,
-  ◌*◌,
-  ◌^◌,
-  Bool,
-  ◌&&◌,
-  List,
-  [],
-  ◌∷◌,
-  length,
-  drop,
-  Option,
-  Some,
-  None,
-  ℤ,
-  pos,
-  neg_ℤ,
-  nat_lt,
-  nat_le,
-  ◌==◌,
-  slice_index,
-  if◌then◌else◌,
-}
+use Rattle.std.specs.Prelude.{ℕ, ◌+◌, ◌*◌, ◌^◌, Bool, ◌&&◌, List, [], ◌∷◌, length, drop, Option}
+use Rattle.std.specs.Prelude.{Some, None, ℤ, pos, neg_ℤ, nat_lt, nat_le, ◌==◌, slice_index}
+use Rattle.std.specs.Prelude.{if◌then◌else◌}
 use Rattle.std.specs.Char.{digit_value, is_digit}
 use Rattle.std.specs.Str.Parse.{starts_with_minus, without_leading_sign}
 use Rattle.px_bytes.specs.White.{trimmed}

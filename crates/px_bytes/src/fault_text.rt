@@ -1,20 +1,12 @@
 // The faults that several crates raise, with their texts.
 
-ghost use Rattle.std.specs.Prelude.{◌≡◌, ◌++◌, IfOk};
-ghost use Rattle.px_bytes.specs.FaultText.{
-  no_variable,
-  no_command,
-  wrong_arity,
-  not_whole,
-  out_of_range,
-  syntax_error,
-  too_long,
-  budget_spent,
-  static_set,
-  outside_loop,
-};
+ghost use Rattle.std.specs.Prelude.{◌≡◌, ◌++◌, Err, IfOk};
+ghost use Rattle.px_bytes.specs.FaultText.{no_variable, no_command, wrong_arity, not_whole};
+ghost use Rattle.px_bytes.specs.FaultText.{out_of_range, syntax_error, too_long, budget_spent};
+ghost use Rattle.px_bytes.specs.FaultText.{static_set, outside_loop};
+ghost use Rattle.px_bytes.specs.Gives.{Gives};
 
-use crate::{FaultKind, M, TclFault, Text};
+use crate::{FaultKind, M, Raise, TclFault, Text};
 use std::alloc::Global;
 
 impl TclFault {
@@ -123,6 +115,29 @@ impl TclFault {
             kind: FaultKind::Context,
             text,
         })
+    }
+}
+
+impl Raise {
+    /// The answer that a text, or all variables together, would be too long.
+    pub fn too_long<T>(alloc: Global) -> Result<T, Raise>
+        ensures { Gives result (Err too_long) }
+    {
+        Err(Raise::Fault(TclFault::too_long(alloc)?))
+    }
+
+    /// The answer that the command of this name was given a wrong number of words.
+    pub fn arity<T>(alloc: Global, name: &[u8]) -> Result<T, Raise>
+        ensures { Gives result (Err (wrong_arity name.now)) }
+    {
+        Err(Raise::Fault(TclFault::wrong_arity(alloc, name)?))
+    }
+
+    /// The answer that the words of the command of this name have none of its forms.
+    pub fn syntax<T>(alloc: Global, name: &[u8]) -> Result<T, Raise>
+        ensures { Gives result (Err (syntax_error name.now)) }
+    {
+        Err(Raise::Fault(TclFault::syntax_error(alloc, name)?))
     }
 }
 

@@ -8,8 +8,9 @@ ghost use Rattle.px_bytes.specs.GlobRun.{IsRun, Settles, left_of, starred};
 use crate::piece::behind_piece;
 
 /// Whether a pattern matches a whole text, as Tcl's `string match` does: `*` stands for any bytes,
-/// `?` for one, `[a-z0]` for one of the set, `\x` for x, and another byte for itself. A `[` without
-/// its `]` matches nothing.
+/// `?` for one, `[a-z0]` for one of the set, `\x` for x, and another byte for itself, as do a `-`
+/// just before the `]` of a set and a `\` that ends the pattern. A `[` without its `]` matches
+/// nothing.
 ///
 /// Only the last `*` is ever tried at a further place, so each byte of the pattern is looked at
 /// once at most for each place in the text. It takes no memory.

@@ -13,6 +13,7 @@ pub(crate) fn behind_piece(piece: u8, pattern: &[u8], byte: u8) -> Option<&[u8]>
         b'[' => behind_set(pattern, byte),
         b'\\' => match pattern {
             [escaped, behind @ ..] if *escaped == byte => Some(behind),
+            [] if byte == b'\\' => Some(pattern),
             _ => None,
         },
         _ if piece == byte => Some(pattern),
@@ -31,7 +32,10 @@ fn behind_set(set: &[u8], byte: u8) -> Option<&[u8]>
             return found.then_some(behind);
         }
         (found, items) = match behind {
-            [b'-', last, more @ ..] => (found || range_has(*first, *last, byte), more),
+            [b'-', last, more @ ..] if *last != b']' => (
+                found || range_has(*first, *last, byte),
+                more,
+            ),
             _ => (found || *first == byte, behind),
         };
     }

@@ -1,23 +1,7 @@
 // Items in order, with room kept for more.
 
-ghost use Rattle.std.specs.Prelude.{
-  ◌≡◌,
-  ◌≤◌,
-  ◌<◌,
-  ◌+◌,
-  ◌-◌,
-  [],
-  ◌∷◌,
-  ◌++◌,
-  length,
-  slice_get,
-  option_map,
-  OnOk,
-  OnErr,
-  IsOk,
-  vec_len,
-  vec_capacity,
-};
+ghost use Rattle.std.specs.Prelude.{◌≡◌, ◌≤◌, ◌<◌, ◌+◌, ◌-◌, [], ◌∷◌, ◌++◌, length, slice_get};
+ghost use Rattle.std.specs.Prelude.{option_map, OnOk, OnErr, IsOk, vec_len, vec_capacity};
 ghost use Rattle.px_bytes.specs.Roomy.{Roomy};
 
 use crate::M;
@@ -46,10 +30,12 @@ impl<T: Drop> RoomySeq<T> {
         }
     }
 
-    /// Makes room for `n` more.
+    /// Makes room for `n` more, and never gives up room that there is.
     pub fn reserve(&mut self, n: usize) -> M<()>
         ensures same { self.new.items ≡ self.old.items }
         ensures room { OnOk result (n ≤ self.new.spare) }
+        ensures grows { self.old.spare ≤ self.new.spare }
+        ensures err { OnErr result (self.new ≡ self.old) }
     {
         self.items.reserve(n)?;
         Ok(())

@@ -1,17 +1,7 @@
 // Items in order.
 
-ghost use Rattle.std.specs.Prelude.{
-  ◌≡◌,
-  List,
-  [],
-  ◌∷◌,
-  ◌++◌,
-  length,
-  slice_get,
-  option_map,
-  OnOk,
-  OnErr,
-};
+ghost use Rattle.std.specs.Prelude.{◌≡◌, List, [], ◌∷◌, ◌++◌, length, slice_get, option_map, OnOk};
+ghost use Rattle.std.specs.Prelude.{OnErr};
 
 use crate::{M, Text};
 use std::alloc::Global;

@@ -3,13 +3,14 @@
 ghost use Rattle.std.specs.Prelude.{◌≡◌, ℕ, List, [], ◌++◌, length, IfOk, OnOk, OnErr};
 
 use crate::M;
+use smallvec::SmallVec;
 use std::alloc::Global;
 use std::marker::Model;
 
-/// A list of bytes.
+/// A list of bytes. Up to 22 of them stand in the value itself, and take no memory.
 #[derive(Drop, Debug)]
 pub struct Text {
-    bytes: Vec<u8>,
+    bytes: SmallVec<u8, 22>,
 }
 
 impl Model for Text {
@@ -24,7 +25,7 @@ impl Text {
         ensures { IfOk result (λ t. t ≡ bytes.now) }
     {
         Ok(Text {
-            bytes: Vec::from_slice(alloc, bytes)?,
+            bytes: SmallVec::from_slice(alloc, bytes)?,
         })
     }
 
@@ -33,7 +34,7 @@ impl Text {
         ensures { result ≡ [] }
     {
         Text {
-            bytes: Vec::new(alloc),
+            bytes: SmallVec::new(alloc),
         }
     }
 
@@ -41,13 +42,15 @@ impl Text {
     pub fn from_vec(bytes: Vec<u8>) -> Text
         ensures { result ≡ bytes.items }
     {
-        Text { bytes }
+        Text {
+            bytes: SmallVec::from_vec(bytes),
+        }
     }
 
     pub fn as_bytes(&self) -> &[u8]
         ensures { result.now ≡ self.now }
     {
-        &self.bytes
+        self.bytes.as_slice()
     }
 
     pub fn len(&self) -> usize
@@ -59,7 +62,7 @@ impl Text {
     pub fn copy(&self) -> M<Text>
         ensures { IfOk result (λ t. t ≡ self.now) }
     {
-        Text::new(*self.bytes.allocator(), &self.bytes)
+        Text::new(*self.bytes.allocator(), self.as_bytes())
     }
 
     /// Adds bytes at the end.
