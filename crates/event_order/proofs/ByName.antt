@@ -5,61 +5,30 @@ use Rattle.std.proofs.lemmas.Slice.Eq.{bytes_eq-Decides}
 use Rattle.event_order.specs.Command.{command_row, every_command}
 use Rattle.event_order.specs.Event.{event_text, every_event}
 use Rattle.event_order.specs.declared.event.EventName.{EventName}
-use Rattle.event_order.specs.declared.event.EventName.TheVariants.{
-  RuleInit,
-  ClientAccepted,
-  ClientData,
-  ClientClosed,
-  ServerConnected,
-  ServerData,
-  ServerClosed,
-  LbSelected,
-  LbFailed,
-  HttpRequest,
-  HttpRequestData,
-  HttpResponse,
-  HttpResponseData,
-}
+use Rattle.event_order.specs.declared.event.EventName.TheVariants.{RuleInit, ClientAccepted}
+use Rattle.event_order.specs.declared.event.EventName.TheVariants.{ClientData, ClientClosed}
+use Rattle.event_order.specs.declared.event.EventName.TheVariants.{ServerConnected, ServerData}
+use Rattle.event_order.specs.declared.event.EventName.TheVariants.{ServerClosed, LbSelected}
+use Rattle.event_order.specs.declared.event.EventName.TheVariants.{LbFailed, HttpRequest}
+use Rattle.event_order.specs.declared.event.EventName.TheVariants.{HttpRequestData, HttpResponse}
+use Rattle.event_order.specs.declared.event.EventName.TheVariants.{HttpResponseData}
 use Rattle.event_order.specs.declared.command.HostCommand.{HostCommand}
-use Rattle.event_order.specs.declared.command.HostCommand.TheVariants.{
-  Log,
-  Class,
-  Table,
-  After,
-  ActiveMembers,
-  Clock,
-  IpClientAddr,
-  TcpClientPort,
-  LbServer,
-  Pool,
-  Node,
-  Reject,
-  Drop,
-  TcpClose,
-  TcpCollect,
-  TcpRelease,
-  TcpRespond,
-  TcpPayload,
-  IpServerAddr,
-  LbReselect,
-  LbDetach,
-  HttpUri,
-  HttpPath,
-  HttpQuery,
-  HttpMethod,
-  HttpHost,
-  HttpRequestNum,
-  HttpVersion,
-  HttpHeader,
-  HttpCookie,
-  HttpStatus,
-  HttpCollect,
-  HttpRelease,
-  HttpClose,
-  HttpPayload,
-  HttpRespond,
-  HttpRedirect,
-}
+use Rattle.event_order.specs.declared.command.HostCommand.TheVariants.{Log, Class, Table, After}
+use Rattle.event_order.specs.declared.command.HostCommand.TheVariants.{ActiveMembers, Clock}
+use Rattle.event_order.specs.declared.command.HostCommand.TheVariants.{IpClientAddr, TcpClientPort}
+use Rattle.event_order.specs.declared.command.HostCommand.TheVariants.{LbServer, Pool, Node, Reject}
+use Rattle.event_order.specs.declared.command.HostCommand.TheVariants.{Drop, TcpClose, TcpCollect}
+use Rattle.event_order.specs.declared.command.HostCommand.TheVariants.{TcpRelease, TcpRespond}
+use Rattle.event_order.specs.declared.command.HostCommand.TheVariants.{TcpPayload, IpServerAddr}
+use Rattle.event_order.specs.declared.command.HostCommand.TheVariants.{LbReselect, LbDetach}
+use Rattle.event_order.specs.declared.command.HostCommand.TheVariants.{HttpUri, HttpPath, HttpQuery}
+use Rattle.event_order.specs.declared.command.HostCommand.TheVariants.{HttpMethod, HttpHost}
+use Rattle.event_order.specs.declared.command.HostCommand.TheVariants.{HttpRequestNum, HttpVersion}
+use Rattle.event_order.specs.declared.command.HostCommand.TheVariants.{HttpHeader, HttpCookie}
+use Rattle.event_order.specs.declared.command.HostCommand.TheVariants.{HttpStatus, HttpCollect}
+use Rattle.event_order.specs.declared.command.HostCommand.TheVariants.{HttpRelease, HttpClose}
+use Rattle.event_order.specs.declared.command.HostCommand.TheVariants.{HttpPayload, HttpRespond}
+use Rattle.event_order.specs.declared.command.HostCommand.TheVariants.{HttpRedirect}
 use Rattle.event_order.proofs.Found.{found_passes}
 
 abbrev pub event_named : List ℕ → EventName → Type 0

@@ -2,55 +2,26 @@
 use Rattle.std.proofs.Common.{refl, lit<, Contains}
 use Rattle.event_order.specs.Command.{command_row, HostCommandsHaveEvents}
 use Rattle.event_order.specs.declared.event.EventName.{EventName}
-use Rattle.event_order.specs.declared.event.EventName.TheVariants.{
-  ClientAccepted,
-  HttpRequest,
-  HttpRequestData,
-  HttpResponse,
-  LbFailed,
-  LbSelected,
-  RuleInit,
-}
+use Rattle.event_order.specs.declared.event.EventName.TheVariants.{ClientAccepted, HttpRequest}
+use Rattle.event_order.specs.declared.event.EventName.TheVariants.{HttpRequestData, HttpResponse}
+use Rattle.event_order.specs.declared.event.EventName.TheVariants.{LbFailed, LbSelected, RuleInit}
 use Rattle.event_order.specs.declared.command.HostCommand.{HostCommand}
-use Rattle.event_order.specs.declared.command.HostCommand.TheVariants.{
-  Log,
-  Class,
-  Table,
-  After,
-  ActiveMembers,
-  Clock,
-  IpClientAddr,
-  TcpClientPort,
-  LbServer,
-  Pool,
-  Node,
-  Reject,
-  Drop,
-  TcpClose,
-  TcpCollect,
-  TcpRelease,
-  TcpRespond,
-  TcpPayload,
-  IpServerAddr,
-  LbReselect,
-  LbDetach,
-  HttpUri,
-  HttpPath,
-  HttpQuery,
-  HttpMethod,
-  HttpHost,
-  HttpRequestNum,
-  HttpVersion,
-  HttpHeader,
-  HttpCookie,
-  HttpStatus,
-  HttpCollect,
-  HttpRelease,
-  HttpClose,
-  HttpPayload,
-  HttpRespond,
-  HttpRedirect,
-}
+use Rattle.event_order.specs.declared.command.HostCommand.TheVariants.{Log, Class, Table, After}
+use Rattle.event_order.specs.declared.command.HostCommand.TheVariants.{ActiveMembers, Clock}
+use Rattle.event_order.specs.declared.command.HostCommand.TheVariants.{IpClientAddr, TcpClientPort}
+use Rattle.event_order.specs.declared.command.HostCommand.TheVariants.{LbServer, Pool, Node, Reject}
+use Rattle.event_order.specs.declared.command.HostCommand.TheVariants.{Drop, TcpClose, TcpCollect}
+use Rattle.event_order.specs.declared.command.HostCommand.TheVariants.{TcpRelease, TcpRespond}
+use Rattle.event_order.specs.declared.command.HostCommand.TheVariants.{TcpPayload, IpServerAddr}
+use Rattle.event_order.specs.declared.command.HostCommand.TheVariants.{LbReselect, LbDetach}
+use Rattle.event_order.specs.declared.command.HostCommand.TheVariants.{HttpUri, HttpPath, HttpQuery}
+use Rattle.event_order.specs.declared.command.HostCommand.TheVariants.{HttpMethod, HttpHost}
+use Rattle.event_order.specs.declared.command.HostCommand.TheVariants.{HttpRequestNum, HttpVersion}
+use Rattle.event_order.specs.declared.command.HostCommand.TheVariants.{HttpHeader, HttpCookie}
+use Rattle.event_order.specs.declared.command.HostCommand.TheVariants.{HttpStatus, HttpCollect}
+use Rattle.event_order.specs.declared.command.HostCommand.TheVariants.{HttpRelease, HttpClose}
+use Rattle.event_order.specs.declared.command.HostCommand.TheVariants.{HttpPayload, HttpRespond}
+use Rattle.event_order.specs.declared.command.HostCommand.TheVariants.{HttpRedirect}
 
 some_event : (c : HostCommand) → (e : EventName) × Contains (command_row c).events e
 some_event Log = (RuleInit, (0, lit< tt, refl))

@@ -3,60 +3,29 @@
 use Rattle.std.specs.Prelude.{ℕ, ◌≡◌, List, [], ◌∷◌, ◌++◌, codes, Contains, ◌↔◌}
 use Rattle.event_order.specs.Event.{every_event, started_events}
 use Rattle.event_order.specs.declared.event.EventName.{EventName}
-use Rattle.event_order.specs.declared.event.EventName.TheVariants.{
-  ClientAccepted,
-  ClientData,
-  ClientClosed,
-  ServerConnected,
-  ServerData,
-  ServerClosed,
-  LbSelected,
-  LbFailed,
-  HttpRequest,
-  HttpRequestData,
-  HttpResponse,
-  HttpResponseData,
-}
+use Rattle.event_order.specs.declared.event.EventName.TheVariants.{ClientAccepted, ClientData}
+use Rattle.event_order.specs.declared.event.EventName.TheVariants.{ClientClosed, ServerConnected}
+use Rattle.event_order.specs.declared.event.EventName.TheVariants.{ServerData, ServerClosed}
+use Rattle.event_order.specs.declared.event.EventName.TheVariants.{LbSelected, LbFailed}
+use Rattle.event_order.specs.declared.event.EventName.TheVariants.{HttpRequest, HttpRequestData}
+use Rattle.event_order.specs.declared.event.EventName.TheVariants.{HttpResponse, HttpResponseData}
 use Rattle.event_order.specs.declared.command.HostCommand.{HostCommand}
-use Rattle.event_order.specs.declared.command.HostCommand.TheVariants.{
-  Log,
-  Class,
-  Table,
-  After,
-  ActiveMembers,
-  Clock,
-  IpClientAddr,
-  TcpClientPort,
-  LbServer,
-  Pool,
-  Node,
-  Reject,
-  Drop,
-  TcpClose,
-  TcpCollect,
-  TcpRelease,
-  TcpRespond,
-  TcpPayload,
-  IpServerAddr,
-  LbReselect,
-  LbDetach,
-  HttpUri,
-  HttpPath,
-  HttpQuery,
-  HttpMethod,
-  HttpHost,
-  HttpRequestNum,
-  HttpVersion,
-  HttpHeader,
-  HttpCookie,
-  HttpStatus,
-  HttpCollect,
-  HttpRelease,
-  HttpClose,
-  HttpPayload,
-  HttpRespond,
-  HttpRedirect,
-}
+use Rattle.event_order.specs.declared.command.HostCommand.TheVariants.{Log, Class, Table, After}
+use Rattle.event_order.specs.declared.command.HostCommand.TheVariants.{ActiveMembers, Clock}
+use Rattle.event_order.specs.declared.command.HostCommand.TheVariants.{IpClientAddr, TcpClientPort}
+use Rattle.event_order.specs.declared.command.HostCommand.TheVariants.{LbServer, Pool, Node, Reject}
+use Rattle.event_order.specs.declared.command.HostCommand.TheVariants.{Drop, TcpClose, TcpCollect}
+use Rattle.event_order.specs.declared.command.HostCommand.TheVariants.{TcpRelease, TcpRespond}
+use Rattle.event_order.specs.declared.command.HostCommand.TheVariants.{TcpPayload, IpServerAddr}
+use Rattle.event_order.specs.declared.command.HostCommand.TheVariants.{LbReselect, LbDetach}
+use Rattle.event_order.specs.declared.command.HostCommand.TheVariants.{HttpUri, HttpPath, HttpQuery}
+use Rattle.event_order.specs.declared.command.HostCommand.TheVariants.{HttpMethod, HttpHost}
+use Rattle.event_order.specs.declared.command.HostCommand.TheVariants.{HttpRequestNum, HttpVersion}
+use Rattle.event_order.specs.declared.command.HostCommand.TheVariants.{HttpHeader, HttpCookie}
+use Rattle.event_order.specs.declared.command.HostCommand.TheVariants.{HttpStatus, HttpCollect}
+use Rattle.event_order.specs.declared.command.HostCommand.TheVariants.{HttpRelease, HttpClose}
+use Rattle.event_order.specs.declared.command.HostCommand.TheVariants.{HttpPayload, HttpRespond}
+use Rattle.event_order.specs.declared.command.HostCommand.TheVariants.{HttpRedirect}
 
 -- a host command: its name, and the events in which at least one of its forms may be called
 pub record CommandRow : Type 0 where

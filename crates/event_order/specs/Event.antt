@@ -1,21 +1,13 @@
 -- The events of a rule (iRules reference: the events of a virtual server for TCP and for HTTP).
 use Rattle.std.specs.Prelude.{ℕ, List, [], ◌∷◌, codes}
 use Rattle.event_order.specs.declared.event.EventName.{EventName}
-use Rattle.event_order.specs.declared.event.EventName.TheVariants.{
-  RuleInit,
-  ClientAccepted,
-  ClientData,
-  ClientClosed,
-  ServerConnected,
-  ServerData,
-  ServerClosed,
-  LbSelected,
-  LbFailed,
-  HttpRequest,
-  HttpRequestData,
-  HttpResponse,
-  HttpResponseData,
-}
+use Rattle.event_order.specs.declared.event.EventName.TheVariants.{RuleInit, ClientAccepted}
+use Rattle.event_order.specs.declared.event.EventName.TheVariants.{ClientData, ClientClosed}
+use Rattle.event_order.specs.declared.event.EventName.TheVariants.{ServerConnected, ServerData}
+use Rattle.event_order.specs.declared.event.EventName.TheVariants.{ServerClosed, LbSelected}
+use Rattle.event_order.specs.declared.event.EventName.TheVariants.{LbFailed, HttpRequest}
+use Rattle.event_order.specs.declared.event.EventName.TheVariants.{HttpRequestData, HttpResponse}
+use Rattle.event_order.specs.declared.event.EventName.TheVariants.{HttpResponseData}
 
 -- how a rule writes it
 abbrev pub event_text : EventName → List ℕ

@@ -2,22 +2,10 @@
 -- which the events of a connection run; the phases without an event are this project's own).
 use Rattle.std.specs.Prelude.{◌≡◌, ◌⊎◌, List, [], ◌∷◌, Contains, Bool, true, false, IsTrue, IsFalse}
 use Rattle.event_order.specs.declared.phase.Phase.{Phase}
-use Rattle.event_order.specs.declared.phase.Phase.TheVariants.{
-  Accepted,
-  Collect,
-  Request,
-  Gather,
-  Reuse,
-  Select,
-  Connect,
-  Relay,
-  Passing,
-  Response,
-  Answered,
-  Finish,
-  Drain,
-  Over,
-}
+use Rattle.event_order.specs.declared.phase.Phase.TheVariants.{Accepted, Collect, Request, Gather}
+use Rattle.event_order.specs.declared.phase.Phase.TheVariants.{Reuse, Select, Connect, Relay}
+use Rattle.event_order.specs.declared.phase.Phase.TheVariants.{Passing, Response, Answered, Finish}
+use Rattle.event_order.specs.declared.phase.Phase.TheVariants.{Drain, Over}
 use Rattle.event_order.specs.declared.phase.Happening.{Happening}
 use Rattle.event_order.specs.declared.phase.Happening.TheVariants.{Goes}
 

@@ -1,21 +1,7 @@
 -- Backslashes and what they stand for: Tcl 8.4, Tcl(n), "Backslash substitution". A number counts
 -- modulo 256, since a text is a list of bytes; so the last two hexadecimal digits count.
-use Rattle.std.specs.Prelude.{
-  ℕ,
-  zero,
-  suc,
-  ◌+◌,
-  ◌%◌,
-  Bool,
-  ◌||◌,
-  List,
-  [],
-  ◌∷◌,
-  length,
-  take,
-  ◌==◌,
-  if◌then◌else◌,
-}
+use Rattle.std.specs.Prelude.{ℕ, zero, suc, ◌+◌, ◌%◌, Bool, ◌||◌, List, [], ◌∷◌, length, take, ◌==◌}
+use Rattle.std.specs.Prelude.{if◌then◌else◌}
 use Rattle.std.specs.Char.{is_digit}
 use Rattle.std.specs.List.{prefix_len, take_while}
 use Rattle.std.specs.Str.Parse.{digits_value}

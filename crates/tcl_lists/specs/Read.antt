@@ -1,20 +1,6 @@
 -- A list in a text: elements with white space before, between and behind them (Tcl 8.4, lindex(n)).
-use Rattle.std.specs.Prelude.{
-  ◌≡◌,
-  ⊤,
-  ℕ,
-  zero,
-  suc,
-  ◌+◌,
-  List,
-  [],
-  ◌∷◌,
-  map,
-  Result,
-  Ok,
-  Err,
-  if◌then◌else◌,
-}
+use Rattle.std.specs.Prelude.{◌≡◌, ⊤, ℕ, zero, suc, ◌+◌, List, [], ◌∷◌, map, Result, Ok, Err}
+use Rattle.std.specs.Prelude.{if◌then◌else◌}
 use Rattle.px_bytes.specs.White.{is_space}
 use Rattle.tcl_lists.specs.Element.{ListElement, Found, element, value_of, place_of}
 use Rattle.tcl_lists.specs.declared.fault.ListFault.{ListFault}

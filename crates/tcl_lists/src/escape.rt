@@ -3,15 +3,8 @@
 ghost use Rattle.std.specs.Prelude.{◌≡◌, ◌<◌, ◌≤◌, ◌^◌, length, take, IfOk};
 ghost use Rattle.std.specs.Char.{digit_value};
 ghost use Rattle.std.specs.List.{prefix_len};
-ghost use Rattle.tcl_lists.specs.Escape.{
-  digits,
-  digits_byte,
-  escape,
-  is_blank,
-  letter_byte,
-  numbered,
-  octal,
-};
+ghost use Rattle.tcl_lists.specs.Escape.{digits, digits_byte, escape, is_blank, letter_byte};
+ghost use Rattle.tcl_lists.specs.Escape.{numbered, octal};
 
 /// The byte that a backslash stands for, and how many bytes behind it it takes.
 #[derive(Clone, Copy)]

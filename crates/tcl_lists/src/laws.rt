@@ -1,13 +1,8 @@
 // Laws of reading and writing.
 
 ghost use Rattle.tcl_lists.specs.Grammar.{ReadsExactlyLists};
-ghost use Rattle.tcl_lists.specs.Laws.{
-  BracesKeepBytes,
-  PlacesHoldValues,
-  WhiteSpaceMoves,
-  WrittenListsJoin,
-  WrittenReadsBack,
-};
+ghost use Rattle.tcl_lists.specs.Laws.{BracesKeepBytes, PlacesHoldValues, WhiteSpaceMoves};
+ghost use Rattle.tcl_lists.specs.Laws.{WrittenListsJoin, WrittenReadsBack};
 
 /// A text reads as values exactly where the grammar makes it a list of them.
 pub fn reads_exactly_lists()

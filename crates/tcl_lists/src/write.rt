@@ -3,15 +3,8 @@
 ghost use Rattle.std.specs.Prelude.{◌≡◌, ◌++◌, ◌<◌, IfOk, OnOk, Ok, length};
 ghost use Rattle.std.specs.List.{position_or_len};
 ghost use Rattle.tcl_lists.specs.Read.{list_values};
-ghost use Rattle.tcl_lists.specs.Write.{
-  blank_behind,
-  escaped,
-  is_special,
-  joined,
-  spelled,
-  spelled_byte,
-  spelled_bytes,
-};
+ghost use Rattle.tcl_lists.specs.Write.{blank_behind, escaped, is_special, joined, spelled};
+ghost use Rattle.tcl_lists.specs.Write.{spelled_byte, spelled_bytes};
 
 use crate::form::{escape_letter, fits_braces, is_special, stands_bare};
 use px_bytes::{M, Text, Texts};

@@ -1,3 +1,4 @@
+pub mod AfterSet
 pub mod AppendedBytes
 pub mod Appends
 pub mod Inserted

@@ -4,3 +4,4 @@ pub mod Tables
 pub mod Faults
 pub mod Appended
 pub mod Indexes
+pub mod Laws

@@ -1,23 +1,6 @@
 -- How a word names a variable (Tcl 8.4, Tcl(n), variable substitution; array(n)).
-use Rattle.std.specs.Prelude.{
-  ℕ,
-  ◌-◌,
-  ◌+◌,
-  List,
-  [],
-  ◌∷◌,
-  length,
-  take,
-  drop,
-  Bool,
-  false,
-  nat_eq,
-  Option,
-  Some,
-  None,
-  if◌then◌else◌,
-  position,
-}
+use Rattle.std.specs.Prelude.{ℕ, ◌-◌, ◌+◌, List, [], ◌∷◌, length, take, drop, Bool, false, nat_eq}
+use Rattle.std.specs.Prelude.{Option, Some, None, if◌then◌else◌, position}
 
 -- a name, and the index of an element
 pub record Name : Type 0 where

@@ -13,9 +13,11 @@ ghost use Rattle.tcl_vars.specs.Scopes.{level_bytes, vars_bytes, vars_limit};
 ghost use Rattle.tcl_vars.specs.Appended.{appended};
 ghost use Rattle.tcl_vars.specs.Faults.{IfFault};
 ghost use Rattle.tcl_vars.specs.Indexes.{indexes_at};
+ghost use Rattle.tcl_vars.specs.Laws.{level_of};
+ghost use Rattle.tcl_vars.specs.Tables.{IsInOrderAt};
 
 use crate::level::Level;
-use px_bytes::{M, Raise, TclFault, Text, Texts};
+use px_bytes::{M, Raise, Text, Texts};
 use std::alloc::Global;
 use std::marker::Model;
 use std::mem;
@@ -68,7 +70,10 @@ impl Vars {
 
     /// The value of a variable, or of an element.
     pub fn get(&self, name: &[u8], index: Option<&[u8]>) -> Option<&Text>
-        ensures { option_copied result ≡ value_at self.now name.now (option_copied index.entry) }
+        ensures value { let i = option_copied index.entry in
+            option_copied result ≡ value_at self.now name.now i }
+        ensures in_order { let i = option_copied index.entry in
+            IsInOrderAt (level_of self.now name.now) name.now i }
     {
         if is_static(name) {
             self.statics.get(name, index)
@@ -93,7 +98,7 @@ impl Vars {
     {
         let alloc = *self.outer.allocator();
         if self.bytes_with(name, index, value.len()) > LIMIT {
-            return Err(Raise::Fault(TclFault::too_long(alloc)?));
+            return Raise::too_long(alloc);
         }
         if is_static(name) {
             self.statics.set(alloc, name, index, value)?;
@@ -122,7 +127,7 @@ impl Vars {
     {
         let alloc = *self.outer.allocator();
         if self.bytes_appended(name, index, more) > LIMIT {
-            return Err(Raise::Fault(TclFault::too_long(alloc)?));
+            return Raise::too_long(alloc);
         }
         if is_static(name) {
             self.statics.append(alloc, name, index, more)?;
@@ -172,10 +177,10 @@ impl Vars {
         Ok(())
     }
 
-    /// Ends a procedure call, with its variables.
+    /// Ends a procedure call, with its variables; outside of all calls it does nothing.
     pub fn leave_proc(&mut self)
-        requires { 1 < length self.old.levels }
-        ensures { self.new ≡ out_of_proc self.old }
+        ensures left { 1 < length self.old.levels → self.new ≡ out_of_proc self.old }
+        ensures alone { length self.old.levels ≤ 1 → self.new ≡ self.old }
     {
         if let Some(caller) = self.outer.pop() {
             self.outer_bytes -= caller.bytes();
