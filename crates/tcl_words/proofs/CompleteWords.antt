@@ -8,26 +8,9 @@ use Rattle.tcl_words.specs.Grammar.{SpellsCommands}
 use Rattle.tcl_words.specs.Places.{closes, word_closer, ends_script, ends_command}
 use Rattle.tcl_words.specs.Reading.{read_part, read_word, read_command, commands, level}
 use Rattle.tcl_words.specs.Skips.{turns, blanks_end, gap_end}
-use Rattle.tcl_words.specs.Tree.{
-  Part,
-  plain,
-  variable,
-  element,
-  bracket,
-  Parts,
-  no_parts,
-  and_part,
-  Word,
-  word,
-  Words,
-  no_words,
-  and_word,
-  Command,
-  command,
-  Commands,
-  no_commands,
-  and_command,
-}
+use Rattle.tcl_words.specs.Tree.{Part, plain, variable, element, bracket, Parts, no_parts, and_part}
+use Rattle.tcl_words.specs.Tree.{Word, word, Words, no_words, and_word, Command, command, Commands}
+use Rattle.tcl_words.specs.Tree.{no_commands, and_command}
 use Rattle.tcl_words.specs.Values.{many}
 use Rattle.tcl_words.specs.declared.places.Closer.{Closer}
 use Rattle.tcl_words.specs.declared.places.Closer.TheVariants.{Quote, Paren}

@@ -1,28 +1,6 @@
 -- The turns of the scan for a construct's end.
-use Rattle.std.proofs.Common.{
-  ◌≡◌,
-  ℕ,
-  zero,
-  suc,
-  ◌+◌,
-  ◌-◌,
-  ◌<◌,
-  ◌≤◌,
-  List,
-  [],
-  ◌∷◌,
-  ◌++◌,
-  length,
-  true,
-  false,
-  cond,
-  refl,
-  sym,
-  ap,
-  ◌∙◌,
-  subst,
-  arith,
-}
+use Rattle.std.proofs.Common.{◌≡◌, ℕ, zero, suc, ◌+◌, ◌-◌, ◌<◌, ◌≤◌, List, [], ◌∷◌, ◌++◌, length}
+use Rattle.std.proofs.Common.{Some, None, true, false, cond, refl, sym, ap, ◌∙◌, subst, arith}
 use Rattle.std.proofs.lemmas.Bool.Decides.{nat_tests}
 use Rattle.std.proofs.lemmas.List.{reverse-append}
 use Rattle.std.specs.Prelude.{nat_le, reverse}
@@ -56,7 +34,7 @@ all_end_more text zero inside outer at h w = absurd (omega arith)
 all_end_more text (suc n) inside outer at h w =
     let k : suc n - 1 ≡ n = omega arith in
     let all = open_after (turn text inside at).0 outer in
-    ap (λ b. cond b at (all_end text n all (turn text inside at).1)) (is_below at (length text) w)
+    ap (λ b. cond b None (all_end text n all (turn text inside at).1)) (is_below at (length text) w)
     ∙ ap (λ m. all_end text m all (turn text inside at).1) (sym k)
 
 pub deep_turn : (text : List ℕ) (first inside : Inside) (start at : ℕ) (outer : List Inside) (r : Effect × ℕ)
@@ -70,27 +48,30 @@ deep_turn text first inside start at outer r w is on so = record {
       ∙ ap (λ x. all_end text (so.n - 1) (open_after x.0 outer) x.1) (sym is);
 }
 
-all_end_at : (text : List ℕ) (n : ℕ) (all : List Inside) (at : ℕ) → length text ≤ at
-    → all_end text n all at ≡ at
+all_end_at : (text : List ℕ) (n : ℕ) (inside : Inside) (outer : List Inside) (at : ℕ)
+    → length text ≤ at → all_end text n (inside ∷ outer) at ≡ None
 unfolding all_end
-all_end_at text zero all at h = refl
-all_end_at text (suc n) [] at h = refl
-all_end_at text (suc n) (inside ∷ outer) at h =
-    ap (λ b. cond b at (all_end text n (open_after (turn text inside at).0 outer)
+all_end_at text zero inside outer at h = refl
+all_end_at text (suc n) inside outer at h =
+    ap (λ b. cond b None (all_end text n (open_after (turn text inside at).0 outer)
     (turn text inside at).1)) (is_not_below at (length text) h)
 
-pub deep_at_end : (text : List ℕ) (first : Inside) (start at : ℕ) (all : List Inside)
-    → length text ≤ at → DeepTo text first start all at → at ≡ deep_end text first start
-deep_at_end text first start at all h so = sym (so.same ∙ all_end_at text so.n all at h)
+-- the text ended with something open
+pub deep_at_end : (text : List ℕ) (first inside : Inside) (start at : ℕ) (outer : List Inside)
+    → length text ≤ at → DeepTo text first start (inside ∷ outer) at
+    → None ≡ deep_end text first start
+deep_at_end text first inside start at outer h so =
+    sym (so.same ∙ all_end_at text so.n inside outer at h)
 
-none_open : (text : List ℕ) (n at : ℕ) → all_end text n [] at ≡ at
+none_open : (text : List ℕ) (n at : ℕ) → 0 < n → all_end text n [] at ≡ Some at
 unfolding all_end
-none_open text zero at = refl
-none_open text (suc n) at = refl
+none_open text zero at h = absurd (omega arith)
+none_open text (suc n) at h = refl
 
-pub deep_closed : (text : List ℕ) (first : Inside) (start at : ℕ) → DeepTo text first start [] at
-    → at ≡ deep_end text first start
-deep_closed text first start at so = sym (so.same ∙ none_open text so.n at)
+pub deep_closed : (text : List ℕ) (first : Inside) (start at : ℕ) → at ≤ length text
+    → DeepTo text first start [] at → Some at ≡ deep_end text first start
+deep_closed text first start at within so =
+    sym (so.same ∙ none_open text so.n at (omega (arith, so.enough)))
 
 pub reverse_push : (xs : List Inside) (x : Inside) → reverse (xs ++ x ∷ []) ≡ x ∷ reverse xs
 reverse_push xs x = reverse-append xs (x ∷ [])

@@ -7,41 +7,16 @@ use Rattle.tcl_words.specs.Grammar.{SpellsBracedName, empty_part, SpellsPart, Sp
 use Rattle.tcl_words.specs.Grammar.{SpellsWord, SpellsWords, SpellsCommand, SpellsCommands}
 use Rattle.tcl_words.specs.Places.{closes, word_closer, ends_run, ends_script, ends_command}
 use Rattle.tcl_words.specs.Skips.{blanks_end, gap_end}
-use Rattle.tcl_words.specs.Tree.{
-  Part,
-  plain,
-  variable,
-  element,
-  bracket,
-  Parts,
-  no_parts,
-  and_part,
-  Word,
-  word,
-  Words,
-  no_words,
-  and_word,
-  Command,
-  command,
-  Commands,
-  no_commands,
-  and_command,
-}
+use Rattle.tcl_words.specs.Tree.{Part, plain, variable, element, bracket, Parts, no_parts, and_part}
+use Rattle.tcl_words.specs.Tree.{Word, word, Words, no_words, and_word, Command, command, Commands}
+use Rattle.tcl_words.specs.Tree.{no_commands, and_command}
 use Rattle.tcl_words.specs.Values.{inner_after, brace_unit_end}
 use Rattle.tcl_words.specs.declared.places.Closer.{Closer}
 use Rattle.tcl_words.specs.declared.places.Closer.TheVariants.{Quote, Paren}
 use Rattle.tcl_words.specs.declared.script.Form.TheVariants.{Bare, Quoted, Braced}
 use Rattle.tcl_words.proofs.Levels.{plain_moves, word_opens, command_opens, no_blanks}
-use Rattle.tcl_words.proofs.Onward.{
-  blanks_on,
-  blanks_stop,
-  gap_on,
-  gap_stop,
-  name_on,
-  brace_on,
-  unit_on,
-  brace_unit_on,
-}
+use Rattle.tcl_words.proofs.Onward.{blanks_on, blanks_stop, gap_on, gap_stop, name_on, brace_on}
+use Rattle.tcl_words.proofs.Onward.{unit_on, brace_unit_on}
 
 pub both : (b : Bool) → b ≡ true → b ≡ false → ⊥
 both b t f = grind arith

@@ -6,19 +6,8 @@ use Rattle.std.proofs.lemmas.Bool.Decides.{nat_tests}
 use Rattle.std.specs.Prelude.{slice_range}
 use Rattle.tcl_words.specs.Faults.{noted, to, closed}
 use Rattle.tcl_words.specs.Finish.{finished}
-use Rattle.tcl_words.specs.Places.{
-  stands,
-  opens_name,
-  starts_variable,
-  is_blank,
-  separates,
-  in_gap,
-  closes,
-  ends_script,
-  ends_command,
-  word_closer,
-  ends_run,
-}
+use Rattle.tcl_words.specs.Places.{stands, opens_name, starts_variable, is_blank, separates, in_gap}
+use Rattle.tcl_words.specs.Places.{closes, ends_script, ends_command, word_closer, ends_run}
 use Rattle.tcl_words.specs.Reading.{Level, passed, nothing, read_bracket, read_quoted, read_index}
 use Rattle.tcl_words.specs.Reading.{read_braced, read_name, named, read_variable, read_part, parts}
 use Rattle.tcl_words.specs.Reading.{trailing, bare, read_word, words, read_command, level}
@@ -27,7 +16,7 @@ use Rattle.tcl_words.specs.Tree.{bracket, plain, variable, element, Parts, no_pa
 use Rattle.tcl_words.specs.Tree.{command, Commands, no_commands, from_to}
 use Rattle.tcl_words.specs.Values.{run}
 use Rattle.tcl_words.specs.declared.deep.Inside.TheVariants as inside
-use Rattle.tcl_words.specs.declared.parse_fault.Fault.TheVariants.{MissingQuote, ExtraAfter}
+use Rattle.tcl_words.specs.declared.parse_fault.Fault.TheVariants.{MissingBracket, MissingQuote, ExtraAfter}
 use Rattle.tcl_words.specs.declared.places.Closer.{Closer}
 use Rattle.tcl_words.specs.declared.places.Closer.TheVariants.{Quote}
 use Rattle.tcl_words.specs.declared.progress.Progress.{Progress}
@@ -35,19 +24,19 @@ use Rattle.tcl_words.specs.declared.script.Form.TheVariants.{Quoted}
 use Rattle.tcl_words.proofs.Runs.{skip_stop}
 
 pub bracket_deepest : (d : ℕ) (text : List ℕ) (s : Progress) → d ≡ 0
-    → (level d).bracket text s ≡ (no_commands, passed inside.Gap s.at text s)
+    → (level d).bracket text s ≡ (no_commands, passed inside.Gap (MissingBracket s.at) s.at text s)
 unfolding level
 bracket_deepest zero text s h = refl
 bracket_deepest (suc d) text s h = absurd (omega arith)
 
 pub quoted_deepest : (d : ℕ) (text : List ℕ) (s : Progress) → d ≡ 0
-    → (level d).quoted text s ≡ (nothing s.at, passed inside.Quote s.at text s)
+    → (level d).quoted text s ≡ (nothing s.at, passed inside.Quote (MissingQuote s.at) s.at text s)
 unfolding level
 quoted_deepest zero text s h = refl
 quoted_deepest (suc d) text s h = absurd (omega arith)
 
 pub index_deepest : (d : ℕ) (text : List ℕ) (s : Progress) → d ≡ 0
-    → (level d).index text s ≡ (no_parts, passed inside.Paren s.at text s)
+    → (level d).index text s ≡ (no_parts, passed inside.Paren (MissingBracket s.at) s.at text s)
 unfolding level
 index_deepest zero text s h = refl
 index_deepest (suc d) text s h = absurd (omega arith)

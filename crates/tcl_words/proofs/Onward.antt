@@ -3,28 +3,10 @@ use Rattle.std.proofs.Common.{◌≡◌, ℕ, zero, suc, ◌+◌, ◌%◌, ◌<�
 use Rattle.std.proofs.Common.{false, cond, refl, arith}
 use Rattle.std.specs.Prelude.{◌&&◌, ◌==◌, nat_lt, slice_index}
 use Rattle.tcl_words.specs.Escapes.{is_digit, digits, letter, after_backslash, escape, unit}
-use Rattle.tcl_words.specs.Places.{
-  stands,
-  is_blank,
-  skips_newline,
-  after_blank,
-  letter_stands,
-  after_name,
-  separates,
-  after_comment_byte,
-  in_gap,
-}
-use Rattle.tcl_words.specs.Skips.{
-  turns,
-  skip,
-  spaces_end,
-  name_end,
-  brace_end,
-  blanks_end,
-  comment_end,
-  after_gap_part,
-  gap_end,
-}
+use Rattle.tcl_words.specs.Places.{stands, is_blank, skips_newline, after_blank, letter_stands}
+use Rattle.tcl_words.specs.Places.{after_name, separates, after_comment_byte, in_gap}
+use Rattle.tcl_words.specs.Skips.{turns, skip, spaces_end, name_end, brace_end, blanks_end}
+use Rattle.tcl_words.specs.Skips.{comment_end, after_gap_part, gap_end}
 use Rattle.tcl_words.specs.Values.{brace_unit_end}
 use Rattle.tcl_words.proofs.Runs.{blank_within, gap_within}
 

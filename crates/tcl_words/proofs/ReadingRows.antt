@@ -4,60 +4,21 @@ use Rattle.tcl_words.specs.Escapes.{digit, is_digit, with_digit, digits, letter,
 use Rattle.tcl_words.specs.Escapes.{escape, unit}
 use Rattle.tcl_words.specs.Faults.{comes_first, noted, closed}
 use Rattle.tcl_words.specs.Finish.{is_literal}
-use Rattle.tcl_words.specs.Places.{
-  stands,
-  is_letter,
-  letter_stands,
-  names,
-  after_name,
-  opens_name,
-  in_name,
-  starts_variable,
-  skips_newline,
-  is_space,
-  is_blank,
-  after_blank,
-  separates,
-  closes,
-  ends_run,
-  ends_script,
-  ends_command,
-  in_comment,
-  after_comment_byte,
-  in_gap,
-}
+use Rattle.tcl_words.specs.Places.{stands, is_letter, letter_stands, names, after_name, opens_name}
+use Rattle.tcl_words.specs.Places.{in_name, starts_variable, skips_newline, is_space, is_blank}
+use Rattle.tcl_words.specs.Places.{after_blank, separates, closes, ends_run, ends_script}
+use Rattle.tcl_words.specs.Places.{ends_command, in_comment, after_comment_byte, in_gap}
 use Rattle.tcl_words.specs.Reading.{read_braced, read_name, named, read_variable, read_part, parts}
 use Rattle.tcl_words.specs.Reading.{trailing, read_word, words, read_command, commands, level}
 use Rattle.tcl_words.specs.Reading.{limit, reading}
-use Rattle.tcl_words.specs.Skips.{
-  skip,
-  spaces_end,
-  name_end,
-  brace_end,
-  blanks_end,
-  comment_end,
-  after_gap_part,
-  gap_end,
-}
+use Rattle.tcl_words.specs.Skips.{skip, spaces_end, name_end, brace_end, blanks_end, comment_end}
+use Rattle.tcl_words.specs.Skips.{after_gap_part, gap_end}
 use Rattle.tcl_words.specs.Tree.{plain, variable, no_parts, and_part, word, no_words, and_word}
 use Rattle.tcl_words.specs.Tree.{command, no_commands, and_command, from_to}
-use Rattle.tcl_words.specs.Values.{
-  many,
-  next_byte,
-  run,
-  brace_bytes,
-  brace_unit_end,
-  inner_after,
-  deepened,
-  ends_braces,
-  braces,
-}
-use Rattle.tcl_words.specs.declared.parse_fault.Fault.TheVariants.{
-  MissingBrace,
-  MissingBracket,
-  ExtraAfter,
-  BadEscape,
-}
+use Rattle.tcl_words.specs.Values.{many, next_byte, run, brace_bytes, brace_unit_end, inner_after}
+use Rattle.tcl_words.specs.Values.{deepened, ends_braces, braces}
+use Rattle.tcl_words.specs.declared.parse_fault.Fault.TheVariants.{MissingBrace, MissingBracket}
+use Rattle.tcl_words.specs.declared.parse_fault.Fault.TheVariants.{ExtraAfter, BadEscape}
 use Rattle.tcl_words.specs.declared.script.Form.TheVariants.{Bare}
 
 open_brace : reading (codes "set x {") ≡ Err (MissingBrace 6)

@@ -9,30 +9,14 @@ use Rattle.tcl_words.specs.Grammar.{SpellsPart, SpellsParts, SpellsWord}
 use Rattle.tcl_words.specs.Places.{stands, starts_variable, skips_newline, is_space, is_blank}
 use Rattle.tcl_words.specs.Places.{after_blank, separates, closes, word_closer, ends_command}
 use Rattle.tcl_words.specs.Places.{in_comment, after_comment_byte, in_gap}
-use Rattle.tcl_words.specs.Rules.{
-  span_of_part,
-  span_of_word,
-  Adjoin,
-  SubstitutionsSplitNothing,
-  WhiteSpaceSeparates,
-  QuotesEndAtQuotes,
-  BracketsEndWords,
-  SeparatorsEndWords,
-  ReturnIsOrdinary,
-  BracesKeepBytes,
-  BracesKeepBackslashes,
-  BracesReplaceNewlines,
-  BackslashedBracesDontCount,
-  NewlinesEndComments,
-  BackslashesContinueComments,
-  HashesBeginComments,
-  LoneDollars,
-  LastTwoDigits,
-  DepthIsLimited,
-  DepthLimitsIndexes,
-  DepthLimitsWords,
-  LeastPlaceIsTold,
-}
+use Rattle.tcl_words.specs.Rules.{span_of_part, span_of_word, Adjoin, SubstitutionsSplitNothing}
+use Rattle.tcl_words.specs.Rules.{WhiteSpaceSeparates, QuotesEndAtQuotes, BracketsEndWords}
+use Rattle.tcl_words.specs.Rules.{SeparatorsEndWords, ReturnIsOrdinary, BracesKeepBytes}
+use Rattle.tcl_words.specs.Rules.{BracesKeepBackslashes, BracesReplaceNewlines}
+use Rattle.tcl_words.specs.Rules.{BackslashedBracesDontCount, NewlinesEndComments}
+use Rattle.tcl_words.specs.Rules.{BackslashesContinueComments, HashesBeginComments, LoneDollars}
+use Rattle.tcl_words.specs.Rules.{LastTwoDigits, DepthIsLimited, DepthLimitsIndexes}
+use Rattle.tcl_words.specs.Rules.{DepthLimitsWords, LeastPlaceIsTold}
 use Rattle.tcl_words.specs.Skips.{turns, blanks_end}
 use Rattle.tcl_words.specs.Tree.{Part, plain, variable, element, bracket, Parts, no_parts, and_part}
 use Rattle.tcl_words.specs.Tree.{Word, word, from_to}

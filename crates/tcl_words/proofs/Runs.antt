@@ -1,62 +1,16 @@
 -- The turns of a run.
-use Rattle.std.proofs.Common.{
-  ◌≡◌,
-  ℕ,
-  zero,
-  suc,
-  ◌+◌,
-  ◌-◌,
-  ◌<◌,
-  ◌≤◌,
-  List,
-  [],
-  ◌∷◌,
-  ◌++◌,
-  length,
-  Bool,
-  true,
-  false,
-  cond,
-  refl,
-  sym,
-  ap,
-  ap₂,
-  ◌∙◌,
-  arith,
-  append_assoc,
-  append-nil,
-}
+use Rattle.std.proofs.Common.{◌≡◌, ℕ, zero, suc, ◌+◌, ◌-◌, ◌<◌, ◌≤◌, List, [], ◌∷◌, ◌++◌, length}
+use Rattle.std.proofs.Common.{Bool, true, false, cond, refl, sym, ap, ap₂, ◌∙◌, arith, append_assoc}
+use Rattle.std.proofs.Common.{append-nil}
 use Rattle.std.proofs.lemmas.Bool.Decides.{nat_tests}
 use Rattle.tcl_words.specs.Escapes.{is_digit, with_digit, digits}
 use Rattle.std.specs.Prelude.{slice_index}
 use Rattle.tcl_words.specs.Faults.{to}
-use Rattle.tcl_words.specs.Places.{
-  stands,
-  is_space,
-  skips_newline,
-  letter_stands,
-  names,
-  in_name,
-  is_blank,
-  separates,
-  in_comment,
-  in_gap,
-  closes,
-  ends_run,
-}
+use Rattle.tcl_words.specs.Places.{stands, is_space, skips_newline, letter_stands, names, in_name}
+use Rattle.tcl_words.specs.Places.{is_blank, separates, in_comment, in_gap, closes, ends_run}
 use Rattle.tcl_words.specs.Skips.{turns, skip}
-use Rattle.tcl_words.specs.Values.{
-  Read,
-  joined,
-  next_byte,
-  run,
-  brace_bytes,
-  brace_unit_end,
-  inner_after,
-  deepened,
-  ends_braces,
-  braces,
-}
+use Rattle.tcl_words.specs.Values.{Read, joined, next_byte, run, brace_bytes, brace_unit_end}
+use Rattle.tcl_words.specs.Values.{inner_after, deepened, ends_braces, braces}
 use Rattle.tcl_words.specs.declared.places.Closer.{Closer}
 use Rattle.tcl_words.specs.declared.progress.Progress.{Progress}
 use Rattle.tcl_words.proofs.Many.{ManyTo, many_begins, many_turn, many_ends}

@@ -1,42 +1,43 @@
 -- What the readers of one depth after another give without a fault is spelled so.
 use Rattle.std.proofs.Common.{◌≡◌, ◌⊎◌, inl, inr, ℕ, zero, suc, ◌+◌, ◌-◌, List, true, false, None}
+use Rattle.std.proofs.Common.{Option, Some}
 use Rattle.std.proofs.Common.{cond, refl, sym, ap, ◌∙◌, subst, arith}
 use Rattle.std.proofs.lemmas.Bool.Decides.{nat_tests}
 use Rattle.std.specs.Prelude.{◌==◌, slice_range}
+use Rattle.tcl_words.specs.Deep.{deep_end}
 use Rattle.tcl_words.specs.Faults.{noted, to}
 use Rattle.tcl_words.specs.Finish.{is_literal, raw_of, filled}
 use Rattle.tcl_words.specs.Grammar.{empty_part, SpellsParts, SpellsCommands}
 use Rattle.tcl_words.specs.Places.{closes}
-use Rattle.tcl_words.specs.Reading.{passed, roomed, read_braced, read_name, parts, commands}
+use Rattle.tcl_words.specs.Reading.{passed, passed_by, roomed, read_braced, read_name, parts, commands}
 use Rattle.tcl_words.specs.Reading.{read_bracket, read_quoted, read_index, level}
 use Rattle.tcl_words.specs.Skips.{turns, brace_end, gap_end}
 use Rattle.tcl_words.specs.Tree.{Parts, no_parts, and_part}
 use Rattle.tcl_words.specs.Values.{braces}
 use Rattle.tcl_words.specs.declared.deep.Inside.{Inside}
 use Rattle.tcl_words.specs.declared.deep.Inside.TheVariants as inside
+use Rattle.tcl_words.specs.declared.parse_fault.Fault.{Fault}
 use Rattle.tcl_words.specs.declared.parse_fault.Fault.TheVariants.{MissingBrace, MissingQuote}
 use Rattle.tcl_words.specs.declared.parse_fault.Fault.TheVariants.{MissingBracket, TooDeep}
 use Rattle.tcl_words.specs.declared.places.Closer.TheVariants.{Quote, Paren}
 use Rattle.tcl_words.specs.declared.progress.Progress.{Progress}
 use Rattle.tcl_words.specs.declared.script.Form.{Form}
 use Rattle.tcl_words.specs.declared.script.Form.TheVariants.{Bare, Quoted, Braced}
-use Rattle.tcl_words.proofs.SoundWords.{
-  BracketAt,
-  IndexAt,
-  WordAt,
-  NameAt,
-  SoundLevel,
-  closed_sound,
-  parts_sound,
-  commands_sound,
-}
+use Rattle.tcl_words.proofs.SoundWords.{BracketAt, IndexAt, WordAt, NameAt, SoundLevel}
+use Rattle.tcl_words.proofs.SoundWords.{closed_sound, parts_sound, commands_sound}
 use Rattle.tcl_words.proofs.Sound.{Reads, IsSound, SomeBraces, noted_stays, braces_sound}
 
 -- an opener past the room is a fault
-passed_not : (first : Inside) (start : ℕ) (text : List ℕ) (s : Progress)
-    → (passed first start text s).fault ≡ None → ⊥
+passed_by_not : (end : Option ℕ) (unclosed : Fault) (start : ℕ) (text : List ℕ) (s : Progress)
+    → (passed_by end unclosed start text s).fault ≡ None → ⊥
+passed_by_not (Some end) unclosed start text s h = noted_stays (TooDeep start) s h
+passed_by_not None unclosed start text s h = noted_stays unclosed s h
+
+passed_not : (first : Inside) (unclosed : Fault) (start : ℕ) (text : List ℕ) (s : Progress)
+    → (passed first unclosed start text s).fault ≡ None → ⊥
 unfolding passed
-passed_not first start text s h = noted_stays (TooDeep start) s h
+passed_not first unclosed start text s h =
+    passed_by_not (deep_end text first (start + 1)) unclosed start text s h
 
 is_more : (d : ℕ) → (suc d == 0) ≡ false
 is_more d = grind (arith, nat_tests)
@@ -189,11 +190,11 @@ name_deepest text s h =
 level_sound : (text : List ℕ) (d : ℕ) → SoundLevel text d (level d)
 unfolding level
 level_sound text zero = record {
-  bracket_is = λ s h. absurd (passed_not inside.Gap s.at text s h);
-  quoted_is = λ s h. absurd (passed_not inside.Quote s.at text s h);
+  bracket_is = λ s h. absurd (passed_not inside.Gap (MissingBracket s.at) s.at text s h);
+  quoted_is = λ s h. absurd (passed_not inside.Quote (MissingQuote s.at) s.at text s h);
   braced_is = braced_deepest text;
   name_is = name_deepest text;
-  index_is = λ s h. absurd (passed_not inside.Paren s.at text s h);
+  index_is = λ s h. absurd (passed_not inside.Paren (MissingBracket s.at) s.at text s h);
 }
 level_sound text (suc d) =
     let below = level_sound text d in

@@ -3,35 +3,13 @@ use Rattle.std.proofs.Common.{◌≡◌, ℕ, ◌<◌, ◌≤◌, List, [], ◌�
 use Rattle.std.proofs.Common.{refl, ap, map}
 use Rattle.tcl_words.specs.Faults.{to}
 use Rattle.tcl_words.specs.Places.{closes, ends_command, ends_script}
-use Rattle.tcl_words.specs.Reading.{
-  Level,
-  read_part,
-  parts,
-  read_word,
-  words,
-  read_command,
-  commands,
-}
+use Rattle.tcl_words.specs.Reading.{Level, read_part, parts, read_word, words, read_command}
+use Rattle.tcl_words.specs.Reading.{commands}
 use Rattle.tcl_words.specs.Skips.{blanks_end, gap_end}
-use Rattle.tcl_words.specs.Tree.{
-  Parts,
-  no_parts,
-  and_part,
-  Words,
-  no_words,
-  and_word,
-  Commands,
-  no_commands,
-  and_command,
-}
-use Rattle.tcl_words.specs.View.{
-  part_view,
-  word_view,
-  command_view,
-  parts_view,
-  words_view,
-  commands_of,
-}
+use Rattle.tcl_words.specs.Tree.{Parts, no_parts, and_part, Words, no_words, and_word, Commands}
+use Rattle.tcl_words.specs.Tree.{no_commands, and_command}
+use Rattle.tcl_words.specs.View.{part_view, word_view, command_view, parts_view, words_view}
+use Rattle.tcl_words.specs.View.{commands_of}
 use Rattle.tcl_words.specs.declared.places.Closer.{Closer}
 use Rattle.tcl_words.specs.declared.progress.Progress.{Progress}
 use Rattle.tcl_words.specs.declared.script.Command as code_command

@@ -1,27 +1,10 @@
 -- Where a construct ends that stands too deep to be read: a byte, a variable or an escape at a
 -- time, with the list of what is open.
-use Rattle.std.specs.Prelude.{
-  ℕ,
-  zero,
-  suc,
-  ◌+◌,
-  List,
-  [],
-  ◌∷◌,
-  length,
-  nat_lt,
-  nat_le,
-  if◌then◌else◌,
-}
+use Rattle.std.specs.Prelude.{ℕ, zero, suc, ◌+◌, List, [], ◌∷◌, length, nat_lt, nat_le}
+use Rattle.std.specs.Prelude.{Option, Some, None, if◌then◌else◌}
 use Rattle.tcl_words.specs.Escapes.{unit}
-use Rattle.tcl_words.specs.Places.{
-  stands,
-  opens_name,
-  starts_variable,
-  is_blank,
-  after_blank,
-  separates,
-}
+use Rattle.tcl_words.specs.Places.{stands, opens_name, starts_variable, is_blank, after_blank}
+use Rattle.tcl_words.specs.Places.{separates}
 use Rattle.tcl_words.specs.Skips.{turns, name_end, brace_end, comment_end}
 use Rattle.tcl_words.specs.declared.deep.Inside.{Inside}
 use Rattle.tcl_words.specs.declared.deep.Inside.TheVariants.{Gap, Blank, Bare, Quote, Brace, Paren}
@@ -83,13 +66,14 @@ open_after (On inside) outer = inside ∷ outer
 open_after (Opens under inside) outer = inside ∷ (under ∷ outer)
 open_after Ends outer = outer
 
--- the place where all that is open has ended, or the text's end; n is enough turns
-unfoldable pub all_end : List ℕ → ℕ → List Inside → ℕ → ℕ
-all_end text zero all at = at
-all_end text (suc n) [] at = at
+-- the place where all that is open has ended, and none where the text ends before that; n is enough
+-- turns
+unfoldable pub all_end : List ℕ → ℕ → List Inside → ℕ → Option ℕ
+all_end text zero all at = None
+all_end text (suc n) [] at = Some at
 all_end text (suc n) (inside ∷ outer) at =
-    if nat_le (length text) at then at
+    if nat_le (length text) at then None
     else all_end text n (open_after (turn text inside at).0 outer) (turn text inside at).1
 
-unfoldable pub deep_end : List ℕ → Inside → ℕ → ℕ
+unfoldable pub deep_end : List ℕ → Inside → ℕ → Option ℕ
 deep_end text inside at = all_end text (turns text) (inside ∷ []) at

@@ -1,23 +1,7 @@
 -- Backslash substitution. Each character has a number, and a value is a list of bytes, in which the
 -- character numbered n below 256 is the byte n.
-use Rattle.std.specs.Prelude.{
-  ℕ,
-  zero,
-  suc,
-  ◌+◌,
-  ◌-◌,
-  ◌*◌,
-  ◌%◌,
-  List,
-  length,
-  slice_index,
-  Bool,
-  ◌&&◌,
-  ◌==◌,
-  nat_lt,
-  nat_le,
-  if◌then◌else◌,
-}
+use Rattle.std.specs.Prelude.{ℕ, zero, suc, ◌+◌, ◌-◌, ◌*◌, ◌%◌, List, length, slice_index, Bool}
+use Rattle.std.specs.Prelude.{◌&&◌, ◌==◌, nat_lt, nat_le, if◌then◌else◌}
 use Rattle.tcl_words.specs.Places.{stands}
 use Rattle.tcl_words.specs.Skips.{spaces_end}
 

@@ -1,28 +1,11 @@
 -- A text that spells no script has the fault with the least place.
-use Rattle.std.specs.Prelude.{
-  ℕ,
-  ◌+◌,
-  List,
-  Bool,
-  ◌&&◌,
-  ◌||◌,
-  ◌==◌,
-  Option,
-  Some,
-  None,
-  nat_lt,
-  if◌then◌else◌,
-}
+use Rattle.std.specs.Prelude.{ℕ, ◌+◌, List, Bool, ◌&&◌, ◌||◌, ◌==◌, Option, Some, None, nat_lt}
+use Rattle.std.specs.Prelude.{if◌then◌else◌}
 use Rattle.tcl_words.specs.Places.{stands}
 use Rattle.tcl_words.specs.declared.parse_fault.Fault.{Fault}
-use Rattle.tcl_words.specs.declared.parse_fault.Fault.TheVariants.{
-  MissingBrace,
-  MissingQuote,
-  MissingBracket,
-  ExtraAfter,
-  BadEscape,
-  TooDeep,
-}
+use Rattle.tcl_words.specs.declared.parse_fault.Fault.TheVariants.{MissingBrace, MissingQuote}
+use Rattle.tcl_words.specs.declared.parse_fault.Fault.TheVariants.{MissingBracket, ExtraAfter}
+use Rattle.tcl_words.specs.declared.parse_fault.Fault.TheVariants.{BadEscape, TooDeep}
 use Rattle.tcl_words.specs.declared.progress.Progress.{Progress}
 
 abbrev pub place_of : Fault → ℕ

@@ -1,20 +1,6 @@
 -- A word from its parts.
-use Rattle.std.specs.Prelude.{
-  ℕ,
-  List,
-  [],
-  Bool,
-  true,
-  false,
-  ◌&&◌,
-  not,
-  nat_eq,
-  Option,
-  Some,
-  None,
-  slice_range,
-  if◌then◌else◌,
-}
+use Rattle.std.specs.Prelude.{ℕ, List, [], Bool, true, false, ◌&&◌, not, nat_eq, Option, Some, None}
+use Rattle.std.specs.Prelude.{slice_range, if◌then◌else◌}
 use Rattle.std.specs.List.{list_any}
 use Rattle.tcl_words.specs.Tree.{Part, plain, Parts, no_parts, and_part, Word, word, from_to}
 use Rattle.tcl_words.specs.declared.script.Form.{Form}

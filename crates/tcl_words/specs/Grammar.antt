@@ -1,38 +1,12 @@
 -- Which script a text spells: one rule for each shape of the tree, each with the sentence of the
 -- Tcl 8.4 manual, Tcl(n), that it states. All places are places in the whole text, and the trees
 -- stand from one place to another. `room` is how many constructs more may be open.
-use Rattle.std.specs.Prelude.{
-  ◌≡◌,
-  ◌⊎◌,
-  ℕ,
-  zero,
-  suc,
-  ◌+◌,
-  ◌<◌,
-  List,
-  [],
-  ◌∷◌,
-  ◌++◌,
-  slice_range,
-  Bool,
-  true,
-  false,
-  ◌&&◌,
-  nat_le,
-  Option,
-}
+use Rattle.std.specs.Prelude.{◌≡◌, ◌⊎◌, ℕ, zero, suc, ◌+◌, ◌<◌, List, [], ◌∷◌, ◌++◌, slice_range}
+use Rattle.std.specs.Prelude.{Bool, true, false, ◌&&◌, nat_le, Option}
 use Rattle.tcl_words.specs.Escapes.{unit}
 use Rattle.tcl_words.specs.Finish.{raw_of}
-use Rattle.tcl_words.specs.Places.{
-  stands,
-  opens_name,
-  starts_variable,
-  closes,
-  word_closer,
-  ends_run,
-  ends_script,
-  ends_command,
-}
+use Rattle.tcl_words.specs.Places.{stands, opens_name, starts_variable, closes, word_closer}
+use Rattle.tcl_words.specs.Places.{ends_run, ends_script, ends_command}
 use Rattle.tcl_words.specs.Skips.{name_end, brace_end, blanks_end, gap_end}
 use Rattle.tcl_words.specs.Tree.{Part, plain, variable, element, bracket, Parts, no_parts, and_part}
 use Rattle.tcl_words.specs.Tree.{Word, word, Words, no_words, and_word, Command, command, Commands}

@@ -1,21 +1,6 @@
 -- Which bytes part words and commands. All places are places in the whole text.
-use Rattle.std.specs.Prelude.{
-  ℕ,
-  ◌+◌,
-  List,
-  length,
-  slice_index,
-  Bool,
-  true,
-  false,
-  ◌&&◌,
-  ◌||◌,
-  ◌==◌,
-  nat_lt,
-  nat_le,
-  not,
-  if◌then◌else◌,
-}
+use Rattle.std.specs.Prelude.{ℕ, ◌+◌, List, length, slice_index, Bool, true, false, ◌&&◌, ◌||◌}
+use Rattle.std.specs.Prelude.{◌==◌, nat_lt, nat_le, not, if◌then◌else◌}
 use Rattle.tcl_words.specs.declared.places.Closer.{Closer}
 use Rattle.tcl_words.specs.declared.places.Closer.TheVariants.{Word, BracketWord, Quote, Paren}
 

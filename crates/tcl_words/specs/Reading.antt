@@ -1,60 +1,35 @@
 -- What a text says, read from left to right. A text with faults is read on, so that each
 -- construct's end is known; the least fault is kept.
-use Rattle.std.specs.Prelude.{ℕ, zero, suc, ◌+◌, ◌-◌, List, slice_range, Bool, true, false, ◌==◌}
-use Rattle.std.specs.Prelude.{Option, Some, None, Result, Ok, Err, if◌then◌else◌}
+use Rattle.std.specs.Prelude.{ℕ, zero, suc, ◌+◌, ◌-◌, List, length, slice_range, Bool, true, false}
+use Rattle.std.specs.Prelude.{◌==◌, Option, Some, None, Result, Ok, Err, if◌then◌else◌}
 use Rattle.tcl_words.specs.Deep.{deep_end}
 use Rattle.tcl_words.specs.Faults.{noted, to, closed}
 use Rattle.tcl_words.specs.Finish.{finished}
-use Rattle.tcl_words.specs.Places.{
-  stands,
-  opens_name,
-  starts_variable,
-  closes,
-  ends_script,
-  ends_command,
-  word_closer,
-}
+use Rattle.tcl_words.specs.Places.{stands, opens_name, starts_variable, closes, ends_script}
+use Rattle.tcl_words.specs.Places.{ends_command, word_closer}
 use Rattle.tcl_words.specs.Skips.{turns, name_end, brace_end, blanks_end, gap_end}
-use Rattle.tcl_words.specs.Tree.{
-  Part,
-  plain,
-  variable,
-  element,
-  bracket,
-  Parts,
-  no_parts,
-  and_part,
-  Word,
-  word,
-  Words,
-  no_words,
-  and_word,
-  Command,
-  command,
-  Commands,
-  no_commands,
-  and_command,
-  from_to,
-}
+use Rattle.tcl_words.specs.Tree.{Part, plain, variable, element, bracket, Parts, no_parts, and_part}
+use Rattle.tcl_words.specs.Tree.{Word, word, Words, no_words, and_word, Command, command, Commands}
+use Rattle.tcl_words.specs.Tree.{no_commands, and_command, from_to}
 use Rattle.tcl_words.specs.Values.{Read, many, run, braces}
 use Rattle.tcl_words.specs.declared.deep.Inside.{Inside}
 use Rattle.tcl_words.specs.declared.deep.Inside.TheVariants as inside
 use Rattle.tcl_words.specs.declared.parse_fault.Fault.{Fault}
-use Rattle.tcl_words.specs.declared.parse_fault.Fault.TheVariants.{
-  MissingBrace,
-  MissingQuote,
-  MissingBracket,
-  ExtraAfter,
-  TooDeep,
-}
+use Rattle.tcl_words.specs.declared.parse_fault.Fault.TheVariants.{MissingBrace, MissingQuote}
+use Rattle.tcl_words.specs.declared.parse_fault.Fault.TheVariants.{MissingBracket, ExtraAfter}
+use Rattle.tcl_words.specs.declared.parse_fault.Fault.TheVariants.{TooDeep}
 use Rattle.tcl_words.specs.declared.places.Closer.{Closer}
 use Rattle.tcl_words.specs.declared.places.Closer.TheVariants.{Quote, Paren}
 use Rattle.tcl_words.specs.declared.progress.Progress.{Progress}
 use Rattle.tcl_words.specs.declared.script.Form.TheVariants.{Bare, Quoted, Braced}
 
--- an opener with no room, whatever it opens, is noted and passed
-unfoldable pub passed : Inside → ℕ → List ℕ → Progress → Progress
-passed first start text s = to (deep_end text first (start + 1)) (noted (TooDeep start) s)
+-- an opener with no room is noted, as one that stays open where it does, and what it opens is passed
+abbrev pub passed_by : Option ℕ → Fault → ℕ → List ℕ → Progress → Progress
+passed_by (Some end) unclosed start text s = to end (noted (TooDeep start) s)
+passed_by None unclosed start text s = to (length text) (noted unclosed s)
+
+unfoldable pub passed : Inside → Fault → ℕ → List ℕ → Progress → Progress
+passed first unclosed start text s = passed_by (deep_end text first (start + 1)) unclosed start text s
 
 -- an opener with no room is noted
 abbrev pub roomed : ℕ → ℕ → Progress → Progress
@@ -166,11 +141,11 @@ read_index deeper text s =
 -- with so many openers allowed inside one another
 unfoldable pub level : ℕ → Level
 level zero = record {
-  bracket = λ text s. (no_commands, passed inside.Gap s.at text s);
-  quoted = λ text s. (nothing s.at, passed inside.Quote s.at text s);
+  bracket = λ text s. (no_commands, passed inside.Gap (MissingBracket s.at) s.at text s);
+  quoted = λ text s. (nothing s.at, passed inside.Quote (MissingQuote s.at) s.at text s);
   braced = read_braced 0;
   name = read_name 0;
-  index = λ text s. (no_parts, passed inside.Paren s.at text s);
+  index = λ text s. (no_parts, passed inside.Paren (MissingBracket s.at) s.at text s);
 }
 level (suc depth) = record {
   bracket = read_bracket (level depth);

@@ -4,39 +4,11 @@ use Rattle.std.specs.Prelude.{◌≡◌, ◌⊎◌, ℕ, ◌+◌, ◌*◌, ◌%�
 use Rattle.std.specs.Prelude.{slice_index, Bool, true, false, Some, IfSome}
 use Rattle.tcl_words.specs.Escapes.{digit, with_digit, unit}
 use Rattle.tcl_words.specs.Faults.{place_of, noted}
-use Rattle.tcl_words.specs.Grammar.{
-  SpellsPart,
-  SpellsParts,
-  SpellsWord,
-  SpellsWords,
-}
-use Rattle.tcl_words.specs.Places.{
-  stands,
-  names,
-  opens_name,
-  starts_variable,
-  is_blank,
-  separates,
-  closes,
-  in_comment,
-  after_comment_byte,
-  in_gap,
-}
-use Rattle.tcl_words.specs.Tree.{
-  Part,
-  plain,
-  variable,
-  element,
-  bracket,
-  Parts,
-  no_parts,
-  and_part,
-  Word,
-  word,
-  Words,
-  and_word,
-  Commands,
-}
+use Rattle.tcl_words.specs.Grammar.{SpellsPart, SpellsParts, SpellsWord, SpellsWords}
+use Rattle.tcl_words.specs.Places.{stands, names, opens_name, starts_variable, is_blank, separates}
+use Rattle.tcl_words.specs.Places.{closes, in_comment, after_comment_byte, in_gap}
+use Rattle.tcl_words.specs.Tree.{Part, plain, variable, element, bracket, Parts, no_parts, and_part}
+use Rattle.tcl_words.specs.Tree.{Word, word, Words, and_word, Commands}
 use Rattle.tcl_words.specs.Values.{brace_bytes, inner_after}
 use Rattle.tcl_words.specs.declared.parse_fault.Fault.{Fault}
 use Rattle.tcl_words.specs.declared.places.Closer.{Closer}

@@ -1,26 +1,7 @@
 -- The ends of runs of bytes.
-use Rattle.std.specs.Prelude.{
-  ℕ,
-  zero,
-  suc,
-  ◌+◌,
-  List,
-  length,
-  Bool,
-  if◌then◌else◌,
-}
-use Rattle.tcl_words.specs.Places.{
-  names,
-  after_name,
-  in_name,
-  is_space,
-  is_blank,
-  after_blank,
-  separates,
-  in_comment,
-  after_comment_byte,
-  in_gap,
-}
+use Rattle.std.specs.Prelude.{ℕ, zero, suc, ◌+◌, List, length, Bool, if◌then◌else◌}
+use Rattle.tcl_words.specs.Places.{names, after_name, in_name, is_space, is_blank, after_blank}
+use Rattle.tcl_words.specs.Places.{separates, in_comment, after_comment_byte, in_gap}
 
 -- a turn for each byte, and one at the end
 abbrev pub turns : List ℕ → ℕ

@@ -1,25 +1,6 @@
 -- The values of runs of plain bytes, and of what stands between braces.
-use Rattle.std.specs.Prelude.{
-  ℕ,
-  zero,
-  suc,
-  ◌+◌,
-  ◌-◌,
-  ◌%◌,
-  List,
-  [],
-  ◌∷◌,
-  ◌++◌,
-  length,
-  slice_index,
-  Bool,
-  ◌&&◌,
-  ◌||◌,
-  ◌==◌,
-  nat_lt,
-  nat_le,
-  if◌then◌else◌,
-}
+use Rattle.std.specs.Prelude.{ℕ, zero, suc, ◌+◌, ◌-◌, ◌%◌, List, [], ◌∷◌, ◌++◌, length, slice_index}
+use Rattle.std.specs.Prelude.{Bool, ◌&&◌, ◌||◌, ◌==◌, nat_lt, nat_le, if◌then◌else◌}
 use Rattle.tcl_words.specs.Escapes.{unit}
 use Rattle.tcl_words.specs.Faults.{noted, to}
 use Rattle.tcl_words.specs.Places.{stands, ends_run}

@@ -1,25 +1,8 @@
 -- The tree that a value of the code stands for.
 use Rattle.std.specs.Prelude.{List, [], ◌∷◌, map}
-use Rattle.tcl_words.specs.Tree.{
-  Part,
-  plain,
-  variable,
-  element,
-  bracket,
-  Parts,
-  no_parts,
-  and_part,
-  Word,
-  word,
-  Words,
-  no_words,
-  and_word,
-  Command,
-  command,
-  Commands,
-  no_commands,
-  and_command,
-}
+use Rattle.tcl_words.specs.Tree.{Part, plain, variable, element, bracket, Parts, no_parts, and_part}
+use Rattle.tcl_words.specs.Tree.{Word, word, Words, no_words, and_word, Command, command, Commands}
+use Rattle.tcl_words.specs.Tree.{no_commands, and_command}
 use Rattle.tcl_words.specs.declared.script.Part.{fold-Part}
 use Rattle.tcl_words.specs.declared.script.Part as code
 use Rattle.tcl_words.specs.declared.script.Script.{Script, fold-Script}

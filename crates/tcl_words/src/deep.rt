@@ -1,17 +1,8 @@
 // The end of a construct that stands too deep to be read.
 
-ghost use Rattle.std.specs.Prelude.{◌≡◌, ◌≤◌, ◌<◌, ◌+◌, length, IfOk};
-ghost use Rattle.tcl_words.specs.Deep.{
-  past_brace,
-  turn_at_variable,
-  turn_at_dollar,
-  turn_in_word,
-  turn_bare,
-  turn_between,
-  turn_in_braces,
-  turn,
-  deep_end,
-};
+ghost use Rattle.std.specs.Prelude.{◌≡◌, ◌≤◌, ◌<◌, ◌+◌, length, IfOk, IfSome};
+ghost use Rattle.tcl_words.specs.Deep.{past_brace, turn_at_variable, turn_at_dollar, turn_in_word};
+ghost use Rattle.tcl_words.specs.Deep.{turn_bare, turn_between, turn_in_braces, turn, deep_end};
 
 use crate::escapes::unit;
 use crate::places::{after_blank, is_blank, opens_name, separates, stands, starts_variable};
@@ -189,13 +180,13 @@ fn turn(text: &[u8], inside: Inside, at: usize) -> (Effect, usize)
     }
 }
 
-/// The place where what is open has ended, or the text's end. What is open is kept in a list, so
-/// that no depth is too great.
-pub fn deep_end(alloc: Global, text: &[u8], first: Inside, start: usize) -> M<usize>
+/// The place where what is open has ended, and none where the text ends before that. What is open
+/// is kept in a list, so that no depth is too great.
+pub fn deep_end(alloc: Global, text: &[u8], first: Inside, start: usize) -> M<Option<usize>>
     requires { start ≤ length text.now }
     ensures value { IfOk result (λ end. end ≡ deep_end text.now first start) }
-    ensures within { IfOk result (λ end. end ≤ length text.now) }
-    ensures onward { IfOk result (λ end. start ≤ end) }
+    ensures within { IfOk result (λ end. IfSome end (λ at. at ≤ length text.now)) }
+    ensures onward { IfOk result (λ end. IfSome end (λ at. start ≤ at)) }
 {
     let mut outer = Vec::new(alloc);
     let mut inside = first;
@@ -210,10 +201,10 @@ pub fn deep_end(alloc: Global, text: &[u8], first: Inside, start: usize) -> M<us
                 inside = now;
             }
             Effect::Ends => match outer.pop() {
-                None => return Ok(at),
+                None => return Ok(Some(at)),
                 Some(now) => inside = now,
             },
         }
     }
-    Ok(at)
+    Ok(None)
 }

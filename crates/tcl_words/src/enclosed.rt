@@ -39,16 +39,32 @@ fn nothing(alloc: Global, at: usize) -> Word
 }
 
 impl Progress {
-    /// Notes the opener that is one too many, and goes past what it opens.
+    /// Notes the opener that is one too many, by its own fault where it stays open, and goes past
+    /// what it opens.
     #[tactic(auto, unfolding(crate::specs::Reading::passed))]
-    fn pass(&mut self, alloc: Global, text: &[u8], start: usize, inside: Inside) -> M<()>
+    fn pass(
+        &mut self,
+        alloc: Global,
+        text: &[u8],
+        start: usize,
+        inside: Inside,
+        unclosed: Fault,
+    ) -> M<()>
         requires { start < length text.now }
-        ensures value { OnOk result (self.new ≡ passed inside start text.now self.old) }
+        ensures value { OnOk result (self.new ≡ passed inside unclosed start text.now self.old) }
         ensures within { OnOk result (self.new.at ≤ length text.now) }
         ensures onward { OnOk result (start < self.new.at) }
     {
-        self.note(Fault::TooDeep(start));
-        self.at = deep_end(alloc, text, inside, start + 1)?;
+        match deep_end(alloc, text, inside, start + 1)? {
+            Some(end) => {
+                self.note(Fault::TooDeep(start));
+                self.at = end;
+            }
+            None => {
+                self.note(unclosed);
+                self.at = text.len();
+            }
+        }
         Ok(())
     }
 
@@ -95,7 +111,13 @@ impl Progress {
     {
         let start = self.at;
         if depth == 0 {
-            self.pass(alloc, text, start, Inside::Quote)?;
+            self.pass(
+                alloc,
+                text,
+                start,
+                Inside::Quote,
+                Fault::MissingQuote(start),
+            )?;
             return Ok(nothing(alloc, start));
         }
         self.at = start + 1;
@@ -123,7 +145,13 @@ impl Progress {
     {
         let start = self.at;
         if depth == 0 {
-            self.pass(alloc, text, start, Inside::Gap)?;
+            self.pass(
+                alloc,
+                text,
+                start,
+                Inside::Gap,
+                Fault::MissingBracket(start),
+            )?;
             return Ok(Script {
                 commands: Vec::new(alloc),
             });
@@ -146,7 +174,13 @@ impl Progress {
     {
         let start = self.at;
         if depth == 0 {
-            self.pass(alloc, text, start, Inside::Paren)?;
+            self.pass(
+                alloc,
+                text,
+                start,
+                Inside::Paren,
+                Fault::MissingBracket(start),
+            )?;
             return Ok(Vec::new(alloc));
         }
         self.at = start + 1;

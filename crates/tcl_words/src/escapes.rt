@@ -1,16 +1,8 @@
 // Backslash substitution.
 
 ghost use Rattle.std.specs.Prelude.{◌≡◌, ◌≤◌, ◌<◌, ◌+◌, length};
-ghost use Rattle.tcl_words.specs.Escapes.{
-  digit,
-  is_digit,
-  digits,
-  with_digit,
-  letter,
-  after_backslash,
-  escape,
-  unit,
-};
+ghost use Rattle.tcl_words.specs.Escapes.{digit, is_digit, digits, with_digit, letter};
+ghost use Rattle.tcl_words.specs.Escapes.{after_backslash, escape, unit};
 
 use crate::places::stands;
 use crate::skips::spaces_end;

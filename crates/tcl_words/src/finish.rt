@@ -1,14 +1,8 @@
 // Words from their parts.
 
 ghost use Rattle.std.specs.Prelude.{◌≡◌, ◌≤◌, ◌<◌, length, IfOk};
-ghost use Rattle.tcl_words.specs.Finish.{
-  is_plain,
-  only_plain,
-  is_literal,
-  raw_of,
-  filled,
-  finished,
-};
+ghost use Rattle.tcl_words.specs.Finish.{is_plain, only_plain, is_literal, raw_of, filled};
+ghost use Rattle.tcl_words.specs.Finish.{finished};
 ghost use Rattle.tcl_words.specs.View.{part_view, parts_view, word_view};
 
 use crate::script::{Form, Part, Span, Word};

@@ -1,29 +1,15 @@
 // Laws of the definitions, each the contract of a function that does nothing.
 
 ghost use Rattle.tcl_words.specs.Laws.{ReadingIsGrammar, OneReading};
-ghost use Rattle.tcl_words.specs.Rules.{
-  SubstitutionsSplitNothing,
-  WhiteSpaceSeparates,
-  BracketsShield,
-  IndexesShield,
-  QuotesEndAtQuotes,
-  BracketsEndWords,
-  SeparatorsEndWords,
-  ReturnIsOrdinary,
-  BracesKeepBytes,
-  BracesKeepBackslashes,
-  BracesReplaceNewlines,
-  BackslashedBracesDontCount,
-  NewlinesEndComments,
-  BackslashesContinueComments,
-  HashesBeginComments,
-  LoneDollars,
-  LastTwoDigits,
-  DepthIsLimited,
-  DepthLimitsIndexes,
-  DepthLimitsWords,
-  LeastPlaceIsTold,
-};
+ghost use Rattle.tcl_words.specs.Rules.{SubstitutionsSplitNothing, WhiteSpaceSeparates};
+ghost use Rattle.tcl_words.specs.Rules.{BracketsShield, IndexesShield, QuotesEndAtQuotes};
+ghost use Rattle.tcl_words.specs.Rules.{BracketsEndWords, SeparatorsEndWords, ReturnIsOrdinary};
+ghost use Rattle.tcl_words.specs.Rules.{BracesKeepBytes, BracesKeepBackslashes};
+ghost use Rattle.tcl_words.specs.Rules.{BracesReplaceNewlines, BackslashedBracesDontCount};
+ghost use Rattle.tcl_words.specs.Rules.{NewlinesEndComments, BackslashesContinueComments};
+ghost use Rattle.tcl_words.specs.Rules.{HashesBeginComments, LoneDollars, LastTwoDigits};
+ghost use Rattle.tcl_words.specs.Rules.{DepthIsLimited, DepthLimitsIndexes, DepthLimitsWords};
+ghost use Rattle.tcl_words.specs.Rules.{LeastPlaceIsTold};
 
 /// The law that the reading gives a script exactly where the text spells it.
 pub fn reading_is_grammar()

@@ -1,29 +1,11 @@
 // Tests on the bytes at a place.
 
 ghost use Rattle.std.specs.Prelude.{◌≡◌, ◌≤◌, ◌<◌, ◌+◌, length, true};
-ghost use Rattle.tcl_words.specs.Places.{
-  stands,
-  is_letter,
-  letter_stands,
-  names,
-  after_name,
-  opens_name,
-  in_name,
-  starts_variable,
-  skips_newline,
-  is_space,
-  is_blank,
-  after_blank,
-  separates,
-  closes,
-  word_closer,
-  ends_run,
-  ends_script,
-  ends_command,
-  in_comment,
-  after_comment_byte,
-  in_gap,
-};
+ghost use Rattle.tcl_words.specs.Places.{stands, is_letter, letter_stands, names, after_name};
+ghost use Rattle.tcl_words.specs.Places.{opens_name, in_name, starts_variable, skips_newline};
+ghost use Rattle.tcl_words.specs.Places.{is_space, is_blank, after_blank, separates, closes};
+ghost use Rattle.tcl_words.specs.Places.{word_closer, ends_run, ends_script, ends_command};
+ghost use Rattle.tcl_words.specs.Places.{in_comment, after_comment_byte, in_gap};
 
 /// What ends the parts of a word or an index.
 #[derive(Clone, Copy)]

@@ -3,16 +3,8 @@
 
 ghost use Rattle.std.specs.Prelude.{◌≡◌, ◌≤◌, ◌<◌, ◌+◌, length, IfOk, OnOk, false};
 ghost use Rattle.tcl_words.specs.Places.{closes, ends_command, word_closer};
-ghost use Rattle.tcl_words.specs.Reading.{
-  read_variable,
-  read_part,
-  parts,
-  trailing,
-  read_word,
-  words,
-  commands,
-  level,
-};
+ghost use Rattle.tcl_words.specs.Reading.{read_variable, read_part, parts, trailing, read_word};
+ghost use Rattle.tcl_words.specs.Reading.{words, commands, level};
 ghost use Rattle.tcl_words.specs.Skips.{blanks_end};
 ghost use Rattle.tcl_words.specs.View.{part_view, parts_view, word_view, words_view, script_view};
 

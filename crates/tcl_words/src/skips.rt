@@ -2,15 +2,8 @@
 
 ghost use Rattle.std.specs.Prelude.{◌≡◌, ◌≤◌, ◌<◌, ◌+◌, length, false};
 ghost use Rattle.tcl_words.specs.Places.{is_blank, in_gap};
-ghost use Rattle.tcl_words.specs.Skips.{
-  spaces_end,
-  name_end,
-  brace_end,
-  blanks_end,
-  comment_end,
-  after_gap_part,
-  gap_end,
-};
+ghost use Rattle.tcl_words.specs.Skips.{spaces_end, name_end, brace_end, blanks_end, comment_end};
+ghost use Rattle.tcl_words.specs.Skips.{after_gap_part, gap_end};
 
 use crate::places::{
     after_blank, after_comment_byte, after_name, in_comment, in_gap, in_name, is_blank, is_space,

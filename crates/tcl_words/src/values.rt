@@ -3,16 +3,8 @@
 ghost use Rattle.std.specs.Prelude.{◌≡◌, ◌≤◌, ◌<◌, ◌+◌, ◌++◌, ◌-◌, length, IfOk, OnOk, false};
 ghost use Rattle.tcl_words.specs.Places.{ends_run};
 ghost use Rattle.tcl_words.specs.Skips.{turns};
-ghost use Rattle.tcl_words.specs.Values.{
-  next_byte,
-  run,
-  brace_bytes,
-  brace_unit_end,
-  inner_after,
-  deepened,
-  ends_braces,
-  braces,
-};
+ghost use Rattle.tcl_words.specs.Values.{next_byte, run, brace_bytes, brace_unit_end, inner_after};
+ghost use Rattle.tcl_words.specs.Values.{deepened, ends_braces, braces};
 
 use crate::escapes::unit;
 use crate::parse_fault::Fault;

@@ -36,7 +36,7 @@ returns-in-None-clause-value c =
     let l = c.loop-at in
     let next = deep_turn c.args.text.now c.args.first l.inside c.args.start l.at (reverse l.outer.items) c.turn-done.result (omega arith) c.turn-done.ensures.value c.turn-done.ensures.onward l.invariant.so_far in
     let none : l.outer.items ≡ [] = no_items l.outer.items (omega (arith, c.in-None.ensures.cases.0, l.outer.ok.0)) in
-    deep_closed _ _ _ _ (deep_on _ _ _ _ _ _ (reverse l.outer.items) _ c.in-Ends.is (ap reverse none) next)
+    deep_closed _ _ _ _ c.turn-done.ensures.within (deep_on _ _ _ _ _ _ (reverse l.outer.items) _ c.in-Ends.is (ap reverse none) next)
 
 pub returns-clause-value : goal.returns-clause-value
-returns-clause-value c = deep_at_end _ _ _ _ _ (omega arith) c.loop-at.invariant.so_far
+returns-clause-value c = deep_at_end _ _ _ _ _ _ (omega arith) c.loop-at.invariant.so_far

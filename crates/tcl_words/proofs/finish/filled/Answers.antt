@@ -1,11 +1,5 @@
 use Rattle.std.proofs.Common.{sym, ◌∙◌, arith}
-use Rattle.tcl_words.proofs.Finishing.{
-  filled_some,
-  filled_none,
-  no_parts_at_all,
-  is_some,
-  is_none,
-}
+use Rattle.tcl_words.proofs.Finishing.{filled_some, filled_none, no_parts_at_all, is_some, is_none}
 use Rattle.tcl_words.proofs.finish.filled.Goals as goal
 
 pub returns-then-not-is_empty : goal.returns-then-not-is_empty

@@ -1,24 +1,8 @@
-use Rattle.tcl_words.proofs.Rules.{
-  split_nothing,
-  white_space,
-  quotes,
-  brackets,
-  separators,
-  return_ordinary,
-  keeps_bytes,
-  keeps_backslashes,
-  replaces_newlines,
-  backslashed,
-  newlines,
-  continues,
-  hashes,
-  dollars,
-  two_digits,
-  limited,
-  limits_indexes,
-  limits_words,
-  least_place,
-}
+use Rattle.tcl_words.proofs.Rules.{split_nothing, white_space, quotes, brackets, separators}
+use Rattle.tcl_words.proofs.Rules.{return_ordinary, keeps_bytes, keeps_backslashes}
+use Rattle.tcl_words.proofs.Rules.{replaces_newlines, backslashed, newlines, continues, hashes}
+use Rattle.tcl_words.proofs.Rules.{dollars, two_digits, limited, limits_indexes, limits_words}
+use Rattle.tcl_words.proofs.Rules.{least_place}
 use Rattle.tcl_words.proofs.laws.rules_of_the_source.Goals as goal
 
 pub returns-clause-substitutions_split_nothing : goal.returns-clause-substitutions_split_nothing

@@ -6,57 +6,18 @@ use Rattle.tcl_words.specs.Skips.{gap_end}
 use Rattle.tcl_words.specs.Tree.{plain, variable, element, from_to}
 use Rattle.tcl_words.specs.View.{parts_view, command_view, script_view, commands_of}
 use Rattle.tcl_words.specs.declared.parse_fault.Fault.TheVariants.{MissingBracket}
-use Rattle.tcl_words.proofs.Levels.{
-  bracket_deepest,
-  quoted_deepest,
-  index_deepest,
-  bracket_below,
-  quoted_below,
-  index_below,
-  level_braced,
-  level_name,
-  variable_bare,
-  variable_index,
-  part_bracket,
-  part_name,
-  part_variable,
-  part_plain,
-  plain_moves,
-  closes_within,
-  word_quoted,
-  word_braced,
-  word_bare,
-  trails,
-  trails_nothing,
-  word_opens,
-  command_opens,
-  no_blanks,
-  quoted_read,
-  command_read,
-}
+use Rattle.tcl_words.proofs.Levels.{bracket_deepest, quoted_deepest, index_deepest, bracket_below}
+use Rattle.tcl_words.proofs.Levels.{quoted_below, index_below, level_braced, level_name}
+use Rattle.tcl_words.proofs.Levels.{variable_bare, variable_index, part_bracket, part_name}
+use Rattle.tcl_words.proofs.Levels.{part_variable, part_plain, plain_moves, closes_within}
+use Rattle.tcl_words.proofs.Levels.{word_quoted, word_braced, word_bare, trails, trails_nothing}
+use Rattle.tcl_words.proofs.Levels.{word_opens, command_opens, no_blanks, quoted_read, command_read}
 use Rattle.tcl_words.proofs.Runs.{stands_within}
-use Rattle.tcl_words.proofs.Turns.{
-  PartsTo,
-  WordsTo,
-  CommandsTo,
-  parts_begin,
-  parts_turn,
-  parts_end,
-  words_begin,
-  words_turn,
-  words_end,
-  commands_begin,
-  commands_turn,
-  commands_end,
-}
-use Rattle.tcl_words.proofs.Views.{
-  view-Plain,
-  view-Bracket,
-  view-Variable,
-  view-Element,
-  view-Command,
-  view-Script,
-}
+use Rattle.tcl_words.proofs.Turns.{PartsTo, WordsTo, CommandsTo, parts_begin, parts_turn, parts_end}
+use Rattle.tcl_words.proofs.Turns.{words_begin, words_turn, words_end, commands_begin}
+use Rattle.tcl_words.proofs.Turns.{commands_turn, commands_end}
+use Rattle.tcl_words.proofs.Views.{view-Plain, view-Bracket, view-Variable, view-Element}
+use Rattle.tcl_words.proofs.Views.{view-Command, view-Script}
 use Rattle.tcl_words.proofs.progress.Progress.+script.Goals as goal
 
 pub bracket-returns-then-depth-eq0-clause-value : goal.bracket-returns-then-depth-eq0-clause-value
