@@ -6,3 +6,4 @@ pub mod Rows
 pub mod Spelled
 pub mod StableSort
 pub mod Widths
+pub mod SortOrder

@@ -1,13 +1,14 @@
 -- A stable sort by an order gives one list: the one that insertion gives.
-use Rattle.std.proofs.Common.{◌≡◌, ℕ, suc, ◌+◌, ◌<◌, Bool, true, false, not, ◌&&◌, cond, List}
+use Rattle.std.proofs.Common.{◌≡◌, ℕ, zero, suc, ◌+◌, ◌<◌, Bool, true, false, not, ◌&&◌, cond, List}
 use Rattle.std.proofs.Common.{[], ◌∷◌, length, get_or, refl, ap, ap₂, sym, subst, ◌∙◌, arith}
 use Rattle.std.specs.Cmp.{IsStrictWeakOrder}
 use Rattle.std.specs.List.{filter}
-use Rattle.std.specs.List.Sorted.{IsSortedBy, IsStableBy, ties}
+use Rattle.std.specs.List.Sorted.{IsPermutation, IsSortedBy, IsStableBy, ties}
 use Rattle.std.specs.Ordering.{is_lt}
 use Rattle.std.specs.declared.cmp.Ordering.{Ordering}
 use Rattle.std.proofs.lemmas.Bool.{false≢true}
-use Rattle.std.proofs.lemmas.List.Sorted.{sorted_far}
+use Rattle.std.proofs.lemmas.List.Sorted.{sorted_far, IsPermutation-cons, IsPermutation-middle}
+use Rattle.std.proofs.lemmas.List.Sorted.{IsPermutation-refl, IsPermutation-trans}
 use Rattle.tcl_list_commands.specs.Sorted.{inserted, sorted}
 
 -- TESTS
@@ -151,6 +152,36 @@ module _ {X : Type 0} (compared : X → X → Ordering) (o : IsStrictWeakOrder (
   ordered_from (y ∷ ys) up =
       (low_from y ys (λ j d l. sorted_far below o (y ∷ ys) up 0 (suc j) d (omega arith) (omega arith)), ordered_from ys (tail_sorted y ys up))
 
+  sorted_from : (ys : List X) → Ordered ys → IsSortedBy below ys
+  sorted_from [] up k d l h = absurd (omega arith)
+  sorted_from (y ∷ []) up k d l h = absurd (omega arith)
+  sorted_from (y ∷ (z ∷ zs)) up zero d l h = up.0.0
+  sorted_from (y ∷ (z ∷ zs)) up (suc k) d l h =
+      let next : suc (k + 1) ≡ suc k + 1 = omega arith in
+      subst (λ n. below (get_or (y ∷ (z ∷ zs)) n d) (get_or (z ∷ zs) k d) ≡ false) next (sorted_from (z ∷ zs) up.1 k d (omega arith) (omega arith))
+
+  -- this list is in order, and equals keep theirs
+  pub sorted_is_ordered : (xs : List X) → IsSortedBy below (sorted compared xs)
+  sorted_is_ordered xs = sorted_from (sorted compared xs) (sorted_ordered xs)
+
+  pub sorted_is_stable : (xs : List X) → IsStableBy below xs (sorted compared xs)
+  sorted_is_stable xs x = sorted_stable x xs
+
   -- a stable sort gives this list
   pub stable_sorted : (xs ys : List X) → IsSortedBy below ys → IsStableBy below xs ys → ys ≡ sorted compared xs
   stable_sorted xs ys up stable = one_list ys (sorted compared xs) (ordered_from ys up) (sorted_ordered xs) (λ x. stable x ∙ sym (sorted_stable x xs))
+
+-- IT HAS THE SAME ITEMS
+
+module _ {X : Type 0} (compared : X → X → Ordering) where
+  inserted_by : (x y : X) (ys more : List X) (t : Bool) → IsPermutation (x ∷ ys) more → IsPermutation (x ∷ (y ∷ ys)) (cond t (y ∷ more) (x ∷ (y ∷ ys)))
+  inserted_by x y ys more true same = IsPermutation-trans _ _ _ (IsPermutation-middle (x ∷ []) y ys) (IsPermutation-cons y (x ∷ ys) more same)
+  inserted_by x y ys more false same = IsPermutation-refl (x ∷ (y ∷ ys))
+
+  inserted_same : (x : X) (ys : List X) → IsPermutation (x ∷ ys) (inserted compared x ys)
+  inserted_same x [] = IsPermutation-refl (x ∷ [])
+  inserted_same x (y ∷ ys) = inserted_by x y ys (inserted compared x ys) (is_lt (compared y x)) (inserted_same x ys)
+
+  pub sorted_same : (xs : List X) → IsPermutation xs (sorted compared xs)
+  sorted_same [] = IsPermutation-refl []
+  sorted_same (x ∷ xs) = IsPermutation-trans _ _ _ (IsPermutation-cons x xs (sorted compared xs) (sorted_same xs)) (inserted_same x (sorted compared xs))

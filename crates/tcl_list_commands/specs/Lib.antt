@@ -9,3 +9,4 @@ pub mod Searching
 pub mod Sorted
 pub mod Sorting
 pub mod Splitting
+pub mod SortLaws

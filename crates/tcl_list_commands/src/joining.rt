@@ -2,17 +2,12 @@
 
 ghost use Rattle.std.specs.Prelude.{◌≡◌, IfOk, length, nat_le};
 ghost use Rattle.px_bytes.specs.Gives.{Gives};
-ghost use Rattle.tcl_list_commands.specs.Joining.{
-  concat_value,
-  join_value,
-  joined_value,
-  run_together,
-  trimmed_words,
-};
+ghost use Rattle.tcl_list_commands.specs.Joining.{concat_value, join_value, joined_value};
+ghost use Rattle.tcl_list_commands.specs.Joining.{run_together, trimmed_words};
 ghost use Rattle.px_bytes.specs.Limit.{limited, text_limit};
 
-use crate::reading::{arity, elements};
-use px_bytes::{M, Raise, TEXT_LIMIT, TclFault, Text, Texts, trimmed};
+use crate::reading::elements;
+use px_bytes::{M, Raise, TEXT_LIMIT, Text, Texts, trimmed};
 use std::alloc::Global;
 
 /// `concat ?WORD ..?`: the words without the white space around them, those that aren't empty, with
@@ -43,7 +38,7 @@ pub fn join(alloc: Global, arguments: &[Text]) -> Result<Text, Raise>
     match arguments {
         [list] => joined_elements(alloc, list.as_bytes(), b" "),
         [list, between] => joined_elements(alloc, list.as_bytes(), between.as_bytes()),
-        _ => arity(alloc, b"join"),
+        _ => Raise::arity(alloc, b"join"),
     }
 }
 
@@ -58,7 +53,7 @@ fn joined_by(alloc: Global, pieces: &[Text], between: &[u8]) -> Result<Text, Rai
     ensures { Gives result (limited (run_together between.now pieces.now)) }
 {
     if !fits(pieces, between) {
-        return Err(Raise::Fault(TclFault::too_long(alloc)?));
+        return Raise::too_long(alloc);
     }
     Ok(run_together(alloc, pieces, between)?)
 }

@@ -5,6 +5,7 @@ mod counting;
 mod form;
 mod items;
 mod joining;
+mod laws;
 mod making;
 mod options;
 mod order;
@@ -17,6 +18,7 @@ mod writing;
 
 pub use counting::llength;
 pub use joining::{concat, join};
+pub use laws::{sort_has_the_same, sort_is_ordered, sort_keeps_equals};
 pub use making::list;
 pub use picking::{lindex, lrange};
 pub use searching::lsearch;

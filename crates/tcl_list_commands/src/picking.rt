@@ -2,18 +2,11 @@
 
 ghost use Rattle.std.specs.Prelude.{◌≡◌, length, min};
 ghost use Rattle.px_bytes.specs.Gives.{Gives};
-ghost use Rattle.tcl_list_commands.specs.Picking.{
-  behind_place,
-  element_at,
-  from_place,
-  lindex_value,
-  lrange_value,
-  part,
-  picked,
-  picked_part,
-};
+ghost use Rattle.tcl_list_commands.specs.Picking.{behind_place, element_at, from_place};
+ghost use Rattle.tcl_list_commands.specs.Picking.{lindex_value, lrange_value, part, picked};
+ghost use Rattle.tcl_list_commands.specs.Picking.{picked_part};
 
-use crate::reading::{arity, elements};
+use crate::reading::elements;
 use crate::writing::{copied, fitted, written};
 use px_bytes::{Raise, Text, place};
 use std::alloc::Global;
@@ -23,7 +16,7 @@ pub fn lindex(alloc: Global, arguments: &[Text]) -> Result<Text, Raise>
     ensures { Gives result (lindex_value arguments.now) }
 {
     let [list, word] = arguments else {
-        return arity(alloc, b"lindex");
+        return Raise::arity(alloc, b"lindex");
     };
     picked(alloc, list.as_bytes(), word.as_bytes())
 }
@@ -54,7 +47,7 @@ pub fn lrange(alloc: Global, arguments: &[Text]) -> Result<Text, Raise>
     ensures { Gives result (lrange_value arguments.now) }
 {
     let [list, first, last] = arguments else {
-        return arity(alloc, b"lrange");
+        return Raise::arity(alloc, b"lrange");
     };
     let (first, last) = (first.as_bytes(), last.as_bytes());
     picked_part(alloc, list.as_bytes(), first, last)

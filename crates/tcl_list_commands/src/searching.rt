@@ -2,15 +2,10 @@
 
 ghost use Rattle.std.specs.Prelude.{◌≡◌, IfOk, position};
 ghost use Rattle.px_bytes.specs.Gives.{Gives};
-ghost use Rattle.tcl_list_commands.specs.Searching.{
-  found,
-  lsearch_value,
-  place_text,
-  search_of,
-  suits,
-};
+ghost use Rattle.tcl_list_commands.specs.Searching.{found, lsearch_value, place_text, search_of};
+ghost use Rattle.tcl_list_commands.specs.Searching.{suits};
 
-use crate::reading::{arity, elements, syntax};
+use crate::reading::elements;
 use crate::writing::printed;
 use px_bytes::{M, Raise, Text, glob};
 use std::alloc::Global;
@@ -38,7 +33,7 @@ pub fn lsearch(alloc: Global, arguments: &[Text]) -> Result<Text, Raise>
             let search = search_of(option.as_bytes());
             found(alloc, search, list.as_bytes(), pattern.as_bytes())
         }
-        _ => arity(alloc, b"lsearch"),
+        _ => Raise::arity(alloc, b"lsearch"),
     }
 }
 
@@ -59,7 +54,7 @@ fn found(alloc: Global, search: Option<Search>, list: &[u8], pattern: &[u8]) -> 
     ensures { Gives result (found search list.now pattern.now) }
 {
     let Some(search) = search else {
-        return syntax(alloc, b"lsearch");
+        return Raise::syntax(alloc, b"lsearch");
     };
     let elements = elements(alloc, b"lsearch", list)?;
     let place = first_place(search, elements.as_slice(), pattern);

@@ -2,20 +2,14 @@
 
 ghost use Rattle.std.specs.Prelude.{◌≡◌, IfOk, Some};
 ghost use Rattle.px_bytes.specs.Gives.{Gives};
-ghost use Rattle.tcl_list_commands.specs.Items.{
-  is_replaced,
-  item_of,
-  items_of,
-  kept_items,
-  ordered_items,
-  texts_of,
-};
+ghost use Rattle.tcl_list_commands.specs.Items.{is_replaced, item_of, items_of, kept_items};
+ghost use Rattle.tcl_list_commands.specs.Items.{ordered_items, texts_of};
 ghost use Rattle.tcl_list_commands.specs.Sorting.{lsort_value, sorted_list};
 
 use crate::items::{Items, compare};
 use crate::options::order_of;
 use crate::order::{Item, Order};
-use crate::reading::{arity, elements, syntax};
+use crate::reading::elements;
 use crate::writing::written;
 use px_bytes::{M, Raise, Text, Texts, number};
 use std::alloc::Global;
@@ -26,7 +20,7 @@ pub fn lsort(alloc: Global, arguments: &[Text]) -> Result<Text, Raise>
     ensures { Gives result (lsort_value arguments.now) }
 {
     let [options @ .., list] = arguments else {
-        return arity(alloc, b"lsort");
+        return Raise::arity(alloc, b"lsort");
     };
     sorted_list(alloc, order_of(options), list.as_bytes())
 }
@@ -35,7 +29,7 @@ fn sorted_list(alloc: Global, order: Option<Order>, list: &[u8]) -> Result<Text,
     ensures { Gives result (sorted_list order list.now) }
 {
     let Some(order) = order else {
-        return syntax(alloc, b"lsort");
+        return Raise::syntax(alloc, b"lsort");
     };
     let elements = elements(alloc, b"lsort", list)?;
     ordered_items(alloc, order, elements.as_slice())

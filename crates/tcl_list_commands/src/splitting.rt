@@ -8,7 +8,6 @@ ghost use Rattle.tcl_lists.specs.Write.{joined};
 ghost use Rattle.tcl_list_commands.specs.Splitting.{alone, pieces_by, split_value};
 ghost use Rattle.px_bytes.specs.Limit.{limited};
 
-use crate::reading::arity;
 use crate::writing::written;
 use px_bytes::{ByteSet, M, Raise, Text, Texts, byte_set, has_byte};
 use std::alloc::Global;
@@ -21,7 +20,7 @@ pub fn split_text(alloc: Global, arguments: &[Text]) -> Result<Text, Raise>
     match arguments {
         [text] => split_by(alloc, text.as_bytes(), b" \t\n\x0b\x0c\r"),
         [text, chars] => split_by(alloc, text.as_bytes(), chars.as_bytes()),
-        _ => arity(alloc, b"split"),
+        _ => Raise::arity(alloc, b"split"),
     }
 }
 

@@ -7,7 +7,7 @@ ghost use Rattle.tcl_lists.specs.Write.{joined};
 ghost use Rattle.px_bytes.specs.Limit.{limited, text_limit};
 
 use crate::form::written_len;
-use px_bytes::{M, Raise, TEXT_LIMIT, TclFault, Text, Texts};
+use px_bytes::{M, Raise, TEXT_LIMIT, Text, Texts};
 use std::alloc::Global;
 use tcl_lists::join_list;
 
@@ -16,7 +16,7 @@ pub(crate) fn written(alloc: Global, elements: &Texts) -> Result<Text, Raise>
     ensures { Gives result (limited (joined elements.now)) }
 {
     if !fits(elements.as_slice()) {
-        return Err(Raise::Fault(TclFault::too_long(alloc)?));
+        return Raise::too_long(alloc);
     }
     Ok(join_list(alloc, elements)?)
 }
@@ -26,7 +26,7 @@ pub(crate) fn fitted(alloc: Global, bytes: &[u8]) -> Result<Text, Raise>
     ensures { Gives result (limited bytes.now) }
 {
     if bytes.len() > TEXT_LIMIT {
-        return Err(Raise::Fault(TclFault::too_long(alloc)?));
+        return Raise::too_long(alloc);
     }
     Ok(Text::new(alloc, bytes)?)
 }
