@@ -5,16 +5,10 @@ use Rattle.std.specs.Prelude.{Option, Some, None, ◌==◌, nat_le, if◌then◌
 use Rattle.std.specs.List.{list_any, prefix_len}
 use Rattle.px_bytes.specs.Whole.{whole}
 use Rattle.tcl_strings.specs.declared.conversion.Letter.{Letter}
-use Rattle.tcl_strings.specs.declared.conversion.Letter.TheVariants.{
-  Text,
-  Decimal,
-  LowerHex,
-  UpperHex,
-  Octal,
-  Byte,
-}
+use Rattle.tcl_strings.specs.declared.conversion.Letter.TheVariants.{Text, Decimal, LowerHex}
+use Rattle.tcl_strings.specs.declared.conversion.Letter.TheVariants.{UpperHex, Octal, Byte}
 use Rattle.tcl_strings.specs.declared.conversion.Item.{Item}
-use Rattle.tcl_strings.specs.declared.conversion.Item.TheVariants.{Percent, Asks, Unknown}
+use Rattle.tcl_strings.specs.declared.conversion.Item.TheVariants.{Percent, Asks, TooWide, Unknown}
 
 -- `-` and `0`
 abbrev pub is_flag : ℕ → Bool
@@ -58,21 +52,25 @@ letter_of byte =
     else (if byte == 99 then Some Byte
     else None)))))
 
-abbrev pub asks : List ℕ → ℕ → Option Letter → Item
-asks given n (Some l) = Asks (record {
+-- a byte that converts nothing
+abbrev pub other_byte : Option ℕ → ℕ → Item
+other_byte (Some n) byte = if byte == 37 then Percent else Unknown
+other_byte None byte = Unknown
+
+abbrev pub asks : List ℕ → Option Letter → Option ℕ → ℕ → Item
+asks given (Some l) (Some n) byte = Asks (record {
   letter = l;
-  left = list_any (λ byte. byte == 45) given;
-  zeros = list_any (λ byte. byte == 48) given;
+  left = list_any (λ b. b == 45) given;
+  zeros = list_any (λ b. b == 48) given;
   width = n;
 })
-asks given n None = Unknown
+asks given (Some l) None byte = TooWide
+asks given None n byte = other_byte n byte
 
 -- the flags, the width, and the byte of the conversion
 abbrev pub item_by : List ℕ → Option ℕ → List ℕ → Item
-item_by given None text = Unknown
-item_by given (Some n) [] = Unknown
-item_by given (Some n) (byte ∷ more) =
-    if byte == 37 then Percent else asks given n (letter_of byte)
+item_by given n [] = Unknown
+item_by given n (byte ∷ more) = asks given (letter_of byte) n byte
 
 -- what is asked for behind a `%`
 abbrev pub item_of : List ℕ → Item

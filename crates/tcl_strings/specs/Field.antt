@@ -4,7 +4,7 @@ use Rattle.std.specs.Prelude.{if◌then◌else◌}
 use Rattle.tcl_strings.specs.Conversion.{item_len, item_of}
 use Rattle.tcl_strings.specs.declared.conversion.Conversion.{Conversion}
 use Rattle.tcl_strings.specs.declared.conversion.Item.{Item}
-use Rattle.tcl_strings.specs.declared.conversion.Item.TheVariants.{Percent, Asks, Unknown}
+use Rattle.tcl_strings.specs.declared.conversion.Item.TheVariants.{Percent, Asks, TooWide, Unknown}
 use Rattle.tcl_strings.specs.declared.field.Field as code
 use Rattle.tcl_strings.specs.declared.field.Field.TheVariants as code_field
 use Rattle.tcl_strings.specs.declared.field.Next.{Next}
@@ -18,12 +18,15 @@ pub data Field : Type 0 where
   missing : Field
   unknown : Field
 
--- a piece, and those that stand behind it: each conversion takes the next of the values
+-- a piece, and those that stand behind it: each conversion takes the next of the values, also one
+-- of a width that there is not
 abbrev pub with_item : Item → List (List ℕ) → (List (List ℕ) → List Field) → List Field
 with_item Percent values more = byte 37 ∷ more values
 with_item Unknown values more = unknown ∷ more values
 with_item (Asks c) [] more = missing ∷ more []
 with_item (Asks c) (v ∷ values) more = value c v ∷ more values
+with_item TooWide [] more = missing ∷ more []
+with_item TooWide (v ∷ values) more = unknown ∷ more values
 
 -- the pieces of a format behind its first `skip` bytes, with the values for them
 abbrev pub fields_from : ℕ → List ℕ → List (List ℕ) → List Field

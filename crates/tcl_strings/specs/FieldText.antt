@@ -6,14 +6,8 @@ use Rattle.std.specs.Fmt.{decimal, radix_digits}
 use Rattle.px_bytes.specs.Whole.{whole}
 use Rattle.tcl_strings.specs.declared.conversion.Conversion.{Conversion}
 use Rattle.tcl_strings.specs.declared.conversion.Letter.{Letter}
-use Rattle.tcl_strings.specs.declared.conversion.Letter.TheVariants.{
-  Text,
-  Decimal,
-  LowerHex,
-  UpperHex,
-  Octal,
-  Byte,
-}
+use Rattle.tcl_strings.specs.declared.conversion.Letter.TheVariants.{Text, Decimal, LowerHex}
+use Rattle.tcl_strings.specs.declared.conversion.Letter.TheVariants.{UpperHex, Octal, Byte}
 use Rattle.tcl_strings.specs.Field.{Field, byte, value, missing, unknown}
 
 -- how many bytes are wanting to the width

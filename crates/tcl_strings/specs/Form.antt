@@ -2,23 +2,9 @@
 use Rattle.std.specs.Prelude.{ℕ, List, codes, Option, Some, None, if◌then◌else◌}
 use Rattle.std.specs.Str.{bytes_eq}
 use Rattle.tcl_strings.specs.declared.form.Form.{Form}
-use Rattle.tcl_strings.specs.declared.form.Form.TheVariants.{
-  Length,
-  Index,
-  Range,
-  ToLower,
-  ToUpper,
-  Trim,
-  TrimLeft,
-  TrimRight,
-  First,
-  Last,
-  Match,
-  Equal,
-  Compare,
-  Repeat,
-  Map,
-}
+use Rattle.tcl_strings.specs.declared.form.Form.TheVariants.{Length, Index, Range, ToLower, ToUpper}
+use Rattle.tcl_strings.specs.declared.form.Form.TheVariants.{Trim, TrimLeft, TrimRight, First, Last}
+use Rattle.tcl_strings.specs.declared.form.Form.TheVariants.{Match, Equal, Compare, Repeat, Map}
 
 -- the form of this name
 abbrev pub form_named : List ℕ → Option Form

@@ -18,23 +18,9 @@ use Rattle.tcl_strings.specs.Search.{first_value, last_value}
 use Rattle.px_bytes.specs.ByteSet.{is_among}
 use Rattle.tcl_strings.specs.Trim.{trimmed, trimmed_left, trimmed_right, white}
 use Rattle.tcl_strings.specs.declared.form.Form.{Form}
-use Rattle.tcl_strings.specs.declared.form.Form.TheVariants.{
-  Length,
-  Index,
-  Range,
-  ToLower,
-  ToUpper,
-  Trim,
-  TrimLeft,
-  TrimRight,
-  First,
-  Last,
-  Match,
-  Equal,
-  Compare,
-  Repeat,
-  Map,
-}
+use Rattle.tcl_strings.specs.declared.form.Form.TheVariants.{Length, Index, Range, ToLower, ToUpper}
+use Rattle.tcl_strings.specs.declared.form.Form.TheVariants.{Trim, TrimLeft, TrimRight, First, Last}
+use Rattle.tcl_strings.specs.declared.form.Form.TheVariants.{Match, Equal, Compare, Repeat, Map}
 
 abbrev pub wrong_words : Result (List ℕ) TclFault
 wrong_words = Err (wrong_arity (codes "string"))

@@ -2,16 +2,8 @@
 
 ghost use Rattle.std.specs.Prelude.{◌≡◌, ◌≤◌, length};
 ghost use Rattle.std.specs.List.{prefix_len};
-ghost use Rattle.tcl_strings.specs.Conversion.{
-  asks,
-  is_digit_byte,
-  is_flag,
-  item_by,
-  item_len,
-  item_of,
-  letter_of,
-  width_of,
-};
+ghost use Rattle.tcl_strings.specs.Conversion.{asks, is_digit_byte, is_flag, item_by, item_len};
+ghost use Rattle.tcl_strings.specs.Conversion.{item_of, letter_of, width_of};
 
 use px_bytes::read_whole;
 
@@ -36,11 +28,13 @@ pub(crate) struct Conversion {
     pub width: usize,
 }
 
-/// What stands behind a `%`: another `%`, a conversion, or neither.
+/// What stands behind a `%`: another `%`, a conversion, one of a width that there is not, or none of
+/// these.
 #[derive(Clone, Copy)]
 pub(crate) enum Item {
     Percent,
     Asks(Conversion),
+    TooWide,
     Unknown,
 }
 
@@ -56,27 +50,26 @@ pub(crate) fn item_of(text: &[u8]) -> Item
 fn item_by(flags: &[u8], width: Option<usize>, behind: &[u8]) -> Item
     ensures { result ≡ item_by flags.now width behind.now }
 {
-    let (Some(width), [byte, ..]) = (width, behind) else {
-        return Item::Unknown;
-    };
-    if *byte == b'%' {
-        return Item::Percent;
+    match behind {
+        [byte, ..] => asks(flags, letter_of(*byte), width, *byte),
+        [] => Item::Unknown,
     }
-    asks(flags, width, letter_of(*byte))
 }
 
-fn asks(flags: &[u8], width: usize, letter: Option<Letter>) -> Item
-    ensures { result ≡ asks flags.now width letter }
+fn asks(flags: &[u8], letter: Option<Letter>, width: Option<usize>, byte: u8) -> Item
+    ensures { result ≡ asks flags.now letter width byte }
 {
-    let Some(letter) = letter else {
-        return Item::Unknown;
-    };
-    Item::Asks(Conversion {
-        letter,
-        left: flags.contains(&b'-'),
-        zeros: flags.contains(&b'0'),
-        width,
-    })
+    match (letter, width) {
+        (Some(letter), Some(width)) => Item::Asks(Conversion {
+            letter,
+            left: flags.contains(&b'-'),
+            zeros: flags.contains(&b'0'),
+            width,
+        }),
+        (Some(_), None) => Item::TooWide,
+        (None, Some(_)) if byte == b'%' => Item::Percent,
+        (None, _) => Item::Unknown,
+    }
 }
 
 /// How many bytes that takes, where the text doesn't end before.

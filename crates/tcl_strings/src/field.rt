@@ -2,6 +2,7 @@
 
 ghost use Rattle.std.specs.Prelude.{◌≡◌, ◌<◌, IfSome};
 ghost use Rattle.tcl_strings.specs.Field.{IsAsked, IsNext, IsWith, left_of};
+ghost use Rattle.tcl_strings.specs.declared.conversion.Item.TheVariants.{TooWide};
 
 use crate::conversion::{Conversion, Item, item_len, item_of};
 use px_bytes::Text;
@@ -63,6 +64,7 @@ fn with_value<'a>(item: Item, format: &'a [u8], values: &'a [Text]) -> Next<'a>
             rest,
         },
         Item::Asks(conversion) => asked(conversion, rest),
+        Item::TooWide => too_wide(rest),
         Item::Unknown => Next {
             field: Field::Unknown,
             rest,
@@ -82,6 +84,26 @@ fn asked(conversion: Conversion, rest: Rest<'_>) -> Next<'_>
     };
     Next {
         field: Field::Value(conversion, value.as_bytes()),
+        rest: Rest {
+            format: rest.format,
+            values,
+        },
+    }
+}
+
+// A conversion that there is not, which takes a value all the same.
+fn too_wide(rest: Rest<'_>) -> Next<'_>
+    ensures with { IsWith TooWide rest.entry.format.now rest.entry.values.now result }
+    ensures same { result.rest.format.now ≡ rest.entry.format.now }
+{
+    let [_, values @ ..] = rest.values else {
+        return Next {
+            field: Field::Missing,
+            rest,
+        };
+    };
+    Next {
+        field: Field::Unknown,
         rest: Rest {
             format: rest.format,
             values,

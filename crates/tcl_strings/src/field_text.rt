@@ -1,15 +1,8 @@
 // How a format writes a value.
 
 ghost use Rattle.std.specs.Prelude.{◌≡◌, ◌≤◌, ◌++◌, IfOk, OnOk, replicate};
-ghost use Rattle.tcl_strings.specs.FieldText.{
-  byte_of,
-  digits_of,
-  in_width,
-  number_in_width,
-  number_of,
-  number_text,
-  value_text,
-};
+ghost use Rattle.tcl_strings.specs.FieldText.{byte_of, digits_of, in_width, number_in_width};
+ghost use Rattle.tcl_strings.specs.FieldText.{number_of, number_text, value_text};
 
 use crate::conversion::{Conversion, Letter};
 use px_bytes::{M, Text, read_whole};

@@ -3,13 +3,8 @@
 ghost use Rattle.std.specs.Prelude.{◌≡◌, option_map};
 ghost use Rattle.std.specs.List.{list_any};
 ghost use Rattle.tcl_strings.specs.Field.{field_of, fields_left};
-ghost use Rattle.tcl_strings.specs.FormatCommand.{
-  bad_by,
-  bad_value,
-  can_write,
-  first_bad,
-  has_flaw,
-};
+ghost use Rattle.tcl_strings.specs.FormatCommand.{bad_by, bad_value, can_write, first_bad};
+ghost use Rattle.tcl_strings.specs.FormatCommand.{has_flaw};
 
 use crate::conversion::Letter;
 use crate::field::{Field, Rest, next_field};

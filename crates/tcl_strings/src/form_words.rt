@@ -12,7 +12,6 @@ use crate::part::{index, range};
 use crate::repetition::repeat;
 use crate::search::{first, last};
 use crate::trim::{trim, trim_left, trim_right};
-use crate::words::wrong_words;
 use px_bytes::{Raise, Text, glob, lower};
 use std::alloc::Global;
 
@@ -24,7 +23,7 @@ pub(crate) fn length_words(alloc: Global, words: &[Text]) -> Result<Text, Raise>
 {
     match words {
         [text] => number(alloc, text.len()),
-        _ => wrong_words(alloc, b"string"),
+        _ => Raise::arity(alloc, b"string"),
     }
 }
 
@@ -33,7 +32,7 @@ pub(crate) fn index_words(alloc: Global, words: &[Text]) -> Result<Text, Raise>
 {
     match words {
         [text, at] => index(alloc, text.as_bytes(), at.as_bytes()),
-        _ => wrong_words(alloc, b"string"),
+        _ => Raise::arity(alloc, b"string"),
     }
 }
 
@@ -42,7 +41,7 @@ pub(crate) fn range_words(alloc: Global, words: &[Text]) -> Result<Text, Raise>
 {
     match words {
         [text, first, last] => range(alloc, text.as_bytes(), first.as_bytes(), last.as_bytes()),
-        _ => wrong_words(alloc, b"string"),
+        _ => Raise::arity(alloc, b"string"),
     }
 }
 
@@ -51,7 +50,7 @@ pub(crate) fn lower_words(alloc: Global, words: &[Text]) -> Result<Text, Raise>
 {
     match words {
         [text] => Ok(lower(alloc, text.as_bytes())?),
-        _ => wrong_words(alloc, b"string"),
+        _ => Raise::arity(alloc, b"string"),
     }
 }
 
@@ -60,7 +59,7 @@ pub(crate) fn upper_words(alloc: Global, words: &[Text]) -> Result<Text, Raise>
 {
     match words {
         [text] => Ok(upper(alloc, text.as_bytes())?),
-        _ => wrong_words(alloc, b"string"),
+        _ => Raise::arity(alloc, b"string"),
     }
 }
 
@@ -70,7 +69,7 @@ pub(crate) fn trim_words(alloc: Global, words: &[Text]) -> Result<Text, Raise>
     match words {
         [text] => Ok(trim(alloc, text.as_bytes(), WHITE)?),
         [text, bytes] => Ok(trim(alloc, text.as_bytes(), bytes.as_bytes())?),
-        _ => wrong_words(alloc, b"string"),
+        _ => Raise::arity(alloc, b"string"),
     }
 }
 
@@ -80,7 +79,7 @@ pub(crate) fn trim_left_words(alloc: Global, words: &[Text]) -> Result<Text, Rai
     match words {
         [text] => Ok(trim_left(alloc, text.as_bytes(), WHITE)?),
         [text, bytes] => Ok(trim_left(alloc, text.as_bytes(), bytes.as_bytes())?),
-        _ => wrong_words(alloc, b"string"),
+        _ => Raise::arity(alloc, b"string"),
     }
 }
 
@@ -90,7 +89,7 @@ pub(crate) fn trim_right_words(alloc: Global, words: &[Text]) -> Result<Text, Ra
     match words {
         [text] => Ok(trim_right(alloc, text.as_bytes(), WHITE)?),
         [text, bytes] => Ok(trim_right(alloc, text.as_bytes(), bytes.as_bytes())?),
-        _ => wrong_words(alloc, b"string"),
+        _ => Raise::arity(alloc, b"string"),
     }
 }
 
@@ -99,7 +98,7 @@ pub(crate) fn first_words(alloc: Global, words: &[Text]) -> Result<Text, Raise>
 {
     match words {
         [piece, text] => first(alloc, piece.as_bytes(), text.as_bytes()),
-        _ => wrong_words(alloc, b"string"),
+        _ => Raise::arity(alloc, b"string"),
     }
 }
 
@@ -108,7 +107,7 @@ pub(crate) fn last_words(alloc: Global, words: &[Text]) -> Result<Text, Raise>
 {
     match words {
         [piece, text] => last(alloc, piece.as_bytes(), text.as_bytes()),
-        _ => wrong_words(alloc, b"string"),
+        _ => Raise::arity(alloc, b"string"),
     }
 }
 
@@ -117,7 +116,7 @@ pub(crate) fn match_words(alloc: Global, words: &[Text]) -> Result<Text, Raise>
 {
     match words {
         [pattern, text] => test(alloc, glob(pattern.as_bytes(), text.as_bytes())),
-        _ => wrong_words(alloc, b"string"),
+        _ => Raise::arity(alloc, b"string"),
     }
 }
 
@@ -126,7 +125,7 @@ pub(crate) fn equal_words(alloc: Global, words: &[Text]) -> Result<Text, Raise>
 {
     match words {
         [a, b] => test(alloc, a.as_bytes() == b.as_bytes()),
-        _ => wrong_words(alloc, b"string"),
+        _ => Raise::arity(alloc, b"string"),
     }
 }
 
@@ -135,7 +134,7 @@ pub(crate) fn compare_words(alloc: Global, words: &[Text]) -> Result<Text, Raise
 {
     match words {
         [a, b] => compare(alloc, a.as_bytes(), b.as_bytes()),
-        _ => wrong_words(alloc, b"string"),
+        _ => Raise::arity(alloc, b"string"),
     }
 }
 
@@ -144,7 +143,7 @@ pub(crate) fn repeat_words(alloc: Global, words: &[Text]) -> Result<Text, Raise>
 {
     match words {
         [text, count] => repeat(alloc, text.as_bytes(), count.as_bytes()),
-        _ => wrong_words(alloc, b"string"),
+        _ => Raise::arity(alloc, b"string"),
     }
 }
 
@@ -153,6 +152,6 @@ pub(crate) fn map_words(alloc: Global, words: &[Text]) -> Result<Text, Raise>
 {
     match words {
         [pairs, text] => map(alloc, pairs.as_bytes(), text.as_bytes()),
-        _ => wrong_words(alloc, b"string"),
+        _ => Raise::arity(alloc, b"string"),
     }
 }

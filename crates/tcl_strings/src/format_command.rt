@@ -11,7 +11,6 @@ ghost use Rattle.px_bytes.specs.Limit.{is_short, limited};
 use crate::field::{Field, Rest, next_field};
 use crate::field_text::value_text;
 use crate::flaw::{Flaw, any_flaw, first_bad};
-use crate::words::{no_form, wrong_words};
 use px_bytes::{M, Raise, TEXT_LIMIT, TclFault, Text};
 use std::alloc::Global;
 
@@ -20,7 +19,7 @@ pub fn format(alloc: Global, arguments: &[Text]) -> Result<Text, Raise>
     ensures { Gives result (format_value arguments.now) }
 {
     let [format, values @ ..] = arguments else {
-        return wrong_words(alloc, b"format");
+        return Raise::arity(alloc, b"format");
     };
     formatted(
         alloc,
@@ -35,10 +34,10 @@ fn formatted(alloc: Global, rest: Rest<'_>) -> Result<Text, Raise>
     ensures { Gives result (fields_value (fields_left rest.entry)) }
 {
     if any_flaw(Flaw::Missing, rest) {
-        return wrong_words(alloc, b"format");
+        return Raise::arity(alloc, b"format");
     }
     if any_flaw(Flaw::Unknown, rest) {
-        return no_form(alloc, b"format");
+        return Raise::syntax(alloc, b"format");
     }
     if let Some(word) = first_bad(rest) {
         return Err(Raise::Fault(TclFault::not_whole(alloc, word)?));
@@ -53,7 +52,7 @@ fn written_within(alloc: Global, rest: Rest<'_>) -> Result<Text, Raise>
     ensures { Gives result (limited (flat_map field_text (fields_left rest.entry))) }
 {
     if !fits(alloc, rest)? {
-        return Err(Raise::Fault(TclFault::too_long(alloc)?));
+        return Raise::too_long(alloc);
     }
     Ok(written(alloc, rest)?)
 }

@@ -2,16 +2,10 @@
 
 ghost use Rattle.std.specs.Prelude.{◌≡◌, get_or, []};
 ghost use Rattle.px_bytes.specs.Gives.{Gives};
-ghost use Rattle.tcl_strings.specs.Fields.{
-  IsCut,
-  fields,
-  field_value,
-  getfield_value,
-  numbered_field,
-};
+ghost use Rattle.tcl_strings.specs.Fields.{IsCut, fields, field_value, getfield_value};
+ghost use Rattle.tcl_strings.specs.Fields.{numbered_field};
 
 use crate::search::first_place;
-use crate::words::wrong_words;
 use px_bytes::{Raise, Text, number};
 use std::alloc::Global;
 
@@ -27,7 +21,7 @@ pub fn getfield(alloc: Global, arguments: &[Text]) -> Result<Text, Raise>
             separator.as_bytes(),
             place.as_bytes(),
         ),
-        _ => wrong_words(alloc, b"getfield"),
+        _ => Raise::arity(alloc, b"getfield"),
     }
 }
 

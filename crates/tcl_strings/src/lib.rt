@@ -22,7 +22,6 @@ mod search;
 mod string_command;
 mod suffixes;
 mod trim;
-mod words;
 
 pub use format_command::format;
 pub use getfield_command::getfield;

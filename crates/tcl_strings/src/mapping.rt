@@ -8,8 +8,7 @@ ghost use Rattle.tcl_strings.specs.FirstKeys.{IsTable, keys_of, pair_in};
 ghost use Rattle.tcl_strings.specs.Mapping.{first_pair, map_value, mapped, more_at, written_at};
 
 use crate::first_keys::first_keys;
-use crate::words::no_form;
-use px_bytes::{M, Raise, TEXT_LIMIT, TclFault, Text};
+use px_bytes::{M, Raise, TEXT_LIMIT, Text};
 use std::alloc::Global;
 use tcl_lists::{ListFault, split};
 
@@ -21,7 +20,7 @@ pub(crate) fn map(alloc: Global, pairs: &[u8], text: &[u8]) -> Result<Text, Rais
     match split(alloc, pairs) {
         Ok(words) if words.len() % 2 == 0 => mapped_within(alloc, words.as_slice(), text),
         Err(ListFault::Memory) => Err(Raise::Memory),
-        _ => no_form(alloc, b"string"),
+        _ => Raise::syntax(alloc, b"string"),
     }
 }
 
@@ -31,7 +30,7 @@ fn mapped_within(alloc: Global, pairs: &[Text], text: &[u8]) -> Result<Text, Rai
     let keys = keys_of(alloc, pairs)?;
     let numbers = first_keys(alloc, &keys, text)?;
     if !fits(pairs, &numbers, text) {
-        return Err(Raise::Fault(TclFault::too_long(alloc)?));
+        return Raise::too_long(alloc);
     }
     Ok(mapped(alloc, pairs, &numbers, text)?)
 }

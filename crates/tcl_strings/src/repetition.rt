@@ -5,7 +5,7 @@ ghost use Rattle.std.specs.List.{repeat};
 ghost use Rattle.px_bytes.specs.Gives.{Gives};
 ghost use Rattle.tcl_strings.specs.Repetition.{repeat_value, times};
 
-use px_bytes::{M, Raise, TEXT_LIMIT, TclFault, Text, number};
+use px_bytes::{M, Raise, TEXT_LIMIT, Text, number};
 use std::alloc::Global;
 
 /// The text so many times, and nothing for a count below 1; a fault where that is too long.
@@ -15,7 +15,7 @@ pub(crate) fn repeat(alloc: Global, text: &[u8], count: &[u8]) -> Result<Text, R
     let count = times(number(alloc, count)?);
     match text.len().checked_mul(count) {
         Some(size) if size <= TEXT_LIMIT => Ok(repeated(alloc, text, count)?),
-        _ => Err(Raise::Fault(TclFault::too_long(alloc)?)),
+        _ => Raise::too_long(alloc),
     }
 }
 

@@ -2,13 +2,8 @@
 
 ghost use Rattle.std.specs.Prelude.{◌≡◌, ◌+◌, ◌≤◌, IfSome, length};
 ghost use Rattle.px_bytes.specs.Gives.{Gives};
-ghost use Rattle.tcl_strings.specs.Search.{
-  first_place,
-  first_value,
-  last_place,
-  last_value,
-  place_value,
-};
+ghost use Rattle.tcl_strings.specs.Search.{first_place, first_value, last_place, last_value};
+ghost use Rattle.tcl_strings.specs.Search.{place_value};
 
 use crate::answer::number;
 use memchr::memmem;

@@ -9,7 +9,6 @@ use crate::form_words::{
     map_words, match_words, range_words, repeat_words, trim_left_words, trim_right_words,
     trim_words, upper_words,
 };
-use crate::words::{no_form, wrong_words};
 use px_bytes::{Raise, Text};
 use std::alloc::Global;
 
@@ -19,11 +18,11 @@ pub fn string(alloc: Global, arguments: &[Text]) -> Result<Text, Raise>
     ensures { Gives result (string_value arguments.now) }
 {
     let [name, words @ ..] = arguments else {
-        return wrong_words(alloc, b"string");
+        return Raise::arity(alloc, b"string");
     };
     match form_named(name.as_bytes()) {
         Some(form) => form_of(alloc, form, words),
-        None => no_form(alloc, b"string"),
+        None => Raise::syntax(alloc, b"string"),
     }
 }
 
