@@ -14,9 +14,7 @@ pub enum RuleFault {
 }
 
 impl From<Memory> for RuleFault {
-    ghost use Rattle.rule_loader.specs.declared.rule_fault.RuleFault.TheVariants.{
-      Memory as OutOfMemory,
-    };
+    ghost use Rattle.rule_loader.specs.declared.rule_fault.RuleFault.TheVariants.{Memory as OutOfMemory};
 
     ghost from_gives = { λ _ e. e ≡ OutOfMemory };
 

@@ -1,5 +1,5 @@
 -- No name is of two kinds.
-use Rattle.std.proofs.Common.{◌≡◌, ℕ, List, [], ◌∷◌, Bool, true, false, Option, Some, None, find, cond, refl, sym, ap}
+use Rattle.std.proofs.Common.{◌≡◌, ℕ, List, [], ◌∷◌, Bool, true, false, Option, Some, find, cond, refl, sym, ap}
 use Rattle.std.proofs.Common.{◌∙◌}
 use Rattle.std.proofs.lemmas.Bool.{false≢true}
 use Rattle.std.proofs.lemmas.Slice.Eq.{bytes_eq-Decides}
@@ -8,9 +8,8 @@ use Rattle.std.specs.Str.{bytes_eq}
 use Rattle.event_order.specs.Command.{IsHostCommand, command_row}
 use Rattle.event_order.specs.declared.command.HostCommand.{HostCommand}
 use Rattle.event_order.specs.declared.command.HostCommand.TheVariants as host
-use Rattle.tcl_commands.specs.Kind.{is_pure, is_control, KindIs, OneKind}
-use Rattle.tcl_commands.specs.PureCommand.{name_of, every_pure, pure_of}
-use Rattle.tcl_commands.specs.declared.kind.Kind as kind
+use Rattle.tcl_commands.specs.Kind.{is_pure, is_control, OneKind}
+use Rattle.tcl_commands.specs.PureCommand.{name_of, every_pure}
 use Rattle.tcl_commands.specs.declared.kind.Kind.TheVariants.{Pure, Control, Host, Unknown}
 use Rattle.tcl_commands.specs.declared.pure_command.PureCommand.{PureCommand}
 use Rattle.tcl_commands.specs.declared.pure_command.PureCommand.TheVariants as pure

@@ -1,10 +1,12 @@
 -- The commands that only make a text of texts: Tcl 8.4, string(n), list(n), lindex(n), llength(n),
 -- lrange(n), lsearch(n), lsort(n), concat(n), split(n), join(n), format(n); the others are those of
 -- iRules.
-use Rattle.std.specs.Prelude.{◌≡◌, ℕ, List, [], ◌∷◌, drop, codes, find, is_some, Bool, Option, Some}
+use Rattle.std.specs.Prelude.{ℕ, List, [], ◌∷◌, codes, find, Option, Some}
 use Rattle.std.specs.Prelude.{None, Result, Err}
 use Rattle.std.specs.Str.{bytes_eq}
 use Rattle.px_bytes.specs.FaultText.{no_command}
+use Rattle.px_bytes.specs.Gives.{with_value}
+use Rattle.px_bytes.specs.Limit.{limited}
 use Rattle.px_bytes.specs.declared.fault.TclFault.{TclFault}
 use Rattle.tcl_encodings.specs.Addresses.{ip_addr_value}
 use Rattle.tcl_encodings.specs.Base64Text.{b64encode_value, b64decode_value}
@@ -21,26 +23,15 @@ use Rattle.tcl_strings.specs.Fields.{getfield_value}
 use Rattle.tcl_strings.specs.FormatCommand.{format_value}
 use Rattle.tcl_strings.specs.StringCommand.{string_value}
 use Rattle.tcl_commands.specs.declared.pure_command.PureCommand.{PureCommand}
-use Rattle.tcl_commands.specs.declared.pure_command.PureCommand.TheVariants.{
-  String,
-  List as Listing,
-  Lindex,
-  Llength,
-  Lrange,
-  Lsearch,
-  Lsort,
-  Concat,
-  Split,
-  Join,
-  Format,
-  Getfield,
-  B64encode,
-  B64decode,
-  Sha256,
-  UriEncode,
-  UriDecode,
-  IpAddr,
-}
+use Rattle.tcl_commands.specs.declared.pure_command.PureCommand.TheVariants.{String}
+use Rattle.tcl_commands.specs.declared.pure_command.PureCommand.TheVariants.{List as Listing}
+use Rattle.tcl_commands.specs.declared.pure_command.PureCommand.TheVariants.{Lindex, Llength}
+use Rattle.tcl_commands.specs.declared.pure_command.PureCommand.TheVariants.{Lrange, Lsearch, Lsort}
+use Rattle.tcl_commands.specs.declared.pure_command.PureCommand.TheVariants.{Concat, Split, Join}
+use Rattle.tcl_commands.specs.declared.pure_command.PureCommand.TheVariants.{Format, Getfield}
+use Rattle.tcl_commands.specs.declared.pure_command.PureCommand.TheVariants.{B64encode, B64decode}
+use Rattle.tcl_commands.specs.declared.pure_command.PureCommand.TheVariants.{Sha256, UriEncode}
+use Rattle.tcl_commands.specs.declared.pure_command.PureCommand.TheVariants.{UriDecode, IpAddr}
 
 abbrev pub name_of : PureCommand → List ℕ
 name_of String = codes "string"
@@ -92,8 +83,9 @@ command_value UriEncode words = uri_encode_value words
 command_value UriDecode words = uri_decode_value words
 command_value IpAddr words = ip_addr_value words
 
+-- a value that is too long is a fault, whatever the command
 abbrev pub value_by : Option PureCommand → List ℕ → List (List ℕ) → Result (List ℕ) TclFault
-value_by (Some command) name words = command_value command words
+value_by (Some command) name words = with_value (command_value command words) limited
 value_by None name words = Err (no_command name)
 
 -- what the words of a command give, the first being its name

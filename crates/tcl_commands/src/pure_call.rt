@@ -2,10 +2,11 @@
 
 ghost use Rattle.std.specs.Prelude.{◌≡◌, ◌+◌};
 ghost use Rattle.px_bytes.specs.Gives.{Gives};
+ghost use Rattle.px_bytes.specs.Limit.{limited};
 ghost use Rattle.tcl_commands.specs.PureCommand.{command_value, pure_value};
 
 use crate::pure_command::{PureCommand, read_pure};
-use px_bytes::{Raise, Steps, TclFault, Text, Texts};
+use px_bytes::{Raise, Steps, TEXT_LIMIT, TclFault, Text, Texts};
 use std::alloc::Global;
 use std::sync::ledger::Ledger;
 use tcl_encodings::{b64decode, b64encode, ip_addr, sha256, uri_decode, uri_encode};
@@ -13,7 +14,8 @@ use tcl_list_commands::{concat, join, lindex, list, llength, lrange, lsearch, ls
 use tcl_strings::{format, getfield, string};
 
 /// What the words of a pure command give, the first being its name: its value, or its fault. A name
-/// that is none of a pure command is the fault of an unknown command.
+/// that is none of a pure command is the fault of an unknown command, and a value of more bytes than
+/// a text may have is one, whatever the command.
 pub fn pure<L: Ledger>(alloc: Global, words: &Texts, steps: &mut Steps<L>) -> Result<Text, Raise>
     ensures value { Gives result (pure_value words.now) }
     ensures ticks_once { steps.new ≡ steps.old + 1 }
@@ -23,9 +25,19 @@ pub fn pure<L: Ledger>(alloc: Global, words: &Texts, steps: &mut Steps<L>) -> Re
         return Err(Raise::Fault(TclFault::no_command(alloc, b"")?));
     };
     match read_pure(name.as_bytes()) {
-        Some(command) => called(alloc, command, arguments),
+        Some(command) => short(alloc, called(alloc, command, arguments)?),
         None => Err(Raise::Fault(TclFault::no_command(alloc, name.as_bytes())?)),
     }
+}
+
+// The text, where it isn't too long for a value.
+fn short(alloc: Global, text: Text) -> Result<Text, Raise>
+    ensures { Gives result (limited text) }
+{
+    if text.len() > TEXT_LIMIT {
+        return Raise::too_long(alloc);
+    }
+    Ok(text)
 }
 
 // What a pure command gives with the words after its name.

@@ -1,6 +1,6 @@
 // Bodies and conditions, which are read from their bytes in the source.
 
-ghost use Rattle.std.specs.Prelude.{◌≡◌, ◌<◌, IfOk};
+ghost use Rattle.std.specs.Prelude.{◌≡◌, ◌<◌, ◌≤◌, IfOk};
 ghost use Rattle.tcl_words.specs.View.{word_view};
 ghost use Rattle.tcl_compile.specs.CaseList.{case_item, listed};
 ghost use Rattle.tcl_compile.specs.Compiled.{expression_text_at, level, room_inside, text_at};
@@ -24,7 +24,8 @@ const NESTING: usize = 4_000;
 
 /// How many openers more may be open inside a word of the form.
 fn room_inside(room: usize, form: Form) -> usize
-    ensures { result ≡ room_inside room form }
+    ensures value { result ≡ room_inside room form }
+    ensures within { result ≤ room }
 {
     match form {
         Form::Bare => room,
@@ -43,6 +44,7 @@ impl Findings {
         room: usize,
         levels: usize,
     ) -> M<Node>
+        requires bounded { levels ≤ 101 }
         ensures { IfOk result (λ v. text_at (level levels) room place text.now self.old
             ≡ (node_view v, self.new)) }
     {
@@ -65,6 +67,8 @@ impl Findings {
         room: usize,
         levels: usize,
     ) -> M<Node>
+        requires bounded { levels ≤ 101 }
+        requires room_bounded { room ≤ 100 }
         ensures { IfOk result (λ v. expression_text_at (level levels) room place text.now self.old
             ≡ (node_view v, self.new)) }
     {
@@ -86,6 +90,7 @@ impl Findings {
     /// A word as a body.
     #[cycle(compiled)]
     pub(crate) fn body(&mut self, alloc: Global, base: usize, word: &Word, levels: usize) -> M<Node>
+        requires bounded { levels ≤ 101 }
         ensures { IfOk result (λ v. (level levels).body base (word_view word.now) self.old
             ≡ (node_view v, self.new)) }
     {
@@ -115,6 +120,7 @@ impl Findings {
         word: &Word,
         levels: usize,
     ) -> M<Node>
+        requires bounded { levels ≤ 101 }
         ensures { IfOk result (λ v. (level levels).condition base (word_view word.now) self.old
             ≡ (node_view v, self.new)) }
     {
@@ -142,7 +148,8 @@ impl Findings {
         item: &Item,
         levels: usize,
     ) -> M<Node>
-        requires { at < count }
+        requires bounded { levels ≤ 101 }
+        requires inside { at < count }
         ensures { IfOk result (λ v. case_item (level levels) place count at item.now self.old
             ≡ (node_view v, self.new)) }
     {
@@ -168,6 +175,7 @@ impl Findings {
     /// Patterns and bodies of a `switch` that stand in a list which begins at the place.
     #[cycle(compiled)]
     fn listed(&mut self, alloc: Global, place: usize, items: &[Item], levels: usize) -> M<Vec<Node>>
+        requires bounded { levels ≤ 101 }
         ensures { IfOk result (λ v. listed (level levels) place items.now self.old
             ≡ (nodes_view v.items, self.new)) }
     {
@@ -189,6 +197,7 @@ impl Findings {
         word: &Word,
         levels: usize,
     ) -> M<Vec<Node>>
+        requires bounded { levels ≤ 101 }
         ensures { IfOk result (λ v. (level levels).cases base at (word_view word.now) self.old
             ≡ (nodes_view v.items, self.new)) }
     {

@@ -1,7 +1,7 @@
 // Scripts, commands and words as trees. The functions call one another, as deep as constructs may
 // stand inside one another.
 
-ghost use Rattle.std.specs.Prelude.{◌≡◌, IfOk, map};
+ghost use Rattle.std.specs.Prelude.{◌≡◌, ◌≤◌, IfOk, map};
 ghost use Rattle.tcl_words.specs.View.{command_view, part_view, parts_of, word_view};
 ghost use Rattle.tcl_compile.specs.Compiled.{level};
 ghost use Rattle.tcl_compile.specs.Compiling.{child_at, children_at, command_at, part_at};
@@ -33,6 +33,7 @@ impl Findings {
         parts: &[Part],
         levels: usize,
     ) -> M<Vec<Node>>
+        requires bounded { levels ≤ 101 }
         ensures { IfOk result (λ v. (level levels).parts base at
             (parts_of (map part_view parts.now)) self.old
             ≡ (nodes_view v.items, self.new)) }
@@ -47,6 +48,7 @@ impl Findings {
     /// One part of a word.
     #[cycle(compiled)]
     fn part(&mut self, alloc: Global, base: usize, part: &Part, levels: usize) -> M<Node>
+        requires bounded { levels ≤ 101 }
         ensures { IfOk result (λ v. part_at (level levels) base (part_view part.now) self.old
             ≡ (node_view v, self.new)) }
     {
@@ -77,6 +79,7 @@ impl Findings {
         parts: &[Part],
         levels: usize,
     ) -> M<Vec<Node>>
+        requires bounded { levels ≤ 101 }
         ensures { IfOk result (λ v. parts_at (level levels) base (map part_view parts.now) self.old
             ≡ (nodes_view v.items, self.new)) }
     {
@@ -91,6 +94,7 @@ impl Findings {
     /// A word that is evaluated.
     #[cycle(compiled)]
     fn word(&mut self, alloc: Global, base: usize, word: &Word, levels: usize) -> M<Node>
+        requires bounded { levels ≤ 101 }
         ensures { IfOk result (λ v. word_at (level levels) base (word_view word.now) self.old
             ≡ (node_view v, self.new)) }
     {
@@ -112,6 +116,7 @@ impl Findings {
         word: &Word,
         levels: usize,
     ) -> M<Option<Node>>
+        requires bounded { levels ≤ 101 }
         ensures { IfOk result (λ v. child_at (level levels) base role (word_view word.now) self.old
             ≡ (node_list v, self.new)) }
     {
@@ -139,6 +144,7 @@ impl Findings {
         words: &[Word],
         levels: usize,
     ) -> M<Vec<Node>>
+        requires bounded { levels ≤ 101 }
         ensures { IfOk result (λ v. children_at (level levels) base row roles.now
             (map word_view words.now) self.old ≡ (nodes_view v.items, self.new)) }
     {
@@ -161,6 +167,7 @@ impl Findings {
         words: &[Word],
         levels: usize,
     ) -> M<Node>
+        requires bounded { levels ≤ 101 }
         ensures { IfOk result (λ v. switch_at (level levels) base at (map word_view words.now)
             self.old ≡ (node_view v, self.new)) }
     {
@@ -178,6 +185,7 @@ impl Findings {
     /// A command.
     #[cycle(compiled)]
     fn command(&mut self, alloc: Global, base: usize, command: &Command, levels: usize) -> M<Node>
+        requires bounded { levels ≤ 101 }
         ensures { IfOk result (λ v. command_at (level levels) base (command_view command.now)
             self.old ≡ (node_view v, self.new)) }
     {
@@ -205,6 +213,7 @@ impl Findings {
         commands: &[Command],
         levels: usize,
     ) -> M<Node>
+        requires bounded { levels ≤ 101 }
         ensures { IfOk result (λ v. script_at (level levels) base (map command_view commands.now)
             self.old ≡ (node_view v, self.new)) }
     {

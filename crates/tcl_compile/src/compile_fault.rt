@@ -29,9 +29,7 @@ pub enum CompileFault {
 }
 
 impl From<Memory> for CompileFault {
-    ghost use Rattle.tcl_compile.specs.declared.compile_fault.CompileFault.TheVariants.{
-      Memory as OutOfMemory,
-    };
+    ghost use Rattle.tcl_compile.specs.declared.compile_fault.CompileFault.TheVariants.{Memory as OutOfMemory};
 
     ghost from_gives = { λ _ e. e ≡ OutOfMemory };
 

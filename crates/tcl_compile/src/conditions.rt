@@ -26,6 +26,7 @@ impl Findings {
         parts: &[Part],
         levels: usize,
     ) -> M<Vec<Node>>
+        requires bounded { levels ≤ 101 }
         ensures { IfOk result (λ v. parts_under (level levels) base openers
             (map part_view parts.now) self.old ≡ (nodes_view v.items, self.new)) }
     {
@@ -49,7 +50,8 @@ impl Findings {
         levels: usize,
         nesting: usize,
     ) -> M<(Node, Opened)>
-        requires { nesting ≤ 4000 }
+        requires bounded { levels ≤ 101 }
+        requires nesting { nesting ≤ 4000 }
         ensures { IfOk result (λ r. expression_at (level levels) base text.now (expr_view expr.now)
             opened self.old ≡ ((node_view r.0, r.1), self.new)) }
     {
@@ -125,7 +127,8 @@ impl Findings {
         levels: usize,
         nesting: usize,
     ) -> M<(Vec<(Joint, Node)>, Opened)>
-        requires { nesting ≤ 4000 }
+        requires bounded { levels ≤ 101 }
+        requires nesting { nesting ≤ 4000 }
         ensures { IfOk result (λ r. operands_at (level levels) base text.now (more_view rest.now)
             start self.old ≡ ((operands_view r.0.items, r.1), self.new)) }
     {
@@ -151,7 +154,8 @@ impl Findings {
         levels: usize,
         nesting: usize,
     ) -> M<(Vec<(Node, Node)>, Opened)>
-        requires { nesting ≤ 4000 }
+        requires bounded { levels ≤ 101 }
+        requires nesting { nesting ≤ 4000 }
         ensures { IfOk result (λ r. values_at (level levels) base text.now (cases_view cases.now)
             start self.old ≡ ((values_view r.0.items, r.1), self.new)) }
     {

@@ -1,6 +1,6 @@
 // Scripts and expressions in texts.
 
-ghost use Rattle.std.specs.Prelude.{◌≡◌, IfOk};
+ghost use Rattle.std.specs.Prelude.{◌≡◌, ◌≤◌, IfOk};
 ghost use Rattle.tcl_expr.specs.ExpressionReading.{expression_within};
 ghost use Rattle.tcl_compile.specs.Compiled.{script_within};
 ghost use Rattle.tcl_compile.specs.Reads.{seen_expression, seen_script};
@@ -24,6 +24,7 @@ pub(crate) fn read_script(alloc: Global, text: &[u8], room: usize) -> M<Result<S
 
 /// The expression that the text is, in which so many openers may be open, or its fault.
 pub(crate) fn read_expression(alloc: Global, text: &[u8], room: usize) -> M<Result<Expr, Misread>>
+    requires { room ≤ 100 }
     ensures { IfOk result (λ r. expression_within room text.now ≡ seen_expression r) }
 {
     match parse_expr_within(alloc, text, room) {

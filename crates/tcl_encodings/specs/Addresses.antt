@@ -1,30 +1,8 @@
 -- The command `IP::addr` (iRules). Addresses and networks are spelled as in RFC 3986, 3.2.2, and in
 -- RFC 4632, 3.1.
-use Rattle.std.specs.Prelude.{
-  ℕ,
-  ◌+◌,
-  ◌-◌,
-  ◌*◌,
-  ◌/◌,
-  ◌^◌,
-  Bool,
-  ◌&&◌,
-  ◌||◌,
-  ◌==◌,
-  List,
-  [],
-  ◌∷◌,
-  codes,
-  Option,
-  Some,
-  None,
-  Result,
-  Ok,
-  Err,
-  nat_lt,
-  nat_le,
-  if◌then◌else◌,
-}
+use Rattle.std.specs.Prelude.{ℕ, ◌+◌, ◌-◌, ◌*◌, ◌/◌, ◌^◌, Bool, ◌&&◌, ◌||◌, ◌==◌, List, [], ◌∷◌}
+use Rattle.std.specs.Prelude.{codes, Option, Some, None, Result, Ok, Err, nat_lt, nat_le}
+use Rattle.std.specs.Prelude.{if◌then◌else◌}
 use Rattle.std.specs.Str.{bytes_eq}
 use Rattle.px_bytes.specs.Address.{ip_text}
 use Rattle.px_bytes.specs.FaultText.{syntax_error, wrong_arity}

@@ -2,15 +2,10 @@
 
 ghost use Rattle.std.specs.Prelude.{◌≡◌, ◌≤◌, IfSome};
 ghost use Rattle.px_bytes.specs.Gives.{Gives};
-ghost use Rattle.tcl_encodings.specs.Addresses.{
-  address_of,
-  agrees,
-  compared,
-  ip_addr_value,
-  network_of,
-};
+ghost use Rattle.tcl_encodings.specs.Addresses.{address_of, agrees, compared, ip_addr_value};
+ghost use Rattle.tcl_encodings.specs.Addresses.{network_of};
 
-use px_bytes::{Net4, Raise, TclFault, Text, read_ip, read_net};
+use px_bytes::{Net4, Raise, Text, read_ip, read_net};
 use std::alloc::Global;
 
 const NAME: &[u8] = b"IP::addr";
@@ -21,12 +16,12 @@ pub fn ip_addr(alloc: Global, arguments: &[Text]) -> Result<Text, Raise>
     ensures { Gives result (ip_addr_value arguments.now) }
 {
     let [address, word, network] = arguments else {
-        return Err(Raise::Fault(TclFault::wrong_arity(alloc, NAME)?));
+        return Raise::arity(alloc, NAME);
     };
     match compared(address.as_bytes(), word.as_bytes(), network.as_bytes()) {
         Some(true) => Ok(Text::new(alloc, b"1")?),
         Some(false) => Ok(Text::new(alloc, b"0")?),
-        None => Err(Raise::Fault(TclFault::syntax_error(alloc, NAME)?)),
+        None => Raise::syntax(alloc, NAME),
     }
 }
 

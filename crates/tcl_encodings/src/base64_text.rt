@@ -1,17 +1,13 @@
 // The commands `b64encode` and `b64decode`.
 
 ghost use Rattle.px_bytes.specs.Gives.{Gives};
-ghost use Rattle.tcl_encodings.specs.Base64Text.{
-  b64decode_value,
-  b64encode_value,
-  decoded,
-  encoded,
-};
+ghost use Rattle.tcl_encodings.specs.Base64Text.{b64decode_value, b64encode_value, decoded};
+ghost use Rattle.tcl_encodings.specs.Base64Text.{encoded};
 ghost use Rattle.px_bytes.specs.Limit.{limited};
 
 use base64::DecodeAllocError;
 use base64::engine::general_purpose::STANDARD;
-use px_bytes::{Raise, TEXT_LIMIT, TclFault, Text};
+use px_bytes::{Raise, TEXT_LIMIT, Text};
 use std::alloc::Global;
 
 /// The most bytes whose encoding, of four for each three, isn't too long.
@@ -23,7 +19,7 @@ pub fn b64encode(alloc: Global, arguments: &[Text]) -> Result<Text, Raise>
 {
     match arguments {
         [text] => encoded(alloc, text.as_bytes()),
-        _ => Err(Raise::Fault(TclFault::wrong_arity(alloc, b"b64encode")?)),
+        _ => Raise::arity(alloc, b"b64encode"),
     }
 }
 
@@ -31,7 +27,7 @@ fn encoded(alloc: Global, bytes: &[u8]) -> Result<Text, Raise>
     ensures { Gives result (limited (encoded bytes.now)) }
 {
     if bytes.len() > PLAIN_LIMIT {
-        return Err(Raise::Fault(TclFault::too_long(alloc)?));
+        return Raise::too_long(alloc);
     }
     let text = STANDARD.encode(alloc, bytes)?;
     Ok(Text::from_vec(text.into_bytes()))
@@ -44,7 +40,7 @@ pub fn b64decode(alloc: Global, arguments: &[Text]) -> Result<Text, Raise>
 {
     match arguments {
         [text] => decoded(alloc, text.as_bytes()),
-        _ => Err(Raise::Fault(TclFault::wrong_arity(alloc, b"b64decode")?)),
+        _ => Raise::arity(alloc, b"b64decode"),
     }
 }
 
@@ -53,7 +49,7 @@ fn decoded(alloc: Global, text: &[u8]) -> Result<Text, Raise>
     ensures { Gives result (limited (decoded text.now)) }
 {
     match STANDARD.decode(alloc, text) {
-        Ok(bytes) if bytes.len() > TEXT_LIMIT => Err(Raise::Fault(TclFault::too_long(alloc)?)),
+        Ok(bytes) if bytes.len() > TEXT_LIMIT => Raise::too_long(alloc),
         Ok(bytes) => Ok(Text::from_vec(bytes)),
         Err(DecodeAllocError::DecodeError(_)) => Ok(Text::empty(alloc)),
         Err(DecodeAllocError::OutOfMemory) => Err(Raise::Memory),

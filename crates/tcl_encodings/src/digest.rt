@@ -3,7 +3,7 @@
 ghost use Rattle.px_bytes.specs.Gives.{Gives};
 ghost use Rattle.tcl_encodings.specs.Digest.{sha256_value};
 
-use px_bytes::{Raise, TclFault, Text};
+use px_bytes::{Raise, Text};
 use sha2::{Digest, Sha256};
 use std::alloc::Global;
 
@@ -13,6 +13,6 @@ pub fn sha256(alloc: Global, arguments: &[Text]) -> Result<Text, Raise>
 {
     match arguments {
         [text] => Ok(Text::new(alloc, &Sha256::digest(text.as_bytes()))?),
-        _ => Err(Raise::Fault(TclFault::wrong_arity(alloc, b"sha256")?)),
+        _ => Raise::arity(alloc, b"sha256"),
     }
 }

@@ -6,17 +6,11 @@ ghost use Rattle.std.specs.Fmt.{digit_glyph};
 ghost use Rattle.percent_encoding.specs.Percent.{KeepsFirst, percent_decode};
 ghost use Rattle.px_bytes.specs.Gives.{Gives};
 ghost use Rattle.px_bytes.specs.Limit.{limited};
-ghost use Rattle.tcl_encodings.specs.Percent.{
-  GivesOneByte,
-  escape,
-  escaped,
-  is_unreserved,
-  uri_decode_value,
-  uri_encode_value,
-};
+ghost use Rattle.tcl_encodings.specs.Percent.{GivesOneByte, escape, escaped, is_unreserved};
+ghost use Rattle.tcl_encodings.specs.Percent.{uri_decode_value, uri_encode_value};
 
 use percent_encoding::percent_decode;
-use px_bytes::{M, Raise, TEXT_LIMIT, TclFault, Text};
+use px_bytes::{M, Raise, TEXT_LIMIT, Text};
 use std::alloc::Global;
 
 /// `URI::encode TEXT`: the text with each byte but letters, digits and `- . _ ~` escaped.
@@ -25,7 +19,7 @@ pub fn uri_encode(alloc: Global, arguments: &[Text]) -> Result<Text, Raise>
 {
     match arguments {
         [text] => encoded(alloc, text.as_bytes()),
-        _ => Err(Raise::Fault(TclFault::wrong_arity(alloc, b"URI::encode")?)),
+        _ => Raise::arity(alloc, b"URI::encode"),
     }
 }
 
@@ -34,7 +28,7 @@ fn encoded(alloc: Global, bytes: &[u8]) -> Result<Text, Raise>
 {
     let size = escaped_len(bytes);
     if size > TEXT_LIMIT {
-        return Err(Raise::Fault(TclFault::too_long(alloc)?));
+        return Raise::too_long(alloc);
     }
     Ok(escape_all(alloc, bytes, size)?)
 }
@@ -95,7 +89,7 @@ pub fn uri_decode(alloc: Global, arguments: &[Text]) -> Result<Text, Raise>
 {
     match arguments {
         [text] => decoded(alloc, text.as_bytes()),
-        _ => Err(Raise::Fault(TclFault::wrong_arity(alloc, b"URI::decode")?)),
+        _ => Raise::arity(alloc, b"URI::decode"),
     }
 }
 
@@ -104,7 +98,7 @@ fn decoded(alloc: Global, text: &[u8]) -> Result<Text, Raise>
 {
     let size = decoded_len(text);
     if size > TEXT_LIMIT {
-        return Err(Raise::Fault(TclFault::too_long(alloc)?));
+        return Raise::too_long(alloc);
     }
     let mut out = Vec::with_capacity(alloc, size)?;
     percent_decode(text).append_to(&mut out)?;

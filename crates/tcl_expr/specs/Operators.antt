@@ -1,53 +1,14 @@
 -- The operators of expressions: the value of each, or its fault. Tcl 8.4, expr(n); `contains`,
 -- `starts_with`, `ends_with` and `matches_glob` are those of iRules. Operands and values are texts.
-use Rattle.std.specs.Prelude.{
-  ℕ,
-  zero,
-  suc,
-  ◌^◌,
-  Bool,
-  not,
-  List,
-  codes,
-  Option,
-  Some,
-  None,
-  Result,
-  Ok,
-  Err,
-  ℤ,
-  pos,
-  negsuc,
-  neg_ℤ,
-  ◌+ℤ◌,
-  ◌-ℤ◌,
-  ◌*ℤ◌,
-  nat_eq,
-  nat_lt,
-  if◌then◌else◌,
-}
+use Rattle.std.specs.Prelude.{ℕ, zero, suc, ◌^◌, Bool, not, List, codes, Option, Some, None, Result}
+use Rattle.std.specs.Prelude.{Ok, Err, ℤ, pos, negsuc, neg_ℤ, ◌+ℤ◌, ◌-ℤ◌, ◌*ℤ◌, nat_eq, nat_lt}
+use Rattle.std.specs.Prelude.{if◌then◌else◌}
 use Rattle.std.specs.Fmt.{signed_decimal}
-use Rattle.std.specs.Int.{
-  w64,
-  int_div_euclid,
-  int_rem_euclid,
-  int_bit_and,
-  int_bit_or,
-  int_bit_xor,
-  int_bit_not,
-}
+use Rattle.std.specs.Int.{w64, int_div_euclid, int_rem_euclid, int_bit_and, int_bit_or, int_bit_xor}
+use Rattle.std.specs.Int.{int_bit_not}
 use Rattle.std.specs.List.{starts_with, ends_with}
 use Rattle.std.specs.declared.cmp.Ordering.{Ordering}
-use Rattle.std.specs.Ordering.{
-  is_eq,
-  is_ne,
-  is_lt,
-  is_gt,
-  is_le,
-  is_ge,
-  nat_cmp,
-  int_cmp,
-}
+use Rattle.std.specs.Ordering.{is_eq, is_ne, is_lt, is_gt, is_le, is_ge, nat_cmp, int_cmp}
 use Rattle.std.specs.Cmp.Lexicographic.{slice_cmp}
 use Rattle.std.specs.Str.{bytes_eq}
 use Rattle.px_bytes.specs.Whole.{whole}
@@ -62,30 +23,11 @@ use Rattle.tcl_expr.specs.Truth.{truth}
 use Rattle.tcl_expr.specs.declared.operator.Op1.{Op1}
 use Rattle.tcl_expr.specs.declared.operator.Op2.{Op2}
 use Rattle.tcl_expr.specs.declared.operator.Op1.TheVariants.{Plus, Neg, BitNot, Not}
-use Rattle.tcl_expr.specs.declared.operator.Op2.TheVariants.{
-  Mul,
-  Div,
-  Mod,
-  Add,
-  Sub,
-  Shl,
-  Shr,
-  Less,
-  Greater,
-  AtMost,
-  AtLeast,
-  NumEq,
-  NumNe,
-  TextEq,
-  TextNe,
-  Contains,
-  StartsWith,
-  EndsWith,
-  MatchesGlob,
-  BitAnd,
-  BitXor,
-  BitOr,
-}
+use Rattle.tcl_expr.specs.declared.operator.Op2.TheVariants.{Mul, Div, Mod, Add, Sub, Shl, Shr}
+use Rattle.tcl_expr.specs.declared.operator.Op2.TheVariants.{Less, Greater, AtMost, AtLeast, NumEq}
+use Rattle.tcl_expr.specs.declared.operator.Op2.TheVariants.{NumNe, TextEq, TextNe, Contains}
+use Rattle.tcl_expr.specs.declared.operator.Op2.TheVariants.{StartsWith, EndsWith, MatchesGlob}
+use Rattle.tcl_expr.specs.declared.operator.Op2.TheVariants.{BitAnd, BitXor, BitOr}
 
 -- of two operands the first that isn't a whole number is named
 abbrev pub with_numbers : {A : Type 0} → List ℕ → List ℕ → (ℤ → ℤ → Result A TclFault)

@@ -11,30 +11,11 @@ use Rattle.tcl_expr.specs.declared.expr.Joint.{Joint}
 use Rattle.tcl_expr.specs.declared.expr.Joint.TheVariants.{Both, And, Or}
 use Rattle.tcl_expr.specs.declared.operator.Op1.{Op1}
 use Rattle.tcl_expr.specs.declared.operator.Op1.TheVariants.{Plus, Neg, BitNot, Not}
-use Rattle.tcl_expr.specs.declared.operator.Op2.TheVariants.{
-  Mul,
-  Div,
-  Mod,
-  Add,
-  Sub,
-  Shl,
-  Shr,
-  Less,
-  Greater,
-  AtMost,
-  AtLeast,
-  NumEq,
-  NumNe,
-  TextEq,
-  TextNe,
-  Contains,
-  StartsWith,
-  EndsWith,
-  MatchesGlob,
-  BitAnd,
-  BitXor,
-  BitOr,
-}
+use Rattle.tcl_expr.specs.declared.operator.Op2.TheVariants.{Mul, Div, Mod, Add, Sub, Shl, Shr}
+use Rattle.tcl_expr.specs.declared.operator.Op2.TheVariants.{Less, Greater, AtMost, AtLeast, NumEq}
+use Rattle.tcl_expr.specs.declared.operator.Op2.TheVariants.{NumNe, TextEq, TextNe, Contains}
+use Rattle.tcl_expr.specs.declared.operator.Op2.TheVariants.{StartsWith, EndsWith, MatchesGlob}
+use Rattle.tcl_expr.specs.declared.operator.Op2.TheVariants.{BitAnd, BitXor, BitOr}
 
 -- "white space may be used between the operands and operators": one of its six bytes, or a
 -- backslash-newline

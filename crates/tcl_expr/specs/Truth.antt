@@ -1,25 +1,7 @@
 -- Truth values: whole numbers, and the words of Tcl 8.4, Tcl_GetBoolean(3), in any case of their
 -- letters. "Any of these values may be abbreviated": down to one letter, but for `on` and `off`.
-use Rattle.std.specs.Prelude.{
-  ℕ,
-  Bool,
-  true,
-  false,
-  not,
-  ◌&&◌,
-  ◌||◌,
-  List,
-  length,
-  take,
-  codes,
-  Option,
-  Some,
-  None,
-  ℤ,
-  pos,
-  nat_lt,
-  if◌then◌else◌,
-}
+use Rattle.std.specs.Prelude.{ℕ, Bool, true, false, not, ◌&&◌, ◌||◌, List, length, take, codes}
+use Rattle.std.specs.Prelude.{Option, Some, None, ℤ, pos, nat_lt, if◌then◌else◌}
 use Rattle.std.specs.Ordering.{int_eq}
 use Rattle.std.specs.Str.{bytes_eq}
 use Rattle.px_bytes.specs.Letters.{lowered}

@@ -1,6 +1,6 @@
 // The reader of expressions.
 
-ghost use Rattle.std.specs.Prelude.{◌≡◌};
+ghost use Rattle.std.specs.Prelude.{◌≡◌, ◌≤◌};
 ghost use Rattle.tcl_expr.specs.ExpressionReading.{expression, expression_within};
 ghost use Rattle.tcl_expr.specs.ExpressionView.{expr_view};
 ghost use Rattle.tcl_expr.specs.Outcome.{Outcome};
@@ -25,8 +25,9 @@ pub fn parse_expr(alloc: Global, text: &[u8]) -> Result<Expr, ExprFault>
     parse_expr_within(alloc, text, LIMIT)
 }
 
-/// The same where so many constructs may be open at a place.
+/// The same where so many constructs may be open at a place, a hundred at most.
 pub fn parse_expr_within(alloc: Global, text: &[u8], room: usize) -> Result<Expr, ExprFault>
+    requires { room ≤ 100 }
     ensures { Outcome expr_view result (expression_within room text.now) }
 {
     let (expr, end) = whole(alloc, text, white_end(text, 0), room)?;

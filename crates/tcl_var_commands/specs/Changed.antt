@@ -31,6 +31,11 @@ abbrev pub in_turn : {X : Type 0} → (X → Scopes → Changed) → List X → 
 in_turn step [] vars = gives [] vars
 in_turn step (x ∷ xs) vars = then_changed (step x vars) (λ text after. in_turn step xs after)
 
+-- memory was refused, and then P holds
+abbrev pub IfMemory : Raise → Type 0 → Type 0
+IfMemory (Fault fault) P = Unit {0}
+IfMemory Memory P = P
+
 -- the answer is this fault, and these are the variables after it; want of memory says nothing
 abbrev pub Stops : Changed → Raise → Scopes → Type 0
 Stops changed (Fault fault) new = (changed.value ≡ Err fault) × (new ≡ changed.vars)

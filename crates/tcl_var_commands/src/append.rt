@@ -1,16 +1,15 @@
 // The command `append`.
 
-ghost use Rattle.std.specs.Prelude.{◌≡◌, IfOk, flat_map, option_map};
+ghost use Rattle.std.specs.Prelude.{◌≡◌, IfErr, IfOk, flat_map, option_map};
 ghost use Rattle.std.specs.Bool.{OnTrue};
 ghost use Rattle.std.specs.Option.{option_copied};
 ghost use Rattle.tcl_vars.specs.Appended.{appended};
 ghost use Rattle.tcl_vars.specs.Names.{Name, name_of};
 ghost use Rattle.tcl_var_commands.specs.Append.{append_changed};
 ghost use Rattle.tcl_var_commands.specs.Assigning.{assigned};
-ghost use Rattle.tcl_var_commands.specs.Changed.{ChangesFor};
+ghost use Rattle.tcl_var_commands.specs.Changed.{ChangesFor, IfMemory};
 
 use crate::assigning::add_behind;
-use crate::fault::arity;
 use px_bytes::{M, Raise, Text, Texts};
 use std::alloc::Global;
 use tcl_vars::{Vars, name_of};
@@ -24,11 +23,12 @@ pub fn append_command(
     vars: &mut Vars,
     wanted: bool,
 ) -> Result<Text, Raise>
-    ensures { let level = option_map (λ v. v.now.statics) statics.entry in
+    ensures change { let level = option_map (λ v. v.now.statics) statics.entry in
         ChangesFor wanted (append_changed level words.now vars.old) result vars.new }
+    ensures memory { IfErr result (λ e. IfMemory e (vars.new ≡ vars.old)) }
 {
     let [_, text, values @ ..] = words.as_slice() else {
-        return arity(alloc, b"append");
+        return Raise::arity(alloc, b"append");
     };
     let more = run_together(alloc, values)?;
     extend(
@@ -60,10 +60,11 @@ pub(crate) fn extend(
     vars: &mut Vars,
     wanted: bool,
 ) -> Result<Text, Raise>
-    ensures { let level = option_map (λ v. v.now.statics) statics.entry in
+    ensures change { let level = option_map (λ v. v.now.statics) statics.entry in
         let name = name_of text.now in
         let value = appended vars.old name.name name.index more.now in
         ChangesFor wanted (assigned level name value vars.old) result vars.new }
+    ensures memory { IfErr result (λ e. IfMemory e (vars.new ≡ vars.old)) }
 {
     let named = name_of(text);
     let told = told(alloc, vars, named.name, named.index, more, wanted)?;

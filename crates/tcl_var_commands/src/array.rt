@@ -6,7 +6,6 @@ ghost use Rattle.tcl_var_commands.specs.Changed.{Changes};
 
 use crate::array_reading::ask_form;
 use crate::array_setting::{set_form, unset_form};
-use crate::fault::{arity, syntax};
 use px_bytes::{Raise, Text, Texts};
 use std::alloc::Global;
 use tcl_vars::Vars;
@@ -41,11 +40,11 @@ pub fn array_command(
         Changes (array_changed level words.now vars.old) result vars.new }
 {
     let [_, form, words @ ..] = words.as_slice() else {
-        return arity(alloc, b"array");
+        return Raise::arity(alloc, b"array");
     };
     match form_of(form.as_bytes()) {
         Some(form) => formed(alloc, statics, form, words, vars),
-        None => syntax(alloc, b"array"),
+        None => Raise::syntax(alloc, b"array"),
     }
 }
 

@@ -11,10 +11,9 @@ ghost use Rattle.tcl_var_commands.specs.Changed.{Changes};
 ghost use Rattle.tcl_var_commands.specs.Reading.{level_read};
 
 use crate::array::Question;
-use crate::fault::arity;
 use crate::info::flag;
 use crate::reading::source;
-use px_bytes::{M, Raise, TEXT_LIMIT, TclFault, Text, Texts};
+use px_bytes::{M, Raise, TEXT_LIMIT, Text, Texts};
 use std::alloc::Global;
 use tcl_lists::join_list;
 use tcl_vars::Vars;
@@ -33,7 +32,7 @@ pub(crate) fn ask_form(
         Changes (ask_form level question words.now vars.now) result vars.now }
 {
     let [name] = words else {
-        return arity(alloc, b"array");
+        return Raise::arity(alloc, b"array");
     };
     let name = name.as_bytes();
     answer(alloc, question, source(statics, vars, name), name)
@@ -87,7 +86,7 @@ fn written(alloc: Global, elements: &Texts) -> Result<Text, Raise>
 {
     let text = join_list(alloc, elements)?;
     if text.len() > TEXT_LIMIT {
-        return Err(Raise::Fault(TclFault::too_long(alloc)?));
+        return Raise::too_long(alloc);
     }
     Ok(text)
 }

@@ -3,18 +3,11 @@
 ghost use Rattle.std.specs.Prelude.{◌≡◌, option_map};
 ghost use Rattle.px_bytes.specs.Gives.{Gives};
 ghost use Rattle.tcl_vars.specs.Indexes.{indexes_at};
-ghost use Rattle.tcl_var_commands.specs.Array.{
-  even_list,
-  list_assigned,
-  pairs_assigned,
-  set_form,
-  unset_form,
-  without_indexes,
-};
+ghost use Rattle.tcl_var_commands.specs.Array.{even_list, list_assigned, pairs_assigned, set_form};
+ghost use Rattle.tcl_var_commands.specs.Array.{unset_form, without_indexes};
 ghost use Rattle.tcl_var_commands.specs.Changed.{Changes};
 
 use crate::assigning::assign;
-use crate::fault::arity;
 use crate::reading::is_only_read;
 use px_bytes::{Raise, TclFault, Text, Texts};
 use std::alloc::Global;
@@ -33,7 +26,7 @@ pub(crate) fn set_form(
         Changes (set_form level words.now vars.old) result vars.new }
 {
     let [name, list] = words else {
-        return arity(alloc, b"array");
+        return Raise::arity(alloc, b"array");
     };
     let pairs = even_list(alloc, list.as_bytes())?;
     if is_only_read(statics, name.as_bytes()) {
@@ -49,7 +42,7 @@ fn even_list(alloc: Global, list: &[u8]) -> Result<Texts, Raise>
     match split(alloc, list) {
         Ok(pairs) if pairs.len() % 2 == 0 => Ok(pairs),
         Err(ListFault::Memory) => Err(Raise::Memory),
-        _ => Err(Raise::Fault(TclFault::syntax_error(alloc, b"array")?)),
+        _ => Raise::syntax(alloc, b"array"),
     }
 }
 
@@ -83,7 +76,7 @@ pub(crate) fn unset_form(
         Changes (unset_form level words.now vars.old) result vars.new }
 {
     let [name] = words else {
-        return arity(alloc, b"array");
+        return Raise::arity(alloc, b"array");
     };
     if is_only_read(statics, name.as_bytes()) {
         return Err(Raise::Fault(TclFault::static_set(alloc)?));

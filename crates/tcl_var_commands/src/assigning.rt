@@ -1,17 +1,12 @@
 // Variables that are set.
 
-ghost use Rattle.std.specs.Prelude.{◌≡◌, option_map};
+ghost use Rattle.std.specs.Prelude.{◌≡◌, IfErr, option_map};
 ghost use Rattle.std.specs.Option.{option_copied};
 ghost use Rattle.tcl_vars.specs.Appended.{appended};
 ghost use Rattle.tcl_vars.specs.Names.{Name, name_of};
-ghost use Rattle.tcl_var_commands.specs.Changed.{Changes, Does};
-ghost use Rattle.tcl_var_commands.specs.Assigning.{
-  assigned,
-  assigned_in_room,
-  behind_first,
-  first_text,
-  row_assigned,
-};
+ghost use Rattle.tcl_var_commands.specs.Changed.{Changes, Does, IfMemory};
+ghost use Rattle.tcl_var_commands.specs.Assigning.{assigned, assigned_in_room, behind_first};
+ghost use Rattle.tcl_var_commands.specs.Assigning.{first_text, row_assigned};
 
 use crate::reading::is_only_read;
 use px_bytes::{Raise, TclFault, Text};
@@ -28,9 +23,10 @@ pub fn assign(
     value: &[u8],
     vars: &mut Vars,
 ) -> Result<(), Raise>
-    ensures { let level = option_map (λ v. v.now.statics) statics.entry in
+    ensures change { let level = option_map (λ v. v.now.statics) statics.entry in
         let named : Name = record { name = name.now; index = option_copied index.entry } in
         Does (assigned level named value.now vars.old) result vars.new }
+    ensures memory { IfErr result (λ e. IfMemory e (vars.new ≡ vars.old)) }
 {
     if is_only_read(statics, name) {
         return Err(Raise::Fault(TclFault::static_set(alloc)?));
@@ -46,8 +42,9 @@ pub fn assign_named(
     value: &[u8],
     vars: &mut Vars,
 ) -> Result<(), Raise>
-    ensures { let level = option_map (λ v. v.now.statics) statics.entry in
+    ensures change { let level = option_map (λ v. v.now.statics) statics.entry in
         Does (assigned level (name_of text.now) value.now vars.old) result vars.new }
+    ensures memory { IfErr result (λ e. IfMemory e (vars.new ≡ vars.old)) }
 {
     let named = name_of(text);
     assign(alloc, statics, named.name, named.index, value, vars)
@@ -93,8 +90,9 @@ pub(crate) fn assign_told(
     value: &Text,
     vars: &mut Vars,
 ) -> Result<Text, Raise>
-    ensures { let level = option_map (λ v. v.now.statics) statics.entry in
+    ensures change { let level = option_map (λ v. v.now.statics) statics.entry in
         Changes (assigned level (name_of text.now) value.now vars.old) result vars.new }
+    ensures memory { IfErr result (λ e. IfMemory e (vars.new ≡ vars.old)) }
 {
     let told = value.copy()?;
     assign_named(alloc, statics, text, value.as_bytes(), vars)?;
@@ -111,10 +109,11 @@ pub(crate) fn add_behind(
     more: &[u8],
     vars: &mut Vars,
 ) -> Result<(), Raise>
-    ensures { let level = option_map (λ v. v.now.statics) statics.entry in
+    ensures change { let level = option_map (λ v. v.now.statics) statics.entry in
         let named : Name = record { name = name.now; index = option_copied index.entry } in
         let text = appended vars.old name.now (option_copied index.entry) more.now in
         Does (assigned level named text vars.old) result vars.new }
+    ensures memory { IfErr result (λ e. IfMemory e (vars.new ≡ vars.old)) }
 {
     if is_only_read(statics, name) {
         return Err(Raise::Fault(TclFault::static_set(alloc)?));
@@ -123,16 +122,18 @@ pub(crate) fn add_behind(
 }
 
 fn set_in_room(name: &[u8], index: Option<&[u8]>, value: Text, vars: &mut Vars) -> Result<(), Raise>
-    ensures { let named : Name = record { name = name.now; index = option_copied index.entry } in
+    ensures change { let named : Name = record { name = name.now; index = option_copied index.entry } in
         Does (assigned_in_room named value vars.old) result vars.new }
+    ensures memory { IfErr result (λ e. IfMemory e (vars.new ≡ vars.old)) }
 {
     vars.set(name, index, value)
 }
 
 fn add_in_room(name: &[u8], index: Option<&[u8]>, more: &[u8], vars: &mut Vars) -> Result<(), Raise>
-    ensures { let named : Name = record { name = name.now; index = option_copied index.entry } in
+    ensures change { let named : Name = record { name = name.now; index = option_copied index.entry } in
         let text = appended vars.old name.now (option_copied index.entry) more.now in
         Does (assigned_in_room named text vars.old) result vars.new }
+    ensures memory { IfErr result (λ e. IfMemory e (vars.new ≡ vars.old)) }
 {
     vars.append(name, index, more)
 }

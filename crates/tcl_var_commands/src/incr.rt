@@ -1,12 +1,11 @@
 // The command `incr`.
 
-ghost use Rattle.std.specs.Prelude.{option_map};
+ghost use Rattle.std.specs.Prelude.{◌≡◌, IfErr, option_map};
 ghost use Rattle.px_bytes.specs.Gives.{Gives};
-ghost use Rattle.tcl_var_commands.specs.Changed.{Changes};
+ghost use Rattle.tcl_var_commands.specs.Changed.{Changes, IfMemory};
 ghost use Rattle.tcl_var_commands.specs.Incr.{incr_changed, incremented, sum_text};
 
 use crate::assigning::assign_told;
-use crate::fault::arity;
 use crate::reading::read;
 use px_bytes::{Raise, TclFault, Text, Texts, number, print_whole};
 use std::alloc::Global;
@@ -19,13 +18,14 @@ pub fn incr_command(
     words: &Texts,
     vars: &mut Vars,
 ) -> Result<Text, Raise>
-    ensures { let level = option_map (λ v. v.now.statics) statics.entry in
+    ensures change { let level = option_map (λ v. v.now.statics) statics.entry in
         Changes (incr_changed level words.now vars.old) result vars.new }
+    ensures memory { IfErr result (λ e. IfMemory e (vars.new ≡ vars.old)) }
 {
     match words.as_slice() {
         [_, text] => increment(alloc, statics, text.as_bytes(), b"1", vars),
         [_, text, more] => increment(alloc, statics, text.as_bytes(), more.as_bytes(), vars),
-        _ => arity(alloc, b"incr"),
+        _ => Raise::arity(alloc, b"incr"),
     }
 }
 
@@ -36,8 +36,9 @@ fn increment(
     more: &[u8],
     vars: &mut Vars,
 ) -> Result<Text, Raise>
-    ensures { let level = option_map (λ v. v.now.statics) statics.entry in
+    ensures change { let level = option_map (λ v. v.now.statics) statics.entry in
         Changes (incremented level text.now more.now vars.old) result vars.new }
+    ensures memory { IfErr result (λ e. IfMemory e (vars.new ≡ vars.old)) }
 {
     let named = name_of(text);
     let old = read(alloc, statics, vars, text, named.name, named.index)?;

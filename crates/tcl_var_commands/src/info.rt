@@ -4,7 +4,6 @@ ghost use Rattle.std.specs.Prelude.{◌≡◌, IfOk, option_map};
 ghost use Rattle.tcl_var_commands.specs.Changed.{Changes};
 ghost use Rattle.tcl_var_commands.specs.Info.{exists_form, flag, info_changed};
 
-use crate::fault::{arity, syntax};
 use crate::reading::value;
 use px_bytes::{M, Raise, Text, Texts};
 use std::alloc::Global;
@@ -22,10 +21,10 @@ pub fn info_command(
         Changes (info_changed level words.now vars.old) result vars.new }
 {
     let [_, form, names @ ..] = words.as_slice() else {
-        return arity(alloc, b"info");
+        return Raise::arity(alloc, b"info");
     };
     if form.as_bytes() != b"exists".as_slice() {
-        return syntax(alloc, b"info");
+        return Raise::syntax(alloc, b"info");
     }
     exists(alloc, statics, names, vars)
 }
@@ -35,7 +34,7 @@ fn exists(alloc: Global, statics: Option<&Vars>, names: &[Text], vars: &Vars) ->
         Changes (exists_form level names.now vars.now) result vars.now }
 {
     let [text] = names else {
-        return arity(alloc, b"info");
+        return Raise::arity(alloc, b"info");
     };
     let named = name_of(text.as_bytes());
     let is_there = value(statics, vars, named.name, named.index).is_some();

@@ -1,15 +1,14 @@
 // The command `lappend`.
 
-ghost use Rattle.std.specs.Prelude.{◌≡◌, ◌++◌, ℕ, List, [], IfOk, length, nat_lt, option_map};
+ghost use Rattle.std.specs.Prelude.{◌≡◌, IfErr, ◌++◌, ℕ, List, [], IfOk, length, nat_lt, option_map};
 ghost use Rattle.std.specs.Prelude.{unwrap_or};
 ghost use Rattle.std.specs.Option.{option_copied};
 ghost use Rattle.tcl_vars.specs.Names.{name_of};
 ghost use Rattle.tcl_vars.specs.Scopes.{value_at};
-ghost use Rattle.tcl_var_commands.specs.Changed.{ChangesFor};
+ghost use Rattle.tcl_var_commands.specs.Changed.{ChangesFor, IfMemory};
 ghost use Rattle.tcl_var_commands.specs.Lappend.{elements_behind, lappend_changed, lengthened};
 
 use crate::append::extend;
-use crate::fault::arity;
 use px_bytes::{M, Raise, Text, Texts};
 use std::alloc::Global;
 use tcl_lists::join_list;
@@ -24,11 +23,12 @@ pub fn lappend_command(
     vars: &mut Vars,
     wanted: bool,
 ) -> Result<Text, Raise>
-    ensures { let level = option_map (λ v. v.now.statics) statics.entry in
+    ensures change { let level = option_map (λ v. v.now.statics) statics.entry in
         ChangesFor wanted (lappend_changed level words.now vars.old) result vars.new }
+    ensures memory { IfErr result (λ e. IfMemory e (vars.new ≡ vars.old)) }
 {
     let [_, text, elements @ ..] = words.as_slice() else {
-        return arity(alloc, b"lappend");
+        return Raise::arity(alloc, b"lappend");
     };
     lengthen(alloc, statics, text.as_bytes(), elements, vars, wanted)
 }
@@ -41,9 +41,10 @@ fn lengthen(
     vars: &mut Vars,
     wanted: bool,
 ) -> Result<Text, Raise>
-    ensures { let level = option_map (λ v. v.now.statics) statics.entry in
+    ensures change { let level = option_map (λ v. v.now.statics) statics.entry in
         let changed = lengthened level (name_of text.now) elements.now vars.old in
         ChangesFor wanted changed result vars.new }
+    ensures memory { IfErr result (λ e. IfMemory e (vars.new ≡ vars.old)) }
 {
     let named = name_of(text);
     let has_text = has_text(vars, named.name, named.index);

@@ -1,11 +1,10 @@
 // The command `set`.
 
-ghost use Rattle.std.specs.Prelude.{option_map};
-ghost use Rattle.tcl_var_commands.specs.Changed.{Changes};
+ghost use Rattle.std.specs.Prelude.{◌≡◌, IfErr, option_map};
+ghost use Rattle.tcl_var_commands.specs.Changed.{Changes, IfMemory};
 ghost use Rattle.tcl_var_commands.specs.Set.{set_changed};
 
 use crate::assigning::assign_told;
-use crate::fault::arity;
 use crate::reading::read;
 use px_bytes::{Raise, Text, Texts};
 use std::alloc::Global;
@@ -18,8 +17,9 @@ pub fn set_command(
     words: &Texts,
     vars: &mut Vars,
 ) -> Result<Text, Raise>
-    ensures { let level = option_map (λ v. v.now.statics) statics.entry in
+    ensures change { let level = option_map (λ v. v.now.statics) statics.entry in
         Changes (set_changed level words.now vars.old) result vars.new }
+    ensures memory { IfErr result (λ e. IfMemory e (vars.new ≡ vars.old)) }
 {
     match words.as_slice() {
         [_, text] => {
@@ -28,6 +28,6 @@ pub fn set_command(
             read(alloc, statics, vars, text, named.name, named.index)
         }
         [_, text, value] => assign_told(alloc, statics, text.as_bytes(), value, vars),
-        _ => arity(alloc, b"set"),
+        _ => Raise::arity(alloc, b"set"),
     }
 }

@@ -4,7 +4,7 @@ ghost use Rattle.std.specs.Prelude.{option_map};
 ghost use Rattle.tcl_var_commands.specs.Changed.{Changes, Does};
 ghost use Rattle.tcl_var_commands.specs.Unset.{unset_changed, unset_each, unset_names, unset_one};
 
-use crate::fault::{arity, cannot_unset};
+use crate::fault::cannot_unset;
 use crate::reading::is_only_read;
 use px_bytes::{Raise, TclFault, Text, Texts};
 use std::alloc::Global;
@@ -23,7 +23,7 @@ pub fn unset_command(
         Changes (unset_changed level words.now vars.old) result vars.new }
 {
     let [_, first, behind @ ..] = words.as_slice() else {
-        return arity(alloc, b"unset");
+        return Raise::arity(alloc, b"unset");
     };
     if first.as_bytes() == b"-nocomplain".as_slice() {
         unset_names(alloc, statics, true, behind, vars)
@@ -43,7 +43,7 @@ fn unset_names(
         Changes (unset_names level lenient names.now vars.old) result vars.new }
 {
     if names.is_empty() {
-        return arity(alloc, b"unset");
+        return Raise::arity(alloc, b"unset");
     }
     unset_each(alloc, statics, lenient, names, vars)
 }

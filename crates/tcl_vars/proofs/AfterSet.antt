@@ -13,10 +13,10 @@ use Rattle.std.proofs.lemmas.Map.Text.{is_eq-slice_cmp}
 use Rattle.std.proofs.lemmas.Slice.Eq.{bytes_eq-Decides}
 use Rattle.tcl_vars.specs.Scopes.{Table, Level, Scopes, find_in, put_in, take_out, replace_in}
 use Rattle.tcl_vars.specs.Scopes.{with_elements, elements, value_in, with_value_in}
-use Rattle.tcl_vars.specs.Scopes.{without_value_in, innermost, with_innermost, is_static, value_at}
-use Rattle.tcl_vars.specs.Scopes.{with_value, without_value, no_level}
+use Rattle.tcl_vars.specs.Scopes.{without_value_in, innermost, with_innermost, is_static}
+use Rattle.tcl_vars.specs.Scopes.{no_level}
 use Rattle.tcl_vars.specs.Tables.{IsInOrder, IsInOrderAt}
-use Rattle.tcl_vars.specs.Laws.{IsOther, level_of, SetIsRead, SetKeepsOthers, UnsetIsGone}
+use Rattle.tcl_vars.specs.Laws.{IsOther, SetIsRead, SetKeepsOthers, UnsetIsGone}
 use Rattle.tcl_vars.specs.Laws.{UnsetKeepsOthers, OuterLevelsStay, CallsHaveTheirOwn}
 
 -- ---- names

@@ -11,7 +11,7 @@ returns-in_err-assign c =
     let behind = take (length rest - 2) (drop 2 rest) in
     let now = pairs_read rest c.index-item.result c.as_bytes-index.result.now c.value-item.result c.as_bytes-value.result.now c.in-len2-up.len_at_least c.index-item.is c.value-item.is c.as_bytes-index.ensures c.as_bytes-value.ensures in
     changes_residual whole c.from_residual.result c.in_err-assign.field-0.0 c.assign.new.vars
-    (turn_stops (element_assigned level c.args.name.now) (in_pairs rest) (in_pairs behind) (c.as_bytes-index.result.now, c.as_bytes-value.result.now) c.loop-rest.vars c.assign.new.vars whole now c.loop-rest.invariant c.in_err-assign.field-0.0 c.in_err-assign.ensures)
+    (turn_stops (element_assigned level c.args.name.now) (in_pairs rest) (in_pairs behind) (c.as_bytes-index.result.now, c.as_bytes-value.result.now) c.loop-rest.vars c.assign.new.vars whole now c.loop-rest.invariant c.in_err-assign.field-0.0 c.in_err-assign.ensures.change)
     c.from_residual.ensures
 
 pub loop-rest-preserved : goal.loop-rest-preserved
@@ -21,4 +21,4 @@ loop-rest-preserved c =
     let rest = c.loop-rest.rest.now in
     let behind = take (length rest - 2) (drop 2 rest) in
     let now = pairs_read rest c.index-item.result c.as_bytes-index.result.now c.value-item.result c.as_bytes-value.result.now c.in-len2-up.len_at_least c.index-item.is c.value-item.is c.as_bytes-index.ensures c.as_bytes-value.ensures in
-    turn_goes (element_assigned level c.args.name.now) (in_pairs rest) (in_pairs behind) (c.as_bytes-index.result.now, c.as_bytes-value.result.now) c.loop-rest.vars c.assign.new.vars whole now c.loop-rest.invariant c.in_ok-assign.ensures
+    turn_goes (element_assigned level c.args.name.now) (in_pairs rest) (in_pairs behind) (c.as_bytes-index.result.now, c.as_bytes-value.result.now) c.loop-rest.vars c.assign.new.vars whole now c.loop-rest.invariant c.in_ok-assign.ensures.change

@@ -11,7 +11,7 @@ returns-in_err-assign_named c =
     let left = drop_read c.args.names.now i c.name-item.result c.as_bytes.result.now c.loop-name-test.true c.name-item.is c.as_bytes.ensures in
     let now = row_read (drop i c.args.names.now) (drop (i + 1) c.args.names.now) c.as_bytes.result.now c.loop-name.rest.now c.split_first.result.0.now c.split_first.result.1.now left c.split_first.ensures.first c.split_first.ensures.behind in
     does_residual whole c.from_residual.result c.in_err-assign_named.field-0.0 c.assign_named.new.vars
-    (turn_stops (pair_assigned level) (in_row (drop i c.args.names.now) c.loop-name.rest.now) (in_row (drop (i + 1) c.args.names.now) c.split_first.result.1.now) (c.as_bytes.result.now, c.split_first.result.0.now) c.loop-name.vars c.assign_named.new.vars whole now c.loop-name.invariant c.in_err-assign_named.field-0.0 c.in_err-assign_named.ensures)
+    (turn_stops (pair_assigned level) (in_row (drop i c.args.names.now) c.loop-name.rest.now) (in_row (drop (i + 1) c.args.names.now) c.split_first.result.1.now) (c.as_bytes.result.now, c.split_first.result.0.now) c.loop-name.vars c.assign_named.new.vars whole now c.loop-name.invariant c.in_err-assign_named.field-0.0 c.in_err-assign_named.ensures.change)
     c.from_residual.ensures
 
 pub loop-name-preserved : goal.loop-name-preserved
@@ -21,4 +21,4 @@ loop-name-preserved c =
     let i = c.loop-name.name-index in
     let left = drop_read c.args.names.now i c.name-item.result c.as_bytes.result.now c.loop-name-test.true c.name-item.is c.as_bytes.ensures in
     let now = row_read (drop i c.args.names.now) (drop (i + 1) c.args.names.now) c.as_bytes.result.now c.loop-name.rest.now c.split_first.result.0.now c.split_first.result.1.now left c.split_first.ensures.first c.split_first.ensures.behind in
-    turn_goes (pair_assigned level) (in_row (drop i c.args.names.now) c.loop-name.rest.now) (in_row (drop (i + 1) c.args.names.now) c.split_first.result.1.now) (c.as_bytes.result.now, c.split_first.result.0.now) c.loop-name.vars c.assign_named.new.vars whole now c.loop-name.invariant c.in_ok-assign_named.ensures
+    turn_goes (pair_assigned level) (in_row (drop i c.args.names.now) c.loop-name.rest.now) (in_row (drop (i + 1) c.args.names.now) c.split_first.result.1.now) (c.as_bytes.result.now, c.split_first.result.0.now) c.loop-name.vars c.assign_named.new.vars whole now c.loop-name.invariant c.in_ok-assign_named.ensures.change

@@ -56,7 +56,7 @@ body-returns-in-Some t c =
     let s = c.args.self.now in
     let same = ap (λ l. l.body c.args.base (word_view w) s) (level_some c.args.levels (omega arith))
     ∙ body_some w inner (c.args.levels - 1) c.args.base s c.in-Some.raw c.in-Some.is
-    ∙ ap (λ r. text_at inner r (place_in c.args.base (out-Word w).inner.start) c.in-Some.raw s) (sym c.room_inside-room.ensures)
+    ∙ ap (λ r. text_at inner r (place_in c.args.base (out-Word w).inner.start) c.in-Some.raw s) (sym c.room_inside-room.ensures.value)
     ∙ ap (λ p. text_at inner c.room_inside-room.result p c.in-Some.raw s) (sym c.place_in-place.ensures)
     ∙ ap (λ b. text_at inner c.room_inside-room.result c.place_in-place.result b s) (sym c.as_bytes.ensures) in
     IfOk-weaker c.text.result _ _ (λ v is. same ∙ is) c.text.ensures
@@ -135,7 +135,7 @@ condition-returns t c =
     let s = c.args.self.now in
     let same = ap (λ l. l.condition c.args.base (word_view w) s) (level_some c.args.levels (omega arith))
     ∙ condition_some w inner (c.args.levels - 1) c.args.base s c.in-Some.raw c.in-Some.is
-    ∙ ap (λ r. expression_text_at inner r (place_in c.args.base (out-Word w).inner.start) c.in-Some.raw s) (sym c.room_inside-room.ensures)
+    ∙ ap (λ r. expression_text_at inner r (place_in c.args.base (out-Word w).inner.start) c.in-Some.raw s) (sym c.room_inside-room.ensures.value)
     ∙ ap (λ p. expression_text_at inner c.room_inside-room.result p c.in-Some.raw s) (sym c.place_in-place.ensures)
     ∙ ap (λ b. expression_text_at inner c.room_inside-room.result c.place_in-place.result b s) (sym c.as_bytes.ensures) in
     IfOk-weaker c.expression_text.result _ _ (λ v is. same ∙ is) c.expression_text.ensures
