@@ -5,3 +5,4 @@ pub mod Calls
 pub mod Trees
 pub mod Facts
 pub mod Pairs
+pub mod Order

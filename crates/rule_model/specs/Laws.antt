@@ -1,11 +1,17 @@
 -- What holds of every evaluation.
-use Rattle.std.specs.Prelude.{◌≡◌, ℕ, ◌≤◌, List, ◌∷◌, ◌++◌, map, Bool, true, false}
+use Rattle.std.specs.Prelude.{◌≡◌, ℕ, ◌≤◌, List, [], ◌∷◌, ◌++◌, map, Bool, true, false, length}
+use Rattle.std.specs.Prelude.{sum_by, Option}
 use Rattle.std.specs.List.{flat_map}
+use Rattle.px_bytes.specs.FaultText.{budget_spent}
+use Rattle.px_bytes.specs.Limit.{text_limit}
 use Rattle.px_bytes.specs.declared.fault.Reply.{Reply}
 use Rattle.tcl_vars.specs.Scopes.{Level}
 use Rattle.tcl_compile.specs.Tree.{Tree}
 use Rattle.rule_model.specs.Host.{HostStep, Gives, Faults, Asks}
 use Rattle.rule_model.specs.Outcome.{Act, Did, Called, State, state, Outcome, Ends, Waits, Meaning}
+use Rattle.rule_model.specs.Outcome.{Raised, Value}
+use Rattle.rule_model.specs.Control.{catch_command}
+use Rattle.rule_model.specs.Words.{in_order}
 use Rattle.rule_model.specs.Commands.{call_command}
 use Rattle.rule_model.specs.Setting.{Setting}
 use Rattle.rule_model.specs.Evaluator.{eval, inner}
@@ -150,3 +156,19 @@ abbrev pub CallsKeepLevels : Type 0 → Type 0
 CallsKeepLevels H =
     (g : Setting H) (expressions calls : ℕ) (words : List (List ℕ)) (path : List ℕ) (st : State H)
     → KeepsLevels st.vars.levels (call_command g (inner g expressions calls) words path st)
+
+-- catch(n), in this profile: a spent budget goes through
+abbrev pub SpentBudgetPasses : Type 0 → Type 0
+SpentBudgetPasses H =
+    (statics : Option Level) (body : Meaning H) (path : List ℕ) (st after : State H)
+    → body path st ≡ Ends (Raised budget_spent) after
+    → catch_command statics (body ∷ []) path st ≡ Ends (Raised budget_spent) after
+
+-- Tcl(n): "substitutions take place from left to right": the second word is evaluated where the first
+-- one ended, and what is done with both comes where the second one did
+abbrev pub WordsGoFromTheLeft : Type 0 → Type 0
+WordsGoFromTheLeft H =
+    (finish : List (List ℕ) → Meaning H) (first second : Meaning H) (v w path : List ℕ)
+    (st mid after : State H) → first path st ≡ Ends (Value v) mid
+    → second path mid ≡ Ends (Value w) after → sum_by length (v ∷ (w ∷ [])) ≤ text_limit
+    → in_order finish (first ∷ (second ∷ [])) [] path st ≡ finish (v ∷ (w ∷ [])) path after

@@ -1,14 +1,8 @@
 // Laws of the evaluator.
 
-ghost use Rattle.rule_model.specs.Laws.{
-  ActsStay,
-  AskedByNoneWaitsNever,
-  CallersVariablesStay,
-  CallsKeepLevels,
-  HostShowsActs,
-  MoreRepliesOnlyLengthen,
-  WiderHostAgrees,
-};
+ghost use Rattle.rule_model.specs.Laws.{ActsStay, AskedByNoneWaitsNever, CallersVariablesStay};
+ghost use Rattle.rule_model.specs.Laws.{CallsKeepLevels, HostShowsActs, MoreRepliesOnlyLengthen};
+ghost use Rattle.rule_model.specs.Laws.{SpentBudgetPasses, WiderHostAgrees, WordsGoFromTheLeft};
 
 /// What was done before an evaluation stays, its cost never falls, and its budget never rises.
 pub fn acts_stay<H>()
@@ -43,4 +37,14 @@ pub fn callers_variables_stay<H>()
 /// A call's own variables go with it, and its caller's are as they were.
 pub fn calls_keep_levels<H>()
     ensures { CallsKeepLevels H }
+{}
+
+/// A spent budget goes through a `catch`.
+pub fn spent_budget_passes<H>()
+    ensures { SpentBudgetPasses H }
+{}
+
+/// Words are evaluated from the left, each where the one before it ended.
+pub fn words_go_from_the_left<H>()
+    ensures { WordsGoFromTheLeft H }
 {}

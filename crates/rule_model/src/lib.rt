@@ -5,5 +5,6 @@ mod laws;
 
 pub use laws::{
     acts_stay, asked_by_none_waits_never, callers_variables_stay, calls_keep_levels,
-    host_shows_acts, more_replies_only_lengthen, wider_host_agrees,
+    host_shows_acts, more_replies_only_lengthen, spent_budget_passes, wider_host_agrees,
+    words_go_from_the_left,
 };
