@@ -1,91 +1,261 @@
--- A worked row: `set x 7; TCP::respond "hi $x"` is the only body, and the client sends nothing.
-use Rattle.std.proofs.Common.{◌≡◌, refl, ap, ◌∙◌, ℕ, ◌+◌, zero, suc, List, [], ◌∷◌, ◌++◌, None}
-use Rattle.std.specs.Prelude.{codes}
-use Rattle.px_bytes.specs.declared.addr.Side.TheVariants.{Client}
-use Rattle.tcl_vars.specs.Scopes.{Level, no_scopes, with_value}
+-- Worked rows, by computation.
+use Rattle.std.proofs.Common.{◌≡◌, refl, ℕ, zero, suc, List, [], ◌∷◌, ◌++◌, ◌+◌, ◌*◌, ◌^◌, Bool, true, false, Some, None, codes}
+use Rattle.std.specs.Fmt.{digits}
+use Rattle.px_bytes.specs.declared.addr.Addr.{Addr}
+use Rattle.px_bytes.specs.declared.addr.Side.TheVariants.{Client, Server}
+use Rattle.px_bytes.specs.declared.fault.FaultKind.TheVariants.{NoCommand}
+use Rattle.px_bytes.specs.declared.fault.Reply.{Reply}
+use Rattle.px_bytes.specs.declared.fault.Reply.TheVariants as reply
+use Rattle.tcl_vars.specs.Scopes.{Level, no_level}
 use Rattle.tcl_compile.specs.Tree.{Tree, trees_of}
 use Rattle.tcl_compile.specs.Tree as tree
 use Rattle.tcl_compile.specs.declared.node.Verb.TheVariants as verb
-use Rattle.rule_model.specs.Host as effect
 use Rattle.rule_model.specs.Evaluator.{evaluate}
-use Rattle.rule_model.specs.Outcome.{Value, Did, Outcome, Ends, state}
 use Rattle.event_order.specs.declared.event.EventName.{EventName}
-use Rattle.event_order.specs.declared.event.EventName.TheVariants.{ClientAccepted}
-use Rattle.connection_model.specs.Setup.{Handler, Setup, body_setting}
-use Rattle.connection_model.specs.Item.{Item, BeforeBodies, ToClient, Opened, Sent, Ran, Finished}
-use Rattle.connection_model.specs.declared.note.Cause.TheVariants.{Unselected}
-use Rattle.connection_model.specs.Trace.{TraceState, Next, Over, Accepted, Running, Finishing}
-use Rattle.connection_model.specs.Trace.{Draining, accepted_run, body_next, next_item, Unfolds}
-use Rattle.connection_model.specs.Trace.{trace_from, trace, no_stream, no_answers, start}
-use Rattle.connection_model.proofs.Unfolding.{trace_unfolds}
+use Rattle.event_order.specs.declared.event.EventName.TheVariants.{ClientAccepted, ClientData, ClientClosed}
+use Rattle.event_order.specs.declared.event.EventName.TheVariants.{ServerData, ServerClosed}
+use Rattle.connection_model.specs.declared.note.CutReason.TheVariants.{ClientReset}
+use Rattle.connection_model.specs.Item.{Item, BeforeBodies, ToClient, ToServer, Closed, Tcl, Unselected, CutBy, PassesOn, Fires}
+use Rattle.connection_model.specs.Item.{Opened, Resumed, Answered, Moved, Passed, Fired, Called, Connected, Logged, Sent, Ran, Finished, client_output, server_output}
+use Rattle.connection_model.specs.Gates.{TakenCounts}
+use Rattle.connection_model.specs.Setup.{Handler, Setup, Target, NoTarget, NodeAt, PoolOf}
+use Rattle.connection_model.specs.Host.{Stated, Collected, first_host}
+use Rattle.connection_model.specs.Selected.{addr_of}
+use Rattle.connection_model.specs.State.{Collecting, Connecting, Stream, Answers, TraceState, Nothing, ForReply, ForRelay, ForCut, Waits, Over, no_stream, no_answers}
+use Rattle.connection_model.specs.Trace.{next_item, trace, behind, start}
+use Rattle.connection_model.specs.Queries.{half_close_due, wanted}
 
--- the body's tree
 abbrev word : Tree → Tree
 word part = tree.word (trees_of (part ∷ []))
 
-abbrev pub row_body : Tree
-row_body = tree.script (trees_of (
-    tree.command verb.Set (trees_of (word (tree.plain (codes "set")) ∷ word (tree.plain (codes "x")) ∷ word (tree.plain (codes "7")) ∷ []))
-    ∷ tree.command verb.Named (trees_of (word (tree.plain (codes "TCP::respond")) ∷ tree.word (trees_of (tree.plain (codes "hi ") ∷ tree.variable (codes "x") ∷ [])) ∷ []))
-    ∷ []))
+abbrev plain : List ℕ → Tree
+plain text = word (tree.plain text)
 
-abbrev greeting : Handler
-greeting = record { rule = codes "greet"; procedures = []; body = row_body }
+abbrev script : List Tree → Tree
+script commands = tree.script (trees_of commands)
 
--- only CLIENT_ACCEPTED has a body
-abbrev bodies : EventName → List Handler
-bodies ClientAccepted = greeting ∷ []
-bodies other = []
+abbrev handler : Tree → Handler
+handler body = record { rule = codes "row"; procedures = []; body = body }
 
-abbrev row_setup : Level → Setup
-row_setup statics = record { budget = 20000; statics = statics; handlers = bodies }
+-- `TCP::respond TEXT`, `return`, and a command that isn't there
+abbrev pub responds : List ℕ → Handler
+responds text = handler (script (tree.command verb.Named (trees_of (plain (codes "TCP::respond") ∷ plain text ∷ [])) ∷ []))
 
--- what the body comes to
-abbrev row_end : Outcome (List ℕ)
-row_end =
-    Ends (Value []) (state (with_value (codes "x") None (codes "7") no_scopes) (codes "hi 7") [] 19998 8 (Did (effect.Sent Client (codes "hi 7")) ∷ []))
+abbrev returns : Handler
+returns = handler (script (tree.command verb.Return (trees_of (plain (codes "return") ∷ [])) ∷ tree.command verb.Named (trees_of (plain (codes "TCP::respond") ∷ plain (codes "no") ∷ [])) ∷ []))
 
-row_ends : (statics : Level) → evaluate (body_setting statics []) row_body no_scopes [] [] 20000 ≡ row_end
-unfolding evaluate
-row_ends statics = refl
+-- both closing events have a body that does nothing
+abbrev pub closing_bodies : EventName → List Handler
+closing_bodies ServerClosed = returns ∷ []
+closing_bodies ClientClosed = returns ∷ []
+closing_bodies other = []
 
-abbrev row_items : List Item
-row_items = Opened BeforeBodies ∷ Sent ToClient (codes "hi 7") ∷ Ran ClientAccepted 8 ∷ Finished Unselected ∷ []
+abbrev unknown : Handler
+unknown = handler (script (tree.command verb.Named (trees_of (plain (codes "nope") ∷ [])) ∷ []))
 
--- where the connection stands behind so many items
-abbrev stands : Level → ℕ → TraceState
-stands statics n = record (start (row_setup statics) no_stream no_answers) { phase = Accepted (Running greeting [] n) }
+abbrev pub node_at : Addr
+node_at = record { ip = 2 ^ 24 * 10 + 1; port = 80 }
 
-abbrev ran : Level → TraceState
-ran statics =
-    record (start (row_setup statics) no_stream no_answers) { phase = Finishing Unselected; vars = with_value (codes "x") None (codes "7") no_scopes; host = codes "hi 7" }
+abbrev pub setup : Level → Target → (EventName → List Handler) → Setup
+setup statics target handlers =
+    record { name = codes "v"; from = record { ip = 2 ^ 24 * 10 + 9; port = 4000 }; budget = 20000; statics = statics; target = target; http = false; handlers = handlers }
 
-abbrev ended : Level → TraceState
-ended statics = record (ran statics) { phase = Draining; host = [] }
+abbrev pub no_handlers : EventName → List Handler
+no_handlers e = []
 
--- what comes next behind so many acts, where the body comes to this
-abbrev next_of : Level → ℕ → Outcome (List ℕ) → Next
-next_of statics n o =
-    body_next (accepted_run (row_setup statics)) greeting [] n (stands statics n) o
+abbrev pub stream : List ℕ → Bool → Stream
+stream unread ended = record { unread = unread; ended = ended }
 
-row_unfolds : (statics : Level) → Unfolds (row_setup statics) (start (row_setup statics) no_stream no_answers) row_items (ended statics)
+-- the first path: `set x 7; TCP::respond "hi $x"` is the only body, and there is no server
+abbrev sets_x : Tree
+sets_x = tree.command verb.Set (trees_of (plain (codes "set") ∷ plain (codes "x") ∷ plain (codes "7") ∷ []))
+
+abbrev says_x : Tree
+says_x = tree.command verb.Named (trees_of (plain (codes "TCP::respond") ∷ tree.word (trees_of (tree.plain (codes "hi ") ∷ tree.variable (codes "x") ∷ [])) ∷ []))
+
+abbrev pub sets : Handler
+sets = handler (script (sets_x ∷ []))
+
+abbrev pub reads : Handler
+reads = handler (script (says_x ∷ []))
+
+abbrev greets : Handler
+greets = handler (script (sets_x ∷ says_x ∷ []))
+
+abbrev greet : EventName → List Handler
+greet ClientAccepted = greets ∷ []
+greet other = []
+
+-- whatever the static variables are, and however many items are asked for
+greet_row : (statics : Level) (n : ℕ) → trace (suc (suc (suc (suc (suc n))))) (setup statics NoTarget greet) (start (setup statics NoTarget greet) no_stream no_answers)
+    ≡ Opened BeforeBodies ∷ Sent ToClient (codes "hi 7") ∷ Ran ClientAccepted 8 ∷ Resumed ∷ Finished Unselected ∷ []
+unfolding next_item evaluate
+greet_row statics zero = refl
+greet_row statics (suc n) = refl
+
+-- `return` ends its body alone: the next one runs
+abbrev in_turn : Handler → EventName → List Handler
+in_turn first ClientAccepted = first ∷ responds (codes "a") ∷ []
+in_turn first other = []
+
+return_row : trace 9 (setup no_level NoTarget (in_turn returns)) (start (setup no_level NoTarget (in_turn returns)) no_stream no_answers)
+    ≡ Opened BeforeBodies ∷ Ran ClientAccepted 2 ∷ Sent ToClient (codes "a") ∷ Ran ClientAccepted 3 ∷ Resumed ∷ Finished Unselected ∷ []
+unfolding next_item evaluate
+return_row = refl
+
+-- an uncaught fault is logged, skips the next body and finishes the connection
+fault_row : trace 9 (setup no_level NoTarget (in_turn unknown)) (start (setup no_level NoTarget (in_turn unknown)) no_stream no_answers)
+    ≡ Opened BeforeBodies ∷ Ran ClientAccepted 2 ∷ Logged (codes "TCL error: row <CLIENT_ACCEPTED> - invalid command name \"nope\"") ∷ Finished (Tcl NoCommand) ∷ []
+unfolding next_item evaluate
+fault_row = refl
+
+-- a relay that passes bytes both ways; the client has ended
+abbrev pub relay_setup : Setup
+relay_setup = setup no_level (NodeAt node_at) no_handlers
+
+abbrev pub relay_start : Bool → TraceState
+relay_start ended = start relay_setup (stream (codes "abc") true) (record no_answers {
+  connects = Some (stream (codes "welcome") ended) ∷ [];
+  choices = PassesOn Client 2 ∷ PassesOn Server 7 ∷ PassesOn Client 1 ∷ [];
+})
+
+abbrev relayed : List Item
+relayed = Resumed ∷ Connected node_at ∷ Answered true ∷ Passed Client (ToServer 1) (codes "ab") ∷ Passed Server ToClient (codes "welcome")
+    ∷ Passed Client (ToServer 1) (codes "c") ∷ []
+
+half_closed_row : trace 9 relay_setup (relay_start false) ≡ relayed
 unfolding next_item
-row_unfolds statics =
-    let end = row_ends statics in
-    (stands statics 0, refl, (stands statics 1, ap (next_of statics 0) end, (ran statics, ap (next_of statics 1) end, (ended statics, refl, refl))))
+half_closed_row = refl
 
--- nothing follows
-pub row_over : (statics : Level) → next_item (row_setup statics) (ended statics) ≡ Over
+half_closed_waits : next_item relay_setup (behind 6 relay_setup (relay_start false)) ≡ Waits (ForRelay Nothing Nothing)
 unfolding next_item
-row_over statics = refl
+half_closed_waits = refl
 
-none_after : (n : ℕ) (g : Setup) (o : Next) → o ≡ Over → trace_from n g o ≡ []
-none_after zero g o is = refl
-none_after (suc n) g o is = rw is refl
+both_closed_row : trace 9 relay_setup (relay_start true) ≡ relayed ++ Finished Closed ∷ []
+unfolding next_item
+both_closed_row = refl
 
--- the trace of the row is its items, however many are asked for
-pub row_trace : (n : ℕ) (statics : Level)
-    → trace (4 + n) (row_setup statics) (start (row_setup statics) no_stream no_answers) ≡ row_items
-row_trace n statics =
-    trace_unfolds n (row_setup statics) (start (row_setup statics) no_stream no_answers) (ended statics) row_items (row_unfolds statics)
-    ∙ ap (λ x. row_items ++ x) (none_after n (row_setup statics) (next_item (row_setup statics) (ended statics)) (row_over statics))
+both_closed_over : next_item relay_setup (behind 7 relay_setup (relay_start true)) ≡ Over
+unfolding next_item
+both_closed_over = refl
+
+relay_output : (client_output relayed ≡ codes "welcome") × (server_output 1 relayed ≡ codes "abc")
+relay_output = (refl, refl)
+
+-- once the server took all, its half is to be closed; not before, and not the client's
+abbrev took : ℕ → ℕ → TakenCounts
+took client server = record { client = Some client; servers = Some server ∷ [] }
+
+half_close_rows :
+    (half_close_due (behind 6 relay_setup (relay_start false)) (took 0 3) Server ≡ true)
+    × (half_close_due (behind 6 relay_setup (relay_start false)) (took 0 2) Server ≡ false)
+    × (half_close_due (behind 6 relay_setup (relay_start false)) (took 7 3) Client ≡ false)
+unfolding next_item
+half_close_rows = (refl, refl, refl)
+
+-- the client resets while the connect answer is awaited
+abbrev reset_recorded : Answers
+reset_recorded = record no_answers { cut = Some (record { reason = ClientReset; took = record { client = None; servers = [] } }) }
+
+cut_row : trace 9 relay_setup (start relay_setup (stream (codes "abc") false) reset_recorded) ≡ Resumed ∷ Connected node_at ∷ Finished (CutBy ClientReset) ∷ []
+unfolding next_item
+cut_row = refl
+
+-- the client's stated collect of three bytes fires, before there is a server
+abbrev pub stated : ℕ → Collected
+stated n = record { asks = Stated n; held = [] }
+
+abbrev answers_data : EventName → List Handler
+answers_data ClientData = responds (codes "ok") ∷ []
+answers_data ServerData = responds (codes "no") ∷ []
+answers_data other = []
+
+abbrev pub collect_setup : Setup
+collect_setup = setup no_level (NodeAt node_at) answers_data
+
+abbrev pub collect_start : TraceState
+collect_start = record (start collect_setup (stream (codes "hello") false) (record no_answers { choices = Fires Client ∷ [] })) {
+  phase = Collecting;
+  host = record (first_host collect_setup) { client = stated 3 };
+}
+
+collect_row : trace 20 collect_setup collect_start ≡ Fired Client 3 ∷ Opened BeforeBodies ∷ Sent ToClient (codes "ok") ∷ Ran ClientData 3 ∷ []
+unfolding next_item evaluate
+collect_row = refl
+
+collect_waits : next_item collect_setup (behind 4 collect_setup collect_start) ≡ Waits ForCut
+unfolding next_item evaluate
+collect_waits = refl
+
+-- one that needs more bytes waits for them
+collect_lacks : next_item collect_setup (record collect_start { host = record collect_start.host { client = stated 6 } }) ≡ Waits (ForRelay Nothing Nothing)
+unfolding next_item
+collect_lacks = refl
+
+-- bytes that a collect holds don't count against what may come
+wanted_rows :
+    (wanted Client collect_start ≡ 65534) × (wanted Client (behind 1 collect_setup collect_start) ≡ 65534)
+    × (wanted Client (relay_start false) ≡ 65533) × (wanted Server (behind 2 relay_setup (relay_start false)) ≡ 65529)
+    × (wanted Server (behind 6 relay_setup (relay_start false)) ≡ 65536) × (wanted Server (behind 7 relay_setup (relay_start true)) ≡ 65536)
+unfolding next_item
+wanted_rows = (refl, refl, refl, refl, refl, refl)
+
+-- released bytes go to the server before others; its collect fires, and its event answers it
+abbrev pub connect_start : TraceState
+connect_start = record (start collect_setup (stream (codes "lo") false) (record no_answers {
+  connects = Some (stream (codes "abcd") false) ∷ [];
+  choices = Fires Server ∷ PassesOn Client 2 ∷ PassesOn Server 2 ∷ [];
+})) {
+  phase = Connecting node_at;
+  host = record (first_host collect_setup) { server = stated 2; loose = codes "hel" };
+}
+
+connect_row : trace 20 collect_setup connect_start
+    ≡ Connected node_at ∷ Answered true ∷ Moved Client 0 (ToServer 1) (codes "hel") ∷ Fired Server 2 ∷ Opened BeforeBodies ∷ Sent (ToServer 1) (codes "no") ∷ Ran ServerData 3
+    ∷ Passed Client (ToServer 1) (codes "lo") ∷ Passed Server ToClient (codes "cd") ∷ []
+unfolding next_item evaluate
+connect_row = refl
+
+-- a pool's member is selected by a shared call, and no cut ends that wait; the closing events' bodies run behind the cut, and a
+-- fault of one ends it alone
+abbrev closes : EventName → List Handler
+closes ServerClosed = unknown ∷ []
+closes ClientClosed = returns ∷ []
+closes other = []
+
+abbrev pool_setup : Setup
+pool_setup = setup no_level (PoolOf (codes "p")) closes
+
+abbrev pool_start : List Reply → TraceState
+pool_start replies = start pool_setup (stream [] false) (record reset_recorded { replies = replies })
+
+abbrev asked : List (List ℕ)
+asked = codes "select" ∷ codes "v" ∷ codes "p" ∷ codes "10.0.0.9" ∷ codes "any" ∷ []
+
+asks_row : trace 20 pool_setup (pool_start []) ≡ Called asked ∷ []
+unfolding next_item digits
+asks_row = refl
+
+asks_waits : next_item pool_setup (behind 1 pool_setup (pool_start [])) ≡ Waits (ForReply asked)
+unfolding next_item digits
+asks_waits = refl
+
+answered_row : trace 20 pool_setup (pool_start (reply.Ok (codes "10.0.0.1:80") ∷ []))
+    ≡ Called asked ∷ Resumed ∷ Connected node_at ∷ Finished (CutBy ClientReset)
+    ∷ Ran ServerClosed 2 ∷ Logged (codes "TCL error: row <SERVER_CLOSED> - invalid command name \"nope\"") ∷ Ran ClientClosed 2 ∷ []
+unfolding next_item evaluate digits
+answered_row = refl
+
+unselected_row : trace 20 pool_setup (pool_start (reply.Ok [] ∷ [])) ≡ Called asked ∷ Resumed ∷ Finished Unselected ∷ Ran ClientClosed 2 ∷ []
+unfolding next_item evaluate digits
+unselected_row = refl
+
+-- a refused connect
+refused_row : trace 20 relay_setup (start relay_setup no_stream (record no_answers { connects = None ∷ [] })) ≡ Resumed ∷ Connected node_at ∷ Answered false ∷ Finished Unselected ∷ []
+unfolding next_item
+refused_row = refl
+
+address_rows : (addr_of (codes "10.0.0.1:80") ≡ Some node_at) × (addr_of (codes "10.0.0.1") ≡ None) × (addr_of (codes "10.0.0.01:80") ≡ None) × (addr_of (codes "10.0.256.1:80") ≡ None)
+    × (addr_of (codes "10.0.0.1:0") ≡ None)
+unfolding digits
+address_rows = (refl, refl, refl, refl, refl)

@@ -1,12 +1,12 @@
--- What a connection needs of the configuration, and the line that a fault of its bodies logs.
-use Rattle.std.specs.Prelude.{ℕ, List, ◌++◌, codes, Some}
+-- What a connection needs of the configuration and of its accept, and the line that a fault of its
+-- bodies logs.
+use Rattle.std.specs.Prelude.{ℕ, List, ◌++◌, codes, Bool}
+use Rattle.px_bytes.specs.declared.addr.Addr.{Addr}
 use Rattle.tcl_compile.specs.Procedures.{Procedure}
 use Rattle.tcl_compile.specs.Tree.{Tree}
 use Rattle.tcl_vars.specs.Scopes.{Level}
 use Rattle.event_order.specs.Event.{event_text}
 use Rattle.event_order.specs.declared.event.EventName.{EventName}
-use Rattle.rule_model.specs.Setting.{Setting}
-use Rattle.connection_model.specs.Responder.{respond_table}
 
 -- a body that a rule has for an event, with the rule's name and procedures
 pub record Handler : Type 0 where
@@ -14,17 +14,24 @@ pub record Handler : Type 0 where
   pub procedures : List Procedure
   pub body : Tree
 
--- What a virtual server runs: how many units each body may spend, the static variables that
--- RULE_INIT left, and the bodies of each event in their order.
+-- where a connection's server comes from: nowhere, an address, or a pool of this name
+pub data Target : Type 0 where
+  NoTarget : Target
+  NodeAt : Addr → Target
+  PoolOf : List ℕ → Target
+
+-- What a connection runs on: the name of its virtual server and the address of its client; how many
+-- units each body may spend, and the static variables that RULE_INIT left; where its server comes
+-- from unless a rule chooses one; whether the virtual server speaks HTTP; and the bodies of each
+-- event in their order.
 pub record Setup : Type 0 where
+  pub name : List ℕ
+  pub from : Addr
   pub budget : ℕ
   pub statics : Level
+  pub target : Target
+  pub http : Bool
   pub handlers : EventName → List Handler
-
--- a body reads the static variables, uses the host commands and calls its rule's procedures
-abbrev pub body_setting : Level → List Procedure → Setting (List ℕ)
-body_setting statics procedures =
-    record { statics = Some statics; table = respond_table; procedures = procedures }
 
 -- the line that an uncaught fault logs: the rule, the event and the fault's text
 abbrev pub uncaught_line : List ℕ → EventName → List ℕ → List ℕ

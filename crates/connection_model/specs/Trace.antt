@@ -1,231 +1,181 @@
 -- The trace of a connection: what it does on its uncut streams and recorded answers, as the
 -- unfolding of one function from where it stands to its next item (iRules reference: events run in
 -- the order of the connection's phases, and all bodies of an event in the order of their priority).
-use Rattle.std.specs.Prelude.{
-  ◌≡◌,
-  ℕ,
-  zero,
-  suc,
-  ◌+◌,
-  List,
-  [],
-  ◌∷◌,
-  Bool,
-  Option,
-  Some,
-  None,
-  slice_get,
-}
+use Rattle.std.specs.Prelude.{◌≡◌, ℕ, zero, suc, List, [], ◌∷◌, take, Bool, true, false}
+use Rattle.std.specs.Prelude.{◌||◌, not, Option, Some, None, if◌then◌else◌}
+use Rattle.px_bytes.specs.declared.addr.Addr.{Addr}
 use Rattle.px_bytes.specs.declared.addr.Side.{Side}
 use Rattle.px_bytes.specs.declared.addr.Side.TheVariants.{Client, Server}
-use Rattle.px_bytes.specs.declared.fault.FaultKind.{FaultKind}
 use Rattle.px_bytes.specs.declared.fault.Reply.{Reply}
-use Rattle.px_bytes.specs.declared.fault.TclFault.{TclFault}
-use Rattle.tcl_vars.specs.Scopes.{Scopes, no_scopes}
-use Rattle.rule_model.specs.Host as effect
-use Rattle.rule_model.specs.Evaluator.{evaluate}
-use Rattle.rule_model.specs.Outcome.{Act, Did, State, Outcome, Ends, Waits as Stops, uncaught_of}
-use Rattle.rule_model.specs.Outcome as act
-use Rattle.rule_model.specs.Laws.{state_after}
-use Rattle.event_order.specs.declared.event.EventName.{EventName}
-use Rattle.event_order.specs.declared.event.EventName.TheVariants.{
-  ClientAccepted,
-  LbFailed,
-  ClientClosed,
-}
-use Rattle.connection_model.specs.Setup.{Handler, Setup, body_setting, uncaught_line}
-use Rattle.connection_model.specs.Item.{BeforeBodies, Peer, ToClient, ToServer, Item, Opened, Ran}
-use Rattle.connection_model.specs.Item.{Called, Logged, Sent, Finished}
-use Rattle.connection_model.specs.declared.note.Cause.{Cause}
-use Rattle.connection_model.specs.declared.note.Cause.TheVariants.{Tcl, Unselected}
+use Rattle.px_bytes.specs.declared.fault.Reply.TheVariants as reply
+use Rattle.tcl_vars.specs.Scopes.{no_scopes}
+use Rattle.event_order.specs.declared.event.EventName.TheVariants.{ClientAccepted, ServerConnected}
+use Rattle.event_order.specs.declared.event.EventName.TheVariants.{LbSelected, LbFailed}
+use Rattle.connection_model.specs.declared.note.CutReason.{CutReason}
+use Rattle.connection_model.specs.declared.note.CutReason.TheVariants.{ServerReset}
+use Rattle.connection_model.specs.Item.{ToServer, Reason, Closed, Rejected, CutBy, Choice, Item}
+use Rattle.connection_model.specs.Item.{Resumed, Answered, Read, Moved, Passed, Fired, Called}
+use Rattle.connection_model.specs.Item.{Connected, Finished}
+use Rattle.connection_model.specs.Gates.{Counts, no_bytes, TakenCounts, other, has_room, may_give}
+use Rattle.connection_model.specs.Gates.{sent_after}
+use Rattle.connection_model.specs.Setup.{Setup, Target, NoTarget, NodeAt, PoolOf}
+use Rattle.connection_model.specs.Host.{HostState, Asks, NotAsked, Stated, first_host}
+use Rattle.connection_model.specs.Selected.{select_call, addr_of}
+use Rattle.connection_model.specs.State.{Fate, Forwards, Drops, Phase, Carrying, InEvent, Choosing}
+use Rattle.connection_model.specs.State.{Selecting, Connecting, Answering, Releasing, Relaying}
+use Rattle.connection_model.specs.State.{Collecting, Finishing, Draining, Stream, NoServer, Sought}
+use Rattle.connection_model.specs.State.{There, Absent, Up, link_of, Cut, Answers, TraceState}
+use Rattle.connection_model.specs.State.{Ready, Nothing, Passable, IsMet, WaitKind, ForBytes}
+use Rattle.connection_model.specs.State.{ForConnect, ForReply, ForRelay, ForReuse, ForCut}
+use Rattle.connection_model.specs.State.{Next, Does, Waits, Over, stream_of, read_side}
+use Rattle.connection_model.specs.State.{with_choices, with_replies, with_connects}
+use Rattle.connection_model.specs.Places.{at, closed, enter, data_event}
+use Rattle.connection_model.specs.Bodies.{peer_of, bodies_next}
+use Rattle.connection_model.specs.Relay.{incoming, ready_of, RelayAct, BothDone, Passing, Firing}
+use Rattle.connection_model.specs.Relay.{Resting, relay_act, fired_host, behind_fires, collect_act}
 
--- where the bodies of an event stand
-pub data Bodies : Type 0 where
-  -- before the first of them, at the gate
-  Gated : Handler → List Handler → Bodies
-  -- the first of them runs, and so many of its acts were given
-  Running : Handler → List Handler → ℕ → Bodies
-  -- one left a fault uncaught, whose line is to be logged; these stand behind it
-  Failing : FaultKind → (line : List ℕ) → List Handler → Bodies
+-- it finishes
+abbrev pub finish : Setup → Reason → TraceState → Next
+finish g r l =
+    Does (Finished r) (at (closed g (link_of l.server) l.host) (record l { finished = true }))
 
--- where a connection stands between two items
-pub data Phase : Type 0 where
-  -- CLIENT_ACCEPTED
-  Accepted : Bodies → Phase
-  -- no server could be selected: LB_FAILED
-  Selecting : Bodies → Phase
-  -- it finishes with this cause
-  Finishing : Cause → Phase
-  -- after that: CLIENT_CLOSED
-  Closing : Bodies → Phase
-  -- what is queued is taken
-  Draining : Phase
+-- a server is selected by what the rules chose last
+abbrev pub choosing_next : Setup → TraceState → HostState → Target → Next
+choosing_next g l h NoTarget = Does Resumed (at (enter g LbFailed (link_of l.server) h) l)
+choosing_next g l h (NodeAt a) =
+    let chosen = record h { selected = Some a } in
+    Does Resumed (at (enter g LbSelected (link_of l.server) chosen) l)
+choosing_next g l h (PoolOf pool) =
+    let call = select_call g pool in
+    Does (Called call) (record l { phase = Selecting call; host = h })
 
--- a side's bytes that weren't read yet, and whether no more follow
-pub record Stream : Type 0 where
-  pub unread : List ℕ
-  pub ended : Bool
+abbrev pub selected_next : Setup → TraceState → List Reply → Option Addr → Next
+selected_next g l more None =
+    Does Resumed (at (enter g LbFailed (link_of l.server) l.host) (with_replies more l))
+selected_next g l more (Some a) =
+    let chosen = record l.host { selected = Some a } in
+    Does Resumed (at (enter g LbSelected (link_of l.server) chosen) (with_replies more l))
 
--- what was recorded of choices that the streams leave open
-pub data Choice : Type 0 where
-  PassesOn : Side → ℕ → Choice
-  Fires : Side → Choice
-  Reuses : Bool → Choice
+-- a reply that is no address, or a fault, selects nothing
+abbrev pub selecting_next : Setup → List (List ℕ) → TraceState → List Reply → Next
+selecting_next g call l [] = Waits (ForReply call)
+selecting_next g call l (reply.Ok v ∷ more) = selected_next g l more (addr_of v)
+selecting_next g call l (reply.Fault f ∷ more) = selected_next g l more None
 
--- the recorded answers that weren't taken yet, by the wait that takes them
-pub record Answers : Type 0 where
-  pub replies : List Reply
-  pub connects : List Bool
-  pub choices : List Choice
+abbrev pub answering_next : Setup → TraceState → List (Option Stream) → Next
+answering_next g l [] = Waits ForConnect
+answering_next g l (Some s ∷ more) =
+    let made = with_connects more (record l { server = There s }) in
+    Does (Answered true) (at (enter g ServerConnected Up l.host) made)
+answering_next g l (None ∷ more) =
+    let refused = with_connects more (record l { server = NoServer }) in
+    Does (Answered false) (at (enter g LbFailed Absent l.host) refused)
 
--- Where a connection stands, with all that is still to come: its phase, the variables of its rules,
--- the host's state of the running event, how many server connections it had, and what it didn't read
--- or take yet. While a body runs, variables, host and replies are those of its start.
-pub record TraceState : Type 0 where
-  pub phase : Phase
-  pub vars : Scopes
-  pub host : List ℕ
-  pub servers : ℕ
-  pub client : Stream
-  pub answers : Answers
+-- n bytes of a side are collected, and its event is entered
+abbrev pub fired_next : Setup → TraceState → Side → ℕ → List Choice → Next
+fired_next g l side n more =
+    let held = fired_host side (take n (stream_of side l).unread) l.host in
+    let entered = enter g (data_event side) (link_of l.server) held in
+    Does (Fired side n) (at entered (with_choices more (read_side side n l)))
 
--- what a connection waits for
-pub data WaitKind : Type 0 where
-  ForBytes : Side → WaitKind
-  ForRoom : Side → WaitKind
-  ForConnect : WaitKind
-  ForReply : (call : List (List ℕ)) → WaitKind
-  ForSleep : (call : List (List ℕ)) → WaitKind
-  ForRelay : WaitKind
-  ForReuse : WaitKind
-  ForDrain : WaitKind
+abbrev pub relay_next : Setup → TraceState → RelayAct → Next
+relay_next g l BothDone = finish g Closed l
+relay_next g l (Passing side n more) =
+    let bytes = take n (stream_of side l).unread in
+    Does (Passed side (peer_of l.sent.number (other side)) bytes)
+    (record (with_choices more (read_side side n l)) { phase = Relaying })
+relay_next g l (Firing side n more) = fired_next g l side n more
+relay_next g l Resting =
+    Waits (ForRelay (ready_of (incoming Client l)) (ready_of (incoming Server l)))
 
--- what comes next: an item, with where it then stands; a wait, where streams and answers give
--- nothing; or nothing any more
-pub data Next : Type 0 where
-  Does : Item → TraceState → Next
-  Waits : WaitKind → Next
-  Over : Next
+abbrev pub collect_next : Setup → TraceState → RelayAct → Next
+collect_next g l BothDone = finish g Closed l
+collect_next g l (Passing side n more) = Waits ForCut
+collect_next g l (Firing side n more) = fired_next g l side n more
+collect_next g l Resting = Waits (ForRelay (ready_of (incoming Client l)) Nothing)
 
--- how the bodies of an event run: its name, the phase while they do, the phase once all of them
--- ran, and the phase once the line of an uncaught fault was logged
-pub record EventRun : Type 0 where
-  pub event : EventName
-  pub while : Bodies → Phase
-  pub after : Phase
-  pub failed : FaultKind → List Handler → Phase
+-- with no collect in force only a cut goes on from here
+abbrev pub collecting_next : Setup → TraceState → Asks → Next
+collecting_next g l NotAsked = Waits ForCut
+collecting_next g l (Stated n) =
+    collect_next g l (collect_act n l.client.unread (behind_fires l.answers.choices))
 
--- the phase before the bodies of an event; an event without bodies has no gate
-abbrev pub entered : (Bodies → Phase) → List Handler → Phase → Phase
-entered at [] after = after
-entered at (h ∷ hs) after = at (Gated h hs)
+-- the item that a byte of a body is
+abbrev pub unit_item : ℕ → Fate → Side → ℕ → Item
+unit_item number Forwards side b = Moved side 1 (peer_of number (other side)) (b ∷ [])
+unit_item number Drops side b = Read side 1
 
--- the phase before the next body of an event that runs
-abbrev pub next_body : (Bodies → Phase) → List Handler → Phase → Phase
-next_body at [] after = after
-next_body at (h ∷ hs) after = at (Running h hs 0)
+abbrev pub unit_next : Setup → TraceState → Fate → Side → ℕ → Bool → List ℕ → Next
+unit_next g l fate side left ended [] =
+    if ended then finish g Rejected l else Waits (ForBytes side)
+unit_next g l fate side left ended (b ∷ bs) =
+    Does (unit_item l.sent.number fate side b)
+    (record (read_side side 1 l) { phase = Carrying fate side left })
 
--- the closing event's bodies have no gate
-abbrev pub closing : Setup → Phase
-closing g = next_body Closing (g.handlers ClientClosed) Draining
+abbrev pub carrying_next : Setup → TraceState → Fate → Side → ℕ → Stream → Next
+carrying_next g l fate side zero s = Does Resumed (record l { phase = Choosing })
+carrying_next g l fate side (suc left) s = unit_next g l fate side left s.ended s.unread
 
--- A server is selected. Without a pool there is none: LB_FAILED, and the connection finishes.
-abbrev pub selecting : Setup → Phase
-selecting g = entered Selecting (g.handlers LbFailed) (Finishing Unselected)
-
-abbrev pub accepted : Setup → Phase
-accepted g = entered Accepted (g.handlers ClientAccepted) (selecting g)
-
--- an uncaught fault finishes the connection, and skips the bodies behind it
-abbrev pub accepted_run : Setup → EventRun
-accepted_run g = record {
-  event = ClientAccepted;
-  while = Accepted;
-  after = selecting g;
-  failed = λ kind hs. Finishing (Tcl kind);
-}
-
-abbrev pub selecting_run : Setup → EventRun
-selecting_run g = record {
-  event = LbFailed;
-  while = Selecting;
-  after = Finishing Unselected;
-  failed = λ kind hs. Finishing (Tcl kind);
-}
-
--- in a closing event it only ends its body
-abbrev pub closing_run : Setup → EventRun
-closing_run g = record {
-  event = ClientClosed;
-  while = Closing;
-  after = Draining;
-  failed = λ kind hs. next_body Closing hs Draining;
-}
-
--- the host's state before the bodies of an event
-abbrev pub no_host : List ℕ
-no_host = []
-
--- what a body does on the variables, the host's state and the replies where it begins
-abbrev pub run_body : Setup → Handler → TraceState → Outcome (List ℕ)
-run_body g h l =
-    evaluate (body_setting g.statics h.procedures) h.body l.vars l.host l.answers.replies g.budget
-
-abbrev pub peer_of : ℕ → Side → Peer
-peer_of servers Client = ToClient
-peer_of servers Server = ToServer servers
-
--- the item that an act of a body is, where there were so many server connections
-abbrev pub act_item : ℕ → Act → Item
-act_item servers (Did (effect.Logged text)) = Logged text
-act_item servers (Did (effect.Sent side bytes)) = Sent (peer_of servers side) bytes
-act_item servers (act.Called path call) = Called call
-
--- the phase after a body that ended so
-abbrev pub after_body : EventRun → Handler → List Handler → Option TclFault → Phase
-after_body r h hs None = next_body r.while hs r.after
-after_body r h hs (Some fault) =
-    r.while (Failing fault.kind (uncaught_line h.rule r.event fault.text) hs)
-
--- all acts of a body were given
-abbrev pub ended_next : EventRun → Handler → List Handler → TraceState → Outcome (List ℕ) → Next
-ended_next r h hs l (Ends code st) =
-    Does (Ran r.event st.cost) (record l {
-      phase = after_body r h hs (uncaught_of code);
-      vars = st.vars;
-      host = st.host;
-      answers = record l.answers { replies = st.replies };
-    })
-ended_next r h hs l (Stops path call st) = Waits (ForReply call)
-
--- the next act of a body, or its end
-abbrev pub act_next : EventRun → Handler → List Handler → ℕ → TraceState → Option Act → Next → Next
-act_next r h hs n l (Some a) end =
-    Does (act_item l.servers a) (record l { phase = r.while (Running h hs (n + 1)) })
-act_next r h hs n l None end = end
-
-abbrev pub body_next : EventRun → Handler → List Handler → ℕ → TraceState → Outcome (List ℕ) → Next
-body_next r h hs n l o =
-    act_next r h hs n l (slice_get (state_after o).acts n) (ended_next r h hs l o)
-
-abbrev pub bodies_next : Setup → EventRun → Bodies → TraceState → Next
-bodies_next g r (Gated h hs) l =
-    Does (Opened BeforeBodies) (record l { phase = r.while (Running h hs 0); host = no_host })
-bodies_next g r (Running h hs n) l = body_next r h hs n l (run_body g h l)
-bodies_next g r (Failing kind line hs) l =
-    Does (Logged line) (record l { phase = r.failed kind hs })
+-- the client's released bytes go to the server before any that it sends later
+abbrev pub releasing_next : TraceState → Next
+releasing_next l =
+    Does (Moved Client 0 (ToServer l.sent.number) l.host.loose)
+    (record l { phase = Relaying; host = record l.host { loose = [] } })
 
 abbrev pub phase_next : Setup → Phase → TraceState → Next
-phase_next g (Accepted bodies) l = bodies_next g (accepted_run g) bodies l
-phase_next g (Selecting bodies) l = bodies_next g (selecting_run g) bodies l
-phase_next g (Finishing cause) l =
-    Does (Finished cause) (record l { phase = closing g; host = no_host })
-phase_next g (Closing bodies) l = bodies_next g (closing_run g) bodies l
+phase_next g (InEvent e bodies) l = bodies_next g e bodies l
+phase_next g (Carrying fate side left) l =
+    carrying_next g l fate side left (stream_of side l)
+phase_next g Choosing l = choosing_next g l (record l.host { selected = None }) l.host.target
+phase_next g (Selecting call) l = selecting_next g call l l.answers.replies
+phase_next g (Connecting a) l =
+    Does (Connected a) (record l { phase = Answering a; server = Sought })
+phase_next g (Answering a) l = answering_next g l l.answers.connects
+phase_next g Releasing l = releasing_next l
+phase_next g Relaying l =
+    relay_next g l (relay_act (incoming Client l) (incoming Server l) l.answers.choices)
+phase_next g Collecting l = collecting_next g l l.host.client.asks
+phase_next g (Finishing r) l = finish g r l
 phase_next g Draining l = Over
+
+-- Whether a cut for this reason is taken: at a closed gate (None), or at a wait. With HTTP a
+-- server's reset ends a wait for the server alone.
+abbrev pub cut_takes : (http : Bool) → CutReason → Option WaitKind → Bool
+cut_takes http reason (Some (ForReply call)) = false
+cut_takes http reason (Some ForReuse) = false
+cut_takes true ServerReset None = false
+cut_takes true ServerReset (Some (ForBytes Client)) = false
+cut_takes true ServerReset (Some ForConnect) = false
+cut_takes true ServerReset (Some (ForRelay c s)) = false
+cut_takes true ServerReset (Some ForCut) = false
+cut_takes http reason place = true
+
+abbrev pub uncut : TraceState → TraceState
+uncut l = record l { answers = record l.answers { cut = None } }
+
+-- a cut is taken where nothing else comes on its counts
+abbrev pub cut_open : Setup → Cut → TraceState → Next → Next
+cut_open g c l (Does i m) =
+    if may_give i l.sent c.took || not (cut_takes g.http c.reason None) then Does i m
+    else finish g (CutBy c.reason) (uncut l)
+cut_open g c l (Waits k) =
+    if cut_takes g.http c.reason (Some k) then finish g (CutBy c.reason) (uncut l) else Waits k
+cut_open g c l Over = Over
+
+-- and only where the connection hasn't finished
+abbrev pub cut_next : Setup → Option Cut → TraceState → Next → Next
+cut_next g None l o = o
+cut_next g (Some c) l o = if l.finished then o else cut_open g c l o
+
+-- what was sent is counted
+abbrev pub counted : Counts → Next → Next
+counted sent (Does i m) = Does i (record m { sent = sent_after i sent })
+counted sent (Waits k) = Waits k
+counted sent Over = Over
 
 -- what comes next of a connection on this setup
 unfoldable pub next_item : Setup → TraceState → Next
-next_item g l = phase_next g l.phase l
+next_item g l = counted l.sent (cut_next g l.answers.cut l (phase_next g l.phase l))
 
 -- from l these items come, one after another, and then it stands at l'
 abbrev pub Unfolds : Setup → TraceState → List Item → TraceState → Type 0
@@ -243,20 +193,46 @@ trace_from (suc n) g Over = []
 abbrev pub trace : ℕ → Setup → TraceState → List Item
 trace n g l = trace_from n g (next_item g l)
 
--- nothing arrived, and nothing is recorded
-abbrev pub no_stream : Stream
-no_stream = record { unread = []; ended = Bool.false }
+abbrev pub behind_from : ℕ → Setup → TraceState → Next → TraceState
+behind_from zero g l o = l
+behind_from (suc n) g l (Does i m) = behind_from n g m (next_item g m)
+behind_from (suc n) g l (Waits kind) = l
+behind_from (suc n) g l Over = l
 
-abbrev pub no_answers : Answers
-no_answers = record { replies = []; connects = []; choices = [] }
+-- where it stands behind the first n items
+abbrev pub behind : ℕ → Setup → TraceState → TraceState
+behind n g l = behind_from n g l (next_item g l)
 
 -- an accepted connection, on its client's stream and its recorded answers
 abbrev pub start : Setup → Stream → Answers → TraceState
-start g client answers = record {
-  phase = accepted g;
+start g client answers = at (enter g ClientAccepted Absent (first_host g)) (record {
+  phase = Draining;
   vars = no_scopes;
-  host = no_host;
-  servers = 0;
+  host = first_host g;
+  finished = false;
   client = client;
+  server = NoServer;
+  sent = no_bytes;
   answers = answers;
-}
+})
+
+abbrev pub may_relay : Ready → Bool → Bool
+may_relay Nothing room = false
+may_relay Passable room = room
+may_relay IsMet room = true
+
+-- The waits at which a connection may rest, with nothing of it ready or queued: not at a call that
+-- doesn't sleep, nor at a choice of the proxy's own, nor at a relay that has bytes and room for
+-- them, or a collect that is met.
+abbrev pub rests : (asleep : Bool) → WaitKind → Counts → TakenCounts → Bool
+rests asleep (ForReply call) sent took = asleep
+rests asleep ForReuse sent took = false
+rests asleep (ForRelay c s) sent took =
+    not (may_relay c (has_room sent took Server) || may_relay s (has_room sent took Client))
+rests asleep other sent took = true
+
+-- no item may be given: a gate is closed, it rests at a wait, or it is over
+abbrev pub GivesNoMore : (asleep : Bool) → Counts → TakenCounts → Next → Type 0
+GivesNoMore asleep sent took (Does i l) = may_give i sent took ≡ false
+GivesNoMore asleep sent took (Waits kind) = rests asleep kind sent took ≡ true
+GivesNoMore asleep sent took Over = Unit {0}

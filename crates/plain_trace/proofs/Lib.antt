@@ -1,4 +1,0 @@
-pub mod Goes
-pub mod Recorded
-pub mod Evaluated
-pub mod Steps

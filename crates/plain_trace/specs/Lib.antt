@@ -1,5 +1,0 @@
-pub mod Setup
-pub mod Items
-pub mod Recorder
-pub mod Runs
-pub mod Trace
