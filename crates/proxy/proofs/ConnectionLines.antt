@@ -2,19 +2,20 @@
 use Rattle.std.proofs.Common.{◌≡◌, refl, sym, ap, subst, ◌∙◌, ℕ, ◌-◌, List, [], ◌∷◌, ◌++◌, length}
 use Rattle.std.proofs.Common.{Bool, true, false, Option, Some, None, arith, if◌then◌else◌}
 use Rattle.px_bytes.specs.declared.addr.Side.TheVariants.{Client, Server}
-use Rattle.proxy_core.specs.Past.{Past, heard, live_numbers}
+use Rattle.proxy_core.specs.Past.{Past, shared}
 use Rattle.proxy_core.specs.Queries.{pending_on}
 use Rattle.proxy_core.specs.Ready.{is_in}
 use Rattle.proxy_core.specs.Refusals.{live_at}
-use Rattle.proxy_core.specs.Represents.{ConnectionContinues, LiveContinues, Represents}
+use Rattle.proxy_core.specs.Represents.{AgreesAt, Represents}
 use Rattle.proxy_core.specs.Live.{pending_in}
-use Rattle.proxy_core.specs.Scheduler.{State, pending}
+use Rattle.proxy_core.specs.Scheduler.{State, seen, pending}
 use Rattle.proxy_core.specs.declared.config.Config.{Config}
 use Rattle.proxy_core.specs.declared.core_state.Core.{Core}
 use Rattle.proxy_core.specs.declared.live.Conn.{Conn}
 use Rattle.proxy_core.specs.declared.live.Live.{Live}
-use Rattle.proxy_core.proofs.AgreesAccepts.{still_pending}
 use Rattle.proxy_core.proofs.LiveLookups.{live_absent, live_present}
+use Rattle.proxy_core.proofs.Standing.{as_live}
+use Rattle.proxy_core.proofs.Stepping.{pending_same}
 use Rattle.proxy.specs.Replay.{taken_bytes, connection_text, connections_text, taken_of}
 use Rattle.proxy.specs.Replay.{open_if_live, conn_text, conns_text}
 use Rattle.proxy.specs.Report.{client_text, open_text}
@@ -27,15 +28,16 @@ to_client : (o : Option Conn) → pending_on Client o ≡ pending_in o
 to_client None = refl
 to_client (Some conn) = refl
 
-open_same : (C : Config) (past : Past) (s : State) (core : Core) (c : ℕ) → Represents C past s core → open_if_live c (live_at core.live.items c) ≡ (if is_in (live_numbers past) c then open_text c (pending past s c) 0 else [])
-open_same C past s core c r = by_live (is_in (live_numbers past) c) refl
+open_same : (C : Config) (past : Past) (s : State) (core : Core) (c : ℕ) → Represents C past s core → open_if_live c (live_at core.live.items c) ≡ (if is_in (shared past).live c then open_text c (pending past s c Client) 0 else [])
+open_same C past s core c r = by_live (is_in (shared past).live c) refl
   where
-    by_live : (b : Bool) → is_in (live_numbers past) c ≡ b → open_if_live c (live_at core.live.items c) ≡ (if b then open_text c (pending past s c) 0 else [])
+    by_live : (b : Bool) → is_in (shared past).live c ≡ b → open_if_live c (live_at core.live.items c) ≡ (if b then open_text c (pending past s c Client) 0 else [])
     by_live true e =
-        let f = live_present c core.live.items (ap (λ ns. is_in ns c) r.agrees.live ∙ e) in
-        let k = let P : Option Live → Type 0 = λ o. LiveContinues C (heard c past) (s.places c) o in subst P f.1 (r.agrees.each c) in
-        ap (open_if_live c) f.1 ∙ ap (λ n. open_text c n (pending_on Server f.0.conn)) (to_client f.0.conn ∙ still_pending C (heard c past) (s.places c) f.0.conn k) ∙ ap (open_text c (pending past s c)) (none_to_server f.0.conn)
-    by_live false e = ap (open_if_live c) (live_absent c core.live.items (ap (λ ns. is_in ns c) r.agrees.live ∙ e))
+        let f = live_present c core.live.items (ap (λ y. is_in y.live c) r.agrees.shared ∙ e) in
+        let a = let P : Option Live → Type 0 = λ o. AgreesAt C (seen past s c) o in subst P f.1 (r.agrees.each c) in
+        let p = pending_same C c (seen past s c) f.0.conn (as_live C c (seen past s c) e (r.sound.each c)) a.1 in
+        ap (open_if_live c) f.1 ∙ ap (λ n. open_text c n (pending_on Server f.0.conn)) (to_client f.0.conn ∙ p.0) ∙ ap (open_text c (pending past s c Client)) (none_to_server f.0.conn)
+    by_live false e = ap (open_if_live c) (live_absent c core.live.items (ap (λ y. is_in y.live c) r.agrees.shared ∙ e))
 
 pub lines_same : (C : Config) (past : Past) (s : State) (core : Core) (numbers : List ℕ) → Represents C past s core → conns_text core (taken_of past s numbers) ≡ connections_text past s numbers
 lines_same C past s core [] r = refl

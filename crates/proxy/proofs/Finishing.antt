@@ -44,7 +44,7 @@ reports C r text number last old mid new s w = record {
 part_written : (C : configured.Config) (r : Replay) (schedule text rest : List ℕ) (number : ℕ) (last : List ℕ) (old mid new : Option (List ℕ)) (s : Stands C text number r.core r.taken.items r.events old mid) → schedule ≡ text ++ rest → IsLast C s.past s.state number rest last → WritesFrontOf (conns_text r.core r.taken.items ++ last) mid new → WritesFront C schedule old new
 part_written C r schedule text rest number last old mid new s e is w =
     let P : List ℕ → Type 0 = λ l. WritesFrontOf l mid new in (
-      report_text s.past s.state last,
+      report_text C s.past s.state last,
       inr (record { past = s.past; state = s.state; of_front = front_of C text rest schedule number r.core r.taken.items r.events old mid e s; last = last; is_last = is; text_is = refl }),
       front_more (past_text s.past) (connections_text s.past s.state (accepted s.past) ++ last) old mid new s.written (subst P (ends_same C r text number last old mid s) w),
     )

@@ -2,7 +2,7 @@
 use Rattle.std.proofs.Common.{◌≡◌, ◌↔◌, refl, sym, ap, subst, ◌∙◌, ℕ, ◌+◌, List, [], ◌∷◌, ◌++◌}
 use Rattle.std.proofs.Common.{length, map, Bool, true, false, Option, Some, None, Result, Ok, Err}
 use Rattle.std.proofs.Common.{IfOk, IfErr, OnOk, IfSome, arith, inl, inr}
-use Rattle.proxy_core.specs.Past.{Happened, Past, with_accepted}
+use Rattle.proxy_core.specs.Past.{Happened, Past, kind_of, with_accepted}
 use Rattle.proxy_core.specs.Scheduler.{State}
 use Rattle.proxy_core.specs.declared.config.Config.{Config}
 use Rattle.proxy_core.specs.declared.core_state.Core.{Core}
@@ -49,7 +49,7 @@ none_accepted : (past : Past) → accepted past ≡ [] → accepted_in (events_o
 none_accepted [] e = refl
 none_accepted (x ∷ past) e = by_event x.event (none_accepted past) e
   where
-    by_event : (y : Event) → (accepted past ≡ [] → accepted_in (events_of past) ≡ []) → with_accepted y (accepted past) ≡ [] → accepted_in (y ∷ events_of past) ≡ []
+    by_event : (y : Event) → (accepted past ≡ [] → accepted_in (events_of past) ≡ []) → with_accepted (kind_of y) (accepted past) ≡ [] → accepted_in (y ∷ events_of past) ≡ []
     by_event (Accept conn vs from) rest f = absurd (none_pushed (accepted past) conn f)
     by_event (ClientTook conn n) rest f = rest f
     by_event Run rest f = rest f
@@ -58,7 +58,7 @@ none_in : (past : Past) → accepted_in (events_of past) ≡ [] → accepted pas
 none_in [] e = refl
 none_in (x ∷ past) e = by_event x.event (none_in past) e
   where
-    by_event : (y : Event) → (accepted_in (events_of past) ≡ [] → accepted past ≡ []) → accepted_in (y ∷ events_of past) ≡ [] → with_accepted y (accepted past) ≡ []
+    by_event : (y : Event) → (accepted_in (events_of past) ≡ [] → accepted past ≡ []) → accepted_in (y ∷ events_of past) ≡ [] → with_accepted (kind_of y) (accepted past) ≡ []
     by_event (Accept conn vs from) rest f = cc
     by_event (ClientTook conn n) rest f = rest f
     by_event Run rest f = rest f

@@ -10,15 +10,15 @@ use Rattle.px_outside.specs.Outside.{told_more, AddsPrefix}
 use Rattle.px_outside.specs.declared.failed.Failed.{Failed}
 use Rattle.px_outside.specs.declared.failed.Failed.TheVariants as failed
 use Rattle.connection_model.specs.declared.note.Note.{Note}
-use Rattle.proxy_core.specs.Past.{Happened, Past}
-use Rattle.proxy_core.specs.Refusals.{refusal}
+use Rattle.proxy_core.specs.Past.{Happened, Past, kind_of}
+use Rattle.proxy_core.specs.Refusal.{refusal, refused}
 use Rattle.proxy_core.specs.Represents.{Represents}
-use Rattle.proxy_core.specs.Scheduler.{State, no_connections, refused}
+use Rattle.proxy_core.specs.Scheduler.{State, no_connections}
 use Rattle.proxy_core.specs.Steps.{KeepsStanding, StandsAfter}
 use Rattle.proxy_core.specs.declared.config.Config.{Config}
 use Rattle.proxy_core.specs.declared.core_state.Core.{Core}
 use Rattle.proxy_core.specs.declared.event.Event.{Event}
-use Rattle.proxy_core.proofs.AgreesAccepts.{refusal_same}
+use Rattle.proxy_core.proofs.Stepping.{refusal_same}
 use Rattle.proxy.specs.declared.taken.Taken.{Taken}
 use Rattle.proxy.specs.declared.replay.Stop.{Stop}
 use Rattle.proxy.specs.declared.replay.Stop.TheVariants as stop
@@ -108,7 +108,7 @@ pub stands_next : (C : Config) (text line : List ℕ) (number : ℕ) (core next 
     → (s : Stands C text number core taken events told old) → IsLine line → Gives line (events_of s.past) event → new ≡ told_more old (note_lines group) → Stands C (with_line text line) (number + 1) next kept (events + 1) told new
 stands_next C text line number core next event group taken kept events told old new g takes s is gives w =
     let k = after C s.past s.state core next event group s.represents g in
-    let fine : refused C s.past s.state event ≡ None = sym (refusal_same C s.past s.state core event s.represents.agrees) ∙ g.accepted in
+    let fine : refused C s.past s.state (kind_of event) ≡ None = sym (refusal_same C s.past s.state core (kind_of event) s.represents) ∙ g.accepted in
     record {
       past = record { event = event; group = group } ∷ s.past;
       state = k.next;

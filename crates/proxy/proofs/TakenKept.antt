@@ -4,64 +4,74 @@ use Rattle.std.proofs.Common.{List, [], ◌∷◌, ◌++◌, length, take, drop,
 use Rattle.std.proofs.Common.{Option, Some, None, nat_eq, nat_le, nat_lt, arith, if◌then◌else◌, ◌⊎◌}
 use Rattle.std.proofs.Common.{inl, inr}
 use Rattle.std.specs.Bool.{MatchBool}
+use Rattle.std.specs.Prelude.{is_none}
 use Rattle.std.specs.List.{IsDistinct}
 use Rattle.std.proofs.lemmas.Bool.Decides.{nat_tests}
-use Rattle.std.proofs.lemmas.List.{map-append, take-append-le, length-drop}
+use Rattle.std.proofs.lemmas.List.{map-append, take-append-le}
 use Rattle.std.proofs.lemmas.Grind.{flat_map-append}
 use Rattle.std.proofs.lemmas.Map.Keys.{IsDistinct-head, IsDistinct-tail}
 use Rattle.px_bytes.specs.declared.addr.Addr.{Addr}
 use Rattle.px_bytes.specs.declared.addr.Side.TheVariants.{Client}
+use Rattle.connection_model.specs.declared.note.Cause.TheVariants.{Memory}
 use Rattle.connection_model.specs.declared.note.Note.{Note}
+use Rattle.connection_model.specs.declared.note.Note.TheVariants.{Finish}
+use Rattle.connection_model.specs.Heard.{Takes, EventKind, Accepts, Comes, Runs, Accepted, Heard}
 use Rattle.connection_model.specs.Item.{Item, to_client, client_output}
+use Rattle.connection_model.proofs.Hearing.{others_not_heard}
 use Rattle.proxy_core.specs.Live.{pending_in}
-use Rattle.proxy_core.specs.Moves.{Leads, Moves, MovesBy, MovesRing, RunsOn, RunsOut, RunsFailed}
-use Rattle.proxy_core.specs.Moves.{MovesTook, MovesFailed}
-use Rattle.proxy_core.specs.Past.{Happened, Past, Heard, heard, hears, live_numbers, last_number}
-use Rattle.proxy_core.specs.Past.{is_failed}
+use Rattle.proxy_core.specs.Moves.{Leads, Moves, MovesBy, MovesFailed, MovesOn, MovesCome, is_drained_at}
+use Rattle.proxy_core.specs.Moves.{MovesRing, RunsOn, RunsOut, RunsFailed}
+use Rattle.proxy_core.specs.Past.{Happened, Past, kind_of, heard, shared}
 use Rattle.proxy_core.specs.Queries.{front_of, front_in, queue_on}
 use Rattle.proxy_core.specs.Ready.{is_in}
-use Rattle.proxy_core.specs.Refusals.{live_at, refusal, took_refusal_at}
-use Rattle.proxy_core.specs.Represents.{Continues, NeverBegan, ConnectionContinues, LiveContinues}
-use Rattle.proxy_core.specs.Represents.{Represents}
-use Rattle.proxy_core.specs.Scheduler.{State, with_place, refused}
-use Rattle.proxy_core.specs.Sound.{Served, SoundBy, SoundAt, Sound}
-use Rattle.proxy_core.specs.Steps.{StandsAfter}
+use Rattle.proxy_core.specs.Refusal.{known, core_standing, core_known, refusal_rows, takes_too_much}
+use Rattle.proxy_core.specs.Refusal.{refused, refusal}
+use Rattle.proxy_core.specs.Refusals.{live_at}
+use Rattle.proxy_core.specs.Represents.{ConnectionContinues, AgreesAt, Represents}
+use Rattle.proxy_core.specs.Scheduler.{State, Seen, seen, seen_after}
+use Rattle.proxy_core.specs.Sound.{unseen, Served}
 use Rattle.proxy_core.specs.declared.config.Config.{Config}
 use Rattle.proxy_core.specs.declared.core_state.Core.{Core}
-use Rattle.proxy_core.specs.declared.event.BadEvent.{BadEvent}
-use Rattle.proxy_core.specs.declared.event.BadEvent.TheVariants.{NoConn, TookTooMuch}
 use Rattle.proxy_core.specs.declared.event.Event.{Event}
 use Rattle.proxy_core.specs.declared.event.Event.TheVariants.{Accept, ClientTook, Run}
 use Rattle.proxy_core.specs.declared.live.Conn.{Conn}
 use Rattle.proxy_core.specs.declared.live.Live.{Live}
-use Rattle.proxy_core.proofs.Members.{eq_self, eq_same, eq_turned, in_pushed_self, in_pushed_other}
+use Rattle.proxy_core.proofs.Framing.{about, front, touches, only_changed}
+use Rattle.proxy_core.proofs.GroupNotes.{About}
+use Rattle.proxy_core.proofs.Hearing.{come_told, run_told}
+use Rattle.proxy_core.proofs.Members.{eq_self, eq_same, eq_turned, in_pushed_other}
 use Rattle.proxy_core.proofs.ReadyRing.{distinct_none, distinct_push, absent_all}
-use Rattle.proxy_core.proofs.SoundAccepts.{above, unheard_is}
+use Rattle.proxy_core.proofs.SoundEvents.{first_notes, seen_accept}
+use Rattle.proxy_core.proofs.SoundPast.{none_holds, may_come_at, not_accepted, front_served, unchanged}
 use Rattle.proxy.specs.declared.taken.Taken.{Taken}
 use Rattle.proxy.specs.Replay.{accepted, taken_bytes, taken_of}
 use Rattle.proxy.specs.Taken.{took_of, with_took, with_bytes, more_of}
 
 -- accepted numbers rise
 pub record Rising (past : Past) : Type 0 where
-  pub known : (q : ℕ) → is_in (accepted past) q ≡ true → q ≤ last_number past
+  pub known : (q : ℕ) → is_in (accepted past) q ≡ true → q ≤ (shared past).last
   pub distinct : IsDistinct nat_eq (accepted past)
 
-absent : (past : Past) (c : ℕ) → Rising past → last_number past < c → is_in (accepted past) c ≡ false
+absent : (past : Past) (c : ℕ) → Rising past → (shared past).last < c → is_in (accepted past) c ≡ false
 absent past c r h = by_test (is_in (accepted past) c) refl
   where
     by_test : (b : Bool) → is_in (accepted past) c ≡ b → is_in (accepted past) c ≡ false
     by_test false e = e
-    by_test true e = absurd (let k : c ≤ last_number past = r.known c e in omega (arith, k, h))
+    by_test true e = absurd (let k : c ≤ (shared past).last = r.known c e in omega (arith, k, h))
 
-rises_with : (C : Config) (past : Past) (e : Event) (group : List Note) (s : State) → Rising past → refused C past s e ≡ None → Rising (record { event = e; group = group } ∷ past)
+above : (C : Config) (past : Past) (c : ℕ) (vs : List ℕ) (from : Addr) (s : State) → refused C past s (Accepts c vs from) ≡ None → (shared past).last < c
+above C past c vs from s h =
+    let r = (none_holds (refusal_rows C (known past s (Accepts c vs from)) (Accepts c vs from)) h).1.0 in grind (arith, nat_tests)
+
+rises_with : (C : Config) (past : Past) (e : Event) (group : List Note) (s : State) → Rising past → refused C past s (kind_of e) ≡ None → Rising (record { event = e; group = group } ∷ past)
 rises_with C past (Accept c vs from) group s r h =
-    let low = above C past c vs h in
+    let low = above C past c vs from s h in
     record {
       known = λ q k. by_number q (nat_eq q c) refl k low;
       distinct = distinct_push c (accepted past) r.distinct (absent past c r low);
     }
   where
-    by_number : (q : ℕ) (b : Bool) → nat_eq q c ≡ b → is_in (accepted past ++ c ∷ []) q ≡ true → last_number past < c → q ≤ c
+    by_number : (q : ℕ) (b : Bool) → nat_eq q c ≡ b → is_in (accepted past ++ c ∷ []) q ≡ true → (shared past).last < c → q ≤ c
     by_number q true e k low = let f = eq_same q c e in omega (arith, f)
     by_number q false e k low = let f = r.known q (sym (in_pushed_other c q (accepted past) e) ∙ k) in omega (arith, f, low)
 rises_with C past (ClientTook c n) group s r h = record { known = r.known; distinct = r.distinct }
@@ -71,6 +81,15 @@ pub rising : (C : Config) (past : Past) (s : State) → Leads C past s → Risin
 rising C [] s leads = record { known = λ q h. cc; distinct = distinct_none }
 rising C (x ∷ past) s (before, leads, accepted, moves) = rises_with C past x.event x.group before (rising C past before leads) accepted
 
+-- the bytes that one client took, by what is seen of its connection
+abbrev bytes_seen : Seen → List ℕ
+bytes_seen z = take z.heard.client.took (client_output z.place)
+
+-- of another connection they stay
+bytes_stay : (C : Config) (past : Past) (s next : State) (e : Event) (group : List Note) → Moves C past (record { event = e; group = group }) s next → (q : ℕ) → nat_eq (about (kind_of e) s) q ≡ false
+    → taken_bytes (record { event = e; group = group } ∷ past) next q ≡ taken_bytes past s q
+bytes_stay C past s next e group m q f = ap bytes_seen ((only_changed past (kind_of e) group s next (touches C past (kind_of e) group s next m)).others q f)
+
 -- the same bytes for each of some numbers
 same_each : (past past' : Past) (s s' : State) (numbers : List ℕ) → ((q : ℕ) → taken_bytes past' s' q ≡ taken_bytes past s q) → taken_of past' s' numbers ≡ taken_of past s numbers
 same_each past past' s s' [] h = refl
@@ -79,17 +98,31 @@ same_each past past' s s' (c ∷ numbers) h =
     ap (λ b. f b ∷ taken_of past' s' numbers) (h c) ∙ ap (λ l. f (taken_bytes past s c) ∷ l) (same_each past past' s s' numbers h)
 
 -- an accept
-accept_kept : (C : Config) (past : Past) (s next : State) (core : Core) (c : ℕ) (vs : List ℕ) (from : Addr) (group : List Note) → Represents C past s core → refused C past s (Accept c vs from) ≡ None
+accept_kept : (C : Config) (past : Past) (s next : State) (core : Core) (c : ℕ) (vs : List ℕ) (from : Addr) (group : List Note) → Represents C past s core → refused C past s (Accepts c vs from) ≡ None
     → Moves C past (record { event = Accept c vs from; group = group }) s next
     → taken_of past s (accepted past) ++ record { conn = c; bytes = [] } ∷ [] ≡ taken_of (record { event = Accept c vs from; group = group } ∷ past) next (accepted past ++ c ∷ [])
 accept_kept C past s next core c vs from group r h m =
     let x : Happened = record { event = Accept c vs from; group = group } in
-    let places : (q : ℕ) → next.places q ≡ s.places q = λ q. ap (λ y. y.places q) m.state in
-    let same : (q : ℕ) → taken_bytes (x ∷ past) next q ≡ taken_bytes past s q = λ q. ap (λ p. take (heard q past).took.client (client_output p)) (places q) in
-    let u = unheard_is C c (heard c past) (is_in (live_numbers past) c) (is_in s.ring c) (s.places c) (r.sound.unheard c (above C past c vs h)) (r.sound.each c) in
-    let none : taken_bytes (x ∷ past) next c ≡ [] = same c ∙ ap (λ t. take t.took.client (client_output (s.places c))) u.nothing in
+    let u = not_accepted C past c vs from s r.sound h in
+    let own : taken_bytes (x ∷ past) next c ≡ [] = by_notes u m.notes in
+    let before : taken_bytes past s c ≡ [] = ap bytes_seen u in
+    let same : (q : ℕ) → taken_bytes (x ∷ past) next q ≡ taken_bytes past s q = λ q. by_number q (nat_eq c q) refl (own ∙ sym before) in
     let f : List ℕ → Taken = λ b. record { conn = c; bytes = b } in
-    sym (map-append (λ q. record { conn = q; bytes = taken_bytes (x ∷ past) next q }) (accepted past) (c ∷ []) ∙ ap (λ l. l ++ f (taken_bytes (x ∷ past) next c) ∷ []) (same_each past (x ∷ past) s next (accepted past) same) ∙ ap (λ b. taken_of past s (accepted past) ++ f b ∷ []) none)
+    sym (map-append (λ q. record { conn = q; bytes = taken_bytes (x ∷ past) next q }) (accepted past) (c ∷ []) ∙ ap (λ l. l ++ f (taken_bytes (x ∷ past) next c) ∷ []) (same_each past (x ∷ past) s next (accepted past) same) ∙ ap (λ b. taken_of past s (accepted past) ++ f b ∷ []) own)
+  where
+    after : Happened
+    after = record { event = Accept c vs from; group = group }
+
+    a : Accepted
+    a = record { virtual = vs; from = from }
+
+    by_notes : seen past s c ≡ unseen → (group ≡ []) ⊎ (group ≡ Finish c Memory ∷ []) → taken_bytes (after ∷ past) next c ≡ []
+    by_notes u (inl e) = ap bytes_seen (seen_accept past c a false group s next u e m.state)
+    by_notes u (inr e) = ap bytes_seen (seen_accept past c a true group s next u e m.state)
+
+    by_number : (q : ℕ) (b : Bool) → nat_eq c q ≡ b → taken_bytes (after ∷ past) next c ≡ taken_bytes past s c → taken_bytes (after ∷ past) next q ≡ taken_bytes past s q
+    by_number q true e k = let P : ℕ → Type 0 = λ n. taken_bytes (after ∷ past) next n ≡ taken_bytes past s n in subst P (eq_same c q e) k
+    by_number q false e k = bytes_stay C past s next (Accept c vs from) group m q e
 
 -- a took-count: the bytes of one client
 drop_nothing : (n : ℕ) → drop {A = ℕ} n [] ≡ []
@@ -138,13 +171,14 @@ one_more past past' s s' c bytes (q ∷ numbers) d others own = by_number (nat_e
         ap (λ b. entry q b ∷ taken_of past s numbers) here ∙ ap (λ l. entry q (taken_bytes past' s' q) ∷ l) (none_of past past' s s' c numbers gone others)
 
 -- the front of what was pending
-live_pending : (o : Option Live) (n : ℕ) → took_refusal_at o n ≡ None → (l : Live) × (o ≡ Some l) × (n ≤ pending_in l.conn)
-live_pending None n h = cc
-live_pending (Some l) n h = by_test (nat_lt (pending_in l.conn) n) refl h
+live_pending : (core : Core) (c n : ℕ) → refusal core (ClientTook c n) ≡ None → (l : Live) × (live_at core.live.items c ≡ Some l) × (n ≤ pending_in l.conn)
+live_pending core c n h =
+    let v = Comes c (Takes Client n) in
+    let r = none_holds (refusal_rows core.config (core_known core v) v) h in by_live (live_at core.live.items c) refl r.0 r.1.1.1.1.0
   where
-    by_test : (b : Bool) → nat_lt (pending_in l.conn) n ≡ b → (if b then Some TookTooMuch else None) ≡ None → (m : Live) × (Some l ≡ Some m) × (n ≤ pending_in m.conn)
-    by_test true e k = cc
-    by_test false e k = (l, refl, grind (arith, nat_tests))
+    by_live : (o : Option Live) → live_at core.live.items c ≡ o → is_none (core_standing o) ≡ false → takes_too_much (core_standing o) (Takes Client n) ≡ false → (l : Live) × (live_at core.live.items c ≡ Some l) × (n ≤ pending_in l.conn)
+    by_live None e k t = cc
+    by_live (Some l) e k t = let f : nat_lt (pending_in l.conn) n ≡ false = t in (l, e, grind (arith, nat_tests))
 
 front_is : (n : ℕ) (l : Live) → n ≤ pending_in l.conn → front_of Client n (Some l) ≡ Some (take n (queue_on Client l.conn))
 front_is n l h = by_conn l.conn h
@@ -153,69 +187,75 @@ front_is n l h = by_conn l.conn h
     by_conn None h = let e : nat_le n 0 ≡ true = grind (arith, nat_tests) in rw e refl
     by_conn (Some conn) h = let e : nat_le n (length conn.queue) ≡ true = grind (arith, nat_tests) in rw e refl
 
-queue_is : (C : Config) (h : Heard) (p : List Item) (o : Option Conn) → ConnectionContinues C h p o → queue_on Client o ≡ drop h.took.client (client_output p)
-queue_is C h p None k = rw k.no_items (sym (drop_nothing h.took.client))
-queue_is C h p (Some conn) k = k.queue
+queue_is : (C : Config) (z : Seen) (o : Option Conn) → ConnectionContinues C z o → queue_on Client o ≡ drop z.heard.client.took (client_output z.place)
+queue_is C z None k = rw k.no_items (sym (drop_nothing z.heard.client.took))
+queue_is C z (Some conn) k = k.queue
 
--- what it leaves of the places
+-- what a took-count leaves of the places
 same_places : (C : Config) (past : Past) (s next : State) (c n : ℕ) (group : List Note) → Moves C past (record { event = ClientTook c n; group = group }) s next → (q : ℕ) → next.places q ≡ s.places q
-same_places C past s next c n group m q = by_failed (is_failed (heard c past).notes) m
+same_places C past s next c n group m q = by_failed (heard c past).failed m
   where
-    by_failed : (b : Bool) → MatchBool b (MovesFailed c s group next) (MovesTook C (heard c (record { event = ClientTook c n; group = group } ∷ past)) c s group next) → next.places q ≡ s.places q
+    by_failed : (b : Bool) → MatchBool b (MovesFailed c group s next) (MovesOn C (heard c (record { event = ClientTook c n; group = group } ∷ past)) c group s next) → next.places q ≡ s.places q
     by_failed true k = ap (λ y. y.places q) k.state
     by_failed false k = ap (λ y. y.places q) k.state
 
-took_kept : (C : Config) (past : Past) (s next : State) (core : Core) (c n : ℕ) (group : List Note) → Represents C past s core → refusal core (ClientTook c n) ≡ None → Moves C past (record { event = ClientTook c n; group = group }) s next
+took_kept : (C : Config) (past : Past) (s next : State) (core : Core) (c n : ℕ) (group : List Note) → Represents C past s core → refused C past s (Comes c (Takes Client n)) ≡ None → refusal core (ClientTook c n) ≡ None → Moves C past (record { event = ClientTook c n; group = group }) s next
     → with_took (took_of core (ClientTook c n)) (taken_of past s (accepted past)) ≡ taken_of (record { event = ClientTook c n; group = group } ∷ past) next (accepted past)
-took_kept C past s next core c n group r h m =
+took_kept C past s next core c n group r fine h m =
     let x : Happened = record { event = ClientTook c n; group = group } in
-    let f = live_pending (live_at core.live.items c) n h in
-    let k = let P : Option Live → Type 0 = λ o. LiveContinues C (heard c past) (s.places c) o in subst P f.1 (r.agrees.each c) in
+    let z = seen past s c in
+    let f = live_pending core c n h in
+    let a = let P : Option Live → Type 0 = λ o. AgreesAt C z o in subst P f.1 (r.agrees.each c) in
     let out = client_output (s.places c) in
     let bytes = take n (queue_on Client f.0.conn) in
     let front : front_of Client n (live_at core.live.items c) ≡ Some bytes = ap (front_of Client n) f.1 ∙ front_is n f.0 f.2 in
-    let took : (heard c (x ∷ past)).took.client ≡ (heard c past).took.client + n = rw (eq_self c) refl in
+    let may = may_come_at C past s c (Takes Client n) (r.sound.each c) fine in
+    let took : (heard c (x ∷ past)).client.took ≡ (heard c past).client.took + n = (come_told c (heard c past) (Takes Client n) group refl may.served.plain.connects (touches C past (Comes c (Takes Client n)) group s next m).notes).took in
     let own : taken_bytes (x ∷ past) next c ≡ taken_bytes past s c ++ bytes =
-    ap (λ p. take (heard c (x ∷ past)).took.client (client_output p)) (same_places C past s next c n group m c) ∙ ap (λ t. take t out) took ∙ sym (more_taken (heard c past).took.client n out)
-    ∙ ap (λ q. take (heard c past).took.client out ++ take n q) (sym (queue_is C (heard c past) (s.places c) f.0.conn k)) in
+    ap (λ p. take (heard c (x ∷ past)).client.took (client_output p)) (same_places C past s next c n group m c) ∙ ap (λ t. take t out) took ∙ sym (more_taken (heard c past).client.took n out)
+    ∙ ap (λ q. take (heard c past).client.took out ++ take n q) (sym (queue_is C z f.0.conn a.1)) in
     ap (λ o. with_took (more_of c o) (taken_of past s (accepted past))) front
     ∙ one_more past (x ∷ past) s next c bytes (accepted past) (rising C past s r.sound.leads).distinct
-    (λ q e. ap (λ p. take (heard q (x ∷ past)).took.client (client_output p)) (same_places C past s next c n group m q) ∙ ap (λ t. take t (client_output (s.places q))) (rw (eq_turned q c e) refl))
+    (λ q e. bytes_stay C past s next (ClientTook c n) group m q (eq_turned q c e))
     own
 
 -- a Run
 grown : (t : ℕ) (p more : List Item) → t ≤ length (client_output p) → take t (client_output (p ++ more)) ≡ take t (client_output p)
 grown t p more h = ap (take t) (flat_map-append to_client p more) ∙ take-append-le t (client_output p) (client_output more) h
 
-took_within : (C : Config) (past : Past) (s : State) (c : ℕ) (name : List ℕ) → Sound C past s → (heard c past).server ≡ Some name → (heard c past).took.client ≤ length (client_output (s.places c))
-took_within C past s c name sound e =
-    let v : Served C c name (heard c past) (is_in (live_numbers past) c) (is_in s.ring c) (s.places c) = (let P : Option (List ℕ) → Type 0 = λ o. SoundBy o C c (heard c past) (is_in (live_numbers past) c) (is_in s.ring c) (s.places c) in subst P e (sound.each c)) in v.took
-
-grown_at : (past : Past) (s next : State) (c : ℕ) (rest : List ℕ) (more : List Item) → (heard c past).took.client ≤ length (client_output (s.places c)) → next ≡ record { ring = rest; places = with_place c (s.places c ++ more) s.places }
-    → (q : ℕ) → take (heard q past).took.client (client_output (next.places q)) ≡ taken_bytes past s q
-grown_at past s next c rest more h e q = ap (λ y. take (heard q past).took.client (client_output (y.places q))) e ∙ by_number (nat_eq c q) refl
+-- the front passed more: its client took a front of what it sent before
+front_bytes : (C : Config) (past : Past) (s next : State) (c : ℕ) (rest : List ℕ) (group : List Note) → Served C c (seen past s c) → s.ring ≡ c ∷ rest → Moves C past (record { event = Run; group = group }) s next → MovesRing C past (c ∷ rest) group s next
+    → taken_bytes (record { event = Run; group = group } ∷ past) next c ≡ taken_bytes past s c
+front_bytes C past s next c rest group v front_is m k =
+    let x : Happened = record { event = Run; group = group } in
+    let A : ℕ → Type 0 = λ n. About n group in
+    let t = run_told c (heard c past) group v.plain.connects (subst A (ap front front_is) (touches C past Runs group s next m).notes) in
+    let took : (heard c (x ∷ past)).client.took ≡ (heard c past).client.took = t.took ∙ (omega arith) in
+    ap (λ n. take n (client_output (next.places c))) took ∙ by_failed (heard c past).failed k
   where
-    by_number : (b : Bool) → nat_eq c q ≡ b → take (heard q past).took.client (client_output (if b then s.places c ++ more else s.places q)) ≡ taken_bytes past s q
-    by_number true e = ap (λ m. take (heard m past).took.client (client_output (s.places c ++ more))) (sym (eq_same c q e)) ∙ grown (heard c past).took.client (s.places c) more h ∙ ap (taken_bytes past s) (eq_same c q e)
-    by_number false e = refl
+    by_failed : (b : Bool) → MatchBool b (RunsFailed (heard c past) c rest group s next) (RunsOn C (heard c past) c rest group s next ⊎ RunsOut C (heard c past) c rest group s next)
+        → take (heard c past).client.took (client_output (next.places c)) ≡ taken_bytes past s c
+    by_failed true j = ap (λ y. take (heard c past).client.took (client_output (y.places c))) j.state
+    by_failed false (inl j) = ap (λ y. take (heard c past).client.took (client_output (y.places c))) j.state ∙ ap (λ b. take (heard c past).client.took (client_output (if b then s.places c ++ j.more else s.places c))) (eq_self c) ∙ grown (heard c past).client.took (s.places c) j.more v.within
+    by_failed false (inr j) = ap (λ y. take (heard c past).client.took (client_output (y.places c))) j.state ∙ ap (λ b. take (heard c past).client.took (client_output (if b then s.places c ++ j.more else s.places c))) (eq_self c) ∙ grown (heard c past).client.took (s.places c) j.more v.within
 
-run_bytes : (C : Config) (past : Past) (s next : State) (group : List Note) → Sound C past s → (ring : List ℕ) → MovesRing C past (record { event = Run; group = group }) ring s next
-    → (q : ℕ) → take (heard q past).took.client (client_output (next.places q)) ≡ taken_bytes past s q
-run_bytes C past s next group sound [] m q = ap (λ y. take (heard q past).took.client (client_output (y.places q))) m.1
-run_bytes C past s next group sound (c ∷ rest) m q = by_failed (is_failed (heard c past).notes) m
+run_bytes : (C : Config) (past : Past) (s next : State) (core : Core) (group : List Note) → Represents C past s core → Moves C past (record { event = Run; group = group }) s next → (ring : List ℕ) → s.ring ≡ ring → MovesRing C past ring group s next
+    → (q : ℕ) → taken_bytes (record { event = Run; group = group } ∷ past) next q ≡ taken_bytes past s q
+run_bytes C past s next core group r m [] e k q = ap bytes_seen (unchanged past Runs group s next q k (λ h. others_not_heard q h Runs [] refl refl) refl)
+run_bytes C past s next core group r m (c ∷ rest) e k q = by_number (nat_eq c q) refl
   where
     x : Happened
     x = record { event = Run; group = group }
 
-    by_failed : (b : Bool) → MatchBool b (RunsFailed (heard c (x ∷ past)) c rest s group next) (RunsOn C (heard c (x ∷ past)) c rest s group next ⊎ RunsOut C (heard c (x ∷ past)) c rest s group next)
-        → take (heard q past).took.client (client_output (next.places q)) ≡ taken_bytes past s q
-    by_failed true k = ap (λ y. take (heard q past).took.client (client_output (y.places q))) k.state
-    by_failed false (inl k) = grown_at past s next c rest k.more (took_within C past s c k.name sound k.server) k.state q
-    by_failed false (inr k) = grown_at past s next c rest k.more (took_within C past s c k.name sound k.server) k.state q
+    by_number : (b : Bool) → nat_eq c q ≡ b → taken_bytes (x ∷ past) next q ≡ taken_bytes past s q
+    by_number true f =
+        let v = front_served C past c rest s e (r.sound.each c) in
+        let P : ℕ → Type 0 = λ n. taken_bytes (x ∷ past) next n ≡ taken_bytes past s n in subst P (eq_same c q f) (front_bytes C past s next c rest group v.1 e m k)
+    by_number false f = bytes_stay C past s next Run group m q (ap (λ n. nat_eq n q) (ap front e) ∙ f)
 
 -- what clients took is kept over each event
-pub taken_kept : (C : Config) (past : Past) (s next : State) (core : Core) (e : Event) (group : List Note) → Represents C past s core → refused C past s e ≡ None → refusal core e ≡ None → Moves C past (record { event = e; group = group }) s next
+pub taken_kept : (C : Config) (past : Past) (s next : State) (core : Core) (e : Event) (group : List Note) → Represents C past s core → refused C past s (kind_of e) ≡ None → refusal core e ≡ None → Moves C past (record { event = e; group = group }) s next
     → with_took (took_of core e) (taken_of past s (accepted past)) ≡ taken_of (record { event = e; group = group } ∷ past) next (accepted (record { event = e; group = group } ∷ past))
 taken_kept C past s next core (Accept c vs from) group r h k m = accept_kept C past s next core c vs from group r h m
-taken_kept C past s next core (ClientTook c n) group r h k m = took_kept C past s next core c n group r k m
-taken_kept C past s next core Run group r h k m = sym (same_each past (record { event = Run; group = group } ∷ past) s next (accepted past) (run_bytes C past s next group r.sound s.ring m))
+taken_kept C past s next core (ClientTook c n) group r h k m = took_kept C past s next core c n group r h k m
+taken_kept C past s next core Run group r h k m = sym (same_each past (record { event = Run; group = group } ∷ past) s next (accepted past) (run_bytes C past s next core group r m s.ring refl m))

@@ -13,8 +13,9 @@ use Rattle.std.specs.Prelude.{
   nat_eq,
   Some,
 }
-use Rattle.proxy_core.specs.Past.{Past, Happened}
-use Rattle.proxy_core.specs.Scheduler.{State, refused}
+use Rattle.proxy_core.specs.Past.{Past, Happened, kind_of}
+use Rattle.proxy_core.specs.Refusal.{refused}
+use Rattle.proxy_core.specs.Scheduler.{State}
 use Rattle.proxy_core.specs.declared.config.Config.{Config}
 use Rattle.proxy_core.specs.declared.event.Event.{Event}
 use Rattle.proxy_core.specs.declared.event.Event.TheVariants.{Accept, ClientTook, Run}
@@ -96,4 +97,4 @@ pub record Refuses (C : Config) (past : Past) (s : State) (why : BadEvent)
   pub is_line : IsLine line
   pub event : Event
   pub gives : Gives line (events_of past) event
-  pub refused_for : refused C past s event ≡ Some why
+  pub refused_for : refused C past s (kind_of event) ≡ Some why

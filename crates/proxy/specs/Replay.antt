@@ -14,11 +14,13 @@ use Rattle.std.specs.Prelude.{
 }
 use Rattle.px_bytes.specs.declared.addr.Side.TheVariants.{Client, Server}
 use Rattle.connection_model.specs.Item.{client_output}
-use Rattle.proxy_core.specs.Past.{Past, heard, live_numbers, with_accepted}
+use Rattle.proxy_core.specs.Past.{Past, kind_of, heard, with_accepted, shared}
 use Rattle.proxy_core.specs.Queries.{pending_on}
 use Rattle.proxy_core.specs.Ready.{is_in}
 use Rattle.proxy_core.specs.Refusals.{live_at}
 use Rattle.proxy_core.specs.Scheduler.{State, pending}
+use Rattle.proxy_core.specs.Setup.{init_notes}
+use Rattle.proxy_core.specs.declared.config.Config.{Config}
 use Rattle.proxy_core.specs.declared.core_state.Core.{Core}
 use Rattle.proxy_core.specs.declared.live.Live.{Live}
 use Rattle.proxy.specs.declared.taken.Taken.{Taken}
@@ -29,21 +31,25 @@ abbrev pub past_text : Past → List ℕ
 past_text [] = []
 past_text (x ∷ past) = past_text past ++ note_lines x.group
 
+-- with the notes of the start
+abbrev pub notes_text : Config → Past → List ℕ
+notes_text C past = note_lines (init_notes C) ++ past_text past
+
 -- the accepted numbers, the oldest first
 abbrev pub accepted : Past → List ℕ
 accepted [] = []
-accepted (x ∷ past) = with_accepted x.event (accepted past)
+accepted (x ∷ past) = with_accepted (kind_of x.event) (accepted past)
 
 -- the bytes that the client of connection c took: so many as it took, of those that were sent
 abbrev pub taken_bytes : Past → State → ℕ → List ℕ
-taken_bytes past s c = take (heard c past).took.client (client_output (s.places c))
+taken_bytes past s c = take (heard c past).client.took (client_output (s.places c))
 
 -- A connection's lines: what its client took, and, where it is live, what is pending to its client
 -- and to its server. There is no server connection yet.
 abbrev pub connection_text : Past → State → ℕ → List ℕ
 connection_text past s c =
     client_text c (taken_bytes past s c)
-    ++ (if is_in (live_numbers past) c then open_text c (pending past s c) 0 else [])
+    ++ (if is_in (shared past).live c then open_text c (pending past s c Client) 0 else [])
 
 abbrev pub connections_text : Past → State → List ℕ → List ℕ
 connections_text past s [] = []
@@ -51,8 +57,9 @@ connections_text past s (c ∷ numbers) =
     connection_text past s c ++ connections_text past s numbers
 
 -- the report of a past that leads to this state, with its last line
-abbrev pub report_text : Past → State → List ℕ → List ℕ
-report_text past s last = past_text past ++ (connections_text past s (accepted past) ++ last)
+abbrev pub report_text : Config → Past → State → List ℕ → List ℕ
+report_text C past s last =
+    notes_text C past ++ (connections_text past s (accepted past) ++ last)
 
 -- what the program keeps of the bytes that clients took
 abbrev pub taken_of : Past → State → List ℕ → List Taken

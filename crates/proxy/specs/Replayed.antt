@@ -33,7 +33,7 @@ pub record Reports (C : configured.Config) (past : Past) (state : State) (text :
   pub represents : Represents C past state core
   pub output_matches_evaluator : OutputMatchesEvaluator C past state
   pub reads : Reads text number (events_of past)
-  pub report_bytes : new ≡ told_more old (report_text past state last)
+  pub report_bytes : new ≡ told_more old (report_text C past state last)
 
 -- all lines of the schedule spell events, and none is refused
 pub record ReplaysAll (C : configured.Config) (schedule : List ℕ)

@@ -29,18 +29,18 @@ use Rattle.proxy_core.specs.declared.event.BadEvent.TheVariants.{
   NoVirtual,
 }
 use Rattle.connection_model.specs.declared.note.Cause.{Cause}
-use Rattle.connection_model.specs.declared.note.Cause.TheVariants.{Tcl, Unselected, Memory}
+use Rattle.connection_model.specs.declared.note.Cause.TheVariants.{Closed, Tcl, Unselected, Rejected}
+use Rattle.connection_model.specs.declared.note.Cause.TheVariants.{Cut, Memory}
+use Rattle.connection_model.specs.declared.note.CutReason.{CutReason}
+use Rattle.connection_model.specs.declared.note.CutReason.TheVariants.{ClientReset, ServerReset}
+use Rattle.connection_model.specs.declared.note.CutReason.TheVariants.{Idle}
 use Rattle.connection_model.specs.declared.note.Note.{Note}
-use Rattle.connection_model.specs.declared.note.Note.TheVariants.{
-  Connect,
-  Log,
-  Pass,
-  Fired,
-  Reuse,
-  Finish,
-  CloseClient,
-  Ended,
-}
+use Rattle.connection_model.specs.declared.note.Note.TheVariants.{Connect, Sleep, History, Log, Pass}
+use Rattle.connection_model.specs.declared.note.Note.TheVariants.{Fired, Reuse, Finish, HalfClose}
+use Rattle.connection_model.specs.declared.note.Note.TheVariants.{CloseServer, CloseClient, Ended}
+use Rattle.px_bytes.specs.declared.fault.Reply.{Reply}
+use Rattle.px_bytes.specs.declared.fault.Reply.TheVariants as reply
+use Rattle.tcl_lists.specs.Write.{joined}
 use Rattle.px_bytes.specs.Address.{addr_text}
 use Rattle.px_bytes.specs.declared.addr.Side.{Side}
 use Rattle.px_bytes.specs.declared.addr.Side.TheVariants.{Client, Server}
@@ -70,10 +70,19 @@ refusal_number Full = 7
 refusal_number TwiceConn = 9
 refusal_number NoVirtual = 10
 
+-- why a connection was cut
+abbrev pub cut_text : CutReason → List ℕ
+cut_text ClientReset = codes "client-reset"
+cut_text ServerReset = codes "server-reset"
+cut_text Idle = codes "idle"
+
 -- why a connection finishes
 abbrev pub cause_text : Cause → List ℕ
+cause_text Closed = codes "closed"
 cause_text (Tcl kind) = codes "tcl " ++ decimal (fault_number kind)
 cause_text Unselected = codes "unselected"
+cause_text Rejected = codes "rejected"
+cause_text (Cut reason) = codes "cut " ++ cut_text reason
 cause_text Memory = codes "memory"
 
 abbrev pub side_text : Side → List ℕ
@@ -84,7 +93,13 @@ abbrev pub kept_text : Bool → List ℕ
 kept_text true = codes "kept"
 kept_text false = codes "gone"
 
--- the line of a note, which names its connection
+-- the answer to a shared call
+abbrev pub reply_text : Reply → List ℕ
+reply_text (reply.Ok v) = codes "ok " ++ hex_text v
+reply_text (reply.Fault f) =
+    codes "fault " ++ decimal (fault_number f.kind) ++ codes " " ++ hex_text f.text
+
+-- the line of a note, which names its connection; a shared call is the list of its words
 abbrev pub note_line : Note → List ℕ
 note_line (Connect conn to) =
     codes "> connect " ++ decimal conn ++ codes " " ++ addr_text to ++ codes "\n"
@@ -99,6 +114,15 @@ note_line (Log conn text) =
     codes "> log " ++ decimal conn ++ codes " " ++ escaped text ++ codes "\n"
 note_line (Finish conn cause) =
     codes "> finish " ++ decimal conn ++ codes " " ++ cause_text cause ++ codes "\n"
+note_line (Sleep conn until) =
+    codes "> sleep " ++ decimal conn ++ codes " " ++ decimal until ++ codes "\n"
+note_line (History conn moment call answer) =
+    codes "> history " ++ decimal conn ++ codes " " ++ decimal moment ++ codes " "
+    ++ hex_text (joined call) ++ codes " " ++ reply_text answer ++ codes "\n"
+note_line (HalfClose conn side) =
+    codes "> half-close " ++ decimal conn ++ codes " " ++ side_text side ++ codes "\n"
+note_line (CloseServer conn) =
+    codes "> close-server " ++ decimal conn ++ codes "\n"
 note_line (CloseClient conn) =
     codes "> close-client " ++ decimal conn ++ codes "\n"
 note_line (Ended conn dropped) =

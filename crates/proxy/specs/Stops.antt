@@ -2,8 +2,8 @@
 use Rattle.std.specs.Prelude.{◌≡◌, ℕ, ◌+◌, List, ◌∷◌, [], ◌++◌, Some, Option}
 use Rattle.px_outside.specs.declared.failed.Failed.{Failed}
 use Rattle.px_outside.specs.declared.failed.Failed.TheVariants as failed
-use Rattle.proxy_core.specs.Past.{Past}
-use Rattle.proxy_core.specs.Scheduler.{State, refused}
+use Rattle.proxy_core.specs.Past.{kind_of}
+use Rattle.proxy_core.specs.Refusal.{refused}
 use Rattle.proxy_core.specs.declared.config.Config.{Config}
 use Rattle.proxy_core.specs.declared.core_state.Core.{Core}
 use Rattle.proxy_core.specs.declared.event.BadEvent.{BadEvent}
@@ -29,7 +29,7 @@ abbrev pub StoppedAtEvent : Config → (text line : List ℕ) → (number : ℕ)
 StoppedAtEvent C text line number at event core taken events old new (Text l) = ⊥
 StoppedAtEvent C text line number at event core taken events old new (Refused l why) =
     (l ≡ at) × ((st : Stands C text number core taken events old new)
-    × Gives line (events_of st.past) event × (refused C st.past st.state event ≡ Some why))
+    × Gives line (events_of st.past) event × (refused C st.past st.state (kind_of event) ≡ Some why))
 StoppedAtEvent C text line number at event core taken events old new WriteFault =
     WritesNotes C (with_line text line) old new
 StoppedAtEvent C text line number at event core taken events old new Memory =
@@ -43,7 +43,7 @@ StoppedAtLine C text line number at core taken events old new (Text l) =
     × GivesNone line (events_of st.past))
 StoppedAtLine C text line number at core taken events old new (Refused l why) =
     (l ≡ at) × ((st : Stands C text number core taken events old new) × (event : Event)
-    × Gives line (events_of st.past) event × (refused C st.past st.state event ≡ Some why))
+    × Gives line (events_of st.past) event × (refused C st.past st.state (kind_of event) ≡ Some why))
 StoppedAtLine C text line number at core taken events old new WriteFault =
     WritesNotes C (with_line text line) old new
 StoppedAtLine C text line number at core taken events old new Memory =

@@ -10,7 +10,7 @@ use Rattle.proxy_core.specs.declared.core_state.Core.{Core}
 use Rattle.proxy_core.specs.declared.event.BadEvent.{BadEvent}
 use Rattle.proxy.specs.declared.taken.Taken.{Taken}
 use Rattle.proxy.specs.Lines.{Reads, Faulty, Refuses, events_of}
-use Rattle.proxy.specs.Replay.{past_text, accepted, taken_of, report_text}
+use Rattle.proxy.specs.Replay.{notes_text, accepted, taken_of, report_text}
 use Rattle.proxy.specs.Report.{end_text, text_fault, event_fault}
 
 -- This text was read, in so many lines. The core stands for a past whose events are those of the
@@ -23,7 +23,7 @@ pub record Stands (C : Config) (text : List ℕ) (number : ℕ) (core : Core) (t
   pub reads : Reads text number (events_of past)
   pub count : events ≡ length past
   pub taken_is : taken ≡ taken_of past state (accepted past)
-  pub written : new ≡ told_more old (past_text past)
+  pub written : new ≡ told_more old (notes_text C past)
 
 -- the last line of a report of this past, behind whose lines stands this rest of the schedule: how
 -- many events there were, or the first faulty line, with its number
@@ -47,7 +47,7 @@ pub record IsNotes (C : Config) (schedule text : List ℕ) : Type 0 where
   pub past : Past
   pub state : State
   pub of_front : IsFront C schedule past state
-  pub text_is : text ≡ past_text past
+  pub text_is : text ≡ notes_text C past
 
 -- the whole report that is due for this schedule, with its last line
 pub record IsReport (C : Config) (schedule text : List ℕ) : Type 0 where
@@ -56,7 +56,7 @@ pub record IsReport (C : Config) (schedule text : List ℕ) : Type 0 where
   pub of_front : IsFront C schedule past state
   pub last : List ℕ
   pub is_last : IsLast C past state of_front.number of_front.rest last
-  pub text_is : text ≡ report_text past state last
+  pub text_is : text ≡ report_text C past state last
 
 abbrev pub IsWritten : Config → List ℕ → List ℕ → Type 0
 IsWritten C schedule text = IsNotes C schedule text ⊎ IsReport C schedule text

@@ -2,7 +2,8 @@
 
 ghost use Rattle.std.specs.Prelude.{◌≡◌, ◌≤◌, ◌++◌, IfOk, OnOk, OnErr, IfErr};
 ghost use Rattle.px_outside.specs.Outside.{told_more, Rose};
-ghost use Rattle.proxy.specs.Replay.{conn_text, conns_text};
+ghost use Rattle.proxy_core.specs.Refusals.{live_at};
+ghost use Rattle.proxy.specs.Replay.{conn_text, conns_text, open_if_live};
 ghost use Rattle.proxy.specs.Stops.{IsOutside};
 ghost use Rattle.proxy.specs.Written.{WritesFrontOf};
 
@@ -41,9 +42,19 @@ fn conn_text(alloc: Global, core: &Core, taken: &Taken) -> M<Text>
     ensures { IfOk result (λ text. text ≡ conn_text core.now taken.now) }
 {
     let mut text = client_line(alloc, taken.conn, taken.bytes.as_bytes())?;
-    if let Some(to_client) = core.pending(taken.conn, Side::Client) {
-        let to_server = core.pending(taken.conn, Side::Server).unwrap_or(0);
-        text.push(open_line(alloc, taken.conn, to_client, to_server)?.as_bytes())?;
-    }
+    text.push(open_text(alloc, core, taken.conn)?.as_bytes())?;
     Ok(text)
+}
+
+// The line of a connection that is live at the end.
+fn open_text(alloc: Global, core: &Core, conn: u32) -> M<Text>
+    ensures { IfOk result (λ text. text ≡ open_if_live conn (live_at core.now.live.items conn)) }
+{
+    match core.pending(conn, Side::Client) {
+        Some(to_client) => {
+            let to_server = core.pending(conn, Side::Server).unwrap_or(0);
+            open_line(alloc, conn, to_client, to_server)
+        }
+        None => Ok(Text::empty(alloc)),
+    }
 }

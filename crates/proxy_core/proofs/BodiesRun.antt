@@ -16,9 +16,10 @@ use Rattle.rule_model.proofs.Facts.{never_waits}
 use Rattle.plain_eval.specs.declared.plain.Plain.{Plain}
 use Rattle.plain_eval.specs.declared.plain.Plain.TheVariants.{Waits as WaitsFor}
 use Rattle.plain_eval.specs.Plain.{IsOutcome}
-use Rattle.connection_model.specs.Responder.{respond_table, respond, respond_limit}
+use Rattle.connection_model.specs.Host.{respond_limit}
+use Rattle.proxy_core.specs.Responder.{respond_table, respond, body_setting}
 use Rattle.event_order.specs.declared.event.EventName.TheVariants.{ClientAccepted}
-use Rattle.connection_model.specs.Setup.{body_setting, uncaught_line}
+use Rattle.connection_model.specs.Setup.{uncaught_line}
 use Rattle.proxy_core.specs.Bodies.{BodiesEnd, Uncaught, after_body}
 use Rattle.proxy_core.specs.Runs.{BodyRuns}
 use Rattle.proxy_core.specs.declared.config.Rule.{Rule}

@@ -1,16 +1,19 @@
--- The notes of one event: about which connection, and what they leave.
-use Rattle.std.proofs.Common.{◌≡◌, refl, ap, ℕ, List, [], ◌∷◌, ◌++◌, Bool, true, false, ◌||◌}
-use Rattle.std.proofs.Common.{if◌then◌else◌, nat_eq}
-use Rattle.connection_model.specs.declared.note.Cause.TheVariants.{Tcl, Unselected, Memory}
+-- The notes of one event: about which connection, and what they tell.
+use Rattle.std.proofs.Common.{◌≡◌, refl, sym, ap, ◌∙◌, ℕ, List, [], ◌∷◌, ◌++◌, Bool, true, false, ◌||◌, Option, Some, None, map, if◌then◌else◌, nat_eq}
+use Rattle.std.specs.List.{filter, list_any}
+use Rattle.px_bytes.specs.declared.fault.Reply.{Reply}
 use Rattle.connection_model.specs.declared.note.Note.{Note}
 use Rattle.connection_model.specs.declared.note.Note.TheVariants as note
-use Rattle.connection_model.specs.Item.{Item, Opened, Read, Ran, Called, Connected, Logged, Sent}
-use Rattle.connection_model.specs.Item.{Passed, Fired, Reused, Finished, notes_of}
-use Rattle.proxy_core.specs.Changes.{closing}
-use Rattle.proxy_core.specs.Moves.{closing_if}
-use Rattle.proxy_core.specs.Past.{conn_of, own, without_ended, is_failed}
-use Rattle.proxy_core.specs.Ready.{without}
-use Rattle.proxy_core.proofs.Causes.{NoneLacks}
+use Rattle.connection_model.specs.declared.note.CutReason.{CutReason}
+use Rattle.connection_model.specs.declared.note.Cause.TheVariants.{Memory}
+use Rattle.connection_model.specs.Gates.{TakenCounts}
+use Rattle.connection_model.specs.HeardLaws.{TellsNothing}
+use Rattle.connection_model.specs.Item.{Item, Reason, Closed, Tcl, Unselected, Rejected, CutBy, cause_of, Passed, Fired, Reused, Connected, Logged, Finished, note_of, notes_of}
+use Rattle.connection_model.specs.State.{Cut}
+use Rattle.connection_model.specs.Tellings.{NoteTells, tells, conn_of, own, notes_about, replies_told, choices_told, cut_by, cut_told, failure_told}
+use Rattle.proxy_core.specs.Headline.{shows, closes}
+use Rattle.proxy_core.specs.Past.{ended_in}
+use Rattle.proxy_core.specs.RunsItems.{closing, closing_if}
 use Rattle.proxy_core.proofs.Members.{eq_self}
 
 -- all of them are about connection c
@@ -22,25 +25,8 @@ pub about_joined : (c : ℕ) (some more : List Note) → About c some → About 
 about_joined c [] more p q = q
 about_joined c (n ∷ some) more p q = (p.0, about_joined c some more p.1 q)
 
-pub about_items : (c : ℕ) (items : List Item) → About c (notes_of c items)
-about_items c [] = tt
-about_items c (Opened gate ∷ items) = about_items c items
-about_items c (Read side n ∷ items) = about_items c items
-about_items c (Ran event cost ∷ items) = about_items c items
-about_items c (Called call ∷ items) = about_items c items
-about_items c (Connected to ∷ items) = (refl, about_items c items)
-about_items c (Logged text ∷ items) = (refl, about_items c items)
-about_items c (Sent peer bytes ∷ items) = about_items c items
-about_items c (Passed side n ∷ items) = (refl, about_items c items)
-about_items c (Fired side ∷ items) = (refl, about_items c items)
-about_items c (Reused kept ∷ items) = (refl, about_items c items)
-about_items c (Finished cause ∷ items) = (refl, about_items c items)
-
-pub about_closing : (c dropped : ℕ) → About c (closing c dropped)
-about_closing c dropped = (refl, (refl, tt))
-
 pub about_closing_if : (over : Bool) (c : ℕ) → About c (closing_if over c)
-about_closing_if true c = about_closing c 0
+about_closing_if true c = (refl, (refl, tt))
 about_closing_if false c = tt
 
 pub own_all : (c : ℕ) (notes : List Note) → About c notes → own c notes ≡ notes
@@ -51,56 +37,94 @@ pub own_none : (c q : ℕ) (notes : List Note) → About c notes → nat_eq c q 
 own_none c q [] h e = refl
 own_none c q (n ∷ notes) h e = rw (h.0, e) (own_none c q notes h.1 e)
 
--- items end no connection
-pub ended_items : (c : ℕ) (items : List Item) (more : List Note) (live : List ℕ) → without_ended (notes_of c items ++ more) live ≡ without_ended more live
-ended_items c [] more live = refl
-ended_items c (Opened gate ∷ items) more live = ended_items c items more live
-ended_items c (Read side n ∷ items) more live = ended_items c items more live
-ended_items c (Ran event cost ∷ items) more live = ended_items c items more live
-ended_items c (Called call ∷ items) more live = ended_items c items more live
-ended_items c (Connected to ∷ items) more live = ended_items c items more live
-ended_items c (Logged text ∷ items) more live = ended_items c items more live
-ended_items c (Sent peer bytes ∷ items) more live = ended_items c items more live
-ended_items c (Passed side n ∷ items) more live = ended_items c items more live
-ended_items c (Fired side ∷ items) more live = ended_items c items more live
-ended_items c (Reused kept ∷ items) more live = ended_items c items more live
-ended_items c (Finished cause ∷ items) more live = ended_items c items more live
+pub tells_all : (c : ℕ) (notes : List Note) → About c notes → notes_about c notes ≡ map tells notes
+tells_all c notes h = ap (λ ns. map tells ns) (own_all c notes h)
 
-pub ended_if : (over : Bool) (c : ℕ) (live : List ℕ) → without_ended (closing_if over c) live ≡ (if over then without c live else live)
-ended_if true c live = refl
-ended_if false c live = refl
+-- a note that an item shows
+pub record OfItem (c : ℕ) (n : Note) : Type 0 where
+  pub about : conn_of n ≡ c
+  pub reply : (tells n).reply ≡ None
+  pub fails : (tells n).fails ≡ false
+  pub ends : (tells n).ends ≡ false
+  pub shown : shows n ≡ true
+  pub quiet : closes n ≡ false
 
--- want of memory
-pub failed_joined : (some more : List Note) → is_failed (some ++ more) ≡ (is_failed some || is_failed more)
-failed_joined [] more = refl
-failed_joined (note.Connect c to ∷ some) more = failed_joined some more
-failed_joined (note.Log c text ∷ some) more = failed_joined some more
-failed_joined (note.Pass c side n ∷ some) more = failed_joined some more
-failed_joined (note.Fired c side ∷ some) more = failed_joined some more
-failed_joined (note.Reuse c kept ∷ some) more = failed_joined some more
-failed_joined (note.Finish c (Tcl kind) ∷ some) more = failed_joined some more
-failed_joined (note.Finish c Unselected ∷ some) more = failed_joined some more
-failed_joined (note.Finish c Memory ∷ some) more = refl
-failed_joined (note.CloseClient c ∷ some) more = failed_joined some more
-failed_joined (note.Ended c dropped ∷ some) more = failed_joined some more
+abbrev pub OfItems : ℕ → List Note → Type 0
+OfItems c [] = Unit {0}
+OfItems c (n ∷ notes) = OfItem c n × OfItems c notes
 
-pub failed_if : (over : Bool) (c : ℕ) → is_failed (closing_if over c) ≡ false
-failed_if true c = refl
-failed_if false c = refl
+finish_of_item : (c : ℕ) (r : Reason) → OfItem c (note.Finish c (cause_of r))
+finish_of_item c Closed = record { about = refl; reply = refl; fails = refl; ends = refl; shown = refl; quiet = refl }
+finish_of_item c (Tcl kind) = record { about = refl; reply = refl; fails = refl; ends = refl; shown = refl; quiet = refl }
+finish_of_item c Unselected = record { about = refl; reply = refl; fails = refl; ends = refl; shown = refl; quiet = refl }
+finish_of_item c Rejected = record { about = refl; reply = refl; fails = refl; ends = refl; shown = refl; quiet = refl }
+finish_of_item c (CutBy why) = record { about = refl; reply = refl; fails = refl; ends = refl; shown = refl; quiet = refl }
 
--- no note of a trace's items says that memory was wanted
-pub items_not_failed : (c : ℕ) (items : List Item) → NoneLacks items → is_failed (notes_of c items) ≡ false
-items_not_failed c [] h = refl
-items_not_failed c (Opened gate ∷ items) h = items_not_failed c items h.1
-items_not_failed c (Read side n ∷ items) h = items_not_failed c items h.1
-items_not_failed c (Ran event cost ∷ items) h = items_not_failed c items h.1
-items_not_failed c (Called call ∷ items) h = items_not_failed c items h.1
-items_not_failed c (Connected to ∷ items) h = items_not_failed c items h.1
-items_not_failed c (Logged text ∷ items) h = items_not_failed c items h.1
-items_not_failed c (Sent peer bytes ∷ items) h = items_not_failed c items h.1
-items_not_failed c (Passed side n ∷ items) h = items_not_failed c items h.1
-items_not_failed c (Fired side ∷ items) h = items_not_failed c items h.1
-items_not_failed c (Reused kept ∷ items) h = items_not_failed c items h.1
-items_not_failed c (Finished (Tcl kind) ∷ items) h = items_not_failed c items h.1
-items_not_failed c (Finished Unselected ∷ items) h = items_not_failed c items h.1
-items_not_failed c (Finished Memory ∷ items) h = absurd (cc)
+of_item : (c : ℕ) (i : Item) → OfItems c (note_of c i)
+of_item c (Passed from to bytes) = (record { about = refl; reply = refl; fails = refl; ends = refl; shown = refl; quiet = refl }, tt)
+of_item c (Fired side n) = (record { about = refl; reply = refl; fails = refl; ends = refl; shown = refl; quiet = refl }, tt)
+of_item c (Reused kept) = (record { about = refl; reply = refl; fails = refl; ends = refl; shown = refl; quiet = refl }, tt)
+of_item c (Connected to) = (record { about = refl; reply = refl; fails = refl; ends = refl; shown = refl; quiet = refl }, tt)
+of_item c (Logged text) = (record { about = refl; reply = refl; fails = refl; ends = refl; shown = refl; quiet = refl }, tt)
+of_item c (Finished reason) = (finish_of_item c reason, tt)
+of_item c other = tt
+
+of_both : (c : ℕ) (some more : List Note) → OfItems c some → OfItems c more → OfItems c (some ++ more)
+of_both c [] more p q = q
+of_both c (n ∷ some) more p q = (p.0, of_both c some more p.1 q)
+
+pub of_items : (c : ℕ) (items : List Item) → OfItems c (notes_of c items)
+of_items c [] = tt
+of_items c (i ∷ items) = of_both c (note_of c i) (notes_of c items) (of_item c i) (of_items c items)
+
+pub about_items : (c : ℕ) (notes : List Note) → OfItems c notes → About c notes
+about_items c [] h = tt
+about_items c (n ∷ notes) h = (h.0.about, about_items c notes h.1)
+
+-- in front of others they tell of no reply, no want of memory and no end
+pub replies_behind : (c : ℕ) (some more : List Note) → OfItems c some → replies_told (map tells (some ++ more)) ≡ replies_told (map tells more)
+replies_behind c [] more h = refl
+replies_behind c (n ∷ some) more h = rw h.0.reply (replies_behind c some more h.1)
+
+pub failure_behind : (c : ℕ) (some more : List Note) → OfItems c some → failure_told (map tells (some ++ more)) ≡ failure_told (map tells more)
+failure_behind c [] more h = refl
+failure_behind c (n ∷ some) more h = rw h.0.fails (failure_behind c some more h.1)
+
+pub ended_behind : (c : ℕ) (some more : List Note) → OfItems c some → ended_in (some ++ more) ≡ ended_in more
+ended_behind c [] more h = refl
+ended_behind c (n ∷ some) more h = rw h.0.ends (ended_behind c some more h.1)
+
+pub shown_all : (c : ℕ) (notes : List Note) → OfItems c notes → filter shows notes ≡ notes
+shown_all c [] h = refl
+shown_all c (n ∷ notes) h = rw h.0.shown (ap (λ ns. n ∷ ns) (shown_all c notes h.1))
+
+pub closed_behind : (c : ℕ) (some more : List Note) → OfItems c some → list_any closes (some ++ more) ≡ list_any closes more
+closed_behind c [] more h = refl
+closed_behind c (n ∷ some) more h = rw h.0.quiet (closed_behind c some more h.1)
+
+-- notes about c that tell of no cut, in front of others
+pub cut_behind : (took : TakenCounts) (some more : List Note) → cut_told took (map tells some) ≡ None → cut_told took (map tells (some ++ more)) ≡ cut_told took (map tells more)
+cut_behind took [] more h = refl
+cut_behind took (n ∷ some) more h = by_cut (tells n).cut h (cut_behind took some more)
+  where
+    by_cut : (o : Option CutReason) → cut_by o took (cut_told took (map tells some)) ≡ None → (cut_told took (map tells some) ≡ None → cut_told took (map tells (some ++ more)) ≡ cut_told took (map tells more)) → cut_by o took (cut_told took (map tells (some ++ more))) ≡ cut_told took (map tells more)
+    by_cut None k rest = rest k
+    by_cut (Some reason) k rest = cc
+
+-- the last notes tell nothing of an answer, a choice or a cut
+pub quiet_by : (c : ℕ) (group : List Note) → About c group → replies_told (map tells group) ≡ [] → choices_told (map tells group) ≡ [] → ((took : TakenCounts) → cut_told took (map tells group) ≡ None) → TellsNothing c group
+quiet_by c group a r h k = record {
+  replies = ap replies_told (tells_all c group a) ∙ r;
+  choices = ap choices_told (tells_all c group a) ∙ h;
+  cut = λ took. ap (cut_told took) (tells_all c group a) ∙ k took;
+}
+
+pub quiet_closing_if : (over : Bool) (c : ℕ) → TellsNothing c (closing_if over c)
+quiet_closing_if true c = quiet_by c (closing c 0) (refl, (refl, tt)) refl refl (λ took. refl)
+quiet_closing_if false c = quiet_by c [] tt refl refl (λ took. refl)
+
+pub quiet_closing : (c dropped : ℕ) → TellsNothing c (closing c dropped)
+quiet_closing c dropped = quiet_by c (closing c dropped) (refl, (refl, tt)) refl refl (λ took. refl)
+
+pub quiet_memory : (c dropped : ℕ) → TellsNothing c (note.Finish c Memory ∷ closing c dropped)
+quiet_memory c dropped = quiet_by c (note.Finish c Memory ∷ closing c dropped) (refl, (refl, (refl, tt))) refl refl (λ took. refl)

@@ -8,7 +8,11 @@ use Rattle.std.proofs.lemmas.Bool.Decides.{nat_tests}
 use Rattle.proxy_core.specs.declared.live.Live.{Live}
 use Rattle.proxy_core.specs.Ready.{numbers, is_in, place_of}
 use Rattle.proxy_core.specs.Live.{pending_in}
-use Rattle.proxy_core.specs.Refusals.{live_at, took_refusal_at}
+use Rattle.proxy_core.specs.Refusals.{live_at}
+use Rattle.proxy_core.specs.Refusal.{refusal_of}
+use Rattle.proxy_core.specs.declared.core_state.Core.{Core}
+use Rattle.px_bytes.specs.declared.addr.Side.TheVariants.{Client}
+use Rattle.connection_model.specs.Heard.{Comes, Takes}
 
 eq_number : (a b : ℕ) → nat_eq a b ≡ true → a ≡ b
 eq_number a b h = grind (arith, nat_tests)
@@ -91,9 +95,9 @@ read_at ls ms at number l e p w r = (rw e at (sym p), slice_get_read ls (length 
 pub read_again : (ls : List Live) (at : ℕ) (l m : Live) → slice_get ls at ≡ Some l → slice_get ls at ≡ Some m → l ≡ m
 read_again ls at l m h k = let e : Some l ≡ Some m = sym h ∙ k in cc
 
-pub took_accepted : (ls : List Live) (number at n : ℕ) (l : Live) → (place_of ls number ≡ Some at) × (slice_get ls at ≡ Some l) → n ≤ pending_in l.conn → took_refusal_at (live_at ls number) n ≡ None
-took_accepted ls number at n l h p =
-    let t : nat_lt (pending_in l.conn) n ≡ false = grind (arith, nat_tests) in rw (live_there number at ls l h.0 h.1, t) refl
+pub took_accepted : (core : Core) (number at n : ℕ) (l : Live) → (place_of core.live.items number ≡ Some at) × (slice_get core.live.items at ≡ Some l) → n ≤ pending_in l.conn → refusal_of core (Comes number (Takes Client n)) ≡ None
+took_accepted core number at n l h p =
+    let t : nat_lt (pending_in l.conn) n ≡ false = grind (arith, nat_tests) in rw (live_there number at core.live.items l h.0 h.1, t) refl
 
 pub remove_set : (at : ℕ) (ls : List Live) (m : Live) → remove (set ls at m) at ≡ remove ls at
 remove_set at [] m = refl

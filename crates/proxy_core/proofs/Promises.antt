@@ -1,118 +1,332 @@
 -- The promise, of every past that leads to a state.
-use Rattle.std.proofs.Common.{◌≡◌, refl, sym, ap, subst, ◌∙◌, ℕ, zero, suc, ◌+◌, ◌≤◌, List, []}
-use Rattle.std.proofs.Common.{◌++◌, length, take, true, false, Option, arith}
-use Rattle.std.proofs.lemmas.Bool.Decides.{nat_tests}
-use Rattle.std.proofs.lemmas.List.{append-nil, take-append-le}
+use Rattle.std.proofs.Common.{◌≡◌, refl, sym, ap, subst, ◌∙◌, ℕ, zero, suc, ◌+◌, ◌-◌, ◌≤◌, List, [], ◌∷◌, ◌++◌, length, take, map, Bool, true, false, ◌||◌, ◌&&◌, not, None, nat_eq, arith, append_assoc, eqb-true, append-nil, length-append, if◌then◌else◌}
+use Rattle.std.specs.Prelude.{is_some}
+use Rattle.std.specs.List.{filter, list_any}
+use Rattle.std.proofs.lemmas.Bool.{and_parts}
+use Rattle.std.proofs.lemmas.List.{take-append-le, map-append}
+use Rattle.std.proofs.lemmas.List.Elements.{filter-append}
+use Rattle.std.proofs.lemmas.List.Folds.{list_any-append}
 use Rattle.std.proofs.lemmas.Grind.{flat_map-append}
 use Rattle.px_bytes.specs.declared.addr.Side.TheVariants.{Client, Server}
-use Rattle.connection_model.specs.Gates.{Counts, no_bytes, has_room, is_open, sent_from}
-use Rattle.connection_model.specs.Gates.{GivesNoMore}
-use Rattle.connection_model.specs.Item.{Gate, BeforeBodies, BeforePassing, BeforeConnect, Item}
-use Rattle.connection_model.specs.Item.{Opened, Read, Ran, Called, Connected, Logged, Sent, Passed}
-use Rattle.connection_model.specs.Item.{Fired, Reused, Finished, to_client, client_output}
-use Rattle.connection_model.specs.Trace.{TraceState, Next, Does, Waits, Over, next_item, Unfolds}
-use Rattle.connection_model.specs.Trace.{trace, trace_from}
-use Rattle.connection_model.proofs.Unfolding.{trace_unfolds}
-use Rattle.proxy_core.specs.Headline.{first_items, IsWhole, ConnectionPromise}
-use Rattle.proxy_core.specs.Headline.{OutputMatchesEvaluator}
+use Rattle.connection_model.specs.declared.note.Cause.{Cause}
+use Rattle.connection_model.specs.declared.note.Cause.TheVariants.{Memory}
+use Rattle.connection_model.specs.declared.note.CutReason.{CutReason}
+use Rattle.connection_model.specs.declared.note.CutReason.TheVariants.{ClientReset, ServerReset, Idle}
+use Rattle.connection_model.specs.declared.note.Note.{Note}
+use Rattle.connection_model.specs.declared.note.Note.TheVariants.{Finish}
+use Rattle.connection_model.specs.Further.{is_some_of}
+use Rattle.connection_model.specs.Gates.{Counts, TakenCounts, no_bytes, sent_from, to_take, may_give}
+use Rattle.connection_model.specs.Heard.{Input, Bytes, Ends, Resets, Connects, Takes, EventKind, Accepts, Comes, Ticks, Turns, Runs, Marks, Heard, taken, accepts, marks, event_marks}
+use Rattle.connection_model.specs.Item.{Item, Reason, Closed, Tcl, Unselected, Rejected, CutBy, cause_of, Passed, Fired, Reused, Connected, Logged, Finished, shown, listed, to_client, client_output, note_of, notes_of, reasons_in}
+use Rattle.connection_model.specs.Laws.{Stops}
+use Rattle.connection_model.specs.Setup.{Setup}
+use Rattle.connection_model.specs.State.{TraceState, Next, Does, Waits, Over}
+use Rattle.connection_model.specs.Tellings.{NoteTells, tells, own, notes_about, finish_told}
+use Rattle.connection_model.specs.Trace.{next_item, trace, Unfolds, GivesNoMore}
+use Rattle.connection_model.proofs.Given.{no_cut_behind}
+use Rattle.connection_model.proofs.Stepping.{finishes_once}
+use Rattle.connection_model.proofs.Taking.{taken_all_opens}
+use Rattle.connection_model.proofs.Telling.{items_tell}
+use Rattle.connection_model.proofs.Unfolding.{trace_unfolds, stopped_is_whole}
+use Rattle.proxy_core.specs.Headline.{first_items, SentIsPrefix, IsWhole, last_reset, licenses, shows, closes, cause_told, causes_told, ClosesRightly, causes_behind, ConnectionPromise, OutputMatchesEvaluator}
 use Rattle.proxy_core.specs.Moves.{Leads}
-use Rattle.proxy_core.specs.Past.{Past, heard, live_numbers}
-use Rattle.proxy_core.specs.Ready.{is_in}
-use Rattle.proxy_core.specs.Scheduler.{State}
-use Rattle.proxy_core.specs.Setup.{setup_of, trace_start}
-use Rattle.proxy_core.specs.Sound.{Served, SoundBy}
+use Rattle.proxy_core.specs.Past.{Past, kind_of, heard}
+use Rattle.proxy_core.specs.RunsItems.{closing, is_drained, is_over}
+use Rattle.proxy_core.specs.Scheduler.{State, entries, Seen, seen, untaken_of, untaken_all}
+use Rattle.proxy_core.specs.Setup.{setup_of, begins_at, stand_of}
+use Rattle.proxy_core.specs.Sound.{IsPlain, last_notes, Spot, ServedAt, Served, SoundAt}
 use Rattle.proxy_core.specs.declared.config.Config.{Config}
-use Rattle.proxy_core.proofs.Causes.{none_lacks, gate_at_start, finishes_once, over_has_finished}
-use Rattle.proxy_core.proofs.GroupNotes.{items_not_failed}
+use Rattle.proxy_core.proofs.Ending.{finished_ends, over_has_finished}
+use Rattle.proxy_core.proofs.GroupNotes.{of_items, shown_all, closed_behind}
 use Rattle.proxy_core.proofs.SoundPast.{leads_sound}
+use Rattle.proxy_core.proofs.Standing.{as_served, sent_at, server_untaken, client_untaken, none_to_server, all_untaken}
 
--- the place of a connection, and its trace behind it
-longer_front : (C : Config) (name : List ℕ) (place : List Item) (at : TraceState) → Unfolds (setup_of C name) (trace_start C name) place at → (n : ℕ) → first_items C name (length place + n) ≡ place ++ trace n (setup_of C name) at
-longer_front C name place at u n = trace_unfolds n (setup_of C name) (trace_start C name) at place u
+not_live : (b : Bool) → (b ≡ true → ⊥) → b ≡ false
+not_live true n = absurd (n refl)
+not_live false n = refl
 
-passed : (C : Config) (name : List ℕ) (place : List Item) (at : TraceState) → Unfolds (setup_of C name) (trace_start C name) place at → place ≡ first_items C name (length place)
-passed C name place at u =
-    let e : length place + 0 ≡ length place = omega arith in
-    sym (ap (first_items C name) (sym e) ∙ longer_front C name place at u 0 ∙ append-nil place)
+or_false : (b : Bool) → (b || false) ≡ b
+or_false true = refl
+or_false false = refl
+
+-- its trace behind its place
+longer_front : (C : Config) (c : ℕ) (z : Seen) → Served C c z → (n : ℕ) → first_items C z.heard (length z.place + n) ≡ z.place ++ trace n (setup_of C z.heard) (stand_of C z.heard z.place)
+longer_front C c z k n = trace_unfolds n (setup_of C z.heard) (begins_at C z.heard) (stand_of C z.heard z.place) z.place k.stands
 
 same_taken : (took : ℕ) (place rest : List Item) → took ≤ length (client_output place) → take took (client_output (place ++ rest)) ≡ take took (client_output place)
 same_taken took place rest h = ap (take took) (flat_map-append to_client place rest) ∙ take-append-le took (client_output place) (client_output rest) h
 
--- before anything is sent each gate is open
-room : (n : ℕ) → has_room 0 n ≡ true
-room n = grind (arith, nat_tests)
-
-open_first : (gate : Gate) (took : Counts) → is_open gate no_bytes took ≡ true
-open_first BeforeBodies took = rw (room took.client, room took.server) refl
-open_first (BeforePassing Client) took = room took.server
-open_first (BeforePassing Server) took = room took.client
-open_first BeforeConnect took = grind (arith, nat_tests)
-
--- where no more may be given, and what was sent is taken, the trace is no longer
-no_longer : (n : ℕ) (C : Config) (name : List ℕ) (took : Counts) (place : List Item) (at : TraceState) (o : Next) → next_item (setup_of C name) at ≡ o → Unfolds (setup_of C name) (trace_start C name) place at
-    → GivesNoMore (sent_from no_bytes place) took o → trace_from n (setup_of C name) o ≡ []
-no_longer n C name took place at Over is u k = nothing n
-  where
-    nothing : (n : ℕ) → trace_from n (setup_of C name) Over ≡ []
-    nothing zero = refl
-    nothing (suc n) = refl
-no_longer n C name took place at (Waits kind) is u k = nothing n
-  where
-    nothing : (n : ℕ) → trace_from n (setup_of C name) (Waits kind) ≡ []
-    nothing zero = refl
-    nothing (suc n) = refl
-no_longer n C name took place at (Does (Opened gate) m) is u k =
-    let e : place ≡ [] = gate_at_start C name at m place gate u is in
-    absurd (let f : is_open gate no_bytes took ≡ false = rw e at k in let t : is_open gate no_bytes took ≡ true = open_first gate took in cc)
-no_longer n C name took place at (Does (Read side b) m) is u k = cc
-no_longer n C name took place at (Does (Ran event cost) m) is u k = cc
-no_longer n C name took place at (Does (Called call) m) is u k = cc
-no_longer n C name took place at (Does (Connected to) m) is u k = cc
-no_longer n C name took place at (Does (Logged text) m) is u k = cc
-no_longer n C name took place at (Does (Sent peer bytes) m) is u k = cc
-no_longer n C name took place at (Does (Passed side b) m) is u k = cc
-no_longer n C name took place at (Does (Fired side) m) is u k = cc
-no_longer n C name took place at (Does (Reused kept) m) is u k = cc
-no_longer n C name took place at (Does (Finished cause) m) is u k = cc
-
-whole : (C : Config) (name : List ℕ) (took : Counts) (place : List Item) (at : TraceState) → Unfolds (setup_of C name) (trace_start C name) place at → GivesNoMore (sent_from no_bytes place) took (next_item (setup_of C name) at)
-    → took.client ≡ length (client_output place) → IsWhole C name took.client place
-whole C name took place at u k all = record {
-  no_more = λ n. longer_front C name place at u n ∙ ap (λ rest. place ++ rest) (no_longer n C name took place at (next_item (setup_of C name) at) refl u k) ∙ append-nil place;
-  took_all = all;
-}
-
-promised : (C : Config) (past : Past) (s : State) (c : ℕ) (name : List ℕ) → Served C c name (heard c past) (is_in (live_numbers past) c) (is_in s.ring c) (s.places c) → ConnectionPromise C past s c name
-promised C past s c name v =
-    let place = s.places c in
-    let h = heard c past in
-    let u = v.stands.unfolds in
+sent_is_prefix : (C : Config) (c : ℕ) (z : Seen) → Served C c z → SentIsPrefix C z.heard z.place
+sent_is_prefix C c z k =
+    let e : length z.place + 0 ≡ length z.place = omega arith in
     record {
-      sent_is_prefix = record {
-        passed = passed C name place v.at u;
-        longer = λ n. (trace n (setup_of C name) v.at, longer_front C name place v.at u n);
-        took_within = v.took;
-        taken = λ n. ap (λ items. take h.took.client (client_output items)) (longer_front C name place v.at u n) ∙ same_taken h.took.client place _ v.took;
-      };
+      passed = sym (ap (first_items C z.heard) (sym e) ∙ longer_front C c z k 0 ∙ append-nil z.place);
+      longer = λ n. (trace n (setup_of C z.heard) (stand_of C z.heard z.place), longer_front C c z k n);
+      took_within = k.within;
+      taken = λ n. ap (λ items. take z.heard.client.took (client_output items)) (longer_front C c z k n) ∙ same_taken z.heard.client.took z.place _ k.within;
+    }
+
+-- where all is taken and no more may be given, the trace stops
+stops_at : (sent : Counts) (took : TakenCounts) (o : Next) → to_take sent took Client ≡ 0 → to_take sent took Server ≡ 0 → GivesNoMore false sent took o → Stops o
+stops_at sent took (Does i m) c s k = let t = taken_all_opens i sent took c s in let e : true ≡ false = sym t ∙ k in cc
+stops_at sent took (Waits w) c s k = tt
+stops_at sent took Over c s k = tt
+
+-- what is left where it stands
+left_at : (C : Config) (c : ℕ) (z : Seen) (k : Served C c z) → z.heard.client.took ≡ length (client_output z.place) → (to_take (stand_of C z.heard z.place).sent (taken z.heard) Client ≡ 0) × (to_take (stand_of C z.heard z.place).sent (taken z.heard) Server ≡ 0)
+left_at C c z k all =
+    let e = sent_at (setup_of C z.heard) z.heard z.place (stand_of C z.heard z.place) k.stands in
+    let a = client_untaken z.heard z.place k.plain in
+    (ap (λ s. to_take s (taken z.heard) Client) e ∙ a ∙ (omega (arith, all)), server_untaken (taken z.heard) (stand_of C z.heard z.place) k.no_server)
+
+whole : (C : Config) (c : ℕ) (z : Seen) (k : Served C c z) → z.heard.client.took ≡ length (client_output z.place) → GivesNoMore false (stand_of C z.heard z.place).sent (taken z.heard) (next_item (setup_of C z.heard) (stand_of C z.heard z.place)) → IsWhole C z.heard z.place
+whole C c z k all gives =
+    let l = stand_of C z.heard z.place in
+    let none = left_at C c z k all in
+    record {
+      no_more = λ n. stopped_is_whole n (setup_of C z.heard) (begins_at C z.heard) l z.place k.stands (stops_at l.sent (taken z.heard) (next_item (setup_of C z.heard) l) none.0 none.1 gives);
+      took_all = all;
+    }
+
+over_gives_no_more : (sent : Counts) (took : TakenCounts) (o : Next) → o ≡ Over → GivesNoMore false sent took o
+over_gives_no_more sent took o e = let P : Next → Type 0 = λ n. GivesNoMore false sent took n in subst P (sym e) tt
+
+drained_over : (g : Setup) (took : TakenCounts) (at : TraceState) → is_drained g took at ≡ true → (next_item g at ≡ Over) × (to_take at.sent took Client ≡ 0)
+drained_over g took at e =
+    let parts = and_parts (is_over (next_item g at)) _ e in
+    let counts = and_parts (nat_eq (to_take at.sent took Client) 0) (nat_eq (to_take at.sent took Server) 0) parts.1 in
+    (is_over_at (next_item g at) parts.0, eqb-true (to_take at.sent took Client) 0 counts.0)
+  where
+    is_over_at : (o : Next) → is_over o ≡ true → o ≡ Over
+    is_over_at (Does i l) k = cc
+    is_over_at (Waits w) k = cc
+    is_over_at Over k = refl
+
+-- at rest
+at_rest : (failed live : Bool) (g : Setup) (took : TakenCounts) (l : TraceState) → live ≡ true → Spot failed live [] g took l → (failed ≡ false) × (is_drained g took l ≡ false) × GivesNoMore false l.sent took (next_item g l)
+at_rest false true g took l e s = (refl, s.0, s.1)
+at_rest true true g took l e s = absurd s
+at_rest failed false g took l e s = cc
+
+-- ended
+at_end : (failed live : Bool) (ready : List ℕ) (g : Setup) (took : TakenCounts) (l : TraceState) → live ≡ false → failed ≡ false → Spot failed live ready g took l → is_drained g took l ≡ true
+at_end false false [] g took l e f s = s
+at_end false false (x ∷ xs) g took l e f s = absurd s
+at_end true live ready g took l e f s = cc
+at_end false true ready g took l e f s = cc
+
+settled_at : (C : Config) (c : ℕ) (s : State) (z : Seen) → z.ready ≡ entries c s.ring → Served C c z → s.ring ≡ [] → z.live ≡ true → (z.heard.failed ≡ false) × (is_drained (setup_of C z.heard) (taken z.heard) (stand_of C z.heard z.place) ≡ false) × GivesNoMore false (stand_of C z.heard z.place).sent (taken z.heard) (next_item (setup_of C z.heard) (stand_of C z.heard z.place))
+settled_at C c s z is k e live =
+    let P : List ℕ → Type 0 = λ r. Spot z.heard.failed z.live r (setup_of C z.heard) (taken z.heard) (stand_of C z.heard z.place) in
+    at_rest z.heard.failed z.live (setup_of C z.heard) (taken z.heard) (stand_of C z.heard z.place) live (subst P (is ∙ ap (entries c) e) k.spot)
+
+-- its notes
+last_shown : (c : ℕ) (failed live : Bool) (d : ℕ) → filter shows (last_notes c failed live d) ≡ []
+last_shown c false true d = refl
+last_shown c false false d = refl
+last_shown c true true d = refl
+last_shown c true false d = refl
+
+last_closed : (c : ℕ) (failed live : Bool) (d : ℕ) → list_any closes (last_notes c failed live d) ≡ not live
+last_closed c false true d = refl
+last_closed c false false d = refl
+last_closed c true true d = refl
+last_closed c true false d = refl
+
+last_causes : (c : ℕ) (failed live : Bool) (d : ℕ) → causes_told (last_notes c failed live d) ≡ causes_behind failed
+last_causes c false true d = refl
+last_causes c false false d = refl
+last_causes c true true d = refl
+last_causes c true false d = refl
+
+cause_of_item : (c : ℕ) (i : Item) → causes_told (note_of c i) ≡ map cause_of (listed (shown i).reason)
+cause_of_item c (Passed from to bytes) = refl
+cause_of_item c (Fired side n) = refl
+cause_of_item c (Reused kept) = refl
+cause_of_item c (Connected to) = refl
+cause_of_item c (Logged text) = refl
+cause_of_item c (Finished reason) = refl
+cause_of_item c other = refl
+
+causes_of_items : (c : ℕ) (items : List Item) → causes_told (notes_of c items) ≡ map cause_of (reasons_in items)
+causes_of_items c [] = refl
+causes_of_items c (i ∷ items) =
+    flat_map-append cause_told (note_of c i) (notes_of c items) ∙ ap (λ x. x ++ causes_told (notes_of c items)) (cause_of_item c i)
+    ∙ ap (λ x. map cause_of (listed (shown i).reason) ++ x) (causes_of_items c items) ∙ sym (map-append cause_of (listed (shown i).reason) (reasons_in items))
+
+second : (rs : List Reason) (failed : Bool) (first other : Cause) (more : List Cause) → length rs ≤ 1 → map cause_of rs ++ causes_behind failed ≡ first ∷ other ∷ more → (other ≡ Memory) × (more ≡ [])
+second [] false first other more le e = cc
+second [] true first other more le e = cc
+second (r ∷ []) false first other more le e = cc
+second (r ∷ []) true first other more le e = let f : Memory ≡ other = cc in let k : [] ≡ more = cc in (sym f, sym k)
+second (r ∷ s ∷ rs) failed first other more le e = absurd (omega (arith, le))
+
+-- whether it has finished, by its notes
+finish_on : (xs ys : List NoteTells) → finish_told (xs ++ ys) ≡ (finish_told xs || finish_told ys)
+finish_on [] ys = refl
+finish_on (t ∷ xs) ys = ap (λ b. t.finishes || b) (finish_on xs ys) ∙ or_assoc t.finishes (finish_told xs) (finish_told ys)
+  where
+    or_assoc : (a b c : Bool) → (a || (b || c)) ≡ ((a || b) || c)
+    or_assoc true b c = refl
+    or_assoc false b c = refl
+
+marks_finish : (c : ℕ) (v : EventKind) (h : Heard) → h.finished ≡ finish_told (map tells h.notes) → (event_marks c v h).finished ≡ finish_told (map tells (event_marks c v h).notes)
+marks_finish c (Accepts d vs from) h e = by_test (nat_eq d c)
+  where
+    by_test : (b : Bool) → (if b then accepts vs from h else h).finished ≡ finish_told (map tells (if b then accepts vs from h else h).notes)
+    by_test true = e
+    by_test false = e
+marks_finish c (Comes d input) h e = by_test (nat_eq d c) input
+  where
+    by_test : (b : Bool) (i : Input) → (if b then marks i h else h).finished ≡ finish_told (map tells (if b then marks i h else h).notes)
+    by_test false i = e
+    by_test true (Bytes side bytes) = e
+    by_test true (Ends side) = e
+    by_test true (Resets Client) = e
+    by_test true (Resets Server) = e
+    by_test true (Connects made) = e
+    by_test true (Takes Client n) = e
+    by_test true (Takes Server n) = e
+marks_finish c (Ticks moment) h e = e
+marks_finish c Turns h e = e
+marks_finish c Runs h e = e
+marks_finish c (Marks pool member up) h e = e
+
+pub heard_finish : (c : ℕ) (past : Past) → (heard c past).finished ≡ finish_told (map tells (heard c past).notes)
+heard_finish c [] = refl
+heard_finish c (x ∷ past) =
+    let k = event_marks c (kind_of x.event) (heard c past) in
+    ap (λ b. b || finish_told (notes_about c x.group)) (marks_finish c (kind_of x.event) (heard c past) (heard_finish c past))
+    ∙ sym (finish_on (map tells k.notes) (notes_about c x.group)) ∙ ap finish_told (sym (map-append tells k.notes (own c x.group)))
+
+last_finish : (c : ℕ) (live : Bool) (d : ℕ) → finish_told (map tells (last_notes c false live d)) ≡ false
+last_finish c true d = refl
+last_finish c false d = refl
+
+-- the trace has finished where its notes say so, unless memory was wanted
+trace_finished : (C : Config) (c : ℕ) (z : Seen) → Served C c z → z.heard.finished ≡ finish_told (map tells z.heard.notes) → z.heard.failed ≡ false → (stand_of C z.heard z.place).finished ≡ z.heard.finished
+trace_finished C c z k told none =
+    let f = finishes_once (setup_of C z.heard) (begins_at C z.heard).client (begins_at C z.heard).answers (stand_of C z.heard z.place) z.place k.stands in
+    let t = items_tell c z.place in
+    let N = notes_of c z.place in
+    let d = untaken_all z.heard z.place in
+    let items : finish_told (map tells N) ≡ is_some_of (reasons_in z.place) = ap (λ ns. finish_told (map tells ns)) (sym t.own) ∙ t.finish in
+    f.finished ∙ sym (told ∙ ap (λ ns. finish_told (map tells ns)) k.noted ∙ ap (λ b. finish_told (map tells (N ++ last_notes c b z.live d))) none
+    ∙ ap finish_told (map-append tells N (last_notes c false z.live d)) ∙ finish_on (map tells N) (map tells (last_notes c false z.live d))
+    ∙ ap (λ b. finish_told (map tells N) || b) (last_finish c z.live d) ∙ or_false (finish_told (map tells N)) ∙ items)
+
+is_drained_by : (g : Setup) (took : TakenCounts) (l : TraceState) → next_item g l ≡ Over → to_take l.sent took Client ≡ 0 → to_take l.sent took Server ≡ 0 → is_drained g took l ≡ true
+is_drained_by g took l o c s =
+    ap (λ n. is_over n && (nat_eq (to_take l.sent took Client) 0 && nat_eq (to_take l.sent took Server) 0)) o
+    ∙ ap (λ n. nat_eq n 0 && nat_eq (to_take l.sent took Server) 0) c ∙ ap (λ n. nat_eq n 0) s
+
+no_license : (h : Heard) → IsPlain h → (r : CutReason) → licenses h r ≡ true → ⊥
+no_license h p ClientReset e = let f : true ≡ false = sym e ∙ p.not_reset in cc
+no_license h p ServerReset e = let f : true ≡ false = sym e ∙ ap last_reset p.connects in cc
+no_license h p Idle e = cc
+
+one_reason : (rs : List Reason) → length rs ≤ 1 → is_some_of rs ≡ true → length rs ≡ 1
+one_reason [] le e = cc
+one_reason (r ∷ rs) le e = omega (arith, le)
+
+-- an ended connection's last notes
+closed_by : (C : Config) (c : ℕ) (z : Seen) → Served C c z → z.live ≡ false → (z.heard.failed ≡ false → (untaken_all z.heard z.place ≡ 0) × (length (reasons_in z.place) ≡ 1)) → ClosesRightly c z.heard z.place
+closed_by C c z k ended clean = by_failed z.heard.failed refl
+  where
+    N : List Note
+    N = notes_of c z.place
+
+    d : ℕ
+    d = untaken_all z.heard z.place
+
+    first_cause : (rs : List Reason) → length rs ≡ 1 → (cause : Cause) × (more : List Cause) × (map cause_of rs ≡ cause ∷ more)
+    first_cause [] e = cc
+    first_cause (r ∷ rs) e = (cause_of r, map cause_of rs, refl)
+
+    any_cause : (rs : List Reason) → (cause : Cause) × (more : List Cause) × (map cause_of rs ++ Memory ∷ [] ≡ cause ∷ more)
+    any_cause [] = (Memory, [], refl)
+    any_cause (r ∷ rs) = (cause_of r, map cause_of rs ++ Memory ∷ [], refl)
+
+    noted : (b : Bool) → z.heard.failed ≡ b → z.heard.notes ≡ N ++ last_notes c b false d
+    noted b e = k.noted ∙ ap (λ x. N ++ last_notes c x z.live d) e ∙ ap (λ x. N ++ last_notes c b x d) ended
+
+    by_failed : (b : Bool) → z.heard.failed ≡ b → ClosesRightly c z.heard z.place
+    by_failed false e =
+        let r = clean e in
+        let f = first_cause (reasons_in z.place) r.1 in
+        record {
+          before = N;
+          notes = noted false e ∙ ap (λ n. N ++ closing c n) (sym r.0);
+          none_closed = ap (list_any closes) (sym (append-nil N)) ∙ closed_behind c N [] (of_items c z.place);
+          cause = f.0;
+          more = f.1;
+          finished = causes_of_items c z.place ∙ f.2;
+          dropped = λ x. r.0;
+        }
+    by_failed true e =
+        let f = any_cause (reasons_in z.place) in
+        record {
+          before = N ++ Finish c Memory ∷ [];
+          notes = noted true e ∙ sym (append_assoc N (Finish c Memory ∷ []) (closing c d));
+          none_closed = closed_behind c N (Finish c Memory ∷ []) (of_items c z.place);
+          cause = f.0;
+          more = f.1;
+          finished = flat_map-append cause_told N (Finish c Memory ∷ []) ∙ ap (λ x. x ++ Memory ∷ []) (causes_of_items c z.place) ∙ f.2;
+          dropped = λ x. absurd (let g : true ≡ false = sym e ∙ x in cc);
+        }
+
+promised : (C : Config) (past : Past) (s : State) (c : ℕ) → Served C c (seen past s c) → ConnectionPromise C past s c (seen past s c)
+promised C past s c k =
+    let z = seen past s c in
+    let h = z.heard in
+    let g = setup_of C h in
+    let l = stand_of C h z.place in
+    let took = taken h in
+    let N = notes_of c z.place in
+    let d = untaken_all h z.place in
+    let sent = sent_at g h z.place l k.stands in
+    let f = finishes_once g (begins_at C h).client (begins_at C h).answers l z.place k.stands in
+    let t = items_tell c z.place in
+    let no_cut = no_cut_behind g (begins_at C h) l z.place k.plain.cut k.stands in
+    let left = client_untaken h z.place k.plain in
+    let right = none_to_server g h z.place l k.stands k.no_server in
+    let all = all_untaken g h z.place l k.stands k.no_server k.plain in
+    let causes = ap causes_told k.noted ∙ flat_map-append cause_told N (last_notes c h.failed z.live d) ∙ ap (λ x. x ++ causes_told (last_notes c h.failed z.live d)) (causes_of_items c z.place) ∙ ap (λ x. map cause_of (reasons_in z.place) ++ x) (last_causes c h.failed z.live d) in
+    let at_rest = settled_at C c s z refl k in
+    let D : Counts → Type 0 = λ x. GivesNoMore false x took (next_item g l) in
+    let ended = λ (e : z.live ≡ false) (n : h.failed ≡ false). drained_over g took l (at_end h.failed z.live z.ready g took l e n k.spot) in
+    let took_all = λ (e : z.live ≡ false) (n : h.failed ≡ false). (let a : untaken_of h z.place Client ≡ 0 = ap (λ x. to_take x took Client) (sym sent) ∙ (ended e n).1 in let b : h.client.took ≡ length (client_output z.place) = omega (arith, a, left, k.within) in b) in
+    let one = λ (e : z.live ≡ false) (n : h.failed ≡ false). one_reason (reasons_in z.place) f.once (sym f.finished ∙ over_has_finished g l no_cut f.orderly (ended e n).0) in
+    record {
+      sent_is_prefix = sent_is_prefix C c z k;
       settled_is_complete = record {
-        settled_found_memory = λ e l. (v.rests l (ap (λ ring. is_in ring c) e)).not_failed;
-        settled_gave_deliverable = λ e l. record { at = v.at; unfolds = u; gives_no_more = (v.rests l (ap (λ ring. is_in ring c) e)).gives_no_more };
-        drained_gave_whole_trace = λ e l all. whole C name h.took place v.at u (v.rests l (ap (λ ring. is_in ring c) e)).gives_no_more (omega (arith, all, v.took));
-        ended_clean_sent_all = λ l f. let k = v.ended l f in whole C name h.took place v.at u (rw k.over tt) k.took_all;
+        settled_found_memory = λ e live. (at_rest e live).0;
+        settled_gave_deliverable = λ e live. subst D sent (at_rest e live).2;
+        settled_not_cut = λ e live reason licensed. absurd (no_license h k.plain reason licensed);
+        drained_gave_whole_trace = λ e live le. whole C c z k (omega (arith, le, k.within)) (at_rest e live).2;
+        finished_has_ended = λ e finished a b. not_live z.live (λ live. (let r = at_rest e live in
+            let x : to_take l.sent took Client ≡ 0 = ap (λ y. to_take y took Client) sent ∙ a in
+            let y : to_take l.sent took Server ≡ 0 = ap (λ y. to_take y took Server) sent ∙ b in
+            let o = finished_ends g l took no_cut f.orderly (trace_finished C c z k (heard_finish c past) r.0 ∙ finished) x y r.2 in
+            let m : true ≡ false = sym (is_drained_by g took l o x y) ∙ r.1 in absurd (cc)));
+        ended_clean_sent_all = λ e n. whole C c z k (took_all e n) (over_gives_no_more l.sent took (next_item g l) (ended e n).0);
       };
       finish_causes = record {
-        noted = v.noted;
-        trace_found_memory = items_not_failed c place (none_lacks C name v.at place u);
-        finishes_once = finishes_once C name v.at place u;
-        ended_has_finished = λ l f. over_has_finished C name v.at place u (v.ended l f).over;
+        shown = ap (filter shows) k.noted ∙ filter-append shows N (last_notes c h.failed z.live d) ∙ ap (λ x. filter shows N ++ x) (last_shown c h.failed z.live d) ∙ append-nil (filter shows N) ∙ shown_all c N (of_items c z.place);
+        noted = k.noted;
+        dropped_counts = all;
+        causes = causes;
+        trace_found_memory = t.found_memory;
+        finishes_once = f.once;
+        second_is_memory = λ first other more e. second (reasons_in z.place) h.failed first other more f.once (sym causes ∙ e);
+        open_while_live = ap (list_any closes) k.noted ∙ closed_behind c N (last_notes c h.failed z.live d) (of_items c z.place) ∙ last_closed c h.failed z.live d;
+        closes_rightly = λ e. closed_by C c z k e (λ n. (all ∙ (let b = took_all e n in omega (arith, b)), one e n));
+        ended_has_finished = one;
       };
-      open_line_counts = record { sent = omega (arith, v.took) };
+      open_line_counts = record { sent = omega (arith, left, k.within); to_server = right };
     }
 
 pub every_past_matches : (C : Config) (past : Past) (s : State) → Leads C past s → OutputMatchesEvaluator C past s
 every_past_matches C past s leads =
     let sound = leads_sound C past s leads in
-    record {
-      replay_has_scheduler_run = leads;
-      each_connection = λ c name e. promised C past s c name (let P : Option (List ℕ) → Type 0 = λ o. SoundBy o C c (heard c past) (is_in (live_numbers past) c) (is_in s.ring c) (s.places c) in subst P e (sound.each c));
-    }
+    record { replay_has_scheduler_run = leads; each_connection = λ c e. promised C past s c (as_served C c (seen past s c) e (sound.each c)) }

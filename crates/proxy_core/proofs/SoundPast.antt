@@ -1,36 +1,257 @@
 -- What holds of every state that a past leads to.
-use Rattle.std.proofs.Common.{◌≡◌, refl, sym, subst, List, [], ◌∷◌, None}
+use Rattle.std.proofs.Common.{◌≡◌, refl, sym, ap, subst, ◌∙◌, ℕ, ◌+◌, ◌-◌, ◌≤◌, ◌<◌, List, [], ◌∷◌, ◌++◌, length, Bool, true, false, ◌⊎◌, inl, inr, Option, Some, None, nat_eq, nat_lt, arith, if◌then◌else◌}
+use Rattle.std.specs.Prelude.{is_none, is_some}
+use Rattle.std.specs.Prelude.{not}
+use Rattle.std.specs.Bool.{MatchBool}
+use Rattle.std.specs.List.{IsDistinct}
+use Rattle.std.proofs.lemmas.Bool.Decides.{nat_tests}
+use Rattle.px_bytes.specs.declared.addr.Addr.{Addr}
+use Rattle.px_bytes.specs.declared.addr.Side.{Side}
+use Rattle.px_bytes.specs.declared.addr.Side.TheVariants.{Client, Server}
+use Rattle.connection_model.specs.declared.note.Cause.TheVariants.{Memory}
 use Rattle.connection_model.specs.declared.note.Note.{Note}
-use Rattle.proxy_core.specs.Moves.{Leads, Moves, MovesBy}
-use Rattle.proxy_core.specs.Past.{Happened, Past}
-use Rattle.proxy_core.specs.Scheduler.{State, no_connections, refused}
-use Rattle.proxy_core.specs.Sound.{Sound}
+use Rattle.connection_model.specs.declared.note.Note.TheVariants.{Finish}
+use Rattle.connection_model.specs.Further.{longer}
+use Rattle.connection_model.specs.Gates.{TakenCounts}
+use Rattle.connection_model.specs.Heard.{Input, Bytes, Ends, Resets, Connects, Takes, EventKind, Accepts, Comes, Ticks, Turns, Runs, Marks, Accepted, Heard, taken, event_marks, marks, hears, further_of}
+use Rattle.connection_model.specs.Item.{Item, client_output, notes_of}
+use Rattle.connection_model.specs.State.{TraceState, Does, Waits, Over}
+use Rattle.connection_model.specs.Setup.{Setup}
+use Rattle.connection_model.specs.Trace.{next_item, GivesNoMore}
+use Rattle.connection_model.proofs.Hearing.{others_not_heard}
+use Rattle.proxy_core.specs.Moves.{Rests, MovesFailed, MovesOn, MovesCome, MovesRing, MovesFront, MovesBy, Moves, RunsOn, RunsOut, RunsFailed, is_drained_at, came, may_come, ran, Leads}
+use Rattle.proxy_core.specs.Past.{Happened, Past, kind_of, heard, ended_in, without_all, with_accepted, shared, shared_after}
+use Rattle.proxy_core.specs.Ready.{is_in, without}
+use Rattle.proxy_core.specs.Refusal.{Row, Standing, standing_by, known, takes_too_much, refusal_rows, first_of, refused}
+use Rattle.proxy_core.specs.RunsItems.{closing, is_drained, closing_if, Passes, out_of_memory}
+use Rattle.proxy_core.specs.Scheduler.{State, no_connections, entries, Seen, seen, seen_after, untaken_of, untaken_all}
+use Rattle.proxy_core.specs.Setup.{setup_of, stand_of}
+use Rattle.proxy_core.specs.Sound.{unseen, last_notes, Spot, ServedAt, Served, SoundAt, Sound}
 use Rattle.proxy_core.specs.declared.config.Config.{Config}
-use Rattle.proxy_core.specs.declared.event.Event.{Event}
-use Rattle.proxy_core.specs.declared.event.Event.TheVariants.{Accept, ClientTook, Run}
-use Rattle.proxy_core.proofs.ReadyRing.{distinct_none}
-use Rattle.proxy_core.proofs.SoundAccepts.{sound_accepts}
-use Rattle.proxy_core.proofs.SoundTakes.{sound_takes}
-use Rattle.proxy_core.proofs.SoundRuns.{sound_runs}
+use Rattle.proxy_core.specs.declared.event.BadEvent.{BadEvent}
+use Rattle.proxy_core.proofs.Framing.{about, front, touches, only_changed, same_seen, each_by}
+use Rattle.proxy_core.proofs.GroupNotes.{about_closing_if}
+use Rattle.proxy_core.proofs.Hearing.{taken_more, Told, come_told, run_told}
+use Rattle.proxy_core.proofs.Members.{eq_self}
+use Rattle.proxy_core.proofs.ReadyRing.{distinct_none, distinct_push, distinct_without}
+use Rattle.proxy_core.proofs.SoundEvents.{first_notes, fresh_sound, fresh, seen_accept, MayCome, come_served, Behind, behind_closing, behind_memory, run_about, run_served, failed_served}
+use Rattle.proxy_core.proofs.Standing.{is_served, is_unseen, as_served, from_served, client_untaken}
+
+-- no row holds
+abbrev pub NoneHolds : List Row → Type 0
+NoneHolds [] = Unit {0}
+NoneHolds (r ∷ rows) = (r.holds ≡ false) × NoneHolds rows
+
+pub none_holds : (rows : List Row) → first_of rows ≡ None → NoneHolds rows
+none_holds [] h = tt
+none_holds (r ∷ rows) h = by_row r.holds refl h (none_holds rows)
+  where
+    by_row : (b : Bool) → r.holds ≡ b → (if b then Some r.why else first_of rows) ≡ None → (first_of rows ≡ None → NoneHolds rows) → (r.holds ≡ false) × NoneHolds rows
+    by_row true e k rest = cc
+    by_row false e k rest = (e, rest k)
+
+live_by : (b : Bool) (z : Seen) → is_none (standing_by b z) ≡ false → b ≡ true
+live_by true z h = refl
+live_by false z h = cc
+
+-- what a took-count that isn't refused takes is there
+takes_within : (input : Input) (took sent left right : ℕ) → took ≤ sent → left ≡ sent - took → takes_too_much (Some (record { to_client = left; to_server = right })) input ≡ false → took + taken_more input ≤ sent
+takes_within (Bytes side bytes) took sent left right le e h = omega (arith, le)
+takes_within (Ends side) took sent left right le e h = omega (arith, le)
+takes_within (Resets side) took sent left right le e h = omega (arith, le)
+takes_within (Connects made) took sent left right le e h = omega (arith, le)
+takes_within (Takes Client n) took sent left right le e h = let t : nat_lt left n ≡ false = h in grind (arith, nat_tests)
+takes_within (Takes Server n) took sent left right le e h = omega (arith, le)
+
+pub may_come_at : (C : Config) (past : Past) (old : State) (c : ℕ) (input : Input) → SoundAt C c (seen past old c) → refused C past old (Comes c input) ≡ None → MayCome C c input (seen past old c)
+may_come_at C past old c input s h =
+    let z = seen past old c in
+    let r = none_holds (refusal_rows C (known past old (Comes c input)) (Comes c input)) h in
+    let live : z.live ≡ true = live_by z.live z r.0 in
+    let k = is_served C c z (λ u. let n : z.live ≡ false = ap (λ y. y.live) u in let m : true ≡ false = sym live ∙ n in cc) s in
+    let P : Bool → Type 0 = λ b. takes_too_much (standing_by b z) input ≡ false in
+    record { live = live; accepted = k.0; served = k.1; within = takes_within input z.heard.client.took (length (client_output z.place)) (untaken_of z.heard z.place Client) (untaken_of z.heard z.place Server) k.1.within (client_untaken z.heard z.place k.1.plain) (subst P live r.1.1.1.1.0) }
+
+-- an event that changes nothing
+pub unchanged : (past : Past) (v : EventKind) (group : List Note) (old new : State) (q : ℕ) → Rests group old new → ((h : Heard) → hears q h v [] ≡ h) → with_accepted v (shared past).live ≡ (shared past).live → seen_after past v group new q ≡ seen past old q
+unchanged past v group old new q m same live =
+    same_seen (seen_after past v group new q) (seen past old q)
+    (ap (hears q (heard q past) v) m.0 ∙ same (heard q past))
+    (ap (λ g. is_in (without_all (ended_in g) (with_accepted v (shared past).live)) q) m.0 ∙ ap (λ ns. is_in ns q) live)
+    (ap (λ s. entries q s.ring) m.1) (ap (λ s. s.places q) m.1)
+
+own_rest : (C : Config) (past : Past) (v : EventKind) (group : List Note) (old new : State) (q : ℕ) → Rests group old new → ((h : Heard) → hears q h v [] ≡ h) → with_accepted v (shared past).live ≡ (shared past).live → SoundAt C q (seen past old q) → SoundAt C q (seen_after past v group new q)
+own_rest C past v group old new q m same live s = let P : Seen → Type 0 = λ z. SoundAt C q z in subst P (sym (unchanged past v group old new q m same live)) s
+
+-- it stays accepted
+pub still_accepted : (c : ℕ) (h : Heard) (v : EventKind) (group : List Note) (n : ℕ) → Told c h v group n → is_some h.accepted ≡ true → is_some (hears c h v group).accepted ≡ true
+still_accepted c h v group n t e = ap is_some t.accepted ∙ e
+
+own_come : (C : Config) (past : Past) (c : ℕ) (input : Input) (group : List Note) (old new : State) (over : Bool) → may_come input ≡ true → IsDistinct nat_eq (shared past).live → MayCome C c input (seen past old c) → group ≡ closing_if over c → new ≡ came c over old
+    → MatchBool (heard c past).failed (over ≡ false) (over ≡ is_drained_at C (hears c (heard c past) (Comes c input) group) (old.places c)) → SoundAt C c (seen_after past (Comes c input) group new c)
+own_come C past c input group old new over may d m e f j =
+    let P : List Note → Type 0 = λ g. MatchBool (heard c past).failed (over ≡ false) (over ≡ is_drained_at C (hears c (heard c past) (Comes c input) g) (old.places c)) in
+    let k = come_served C past c input over old may d m (subst P e j) in
+    let Q : State → Type 0 = λ s. SoundAt C c (seen_after past (Comes c input) group s c) in
+    let R : List Note → Type 0 = λ g. SoundAt C c (seen_after past (Comes c input) g (came c over old) c) in
+    subst Q (sym f) (subst R (sym e) (from_served C c (seen_after past (Comes c input) (closing_if over c) (came c over old) c) (still_accepted c (heard c past) (Comes c input) (closing_if over c) (taken_more input) (come_told c (heard c past) input (closing_if over c) may m.served.plain.connects (about_closing_if over c)) m.accepted) k))
+
+-- the front of the ring was accepted
+pub front_served : (C : Config) (past : Past) (c : ℕ) (rest : List ℕ) (old : State) → old.ring ≡ c ∷ rest → SoundAt C c (seen past old c) → (is_some (heard c past).accepted ≡ true) × Served C c (seen past old c)
+front_served C past c rest old e s =
+    let z = seen past old c in
+    let ready : z.ready ≡ c ∷ entries c rest = ap (entries c) e ∙ ap (λ x. if x then c ∷ entries c rest else entries c rest) (eq_self c) in
+    is_served C c z (λ u. let n = sym ready ∙ ap (λ y. y.ready) u in cc) s
+
+-- where the front is put
+spot_ran : (over : Bool) (g : Setup) (took : TakenCounts) (at : TraceState) → over ≡ is_drained g took at → GivesNoMore false at.sent took (next_item g at) → Spot false (not over) [] g took at
+spot_ran true g took at e k = sym e
+spot_ran false g took at e k = (sym e, k)
+
+run_sound : (C : Config) (past : Past) (c : ℕ) (rest : List ℕ) (old : State) (more : List Item) (at : TraceState) (behind : List Note) (fails over : Bool) (d : ℕ)
+    → IsDistinct nat_eq (shared past).live → old.ring ≡ c ∷ rest → (heard c past).failed ≡ false → is_some (heard c past).accepted ≡ true → Served C c (seen past old c)
+    → Passes (setup_of C (heard c past)) (taken (heard c past)) (stand_of C (heard c past) (old.places c)) more at → Behind c behind fails over d
+    → d ≡ untaken_all (heard c past) (old.places c ++ more) → Spot fails (not over) [] (setup_of C (heard c past)) (taken (heard c past)) at
+    → SoundAt C c (seen_after past Runs (notes_of c more ++ behind) (ran c rest more old) c)
+run_sound C past c rest old more at behind fails over d distinct e f a v p b dropped spot =
+    let group = notes_of c more ++ behind in
+    from_served C c (seen_after past Runs group (ran c rest more old) c)
+    (still_accepted c (heard c past) Runs group 0 (run_told c (heard c past) group v.plain.connects (run_about c more behind b.about)) a)
+    (run_served C past c rest old more at behind fails over d distinct e f v p b dropped spot)
+
+failed_sound : (C : Config) (past : Past) (c : ℕ) (rest : List ℕ) (old : State) → IsDistinct nat_eq (shared past).live → old.ring ≡ c ∷ rest → (heard c past).failed ≡ true → is_some (heard c past).accepted ≡ true → Served C c (seen past old c)
+    → SoundAt C c (seen_after past Runs (closing c (untaken_all (heard c past) (old.places c))) (record old { ring = rest }) c)
+failed_sound C past c rest old d e f a v =
+    let group = closing c (untaken_all (heard c past) (old.places c)) in
+    from_served C c (seen_after past Runs group (record old { ring = rest }) c)
+    (still_accepted c (heard c past) Runs group 0 (run_told c (heard c past) group v.plain.connects (refl, (refl, tt))) a)
+    (failed_served C past c rest old d e f v)
+
+own_run : (C : Config) (past : Past) (c : ℕ) (rest : List ℕ) (group : List Note) (old new : State) → IsDistinct nat_eq (shared past).live → old.ring ≡ c ∷ rest → SoundAt C c (seen past old c) → MovesFront C (heard c past) c rest group old new
+    → SoundAt C c (seen_after past Runs group new c)
+own_run C past c rest group old new d e s m = by_failed (heard c past).failed refl m
+  where
+    h : Heard
+    h = heard c past
+
+    moved : (notes : List Note) (after : State) → group ≡ notes → new ≡ after → SoundAt C c (seen_after past Runs notes after c) → SoundAt C c (seen_after past Runs group new c)
+    moved notes after f k t =
+        let Q : State → Type 0 = λ y. SoundAt C c (seen_after past Runs group y c) in
+        let R : List Note → Type 0 = λ g. SoundAt C c (seen_after past Runs g after c) in
+        subst Q (sym k) (subst R (sym f) t)
+
+    by_failed : (b : Bool) → h.failed ≡ b → MatchBool b (RunsFailed h c rest group old new) (RunsOn C h c rest group old new ⊎ RunsOut C h c rest group old new) → SoundAt C c (seen_after past Runs group new c)
+    by_failed true f k =
+        let v = front_served C past c rest old e s in
+        moved (closing c (untaken_all h (old.places c))) (record old { ring = rest }) k.notes k.state
+        (failed_sound C past c rest old d e f v.0 v.1)
+    by_failed false f (inl k) =
+        let v = front_served C past c rest old e s in
+        let p = k.items.passes in
+        let drained : Spot false (not k.over) [] (setup_of C h) (taken h) k.at = spot_ran k.over (setup_of C h) (taken h) k.at k.items.drained k.items.stops in
+        moved (notes_of c k.more ++ closing_if k.over c) (ran c rest k.more old) k.items.noted k.state
+        (run_sound C past c rest old k.more k.at (closing_if k.over c) false k.over (untaken_all h (old.places c ++ k.more)) d e f v.0 v.1 p (behind_closing k.over c (untaken_all h (old.places c ++ k.more))) refl drained)
+    by_failed false f (inr k) =
+        let v = front_served C past c rest old e s in
+        let left = untaken_all h (old.places c ++ k.more) in
+        moved (out_of_memory c k.more left) (ran c rest k.more old) k.notes k.state
+        (run_sound C past c rest old k.more k.at (Finish c Memory ∷ closing c left) true true left d e f v.0 v.1 k.passes (behind_memory c left) refl tt)
+
+own_ring : (C : Config) (past : Past) (ring : List ℕ) (group : List Note) (old new : State) → IsDistinct nat_eq (shared past).live → old.ring ≡ ring → ((c : ℕ) → SoundAt C c (seen past old c)) → MovesRing C past ring group old new
+    → SoundAt C (front ring) (seen_after past Runs group new (front ring))
+own_ring C past [] group old new d e each m = own_rest C past Runs group old new 0 m (λ h. others_not_heard 0 h Runs [] refl refl) refl (each 0)
+own_ring C past (c ∷ rest) group old new d e each m = own_run C past c rest group old new d e (each c) m
+
+own_input : (C : Config) (past : Past) (c : ℕ) (input : Input) (group : List Note) (old new : State) → IsDistinct nat_eq (shared past).live → MayCome C c input (seen past old c) → (b : Bool) → may_come input ≡ b
+    → MatchBool b (MovesCome C (heard c past) (hears c (heard c past) (Comes c input) group) c group old new) ⊥ → SoundAt C c (seen_after past (Comes c input) group new c)
+own_input C past c input group old new d m false e k = absurd k
+own_input C past c input group old new d m true e k = by_failed (heard c past).failed refl k
+  where
+    now : Heard
+    now = hears c (heard c past) (Comes c input) group
+
+    by_failed : (b : Bool) → (heard c past).failed ≡ b → MatchBool b (MovesFailed c group old new) (MovesOn C now c group old new) → SoundAt C c (seen_after past (Comes c input) group new c)
+    by_failed true f j = own_come C past c input group old new false e d m j.notes j.state (let P : Bool → Type 0 = λ b. MatchBool b (false ≡ false) (false ≡ is_drained_at C now (old.places c)) in subst P (sym f) refl)
+    by_failed false f j = own_come C past c input group old new (is_drained_at C now (old.places c)) e d m j.notes j.state (let P : Bool → Type 0 = λ b. MatchBool b (is_drained_at C now (old.places c) ≡ false) (is_drained_at C now (old.places c) ≡ is_drained_at C now (old.places c)) in subst P (sym f) refl)
+
+own_accept : (C : Config) (past : Past) (c : ℕ) (vs : List ℕ) (from : Addr) (group : List Note) (old new : State) → seen past old c ≡ unseen → (group ≡ []) ⊎ (group ≡ Finish c Memory ∷ []) → new ≡ record old { ring = old.ring ++ c ∷ [] }
+    → SoundAt C c (seen_after past (Accepts c vs from) group new c)
+own_accept C past c vs from group old new u e f = by_notes e
+  where
+    begun : (failed : Bool) → group ≡ first_notes c failed → SoundAt C c (seen_after past (Accepts c vs from) group new c)
+    begun failed k =
+        let a : Accepted = record { virtual = vs; from = from } in
+        let P : Seen → Type 0 = λ z. SoundAt C c z in subst P (sym (seen_accept past c a failed group old new u k f)) (fresh_sound C c a failed)
+
+    by_notes : (group ≡ []) ⊎ (group ≡ Finish c Memory ∷ []) → SoundAt C c (seen_after past (Accepts c vs from) group new c)
+    by_notes (inl k) = begun false k
+    by_notes (inr k) = begun true k
+
+-- a connection above the last number wasn't accepted
+pub not_accepted : (C : Config) (past : Past) (c : ℕ) (vs : List ℕ) (from : Addr) (s : State) → Sound C past s → refused C past s (Accepts c vs from) ≡ None → seen past s c ≡ unseen
+not_accepted C past c vs from s k h =
+    let r = (none_holds (refusal_rows C (known past s (Accepts c vs from)) (Accepts c vs from)) h).1.0 in
+    is_unseen C c (seen past s c) (k.unheard c (grind (arith, nat_tests))) (k.each c)
+
+-- each event owes its own connection
+own : (C : Config) (past : Past) (v : EventKind) (group : List Note) (old new : State) → Sound C past old → refused C past old v ≡ None → MovesBy C past v group old new → SoundAt C (about v old) (seen_after past v group new (about v old))
+own C past (Accepts c vs from) group old new s h m = own_accept C past c vs from group old new (not_accepted C past c vs from old s h) m.notes m.state
+own C past (Comes c input) group old new s h m = own_input C past c input group old new s.distinct (may_come_at C past old c input (s.each c) h) (may_come input) refl m
+own C past (Ticks moment) group old new s h m = own_rest C past (Ticks moment) group old new 0 m (λ k. others_not_heard 0 k (Ticks moment) [] refl refl) refl (s.each 0)
+own C past Turns group old new s h m = own_rest C past Turns group old new 0 m (λ k. others_not_heard 0 k Turns [] refl refl) refl (s.each 0)
+own C past Runs group old new s h m = own_ring C past old.ring group old new s.distinct refl s.each m
+own C past (Marks pool member up) group old new s h m = own_rest C past (Marks pool member up) group old new 0 m (λ k. others_not_heard 0 k (Marks pool member up) [] refl refl) refl (s.each 0)
+
+-- above the last number nothing was heard
+marked_accepted : (input : Input) (h : Heard) → (marks input h).accepted ≡ h.accepted
+marked_accepted (Bytes side bytes) h = refl
+marked_accepted (Ends side) h = refl
+marked_accepted (Resets Client) h = refl
+marked_accepted (Resets Server) h = refl
+marked_accepted (Connects made) h = refl
+marked_accepted (Takes Client n) h = refl
+marked_accepted (Takes Server n) h = refl
+
+unheard : (C : Config) (past : Past) (v : EventKind) (group : List Note) (old : State) → ((q : ℕ) → (shared past).last < q → is_some (heard q past).accepted ≡ false) → refused C past old v ≡ None
+    → (q : ℕ) → (shared_after v group (shared past)).last < q → is_some (event_marks q v (heard q past)).accepted ≡ false
+unheard C past (Accepts c vs from) group old before h q lt =
+    let f : nat_eq c q ≡ false = grind (arith, nat_tests) in
+    let r = (none_holds (refusal_rows C (known past old (Accepts c vs from)) (Accepts c vs from)) h).1.0 in
+    rw f (before q (grind (arith, nat_tests)))
+unheard C past (Comes c input) group old before h q lt = by_test (nat_eq c q) (before q lt)
+  where
+    by_test : (b : Bool) → is_some (heard q past).accepted ≡ false → is_some (if b then marks input (heard q past) else heard q past).accepted ≡ false
+    by_test true k = ap is_some (marked_accepted input (heard q past)) ∙ k
+    by_test false k = k
+unheard C past (Ticks moment) group old before h q lt = before q lt
+unheard C past Turns group old before h q lt = before q lt
+unheard C past Runs group old before h q lt = before q lt
+unheard C past (Marks pool member up) group old before h q lt = before q lt
+
+distinct_all : (ended live : List ℕ) → IsDistinct nat_eq live → IsDistinct nat_eq (without_all ended live)
+distinct_all [] live d = d
+distinct_all (c ∷ ended) live d = distinct_all ended (without c live) (distinct_without c live d)
+
+distinct_after : (C : Config) (past : Past) (v : EventKind) (old : State) → Sound C past old → refused C past old v ≡ None → IsDistinct nat_eq (with_accepted v (shared past).live)
+distinct_after C past (Accepts c vs from) old s h = distinct_push c (shared past).live s.distinct (ap (λ z. z.live) (not_accepted C past c vs from old s h))
+distinct_after C past (Comes c input) old s h = s.distinct
+distinct_after C past (Ticks moment) old s h = s.distinct
+distinct_after C past Turns old s h = s.distinct
+distinct_after C past Runs old s h = s.distinct
+distinct_after C past (Marks pool member up) old s h = s.distinct
+
+pub sound_step : (C : Config) (past : Past) (x : Happened) (old new : State) → Sound C past old → refused C past old (kind_of x.event) ≡ None → Moves C past x old new → Sound C (x ∷ past) new
+sound_step C past x old new s h m =
+    let v = kind_of x.event in
+    record {
+      leads = (old, s.leads, h, m);
+      each = each_by {A = Unit {0}} (λ q z a. SoundAt C q z) (λ q. tt) (λ q. tt) (about v old) past v x.group old new (only_changed past v x.group old new (touches C past v x.group old new m)) (λ q e. refl) s.each (own C past v x.group old new s h m);
+      unheard = λ q lt. unheard C past v x.group old s.unheard h q lt;
+      distinct = distinct_all (ended_in x.group) (with_accepted v (shared past).live) (distinct_after C past v old s h);
+    }
 
 pub sound_start : (C : Config) → Sound C [] no_connections
-sound_start C = record {
-  leads = refl;
-  each = λ c. record { nothing = refl; no_items = refl; not_live = refl; not_ready = refl };
-  unheard = λ c h. refl;
-  live_distinct = distinct_none;
-  ring_distinct = distinct_none;
-  ring_live = λ c h. h;
-}
-
-by_event : (C : Config) (past : Past) (event : Event) (group : List Note) (old new : State) → Sound C past old → refused C past old event ≡ None → MovesBy C past (record { event = event; group = group }) event old new
-    → Sound C (record { event = event; group = group } ∷ past) new
-by_event C past (Accept conn vs from) group old new s h m = sound_accepts C past conn vs from group old new s h m
-by_event C past (ClientTook conn n) group old new s h m = sound_takes C past conn n group old new s h m
-by_event C past Run group old new s h m = sound_runs C past group old new s m
-
-pub sound_step : (C : Config) (past : Past) (x : Happened) (old new : State) → Sound C past old → refused C past old x.event ≡ None → Moves C past x old new → Sound C (x ∷ past) new
-sound_step C past x old new s h m = by_event C past x.event x.group old new s h m
+sound_start C = record { leads = refl; each = λ c. refl; unheard = λ c h. refl; distinct = distinct_none }
 
 pub leads_sound : (C : Config) (past : Past) (s : State) → Leads C past s → Sound C past s
 leads_sound C [] s e = let P : State → Type 0 = λ y. Sound C [] y in subst P (sym e) (sound_start C)

@@ -1,14 +1,21 @@
--- From what an event changed to what the core stands for.
-use Rattle.std.proofs.Common.{◌≡◌, sym, ap, ◌∙◌, List, [], ◌∷◌, ◌++◌, Some, None, Result, Ok, Err}
-use Rattle.std.proofs.Common.{OnOk, IfErr}
+-- What a step did.
+use Rattle.std.proofs.Common.{◌≡◌, refl, sym, ap, subst, ◌∙◌, ℕ, ◌-◌, List, [], ◌∷◌, ◌++◌, length, Bool, true, false, Option, Some, None, Result, Ok, Err, OnOk, IfErr, arith}
+use Rattle.std.proofs.lemmas.List.{length-map, length-drop}
+use Rattle.px_bytes.specs.declared.addr.Side.TheVariants.{Client, Server}
 use Rattle.connection_model.specs.declared.note.Note.{Note}
+use Rattle.connection_model.specs.Gates.{TakenCounts, taken_of}
+use Rattle.connection_model.specs.Heard.{Heard, EventKind, taken}
+use Rattle.connection_model.specs.Item.{client_output}
 use Rattle.proxy_core.specs.Changes.{Changes}
-use Rattle.proxy_core.specs.Moves.{Moves}
-use Rattle.proxy_core.specs.Past.{Happened, Past}
+use Rattle.proxy_core.specs.Live.{pending_in}
+use Rattle.proxy_core.specs.Past.{Happened, Past, kind_of, Shared, shared}
 use Rattle.proxy_core.specs.Ready.{numbers}
-use Rattle.proxy_core.specs.Refusals.{refusal}
-use Rattle.proxy_core.specs.Represents.{Agrees, Represents}
-use Rattle.proxy_core.specs.Scheduler.{State, no_connections, refused}
+use Rattle.proxy_core.specs.Refusal.{Standing, Known, standing_by, standing_of, named, known, refused, refusal_by, core_standing, core_known, refusal_of, refusal}
+use Rattle.proxy_core.specs.Refusals.{live_at}
+use Rattle.proxy_core.specs.Represents.{ConnectionContinues, AgreesAt, Agrees, Represents}
+use Rattle.proxy_core.specs.Scheduler.{State, Seen, seen, no_connections, untaken_of}
+use Rattle.proxy_core.specs.Setup.{setup_of, stand_of}
+use Rattle.proxy_core.specs.Sound.{Served, SoundAt}
 use Rattle.proxy_core.specs.Start.{IsStart}
 use Rattle.proxy_core.specs.Steps.{StandsAfter, KeepsStanding, Steps, IsRefused}
 use Rattle.proxy_core.specs.declared.config.Config.{Config}
@@ -16,47 +23,64 @@ use Rattle.proxy_core.specs.declared.core_state.Core.{Core}
 use Rattle.proxy_core.specs.declared.event.BadEvent.{BadEvent}
 use Rattle.proxy_core.specs.declared.event.Event.{Event}
 use Rattle.proxy_core.specs.declared.event.Event.TheVariants.{Accept, ClientTook, Run}
-use Rattle.proxy_core.proofs.AgreesAccepts.{refusal_same, accepted_state, agrees_accepts}
-use Rattle.proxy_core.proofs.AgreesTakes.{took_state, agrees_takes}
-use Rattle.proxy_core.proofs.AgreesRuns.{agrees_runs}
+use Rattle.proxy_core.specs.declared.live.Conn.{Conn}
+use Rattle.proxy_core.specs.declared.live.Live.{Live}
+use Rattle.proxy_core.proofs.Agreeing.{After, accepts, takes, runs}
 use Rattle.proxy_core.proofs.SoundPast.{sound_start, sound_step}
+use Rattle.proxy_core.proofs.Standing.{is_served, none_untaken, client_untaken, none_to_server}
 
--- the event was moved by the scheduler, and the core agrees
-stands : (C : Config) (past : Past) (s next : State) (x : Happened) (old new : Core) → Represents C past s old → refused C past s x.event ≡ None → Moves C past x s next → Agrees C (x ∷ past) next new → StandsAfter C past s x new
-stands C past s next x old new r accepted moves agrees = record {
-  next = next;
-  moves = moves;
-  represents = record { sound = sound_step C past x s next r.sound accepted moves; agrees = agrees };
-}
+-- what is pending on a connection is what the scheduler says
+pub pending_same : (C : Config) (c : ℕ) (z : Seen) (o : Option Conn) → Served C c z → ConnectionContinues C z o → (pending_in o ≡ untaken_of z.heard z.place Client) × (0 ≡ untaken_of z.heard z.place Server)
+pending_same C c z None v k =
+    (sym (ap (λ p. untaken_of z.heard p Client) k.no_items ∙ none_untaken (taken z.heard).client), sym (none_to_server (setup_of C z.heard) z.heard z.place (stand_of C z.heard z.place) v.stands v.no_server))
+pending_same C c z (Some conn) v k =
+    (ap length k.queue ∙ length-drop z.heard.client.took (client_output z.place) ∙ sym (client_untaken z.heard z.place v.plain), sym (none_to_server (setup_of C z.heard) z.heard z.place (stand_of C z.heard z.place) v.stands v.no_server))
 
-by_event : (C : Config) (past : Past) (s : State) (old new : Core) (e : Event) (group : List Note) → Represents C past s old → refused C past s e ≡ None → Changes old new e group → StandsAfter C past s (record { event = e; group = group }) new
-by_event C past s old new (Accept conn vs from) group r h k =
-    let a = agrees_accepts C past s old new conn vs from group r.sound r.agrees h k in
-    stands C past s (accepted_state s conn) (record { event = Accept conn vs from; group = group }) old new r h a.moves a.agrees
-by_event C past s old new (ClientTook conn n) group r h k =
-    let a = agrees_takes C past s old new conn n group r.sound r.agrees h k in
-    stands C past s (took_state s conn a.over) (record { event = ClientTook conn n; group = group }) old new r h a.moves a.agrees
-by_event C past s old new Run group r h k =
-    let a = agrees_runs C past s old new group r.sound r.agrees k in
-    stands C past s a.new (record { event = Run; group = group }) old new r h a.moves a.agrees
+standing_same : (C : Config) (c : ℕ) (z : Seen) (o : Option Live) → SoundAt C c z → AgreesAt C z o → core_standing o ≡ standing_of z
+standing_same C c z None s a = sym (ap (λ b. standing_by b z) a)
+standing_same C c z (Some l) s a =
+    let make : ℕ → ℕ → Option Standing = λ p q. Some (record { to_client = p; to_server = q }) in
+    let v = (is_served C c z (λ u. let n : z.live ≡ false = ap (λ y. y.live) u in let m : true ≡ false = sym a.0 ∙ n in cc) s).1 in
+    let e = pending_same C c z l.conn v a.1 in
+    ap (λ p. make p 0) e.0 ∙ ap (make (untaken_of z.heard z.place Client)) e.1 ∙ sym (ap (λ b. standing_by b z) a.0)
+
+known_same : (C : Config) (past : Past) (s : State) (core : Core) (v : EventKind) → Represents C past s core → core_known core v ≡ known past s v
+known_same C past s core v r =
+    let make : ℕ → ℕ → Option Standing → Known = λ l n o. record { last = l; live = n; conn = o } in
+    ap (λ y. make y.last (length core.live.items) (core_standing (live_at core.live.items (named v)))) r.agrees.shared
+    ∙ ap (λ n. make (shared past).last n (core_standing (live_at core.live.items (named v)))) (sym (length-map core.live.items (λ l. l.number)) ∙ ap (λ y. length y.live) r.agrees.shared)
+    ∙ ap (λ o. make (shared past).last (length (shared past).live) o) (standing_same C (named v) (seen past s (named v)) (live_at core.live.items (named v)) (r.sound.each (named v)) (r.agrees.each (named v)))
+
+pub refusal_same : (C : Config) (past : Past) (s : State) (core : Core) (v : EventKind) → Represents C past s core → refusal_of core v ≡ refused C past s v
+refusal_same C past s core v r = ap (λ D. refusal_by D (core_known core v) v) r.agrees.config ∙ ap (λ k. refusal_by C k v) (known_same C past s core v r)
+
+by_event : (C : Config) (past : Past) (s : State) (old new : Core) (e : Event) (group : List Note) → Represents C past s old → refused C past s (kind_of e) ≡ None → Changes old new e group → After C past s (kind_of e) group new
+by_event C past s old new (Accept conn vs from) group r h k = accepts C past s old new conn vs from group r h k
+by_event C past s old new (ClientTook conn n) group r h k = takes C past s old new conn n group r h k
+by_event C past s old new Run group r h k = runs C past s old new old.ring.items group r (sym r.agrees.ring) k
 
 pub keeps_standing : (old new : Core) (e : Event) (group : List Note) → refusal old e ≡ None → Changes old new e group → KeepsStanding old new (record { event = e; group = group })
-keeps_standing old new e group h k C past s r = by_event C past s old new e group r (sym (refusal_same C past s old e r.agrees) ∙ h) k
+keeps_standing old new e group h k C past s r =
+    let accepted = sym (refusal_same C past s old (kind_of e) r) ∙ h in
+    let a = by_event C past s old new e group r accepted k in
+    record { next = a.next; moves = a.moves; represents = record { sound = sound_step C past (record { event = e; group = group }) s a.next r.sound accepted a.moves; agrees = a.agrees } }
 
 pub is_refused : (core : Core) (e : Event) (why : BadEvent) → refusal core e ≡ Some why → IsRefused core e why
-is_refused core e why h C past s r = sym (refusal_same C past s core e r.agrees) ∙ h
+is_refused core e why h C past s r = sym (refusal_same C past s core (kind_of e) r) ∙ h
 
 -- a core without connections
+abbrev made : ℕ → List ℕ → Shared
+made last live = record { last = last; live = live }
+
 pub start_represents : (C : Config) (core : Core) → IsStart C core → Represents C [] no_connections core
 start_represents C core k = record {
   sound = sound_start C;
   agrees = record {
     config = k.config;
-    statics = k.statics;
-    last = k.last;
+    statics = ap (λ x. x.statics) k.statics;
+    shared = ap (λ l. made l (numbers core.live.items)) k.last ∙ ap (λ ls. made 0 (numbers ls)) k.live;
     ring = k.ring;
-    live = ap numbers k.live;
-    each = λ c. rw k.live tt;
+    each = λ c. rw k.live refl;
   };
 }
 

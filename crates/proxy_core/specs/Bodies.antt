@@ -9,7 +9,8 @@ use Rattle.tcl_compile.specs.TreeView.{node_view}
 use Rattle.rule_model.specs.Evaluator.{evaluate}
 use Rattle.rule_model.specs.Outcome.{Outcome, Ends, Waits, State, uncaught_of}
 use Rattle.event_order.specs.declared.event.EventName.TheVariants.{ClientAccepted}
-use Rattle.connection_model.specs.Setup.{body_setting, uncaught_line}
+use Rattle.connection_model.specs.Setup.{uncaught_line}
+use Rattle.proxy_core.specs.Responder.{body_setting}
 use Rattle.proxy_core.specs.declared.config.Rule.{Rule}
 
 -- How the bodies end, with the variables and what they sent: all of them ran; or one raised a fault

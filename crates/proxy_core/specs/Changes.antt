@@ -26,22 +26,19 @@ use Rattle.proxy_core.specs.declared.live.Live.{Live}
 use Rattle.proxy_core.specs.declared.live.Conn.{Conn}
 use Rattle.connection_model.specs.declared.note.Cause.TheVariants.{Memory, Unselected, Tcl}
 use Rattle.connection_model.specs.declared.note.Note.{Note}
-use Rattle.connection_model.specs.declared.note.Note.TheVariants.{Log, Finish, CloseClient, Ended}
+use Rattle.connection_model.specs.declared.note.Note.TheVariants.{Log, Finish}
 use Rattle.proxy_core.specs.Live.{fresh_conn, after_taking, is_over}
 use Rattle.proxy_core.specs.Queue.{is_empty}
 use Rattle.proxy_core.specs.Bodies.{BodiesEnd, AllRan, Uncaught, AtCall, bodies_end}
 use Rattle.tcl_vars.specs.Scopes.{Scopes, Level}
 use Rattle.proxy_core.specs.declared.config.Config.{Config}
-use Rattle.proxy_core.specs.declared.config.Virtual.{Virtual}
-use Rattle.proxy_core.specs.declared.config.Rule.{Rule}
 use Rattle.proxy_core.specs.declared.event.Event.{Event}
 use Rattle.proxy_core.specs.declared.event.Event.TheVariants.{Accept, ClientTook, Run}
 use Rattle.proxy_core.specs.Ready.{place_of, with_ready, without}
 use Rattle.proxy_core.specs.Refusals.{virtual_place}
-
--- the last notes of a connection: its client is closed, and it is over, with so many bytes dropped
-abbrev pub closing : ℕ → ℕ → List Note
-closing number dropped = CloseClient number ∷ Ended number dropped ∷ []
+use Rattle.proxy_core.specs.Holds.{RunsAlong}
+use Rattle.proxy_core.specs.RunsItems.{closing}
+use Rattle.proxy_core.specs.Setup.{rules_of}
 
 -- the configuration and the static variables never change
 pub record KeepsConfig (old new : Core) : Type 0 where
@@ -89,14 +86,6 @@ pub record Takes (old new : Core) (number n : ℕ) (group : List Note) : Type 0 
   pub taken : after ≡ record before { conn = after_taking n before.conn }
   pub goes_on : is_over after.conn ≡ false → (group ≡ []) × Stays old new at after
   pub ends : is_over after.conn ≡ true → (group ≡ closing number 0) × Goes old new at before
-
--- the rules of the virtual server at a place
-abbrev pub rules_in : Option Virtual → List Rule
-rules_in None = []
-rules_in (Some v) = v.rules
-
-abbrev pub rules_of : Config → ℕ → List Rule
-rules_of C place = rules_in (slice_get C.virtuals place)
 
 -- the notes of a connection whose bodies ended so: no server is selected, or the fault that
 -- finishes it
@@ -149,12 +138,13 @@ ConnRuns statics C number old new group over =
     MatchBool old.finished (RunsIdle number old new group over)
     (RunsBodies statics C number old new group over ⊎ RunsOut number old group over)
 
--- a connection for which no memory was found ends with its Run
+-- A connection for which no memory was found ends with its Run. Another one does what its bodies
+-- do, and gives the items of its trace from wherever that stands.
 abbrev pub LiveRuns : Level → Config → ℕ → Option Conn → Option Conn → List Note → Bool → Type 0
 LiveRuns statics C number None new group over = (group ≡ closing number 0) × (over ≡ true)
 LiveRuns statics C number (Some old) None group over = ⊥
 LiveRuns statics C number (Some old) (Some new) group over =
-    ConnRuns statics C number old new group over
+    ConnRuns statics C number old new group over × RunsAlong statics C number old new group over
 
 -- The front of the ring runs, and leaves the ring. It goes on with its new state, or is over.
 pub record RunsFront (old new : Core) (number : ℕ) (rest : List ℕ)

@@ -1,135 +1,170 @@
--- The promise: what holds of every connection, for every configuration and every past that leads to a
--- state of the scheduler.
-use Rattle.std.specs.Prelude.{
-  ◌≡◌,
-  ℕ,
-  ◌+◌,
-  ◌-◌,
-  ◌≤◌,
-  List,
-  [],
-  ◌∷◌,
-  ◌++◌,
-  length,
-  take,
-  Bool,
-  true,
-  false,
-  Some,
-}
-use Rattle.std.specs.List.{flat_map}
+-- The promise: what holds of every connection, for every configuration and every past that leads
+-- to a state of the scheduler.
+use Rattle.std.specs.Prelude.{◌≡◌, ℕ, ◌+◌, ◌-◌, ◌≤◌, List, [], ◌∷◌, ◌++◌, length, take, map}
+use Rattle.std.specs.Prelude.{Bool, true, false, not, Option, Some, None, is_some, if◌then◌else◌}
+use Rattle.std.specs.List.{filter, flat_map, list_any}
+use Rattle.px_bytes.specs.declared.addr.Side.TheVariants.{Client, Server}
 use Rattle.connection_model.specs.declared.note.Cause.{Cause}
-use Rattle.connection_model.specs.Item.{
-  Item,
-  Opened,
-  Read,
-  Ran,
-  Called,
-  Connected,
-  Logged,
-  Sent,
-  Passed,
-  Fired,
-  Reused,
-  Finished,
-  client_output,
-  notes_of,
-}
-use Rattle.connection_model.specs.Gates.{no_bytes, sent_from, GivesNoMore}
-use Rattle.connection_model.specs.Trace.{TraceState, next_item, Unfolds, trace}
+use Rattle.connection_model.specs.declared.note.Cause.TheVariants.{Memory}
+use Rattle.connection_model.specs.declared.note.CutReason.{CutReason}
+use Rattle.connection_model.specs.declared.note.CutReason.TheVariants.{ClientReset, ServerReset}
+use Rattle.connection_model.specs.declared.note.CutReason.TheVariants.{Idle}
+use Rattle.connection_model.specs.declared.note.Note.{Note}
+use Rattle.connection_model.specs.declared.note.Note.TheVariants as note
+use Rattle.connection_model.specs.Gates.{no_bytes, sent_from}
+use Rattle.connection_model.specs.Heard.{SideHeard, Heard, taken}
+use Rattle.connection_model.specs.Item.{Item, cause_of, client_output, notes_of, reasons_in}
+use Rattle.connection_model.specs.Laws.{takes_cut}
+use Rattle.connection_model.specs.Tellings.{notes_about, failure_told}
+use Rattle.connection_model.specs.Trace.{next_item, trace, GivesNoMore}
 use Rattle.proxy_core.specs.Moves.{Leads}
-use Rattle.proxy_core.specs.Past.{Past, Heard, heard, live_numbers, is_failed}
-use Rattle.proxy_core.specs.Ready.{is_in}
-use Rattle.proxy_core.specs.Scheduler.{State, pending}
-use Rattle.proxy_core.specs.Setup.{setup_of, trace_start}
+use Rattle.proxy_core.specs.Past.{Past, heard}
+use Rattle.proxy_core.specs.RunsItems.{closing}
+use Rattle.proxy_core.specs.Scheduler.{State, Seen, seen, untaken_of, untaken_all, pending}
+use Rattle.proxy_core.specs.Setup.{setup_of, begins_at, stand_of}
 use Rattle.proxy_core.specs.Sound.{last_notes}
 use Rattle.proxy_core.specs.declared.config.Config.{Config}
 
--- the first n items of the trace of a connection that this virtual server accepted
-abbrev pub first_items : Config → List ℕ → ℕ → List Item
-first_items C name n = trace n (setup_of C name) (trace_start C name)
+-- the first n items of a connection's trace on what was heard
+abbrev pub first_items : Config → Heard → ℕ → List Item
+first_items C h n = trace n (setup_of C h) (begins_at C h)
 
--- why an item finishes the connection
-abbrev pub causes_of : Item → List Cause
-causes_of (Opened gate) = []
-causes_of (Read side n) = []
-causes_of (Ran event cost) = []
-causes_of (Called call) = []
-causes_of (Connected to) = []
-causes_of (Logged text) = []
-causes_of (Sent peer bytes) = []
-causes_of (Passed side n) = []
-causes_of (Fired side) = []
-causes_of (Reused kept) = []
-causes_of (Finished cause) = cause ∷ []
-
-abbrev pub causes_in : List Item → List Cause
-causes_in items = flat_map causes_of items
-
--- The items that a connection passed are the first of its trace, and of each longer front of it. What
--- its client took is a front of what they send, and of what each longer front sends.
-pub record SentIsPrefix (C : Config) (name : List ℕ) (took : ℕ) (place : List Item) : Type 0 where
-  pub passed : place ≡ first_items C name (length place)
+-- The items that a connection passed are the first of its trace, and of each longer front of it.
+-- What its client took is a front of what they send, and of what each longer front sends.
+pub record SentIsPrefix (C : Config) (h : Heard) (place : List Item) : Type 0 where
+  pub passed : place ≡ first_items C h (length place)
   pub longer : (n : ℕ)
-      → (rest : List Item) × (first_items C name (length place + n) ≡ place ++ rest)
-  pub took_within : took ≤ length (client_output place)
-  pub taken : (n : ℕ) → take took (client_output (first_items C name (length place + n)))
-      ≡ take took (client_output place)
+      → (rest : List Item) × (first_items C h (length place + n) ≡ place ++ rest)
+  pub took_within : h.client.took ≤ length (client_output place)
+  pub taken : (n : ℕ)
+      → take h.client.took (client_output (first_items C h (length place + n)))
+      ≡ take h.client.took (client_output place)
 
 -- its trace is no longer, and its client took all that it sends
-pub record IsWhole (C : Config) (name : List ℕ) (took : ℕ) (place : List Item) : Type 0 where
-  pub no_more : (n : ℕ) → first_items C name (length place + n) ≡ place
-  pub took_all : took ≡ length (client_output place)
+pub record IsWhole (C : Config) (h : Heard) (place : List Item) : Type 0 where
+  pub no_more : (n : ℕ) → first_items C h (length place + n) ≡ place
+  pub took_all : h.client.took ≡ length (client_output place)
 
--- all that the gates let through was passed
-pub record GaveDeliverable (C : Config) (name : List ℕ) (h : Heard)
+-- all that the gates let through was passed, and it waits for no answer of the proxy's own
+abbrev pub GaveDeliverable : Config → Heard → List Item → Type 0
+GaveDeliverable C h place =
+    GivesNoMore false (sent_from no_bytes place) (taken h)
+    (next_item (setup_of C h) (stand_of C h place))
+
+abbrev pub last_reset : List (Option SideHeard) → Bool
+last_reset [] = false
+last_reset (None ∷ more) = last_reset more
+last_reset (Some s ∷ []) = s.reset
+last_reset (Some s ∷ more) = last_reset more
+
+-- what was heard allows a cut for this reason; there is no idle limit yet
+abbrev pub licenses : Heard → CutReason → Bool
+licenses h ClientReset = h.client.reset
+licenses h ServerReset = last_reset h.connects
+licenses h Idle = false
+
+-- no cut that is allowed goes on from there
+abbrev pub NoCutIsDue : Config → Heard → List Item → Type 0
+NoCutIsDue C h place =
+    (reason : CutReason) → licenses h reason ≡ true
+    → takes_cut (setup_of C h) (record { reason = reason; took = taken h })
+    (sent_from no_bytes place) (next_item (setup_of C h) (stand_of C h place)) ≡ false
+
+-- Where nothing is ready, each live connection found memory, gave all that was deliverable, and no
+-- cut is due; where besides its client took all, it is whole, and if it has finished and nothing is
+-- pending it isn't live any more. An ended one is whole, unless it found no memory.
+pub record SettledIsComplete (C : Config) (h : Heard) (ring : List ℕ) (live : Bool)
     (place : List Item) : Type 0 where
-  pub at : TraceState
-  pub unfolds : Unfolds (setup_of C name) (trace_start C name) place at
-  pub gives_no_more : GivesNoMore (sent_from no_bytes place) h.took
-      (next_item (setup_of C name) at)
-
--- Where nothing is ready, each live connection found memory and gave all that was deliverable; where
--- besides its client took all, it is whole. An ended one is whole, unless it found no memory.
-pub record SettledIsComplete (C : Config) (name : List ℕ) (h : Heard) (ring : List ℕ)
-    (live : Bool) (place : List Item) : Type 0 where
-  pub settled_found_memory : ring ≡ [] → live ≡ true → is_failed h.notes ≡ false
-  pub settled_gave_deliverable : ring ≡ [] → live ≡ true → GaveDeliverable C name h place
+  pub settled_found_memory : ring ≡ [] → live ≡ true → h.failed ≡ false
+  pub settled_gave_deliverable : ring ≡ [] → live ≡ true → GaveDeliverable C h place
+  pub settled_not_cut : ring ≡ [] → live ≡ true → NoCutIsDue C h place
   pub drained_gave_whole_trace : ring ≡ [] → live ≡ true
-      → length (client_output place) ≤ h.took.client → IsWhole C name h.took.client place
-  pub ended_clean_sent_all : live ≡ false → is_failed h.notes ≡ false
-      → IsWhole C name h.took.client place
+      → length (client_output place) ≤ h.client.took → IsWhole C h place
+  pub finished_has_ended : ring ≡ [] → h.finished ≡ true → untaken_of h place Client ≡ 0
+      → untaken_of h place Server ≡ 0 → live ≡ false
+  pub ended_clean_sent_all : live ≡ false → h.failed ≡ false → IsWhole C h place
 
--- The notes of a connection are those of the items that it passed, and then its last ones: none
--- while it goes on; that its client is closed, and that it ended with nothing dropped; or a Finish
--- for want of memory, and then so many bytes dropped as were sent and not taken. Its trace finishes
--- once at most, never for want of memory, and has finished where it ended.
+-- a note that shows an item
+abbrev pub shows : Note → Bool
+shows (note.Sleep c until) = false
+shows (note.History c moment call reply) = false
+shows (note.Finish c Memory) = false
+shows (note.HalfClose c side) = false
+shows (note.CloseServer c) = false
+shows (note.CloseClient c) = false
+shows (note.Ended c dropped) = false
+shows other = true
+
+-- a note that something is closed for good
+abbrev pub closes : Note → Bool
+closes (note.CloseServer c) = true
+closes (note.CloseClient c) = true
+closes (note.Ended c dropped) = true
+closes other = false
+
+-- why a connection finishes, by its notes
+abbrev pub cause_told : Note → List Cause
+cause_told (note.Finish c cause) = cause ∷ []
+cause_told other = []
+
+abbrev pub causes_told : List Note → List Cause
+causes_told notes = flat_map cause_told notes
+
+-- The last notes of an ended connection say that its client is closed and that it is over; before
+-- them it has finished and nothing was closed. All that was queued was taken, unless it found no
+-- memory: then so many bytes are dropped.
+pub record ClosesRightly (c : ℕ) (h : Heard) (place : List Item) : Type 0 where
+  pub before : List Note
+  pub notes : h.notes ≡ before ++ closing c (untaken_all h place)
+  pub none_closed : list_any closes before ≡ false
+  pub cause : Cause
+  pub more : List Cause
+  pub finished : causes_told before ≡ cause ∷ more
+  pub dropped : h.failed ≡ false → untaken_all h place ≡ 0
+
+-- a Finish for want of memory, where it found none
+abbrev pub causes_behind : Bool → List Cause
+causes_behind failed = if failed then Memory ∷ [] else []
+
+-- The notes of a connection that show an item are those of the items that it passed. Behind them
+-- are its last ones: none while it goes on; that its client is closed, and that it ended with nothing
+-- dropped; or a Finish for want of memory, and then so many bytes dropped as were sent and not
+-- taken. Its trace finishes once at most, never for want of memory, and has finished where it
+-- ended; a second Finish is for want of memory, and there is no third.
 pub record FinishCauses (C : Config) (c : ℕ) (h : Heard) (live : Bool)
     (place : List Item) : Type 0 where
-  pub noted : h.notes ≡ notes_of c place
-      ++ last_notes c (is_failed h.notes) live (length (client_output place) - h.took.client)
-  pub trace_found_memory : is_failed (notes_of c place) ≡ false
-  pub finishes_once : length (causes_in place) ≤ 1
-  pub ended_has_finished : live ≡ false → is_failed h.notes ≡ false → length (causes_in place) ≡ 1
+  pub shown : filter shows h.notes ≡ notes_of c place
+  pub noted : h.notes ≡ notes_of c place ++ last_notes c h.failed live (untaken_all h place)
+  pub dropped_counts : untaken_all h place ≡ length (client_output place) - h.client.took
+  pub causes : causes_told h.notes ≡ map cause_of (reasons_in place) ++ causes_behind h.failed
+  pub trace_found_memory : failure_told (notes_about c (notes_of c place)) ≡ false
+  pub finishes_once : length (reasons_in place) ≤ 1
+  pub second_is_memory : (first second : Cause) (more : List Cause)
+      → causes_told h.notes ≡ first ∷ second ∷ more → (second ≡ Memory) × (more ≡ [])
+  pub open_while_live : list_any closes h.notes ≡ not live
+  pub closes_rightly : live ≡ false → ClosesRightly c h place
+  pub ended_has_finished : live ≡ false → h.failed ≡ false → length (reasons_in place) ≡ 1
 
--- the counts of a live connection: taken and pending are what was sent
+-- The counts of a live connection: taken and pending are what was sent to its client. Nothing is
+-- sent to a server yet.
 pub record OpenCounts (past : Past) (s : State) (c : ℕ) : Type 0 where
-  pub sent : (heard c past).took.client + pending past s c ≡ length (client_output (s.places c))
+  pub sent : (heard c past).client.took + pending past s c Client
+      ≡ length (client_output (s.places c))
+  pub to_server : pending past s c Server ≡ 0
 
 pub record ConnectionPromise (C : Config) (past : Past) (s : State) (c : ℕ)
-    (name : List ℕ) : Type 0 where
-  pub sent_is_prefix : SentIsPrefix C name (heard c past).took.client (s.places c)
-  pub settled_is_complete : SettledIsComplete C name (heard c past) s.ring
-      (is_in (live_numbers past) c) (s.places c)
-  pub finish_causes : FinishCauses C c (heard c past) (is_in (live_numbers past) c) (s.places c)
+    (z : Seen) : Type 0 where
+  pub sent_is_prefix : SentIsPrefix C z.heard z.place
+  pub settled_is_complete : SettledIsComplete C z.heard s.ring z.live z.place
+  pub finish_causes : FinishCauses C c z.heard z.live z.place
   pub open_line_counts : OpenCounts past s c
 
 -- what the program's past and state promise: a list of scheduler states leads to this one, and each
 -- accepted connection's bytes and notes are those of the evaluator
 pub record OutputMatchesEvaluator (C : Config) (past : Past) (s : State) : Type 0 where
   pub replay_has_scheduler_run : Leads C past s
-  pub each_connection : (c : ℕ) (name : List ℕ) → (heard c past).server ≡ Some name
-      → ConnectionPromise C past s c name
+  pub each_connection : (c : ℕ) → is_some (heard c past).accepted ≡ true
+      → ConnectionPromise C past s c (seen past s c)
 
 abbrev pub EveryPastMatches : Type 0
 EveryPastMatches =

@@ -1,71 +1,56 @@
 -- What a core stands for: a configuration, a past and a state of the scheduler.
 use Rattle.std.specs.Prelude.{◌≡◌, ℕ, List, [], true, false, Option, Some, None, drop}
-use Rattle.std.specs.Bool.{MatchBool}
-use Rattle.tcl_vars.specs.Scopes.{Scopes, no_scopes}
-use Rattle.connection_model.specs.Item.{Item, client_output}
-use Rattle.connection_model.specs.Trace.{TraceState, Over, next_item, Unfolds}
-use Rattle.proxy_core.specs.Changes.{rules_of}
-use Rattle.proxy_core.specs.Past.{
-  Past,
-  Heard,
-  heard,
-  live_numbers,
-  last_number,
-  is_failed,
-}
+use Rattle.tcl_vars.specs.Scopes.{no_scopes}
+use Rattle.connection_model.specs.Heard.{taken}
+use Rattle.connection_model.specs.Item.{client_output}
+use Rattle.proxy_core.specs.Holds.{Serves, Holds}
+use Rattle.proxy_core.specs.Past.{Past, Shared, shared}
 use Rattle.proxy_core.specs.Ready.{numbers}
 use Rattle.proxy_core.specs.Refusals.{live_at}
-use Rattle.proxy_core.specs.Scheduler.{State}
-use Rattle.proxy_core.specs.Setup.{rules_named, setup_of, trace_start}
+use Rattle.proxy_core.specs.Scheduler.{State, Seen, seen}
+use Rattle.proxy_core.specs.Setup.{statics_of, setup_of, stand_of}
 use Rattle.proxy_core.specs.Sound.{Sound}
 use Rattle.proxy_core.specs.declared.config.Config.{Config}
 use Rattle.proxy_core.specs.declared.core_state.Core.{Core}
 use Rattle.proxy_core.specs.declared.live.Conn.{Conn}
 use Rattle.proxy_core.specs.declared.live.Live.{Live}
 
--- its bodies haven't run
-pub record BeforeBodies (place : List Item) (vars : Scopes) : Type 0 where
-  pub no_items : place ≡ []
-  pub no_variables : vars ≡ no_scopes
-
--- its trace is over
-pub record AfterTrace (C : Config) (name : List ℕ) (place : List Item) : Type 0 where
-  pub at : TraceState
-  pub unfolds : Unfolds (setup_of C name) (trace_start C name) place at
-  pub over : next_item (setup_of C name) at ≡ Over
-
--- The connection goes on with the trace of its virtual server from its place: its rules are those of
--- the server, and what waits for its client is what was sent and not taken.
-pub record Continues (C : Config) (h : Heard) (place : List Item) (conn : Conn) : Type 0 where
-  pub name : List ℕ
-  pub server : h.server ≡ Some name
-  pub rules : rules_of C conn.vs ≡ rules_named C name
-  pub not_failed : is_failed h.notes ≡ false
-  pub queue : conn.queue ≡ drop h.took.client (client_output place)
-  pub stage : MatchBool conn.finished (AfterTrace C name place) (BeforeBodies place conn.vars)
+-- The connection goes on with its trace from where it stands: its rules are those of its virtual
+-- server, and what waits for its client is what was sent and not taken.
+pub record Continues (C : Config) (z : Seen) (conn : Conn) : Type 0 where
+  pub not_failed : z.heard.failed ≡ false
+  pub serves : Serves C (statics_of C) conn.vs (setup_of C z.heard)
+  pub holds : Holds (setup_of C z.heard) (taken z.heard) (stand_of C z.heard z.place) conn
+  pub queue : conn.queue ≡ drop z.heard.client.took (client_output z.place)
 
 -- no memory was found for it when it was accepted
-pub record NeverBegan (h : Heard) (place : List Item) : Type 0 where
-  pub failed : is_failed h.notes ≡ true
-  pub no_items : place ≡ []
+pub record NeverBegan (z : Seen) : Type 0 where
+  pub failed : z.heard.failed ≡ true
+  pub no_items : z.place ≡ []
 
-abbrev pub ConnectionContinues : Config → Heard → List Item → Option Conn → Type 0
-ConnectionContinues C h place None = NeverBegan h place
-ConnectionContinues C h place (Some conn) = Continues C h place conn
+abbrev pub ConnectionContinues : Config → Seen → Option Conn → Type 0
+ConnectionContinues C z None = NeverBegan z
+ConnectionContinues C z (Some conn) = Continues C z conn
 
-abbrev pub LiveContinues : Config → Heard → List Item → Option Live → Type 0
-LiveContinues C h place None = Unit {0}
-LiveContinues C h place (Some l) = ConnectionContinues C h place l.conn
+abbrev pub AgreesAt : Config → Seen → Option Live → Type 0
+AgreesAt C z None = z.live ≡ false
+AgreesAt C z (Some l) = (z.live ≡ true) × ConnectionContinues C z l.conn
+
+-- what all connections share, by the core's fields
+abbrev pub shared_of : Core → Shared
+shared_of core = record { last = core.last; live = numbers core.live.items }
 
 -- the core's fields are those of the past and the state, connection by connection
-pub record Agrees (C : Config) (past : Past) (s : State) (core : Core) : Type 0 where
+pub record AgreesBy (C : Config) (all : Shared) (each_seen : ℕ → Seen) (s : State)
+    (core : Core) : Type 0 where
   pub config : core.config ≡ C
-  pub statics : core.statics ≡ no_scopes
-  pub last : core.last ≡ last_number past
+  pub statics : core.statics.statics ≡ statics_of C
+  pub shared : shared_of core ≡ all
   pub ring : core.ring.items ≡ s.ring
-  pub live : numbers core.live.items ≡ live_numbers past
-  pub each : (c : ℕ)
-      → LiveContinues C (heard c past) (s.places c) (live_at core.live.items c)
+  pub each : (c : ℕ) → AgreesAt C (each_seen c) (live_at core.live.items c)
+
+abbrev pub Agrees : Config → Past → State → Core → Type 0
+Agrees C past s core = AgreesBy C (shared past) (seen past s) s core
 
 pub record Represents (C : Config) (past : Past) (s : State) (core : Core) : Type 0 where
   pub sound : Sound C past s

@@ -5,7 +5,7 @@ use Rattle.px_bytes.specs.declared.fault.TclFault.{TclFault}
 use Rattle.tcl_vars.specs.Scopes.{Scopes, Level}
 use Rattle.rule_model.specs.Outcome.{Outcome, Ends, Waits, uncaught_of}
 use Rattle.proxy_core.specs.Bodies.{BodiesEnd, AllRan, Uncaught, bodies_end}
-use Rattle.proxy_core.specs.Changes.{rules_of}
+use Rattle.proxy_core.specs.Setup.{rules_of}
 use Rattle.proxy_core.specs.declared.config.Config.{Config}
 use Rattle.proxy_core.specs.declared.live.Conn.{Conn}
 use Rattle.connection_model.specs.declared.note.Cause.TheVariants.{Unselected, Tcl}

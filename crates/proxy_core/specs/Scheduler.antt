@@ -1,33 +1,15 @@
 -- Where the scheduler stands: which connections are ready to run, and how far each came in its
--- trace; and which event it refuses.
-use Rattle.std.specs.Prelude.{
-  ℕ,
-  ◌-◌,
-  List,
-  [],
-  length,
-  Option,
-  Some,
-  None,
-  nat_eq,
-  nat_le,
-  nat_lt,
-  if◌then◌else◌,
-}
-use Rattle.connection_model.specs.Item.{Item, client_output}
-use Rattle.proxy_core.specs.Past.{Past, heard, live_numbers, last_number}
+-- trace; and all of it that concerns one connection.
+use Rattle.std.specs.Prelude.{ℕ, ◌+◌, List, [], Bool, nat_eq, if◌then◌else◌}
+use Rattle.std.specs.List.{filter}
+use Rattle.px_bytes.specs.declared.addr.Side.{Side}
+use Rattle.px_bytes.specs.declared.addr.Side.TheVariants.{Client, Server}
+use Rattle.connection_model.specs.declared.note.Note.{Note}
+use Rattle.connection_model.specs.Gates.{no_bytes, sent_from, to_take}
+use Rattle.connection_model.specs.Heard.{EventKind, Heard, taken, hears}
+use Rattle.connection_model.specs.Item.{Item}
+use Rattle.proxy_core.specs.Past.{Past, heard, shared, shared_after}
 use Rattle.proxy_core.specs.Ready.{is_in}
-use Rattle.proxy_core.specs.Refusals.{virtual_place, without_virtual}
-use Rattle.proxy_core.specs.declared.config.Config.{Config}
-use Rattle.proxy_core.specs.declared.event.Event.{Event}
-use Rattle.proxy_core.specs.declared.event.Event.TheVariants.{Accept, ClientTook, Run}
-use Rattle.proxy_core.specs.declared.event.BadEvent.{BadEvent}
-use Rattle.proxy_core.specs.declared.event.BadEvent.TheVariants.{
-  NoConn,
-  TookTooMuch,
-  Full,
-  TwiceConn,
-}
 
 -- The ready queue, the next in front, and the place of each connection: the items of its trace that
 -- it passed.
@@ -42,26 +24,42 @@ no_connections = record { ring = []; places = λ c. [] }
 abbrev pub with_place : ℕ → List Item → (ℕ → List Item) → ℕ → List Item
 with_place c place places q = if nat_eq c q then place else places q
 
--- the bytes sent to a client and not taken
-abbrev pub pending : Past → State → ℕ → ℕ
-pending past s c = length (client_output (s.places c)) - (heard c past).took.client
+-- the entries of connection c
+abbrev pub entries : ℕ → List ℕ → List ℕ
+entries c ring = filter (nat_eq c) ring
 
--- Which event is refused, and why. The reasons are tried in the order in which they stand here. An
--- accepted connection: its number isn't above all numbers before, no virtual server has the name, as
--- many are live as may be.
-abbrev pub refused_accept : Config → Past → ℕ → List ℕ → Option BadEvent
-refused_accept C past c vs =
-    if nat_le c (last_number past) then Some TwiceConn
-    else without_virtual (virtual_place C vs)
-    (if nat_le C.connections (length (live_numbers past)) then Some Full else None)
+-- all that concerns one connection: what was heard, whether it is live, its entries in the ready
+-- queue, and its place
+pub record Seen : Type 0 where
+  pub heard : Heard
+  pub live : Bool
+  pub ready : List ℕ
+  pub place : List Item
 
--- a took-count: the connection isn't live, so many bytes aren't pending
-abbrev pub refused_took : Past → State → ℕ → ℕ → Option BadEvent
-refused_took past s c n =
-    if is_in (live_numbers past) c
-    then (if nat_lt (pending past s c) n then Some TookTooMuch else None) else Some NoConn
+abbrev pub see : Heard → List ℕ → State → ℕ → Seen
+see h live s c = record {
+  heard = h;
+  live = is_in live c;
+  ready = entries c s.ring;
+  place = s.places c;
+}
 
-abbrev pub refused : Config → Past → State → Event → Option BadEvent
-refused C past s (Accept conn vs from) = refused_accept C past conn vs
-refused C past s (ClientTook conn n) = refused_took past s conn n
-refused C past s Run = None
+abbrev pub seen : Past → State → ℕ → Seen
+seen past s c = see (heard c past) (shared past).live s c
+
+-- with one event more, of which its kind and its notes are enough
+abbrev pub seen_after : Past → EventKind → List Note → State → ℕ → Seen
+seen_after past v group s c =
+    see (hears c (heard c past) v group) (shared_after v group (shared past)).live s c
+
+-- the bytes that were sent to a side, by these items, and not taken; a reset leaves none
+abbrev pub untaken_of : Heard → List Item → Side → ℕ
+untaken_of h place side = to_take (sent_from no_bytes place) (taken h) side
+
+-- to both sides
+abbrev pub untaken_all : Heard → List Item → ℕ
+untaken_all h place = untaken_of h place Client + untaken_of h place Server
+
+-- the bytes that are pending to a side of connection c
+abbrev pub pending : Past → State → ℕ → Side → ℕ
+pending past s c side = untaken_of (heard c past) (s.places c) side

@@ -1,16 +1,31 @@
--- The setup of a connection, by the configuration and the name of its virtual server.
-use Rattle.std.specs.Prelude.{ℕ, List, [], map, slice_get, option_and_then}
+-- What a connection runs on, by the configuration and what was heard of the connection, and where
+-- it stands.
+use Rattle.std.specs.Prelude.{ℕ, List, [], map, length, false, slice_get, option_and_then}
+use Rattle.std.specs.Prelude.{Option, Some, None}
+use Rattle.px_bytes.specs.declared.addr.Addr.{Addr}
 use Rattle.tcl_compile.specs.Procedures.{procs_view}
 use Rattle.tcl_compile.specs.TreeView.{node_view}
-use Rattle.tcl_vars.specs.Scopes.{no_scopes}
+use Rattle.tcl_vars.specs.Scopes.{Level, no_scopes}
 use Rattle.event_order.specs.declared.event.EventName.{EventName}
 use Rattle.event_order.specs.declared.event.EventName.TheVariants.{ClientAccepted}
-use Rattle.connection_model.specs.Setup.{Handler, Setup}
-use Rattle.connection_model.specs.Trace.{TraceState, start, no_stream, no_answers}
-use Rattle.proxy_core.specs.Changes.{rules_in}
+use Rattle.connection_model.specs.declared.note.Note.{Note}
+use Rattle.connection_model.specs.Heard.{Accepted, Heard, start_of}
+use Rattle.connection_model.specs.Item.{Item}
+use Rattle.connection_model.specs.Setup.{Handler, NoTarget, Setup}
+use Rattle.connection_model.specs.State.{TraceState}
+use Rattle.connection_model.specs.Trace.{behind}
 use Rattle.proxy_core.specs.Refusals.{virtual_place}
 use Rattle.proxy_core.specs.declared.config.Config.{Config}
 use Rattle.proxy_core.specs.declared.config.Rule.{Rule}
+use Rattle.proxy_core.specs.declared.config.Virtual.{Virtual}
+
+-- the rules of the virtual server at a place
+abbrev pub rules_in : Option Virtual → List Rule
+rules_in None = []
+rules_in (Some v) = v.rules
+
+abbrev pub rules_of : Config → ℕ → List Rule
+rules_of C place = rules_in (slice_get C.virtuals place)
 
 abbrev pub handler_of : Rule → Handler
 handler_of rule = record {
@@ -29,14 +44,36 @@ abbrev pub rules_named : Config → List ℕ → List Rule
 rules_named C name =
     rules_in (option_and_then (λ place. slice_get C.virtuals place) (virtual_place C name))
 
--- no rule sets a static variable before the first connection
-abbrev pub setup_of : Config → List ℕ → Setup
-setup_of C name = record {
+-- What the rules' RULE_INIT leave in the static variables, and the notes of it: today's rules have
+-- none.
+abbrev pub statics_of : Config → Level
+statics_of C = no_scopes.statics
+
+abbrev pub init_notes : Config → List Note
+init_notes C = []
+
+-- the setup of a connection that the virtual server of this name accepts from an address
+abbrev pub setup_for : Config → List ℕ → Addr → Setup
+setup_for C name from = record {
+  name = name;
+  from = from;
   budget = C.budget;
-  statics = no_scopes.statics;
+  statics = statics_of C;
+  target = NoTarget;
+  http = false;
   handlers = handlers_in (rules_named C name);
 }
 
--- the start of a connection's trace: no event brings bytes of a side or an answer yet
-abbrev pub trace_start : Config → List ℕ → TraceState
-trace_start C name = start (setup_of C name) no_stream no_answers
+abbrev pub setup_in : Config → Option Accepted → Setup
+setup_in C None = setup_for C [] (record { ip = 0; port = 0 })
+setup_in C (Some a) = setup_for C a.virtual a.from
+
+abbrev pub setup_of : Config → Heard → Setup
+setup_of C h = setup_in C h.accepted
+
+-- where a connection's trace begins on what was heard, and where it stands behind these items
+abbrev pub begins_at : Config → Heard → TraceState
+begins_at C h = start_of (setup_of C h) h
+
+abbrev pub stand_of : Config → Heard → List Item → TraceState
+stand_of C h place = behind (length place) (setup_of C h) (begins_at C h)

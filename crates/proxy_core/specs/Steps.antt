@@ -3,9 +3,10 @@ use Rattle.std.specs.Prelude.{◌≡◌, List, ◌∷◌, ◌++◌, Some}
 use Rattle.connection_model.specs.declared.note.Note.{Note}
 use Rattle.proxy_core.specs.Changes.{Changes}
 use Rattle.proxy_core.specs.Moves.{Moves}
-use Rattle.proxy_core.specs.Past.{Happened, Past}
+use Rattle.proxy_core.specs.Past.{Happened, Past, kind_of}
 use Rattle.proxy_core.specs.Represents.{Represents}
-use Rattle.proxy_core.specs.Scheduler.{State, refused}
+use Rattle.proxy_core.specs.Refusal.{refused}
+use Rattle.proxy_core.specs.Scheduler.{State}
 use Rattle.proxy_core.specs.declared.config.Config.{Config}
 use Rattle.proxy_core.specs.declared.core_state.Core.{Core}
 use Rattle.proxy_core.specs.declared.event.Event.{Event}
@@ -34,4 +35,4 @@ pub record Steps (old new : Core) (event : Event) (before after : List Note) : T
 abbrev pub IsRefused : Core → Event → BadEvent → Type 0
 IsRefused core event why =
     (C : Config) (past : Past) (s : State) → Represents C past s core
-    → refused C past s event ≡ Some why
+    → refused C past s (kind_of event) ≡ Some why

@@ -3,7 +3,9 @@
 ghost use Rattle.std.specs.Prelude.{◌≡◌, ◌≤◌, ◌++◌, Some, None, OnOk, OnErr, IfErr, List};
 ghost use Rattle.std.specs.List.{position_from};
 ghost use Rattle.std.specs.Str.{bytes_eq};
-ghost use Rattle.proxy_core.specs.Refusals.{accept_refusal, virtual_place};
+ghost use Rattle.connection_model.specs.Heard.{Accepts as Accepted};
+ghost use Rattle.proxy_core.specs.Refusal.{refusal_of};
+ghost use Rattle.proxy_core.specs.Refusals.{virtual_place};
 ghost use Rattle.proxy_core.specs.Changes.{Accepts, Begins};
 
 use crate::config::{Config, Virtual};
@@ -24,8 +26,9 @@ impl Core {
         notes: &mut Notes,
     ) -> Result<(), BadEvent>
         requires { 68 ≤ notes.old.spare }
-        ensures accepted { OnOk result (accept_refusal self.old number vs.now ≡ None) }
-        ensures refused { IfErr result (λ why. accept_refusal self.old number vs.now ≡ Some why) }
+        ensures accepted { OnOk result (refusal_of self.old (Accepted number vs.now from) ≡ None) }
+        ensures refused { IfErr result
+            (λ why. refusal_of self.old (Accepted number vs.now from) ≡ Some why) }
         ensures accepts { OnOk result
             ((group : List Note) × (notes.new.items ≡ notes.old.items ++ group)
             × Accepts self.old self.new number vs.now from group) }

@@ -2,7 +2,7 @@
 
 ghost use Rattle.std.specs.Prelude.{◌≡◌, [], IfOk};
 ghost use Rattle.rule_model.specs.Evaluator.{evaluate};
-ghost use Rattle.connection_model.specs.Setup.{body_setting};
+ghost use Rattle.proxy_core.specs.Responder.{body_setting};
 ghost use Rattle.tcl_compile.specs.Procedures.{procs_view};
 ghost use Rattle.tcl_compile.specs.TreeView.{node_view};
 ghost use Rattle.proxy_core.specs.Bodies.{bodies_end};

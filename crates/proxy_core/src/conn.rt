@@ -2,13 +2,9 @@
 
 ghost use Rattle.std.specs.Prelude.{◌≡◌, ◌≤◌, ◌+◌, ◌++◌, List, OnOk, OnErr, option_map};
 ghost use Rattle.proxy_core.specs.Queue.{is_empty};
-ghost use Rattle.proxy_core.specs.Changes.{
-  ConnRuns,
-  LiveRuns,
-  RunsBodies,
-  rules_of,
-  closing_if_empty,
-};
+ghost use Rattle.proxy_core.specs.Changes.{ConnRuns, LiveRuns, RunsBodies, closing_if_empty};
+ghost use Rattle.proxy_core.specs.Holds.{RunsAlong};
+ghost use Rattle.proxy_core.specs.Setup.{rules_of};
 ghost use Rattle.proxy_core.specs.Runs.{finish_of, Accepted};
 
 use crate::bodies::{Uncaught, run_bodies};
@@ -41,7 +37,24 @@ impl Live {
 }
 
 impl Conn {
+    /// Runs the connection: its trace goes on, wherever it stands.
     fn run(
+        &mut self,
+        alloc: Global,
+        number: u32,
+        config: &Config,
+        statics: &Vars,
+        notes: &mut Notes,
+    ) -> bool
+        requires { 4 ≤ notes.old.spare }
+        ensures { (group : List Note) × (notes.new.items ≡ notes.old.items ++ group)
+            × ConnRuns statics.now.statics config.now number self.old self.new group result
+            × RunsAlong statics.now.statics config.now number self.old self.new group result }
+    {
+        self.go_on(alloc, number, config, statics, notes)
+    }
+
+    fn go_on(
         &mut self,
         alloc: Global,
         number: u32,

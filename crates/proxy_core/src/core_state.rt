@@ -46,6 +46,7 @@ pub struct Core {
 impl Core {
     ghost use Rattle.proxy_core.specs.Represents.{Represents};
     ghost use Rattle.proxy_core.specs.Scheduler.{no_connections};
+    ghost use Rattle.proxy_core.specs.Setup.{init_notes};
     ghost use Rattle.proxy_core.specs.Start.{IsStart};
 
     /// A core without connections, and the notes of its start. It has room for all connections that
@@ -53,7 +54,7 @@ impl Core {
     pub fn new(alloc: Global, config: Config) -> M<(Core, Notes)>
         ensures start { IfOk result (λ made. IsStart config made.0) }
         ensures stands { IfOk result (λ made. Represents config [] no_connections made.0) }
-        ensures notes { IfOk result (λ made. made.1.items ≡ []) }
+        ensures notes { IfOk result (λ made. made.1.items ≡ init_notes config) }
     {
         let room = config.connections as usize;
         let live = Vec::with_capacity(alloc, room)?;

@@ -3,7 +3,7 @@
 ghost use Rattle.std.specs.Prelude.{◌≡◌, ℕ, List, [], ◌∷◌, codes, MatchResult};
 ghost use Rattle.std.specs.Str.{bytes_eq};
 ghost use Rattle.plain_eval.specs.Plain.{Answers};
-ghost use Rattle.connection_model.specs.Responder.{respond, respond_table};
+ghost use Rattle.proxy_core.specs.Responder.{respond, respond_table};
 
 use plain_eval::PlainHost;
 use px_bytes::{HostAnswer, M, TclFault, Text, Texts};

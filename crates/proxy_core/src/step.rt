@@ -3,7 +3,7 @@
 ghost use Rattle.std.specs.Prelude.{◌≡◌, ◌≤◌, ◌++◌, Some, None, OnOk, OnErr, IfErr, List};
 ghost use Rattle.connection_model.specs.declared.note.Note.{Note};
 ghost use Rattle.proxy_core.specs.Changes.{Changes};
-ghost use Rattle.proxy_core.specs.Refusals.{refusal};
+ghost use Rattle.proxy_core.specs.Refusal.{refusal};
 ghost use Rattle.proxy_core.specs.Steps.{Steps, IsRefused};
 
 use crate::core_state::Core;

@@ -16,8 +16,11 @@ ghost use Rattle.std.specs.Prelude.{
   length,
 };
 ghost use Rattle.proxy_core.specs.Ready.{place_of};
-ghost use Rattle.proxy_core.specs.Refusals.{took_refusal_at, live_at};
-ghost use Rattle.proxy_core.specs.Changes.{Takes, closing};
+ghost use Rattle.px_bytes.specs.declared.addr.Side.TheVariants.{Client};
+ghost use Rattle.connection_model.specs.Heard.{Comes, Takes as Taking};
+ghost use Rattle.proxy_core.specs.Refusal.{refusal_of};
+ghost use Rattle.proxy_core.specs.Changes.{Takes};
+ghost use Rattle.proxy_core.specs.RunsItems.{closing};
 
 use crate::core_state::Core;
 use crate::event::BadEvent;
@@ -30,9 +33,9 @@ impl Core {
     pub(crate) fn took(&mut self, number: u32, n: usize, notes: &mut Notes) -> Result<(), BadEvent>
         requires { 68 ≤ notes.old.spare }
         ensures accepted { OnOk result
-            (took_refusal_at (live_at self.old.live.items number) n ≡ None) }
+            (refusal_of self.old (Comes number (Taking Client n)) ≡ None) }
         ensures refused { IfErr result
-            (λ why. took_refusal_at (live_at self.old.live.items number) n ≡ Some why) }
+            (λ why. refusal_of self.old (Comes number (Taking Client n)) ≡ Some why) }
         ensures takes { OnOk result
             ((group : List Note) × (notes.new.items ≡ notes.old.items ++ group)
             × Takes self.old self.new number n group) }

@@ -18,24 +18,24 @@ returns-in-Ok-None-clause-goes_on g c C told text number st =
 pub returns-else-is_second-clause-goes_on : goal.returns-else-is_second-clause-goes_on
 returns-else-is_second-clause-goes_on g c =
     let s = c.args.self.now in
-    let n = c.event.new.self in
+    let n = c.event-in-Ok-Some.new.self in
     let before = g.K.Sink.written c.args.out.now in
-    let after = g.K.Sink.written c.event.new.out in
+    let after = g.K.Sink.written c.event-in-Ok-Some.new.out in
     let e = c.in-Ok-Some.is ∙ ap Ok c.in-Ok-Some.field-0-is in
-    goes_behind c.event.result (GoesOnWith c.in-Ok-Some.event s.core n.core s.taken.items n.taken.items s.events n.events before after) (GoesOnBehind c.args.text.now s.core n.core s.taken.items n.taken.items s.events n.events before after)
+    goes_behind c.event-in-Ok-Some.result (GoesOnWith c.in-Ok-Some.event s.core n.core s.taken.items n.taken.items s.events n.events before after) (GoesOnBehind c.args.text.now s.core n.core s.taken.items n.taken.items s.events n.events before after)
     (λ k C told text number st. k C told text c.args.text.now number st c.requires.is_line (event_gives c.args.text.now _ c.line_event.result c.in-Ok-Some.event e c.line_event.ensures.skipped c.line_event.ensures.event (follows st.past st.state s.taken.items c.in-Ok-Some.event st.taken_is (sym c.is_second.ensures ∙ c.if-is_second.false))))
-    c.event.ensures.goes_on
+    c.event-in-Ok-Some.ensures.goes_on
 
 pub returns-else-is_second-clause-stops : goal.returns-else-is_second-clause-stops
 returns-else-is_second-clause-stops g c =
     let s = c.args.self.now in
-    let n = c.event.new.self in
+    let n = c.event-in-Ok-Some.new.self in
     let before = g.K.Sink.written c.args.out.now in
-    let after = g.K.Sink.written c.event.new.out in
+    let after = g.K.Sink.written c.event-in-Ok-Some.new.out in
     let e = c.in-Ok-Some.is ∙ ap Ok c.in-Ok-Some.field-0-is in
-    stops_behind c.event.result (StopsWith c.args.line c.in-Ok-Some.event s.core n.core s.taken.items n.taken.items s.events n.events before after) (StopsBehind c.args.line c.args.text.now s.core n.core s.taken.items n.taken.items s.events n.events before after)
+    stops_behind c.event-in-Ok-Some.result (StopsWith c.args.line c.in-Ok-Some.event s.core n.core s.taken.items n.taken.items s.events n.events before after) (StopsBehind c.args.line c.args.text.now s.core n.core s.taken.items n.taken.items s.events n.events before after)
     (λ why k C told text number st. at_line C text c.args.text.now number c.args.line c.in-Ok-Some.event n.core n.taken.items n.events told after why (k C told text c.args.text.now number st c.requires.is_line (event_gives c.args.text.now _ c.line_event.result c.in-Ok-Some.event e c.line_event.ensures.skipped c.line_event.ensures.event (follows st.past st.state s.taken.items c.in-Ok-Some.event st.taken_is (sym c.is_second.ensures ∙ c.if-is_second.false)))))
-    c.event.ensures.stops
+    c.event-in-Ok-Some.ensures.stops
 
 pub returns-in-Err-Memory-clause-stops : goal.returns-in-Err-Memory-clause-stops
 returns-in-Err-Memory-clause-stops g c C told text number st =

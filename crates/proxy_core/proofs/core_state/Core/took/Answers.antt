@@ -2,7 +2,7 @@ use Rattle.std.proofs.Common.{arith, sym, ap, refl, [], append-nil}
 use Rattle.std.proofs.lemmas.List.{length-map}
 use Rattle.proxy_core.specs.Live.{after_taking}
 use Rattle.proxy_core.specs.Ready.{numbers}
-use Rattle.proxy_core.specs.Changes.{closing}
+use Rattle.proxy_core.specs.RunsItems.{closing}
 use Rattle.proxy_core.proofs.Places.{read_at, read_again, number_at, in_numbers, numbers_set}
 use Rattle.proxy_core.proofs.Places.{in_before, took_accepted}
 use Rattle.proxy_core.proofs.Queues.{not_over}
@@ -21,13 +21,13 @@ pub returns-then-ends_with-clause-accepted : goal.returns-then-ends_with-clause-
 returns-then-ends_with-clause-accepted c =
     let s = c.args.self.now in
     let h = read_at s.live.items c.deref.result.now c.in-Some.at c.args.number c.index.result.now c.deref.ensures.value c.in-Some.ensures.place c.in-Some.ensures.within c.index.ensures in
-    took_accepted s.live.items c.args.number c.in-Some.at c.args.n c.index.result.now h (omega (arith, c.if-pending-n.false, c.pending.ensures))
+    took_accepted s c.args.number c.in-Some.at c.args.n c.index.result.now h (omega (arith, c.if-pending-n.false, c.pending.ensures))
 
 pub returns-else-ends_with-clause-accepted : goal.returns-else-ends_with-clause-accepted
 returns-else-ends_with-clause-accepted c =
     let s = c.args.self.now in
     let h = read_at s.live.items c.deref.result.now c.in-Some.at c.args.number c.index.result.now c.deref.ensures.value c.in-Some.ensures.place c.in-Some.ensures.within c.index.ensures in
-    took_accepted s.live.items c.args.number c.in-Some.at c.args.n c.index.result.now h (omega (arith, c.if-pending-n.false, c.pending.ensures))
+    took_accepted s c.args.number c.in-Some.at c.args.n c.index.result.now h (omega (arith, c.if-pending-n.false, c.pending.ensures))
 
 pub returns-then-ends_with-clause-takes : goal.returns-then-ends_with-clause-takes
 returns-then-ends_with-clause-takes c =

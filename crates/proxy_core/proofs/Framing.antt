@@ -1,0 +1,157 @@
+-- An event changes one connection alone: the others see the same.
+use Rattle.std.proofs.Common.{◌≡◌, refl, sym, ap, subst, ◌∙◌, ℕ, List, [], ◌∷◌, ◌++◌, Bool, true, false, nat_eq, inl, inr, ◌⊎◌, if◌then◌else◌}
+use Rattle.std.specs.Bool.{MatchBool}
+use Rattle.connection_model.specs.declared.note.Cause.TheVariants.{Memory}
+use Rattle.connection_model.specs.declared.note.Note.{Note}
+use Rattle.connection_model.specs.declared.note.Note.TheVariants.{Finish}
+use Rattle.connection_model.specs.Heard.{Input, EventKind, Accepts, Comes, Ticks, Turns, Runs, Marks, Heard, hears}
+use Rattle.connection_model.specs.HeardLaws.{concerns}
+use Rattle.connection_model.specs.Item.{Item, notes_of}
+use Rattle.connection_model.specs.Tellings.{tells, conn_of}
+use Rattle.connection_model.proofs.Hearing.{others_not_heard}
+use Rattle.proxy_core.specs.Moves.{Rests, is_drained_at, came, may_come, ran, MovesFailed, MovesOn, MovesCome, RunsOn, RunsOut, RunsFailed, MovesRing, MovesBy}
+use Rattle.proxy_core.specs.Past.{Past, heard, ended_in, without_all, with_accepted, shared, shared_after}
+use Rattle.proxy_core.specs.Ready.{is_in, without, with_ready}
+use Rattle.proxy_core.specs.RunsItems.{closing, closing_if, out_of_memory}
+use Rattle.proxy_core.specs.Scheduler.{State, entries, Seen, seen, seen_after, untaken_all}
+use Rattle.proxy_core.specs.declared.config.Config.{Config}
+use Rattle.proxy_core.proofs.Entries.{entries_pushed, entries_rest, entries_without, entries_ready}
+use Rattle.proxy_core.proofs.GroupNotes.{About, about_joined, about_closing_if, about_items, of_items, own_none}
+use Rattle.proxy_core.proofs.Members.{eq_same, eq_turned, in_pushed_other, in_without_other}
+
+-- the connection that an event is about
+abbrev pub front : List ℕ → ℕ
+front [] = 0
+front (c ∷ rest) = c
+
+abbrev pub about : EventKind → State → ℕ
+about (Accepts c vs from) s = c
+about (Comes c input) s = c
+about Runs s = front s.ring
+about other s = 0
+
+not_concerned : (q : ℕ) (v : EventKind) (s : State) → nat_eq (about v s) q ≡ false → concerns q v ≡ false
+not_concerned q (Accepts c vs from) s e = e
+not_concerned q (Comes c input) s e = e
+not_concerned q (Ticks moment) s e = refl
+not_concerned q Turns s e = refl
+not_concerned q Runs s e = refl
+not_concerned q (Marks pool member up) s e = refl
+
+-- another stays live, or doesn't
+accepted_other : (q : ℕ) (v : EventKind) (s : State) (live : List ℕ) → nat_eq (about v s) q ≡ false → is_in (with_accepted v live) q ≡ is_in live q
+accepted_other q (Accepts c vs from) s live e = in_pushed_other c q live (eq_turned c q e)
+accepted_other q (Comes c input) s live e = refl
+accepted_other q (Ticks moment) s live e = refl
+accepted_other q Turns s live e = refl
+accepted_other q Runs s live e = refl
+accepted_other q (Marks pool member up) s live e = refl
+
+ended_other : (c q : ℕ) (group : List Note) (live : List ℕ) → About c group → nat_eq c q ≡ false → is_in (without_all (ended_in group) live) q ≡ is_in live q
+ended_other c q [] live a e = refl
+ended_other c q (n ∷ group) live a e = by_end (tells n).ends (λ ns. ended_other c q group ns a.1 e)
+  where
+    by_end : (b : Bool) → ((ns : List ℕ) → is_in (without_all (ended_in group) ns) q ≡ is_in ns q) → is_in (without_all (if b then conn_of n ∷ ended_in group else ended_in group) live) q ≡ is_in live q
+    by_end true rest = rest (without (conn_of n) live) ∙ in_without_other (conn_of n) q live (eq_turned (conn_of n) q (ap (λ d. nat_eq d q) a.0 ∙ e))
+    by_end false rest = rest live
+
+-- what an event does to the scheduler's lists, and whom its notes are about
+pub record Touches (c : ℕ) (group : List Note) (old new : State) : Type 0 where
+  pub notes : About c group
+  pub ready : (q : ℕ) → nat_eq c q ≡ false → entries q new.ring ≡ entries q old.ring
+  pub place : (q : ℕ) → nat_eq c q ≡ false → new.places q ≡ old.places q
+
+touched : (c : ℕ) (group notes : List Note) (old new after : State) → group ≡ notes → new ≡ after → Touches c notes old after → Touches c group old new
+touched c group notes old new after e f t =
+    let P : List Note → Type 0 = λ g. Touches c g old new in
+    let Q : State → Type 0 = λ s. Touches c notes old s in
+    subst P (sym e) (subst Q (sym f) t)
+
+rests : (c : ℕ) (group : List Note) (old new : State) → Rests group old new → Touches c group old new
+rests c group old new m = touched c group [] old new old m.0 m.1 (record { notes = tt; ready = λ q e. refl; place = λ q e. refl })
+
+comes_touch : (over : Bool) (c : ℕ) (group : List Note) (old new : State) → group ≡ closing_if over c → new ≡ came c over old → Touches c group old new
+comes_touch over c group old new e f = touched c group (closing_if over c) old new (came c over old) e f (record { notes = about_closing_if over c; ready = λ q h. by_end over q h; place = λ q h. refl })
+  where
+    by_end : (b : Bool) (q : ℕ) → nat_eq c q ≡ false → entries q (came c b old).ring ≡ entries q old.ring
+    by_end true q h = entries_without c q old.ring (eq_turned c q h)
+    by_end false q h = entries_ready c q old.ring (eq_turned c q h)
+
+-- the front ran: its notes are about it
+ran_touch : (c : ℕ) (rest : List ℕ) (more : List Item) (group notes : List Note) (old new : State) → old.ring ≡ c ∷ rest → group ≡ notes → About c notes → new ≡ ran c rest more old → Touches c group old new
+ran_touch c rest more group notes old new front_is e a f =
+    touched c group notes old new (ran c rest more old) e f (record {
+      notes = a;
+      ready = λ q h. entries_rest c q rest (eq_turned c q h) ∙ ap (entries q) (sym front_is);
+      place = λ q h. rw h refl;
+    })
+
+by_ring : (C : Config) (past : Past) (ring : List ℕ) (group : List Note) (old new : State) → old.ring ≡ ring → MovesRing C past ring group old new → Touches (front ring) group old new
+by_ring C past [] group old new e m = rests 0 group old new m
+by_ring C past (c ∷ rest) group old new e m = by_failed (heard c past).failed m
+  where
+    by_failed : (b : Bool) → MatchBool b (RunsFailed (heard c past) c rest group old new) (RunsOn C (heard c past) c rest group old new ⊎ RunsOut C (heard c past) c rest group old new) → Touches c group old new
+    by_failed true k = touched c group (closing c (untaken_all (heard c past) (old.places c))) old new (record old { ring = rest }) k.notes k.state (record { notes = (refl, (refl, tt)); ready = λ q h. entries_rest c q rest (eq_turned c q h) ∙ ap (entries q) (sym e); place = λ q h. refl })
+    by_failed false (inl k) =
+        ran_touch c rest k.more group (notes_of c k.more ++ closing_if k.over c) old new e k.items.noted
+        (about_joined c (notes_of c k.more) (closing_if k.over c) (about_items c (notes_of c k.more) (of_items c k.more)) (about_closing_if k.over c)) k.state
+    by_failed false (inr k) =
+        ran_touch c rest k.more group (out_of_memory c k.more (untaken_all (heard c past) (old.places c ++ k.more))) old new e k.notes
+        (about_joined c (notes_of c k.more) (Finish c Memory ∷ closing c (untaken_all (heard c past) (old.places c ++ k.more))) (about_items c (notes_of c k.more) (of_items c k.more)) (refl, (refl, (refl, tt)))) k.state
+
+by_input : (C : Config) (past : Past) (c : ℕ) (input : Input) (group : List Note) (old new : State) → (b : Bool) → MatchBool b (MovesCome C (heard c past) (hears c (heard c past) (Comes c input) group) c group old new) ⊥ → Touches c group old new
+by_input C past c input group old new true m = by_failed (heard c past).failed m
+  where
+    by_failed : (b : Bool) → MatchBool b (MovesFailed c group old new) (MovesOn C (hears c (heard c past) (Comes c input) group) c group old new) → Touches c group old new
+    by_failed true k = comes_touch false c group old new k.notes k.state
+    by_failed false k = comes_touch (is_drained_at C (hears c (heard c past) (Comes c input) group) (old.places c)) c group old new k.notes k.state
+by_input C past c input group old new false m = absurd m
+
+by_accept : (c : ℕ) (group : List Note) (old new : State) → (group ≡ []) ⊎ (group ≡ Finish c Memory ∷ []) → new ≡ record old { ring = old.ring ++ c ∷ [] } → Touches c group old new
+by_accept c group old new e f = by_notes e
+  where
+    pushed : (notes : List Note) → About c notes → group ≡ notes → Touches c group old new
+    pushed notes a k = touched c group notes old new (record old { ring = old.ring ++ c ∷ [] }) k f (record { notes = a; ready = λ q h. entries_pushed c q old.ring (eq_turned c q h); place = λ q h. refl })
+
+    by_notes : (group ≡ []) ⊎ (group ≡ Finish c Memory ∷ []) → Touches c group old new
+    by_notes (inl k) = pushed [] tt k
+    by_notes (inr k) = pushed (Finish c Memory ∷ []) (refl, tt) k
+
+pub touches : (C : Config) (past : Past) (v : EventKind) (group : List Note) (old new : State) → MovesBy C past v group old new → Touches (about v old) group old new
+touches C past (Accepts c vs from) group old new m = by_accept c group old new m.notes m.state
+touches C past (Comes c input) group old new m = by_input C past c input group old new (may_come input) m
+touches C past (Ticks moment) group old new m = rests 0 group old new m
+touches C past Turns group old new m = rests 0 group old new m
+touches C past Runs group old new m = by_ring C past old.ring group old new refl m
+touches C past (Marks pool member up) group old new m = rests 0 group old new m
+
+pub same_seen : (z w : Seen) → z.heard ≡ w.heard → z.live ≡ w.live → z.ready ≡ w.ready → z.place ≡ w.place → z ≡ w
+same_seen z w h l r p =
+    let make : Heard → Bool → List ℕ → List Item → Seen = λ h l r p. record { heard = h; live = l; ready = r; place = p } in
+    ap (λ y. make y z.live z.ready z.place) h ∙ ap (λ y. make w.heard y z.ready z.place) l ∙ ap (λ y. make w.heard w.live y z.place) r ∙ ap (λ y. make w.heard w.live w.ready y) p
+
+-- only connection c changed
+pub record OnlyChanged (c : ℕ) (past : Past) (v : EventKind) (group : List Note) (old new : State) : Type 0 where
+  pub others : (q : ℕ) → nat_eq c q ≡ false → seen_after past v group new q ≡ seen past old q
+
+pub only_changed : (past : Past) (v : EventKind) (group : List Note) (old new : State) → Touches (about v old) group old new → OnlyChanged (about v old) past v group old new
+only_changed past v group old new t = record {
+  others = λ q e.
+      same_seen (seen_after past v group new q) (seen past old q)
+      (others_not_heard q (heard q past) v group (not_concerned q v old e) (own_none (about v old) q group t.notes e))
+      (ended_other (about v old) q group (with_accepted v (shared past).live) t.notes e ∙ accepted_other q v old (shared past).live e)
+      (t.ready q e) (t.place q e);
+}
+
+-- What holds of connection c after the event, and held of all before it, holds of all. `olds` and
+-- `news` are what the core has of each.
+pub each_by : {A : Type 0} (P : ℕ → Seen → A → Type 0) (olds news : ℕ → A) (c : ℕ) (past : Past) (v : EventKind) (group : List Note) (old new : State) → OnlyChanged c past v group old new → ((q : ℕ) → nat_eq c q ≡ false → news q ≡ olds q)
+    → ((q : ℕ) → P q (seen past old q) (olds q)) → P c (seen_after past v group new c) (news c) → (q : ℕ) → P q (seen_after past v group new q) (news q)
+each_by {A = A} P olds news c past v group old new only same all own q = by_test (nat_eq c q) refl
+  where
+    by_test : (b : Bool) → nat_eq c q ≡ b → P q (seen_after past v group new q) (news q)
+    by_test true e = let Q : ℕ → Type 0 = λ n. P n (seen_after past v group new n) (news n) in subst Q (eq_same c q e) own
+    by_test false e =
+        let Q : Seen → Type 0 = λ z. P q z (news q) in
+        let R : A → Type 0 = λ a. P q (seen past old q) a in
+        subst Q (sym (only.others q e)) (subst R (sym (same q e)) (all q))

@@ -1,0 +1,133 @@
+-- What an event and its notes change in what its connection heard.
+use Rattle.std.proofs.Common.{◌≡◌, refl, sym, ap, subst, ◌∙◌, ℕ, ◌+◌, ◌≤◌, List, [], ◌∷◌, ◌++◌, Bool, true, false, ◌||◌, Option, Some, None, map, nat_eq, if◌then◌else◌, arith, zero, suc}
+use Rattle.px_bytes.specs.declared.addr.Side.{Side}
+use Rattle.px_bytes.specs.declared.addr.Side.TheVariants.{Client, Server}
+use Rattle.connection_model.specs.declared.note.Note.{Note}
+use Rattle.connection_model.specs.Further.{Coming, first_cut}
+use Rattle.connection_model.specs.Gates.{TakenCounts, taken_of}
+use Rattle.connection_model.specs.Heard.{Input, Bytes, Ends, Resets, Connects, Takes, EventKind, Comes, Runs, SideHeard, Heard, taken_by, servers_taken, taken, hears_by, hears_more, at_last, Brought, brought_nothing, brings_in, marks, event_marks, brought, hears_event, hears}
+use Rattle.connection_model.specs.Laws.{AtLeast, TakesMore}
+use Rattle.connection_model.specs.Tellings.{tells, own, notes_about, replies_told, cut_told, finish_told, failure_told}
+use Rattle.proxy_core.specs.Moves.{may_come}
+use Rattle.proxy_core.specs.Sound.{IsPlain}
+use Rattle.proxy_core.proofs.GroupNotes.{About, own_all, tells_all}
+use Rattle.proxy_core.proofs.Members.{eq_self}
+
+-- so many bytes more were taken by the client
+abbrev pub taken_more : Input → ℕ
+taken_more (Takes Client n) = n
+taken_more other = 0
+
+-- what an event changes, before its notes and what it brings are heard
+record Marked (h k : Heard) (n : ℕ) : Type 0 where
+  accepted : k.accepted ≡ h.accepted
+  took : k.client.took ≡ h.client.took + n
+  reset : k.client.reset ≡ h.client.reset
+  connects : k.connects ≡ []
+  replies : k.replies ≡ h.replies
+  cut : k.cut ≡ h.cut
+  finished : k.finished ≡ h.finished
+  failed : k.failed ≡ h.failed
+  notes : k.notes ≡ h.notes
+
+unmarked : (h : Heard) → h.connects ≡ [] → Marked h h 0
+unmarked h e = record { accepted = refl; took = omega arith; reset = refl; connects = e; replies = refl; cut = refl; finished = refl; failed = refl; notes = refl }
+
+marks_few : (input : Input) (h : Heard) → may_come input ≡ true → h.connects ≡ [] → Marked h (marks input h) (taken_more input)
+marks_few (Bytes side bytes) h m e = unmarked h e
+marks_few (Ends side) h m e = unmarked h e
+marks_few (Resets side) h m e = cc
+marks_few (Connects made) h m e = cc
+marks_few (Takes Client n) h m e = record { accepted = refl; took = refl; reset = refl; connects = e; replies = refl; cut = refl; finished = refl; failed = refl; notes = refl }
+marks_few (Takes Server n) h m e = record { accepted = refl; took = omega arith; reset = refl; connects = ap (at_last _) e; replies = refl; cut = refl; finished = refl; failed = refl; notes = refl }
+
+-- what it hears after an event and its notes, which are all about it
+pub record Told (c : ℕ) (h : Heard) (v : EventKind) (group : List Note) (n : ℕ) : Type 0 where
+  pub accepted : (hears c h v group).accepted ≡ h.accepted
+  pub took : (hears c h v group).client.took ≡ h.client.took + n
+  pub reset : (hears c h v group).client.reset ≡ h.client.reset
+  pub connects : (hears c h v group).connects ≡ []
+  pub replies : (hears c h v group).replies ≡ h.replies ++ replies_told (map tells group)
+  pub at : TakenCounts
+  pub cut : (hears c h v group).cut ≡ first_cut h.cut (cut_told at (map tells group))
+  pub finished : (hears c h v group).finished ≡ (h.finished || finish_told (map tells group))
+  pub failed : (hears c h v group).failed ≡ (h.failed || failure_told (map tells group))
+  pub notes : (hears c h v group).notes ≡ h.notes ++ group
+
+took_same : (b : Bool) (c : Coming) (s : SideHeard) → (hears_by b c s).took ≡ s.took
+took_same true c s = refl
+took_same false c s = refl
+
+reset_same : (b : Bool) (c : Coming) (s : SideHeard) → (hears_by b c s).reset ≡ s.reset
+reset_same true c s = refl
+reset_same false c s = refl
+
+told_by : (c : ℕ) (h : Heard) (v : EventKind) (group : List Note) (n : ℕ) → About c group → Marked h (event_marks c v h) n → (brought c h v group).connects ≡ [] → Told c h v group n
+told_by c h v group n a m none =
+    let k = event_marks c v h in
+    let b = brought c h v group in
+    let t = tells_all c group a in
+    record {
+      accepted = m.accepted;
+      took = took_same k.client.ended b.client k.client ∙ m.took;
+      reset = reset_same k.client.ended b.client k.client ∙ m.reset;
+      connects = ap (λ cs. at_last (hears_more b.server) cs ++ b.connects) m.connects ∙ none;
+      replies = ap (λ r. r ++ replies_told (notes_about c group)) m.replies ∙ ap (λ x. h.replies ++ replies_told x) t;
+      at = taken (hears_event c h v group);
+      cut = ap (λ x. first_cut x (cut_told (taken (hears_event c h v group)) (notes_about c group))) m.cut ∙ ap (λ x. first_cut h.cut (cut_told (taken (hears_event c h v group)) x)) t;
+      finished = ap (λ x. x || finish_told (notes_about c group)) m.finished ∙ ap (λ x. h.finished || finish_told x) t;
+      failed = ap (λ x. x || failure_told (notes_about c group)) m.failed ∙ ap (λ x. h.failed || failure_told x) t;
+      notes = ap (λ x. x ++ own c group) m.notes ∙ ap (λ x. h.notes ++ x) (own_all c group a);
+    }
+
+-- what may come brings no connect answer
+brings_none : (input : Input) → may_come input ≡ true → (brings_in input).connects ≡ []
+brings_none (Bytes Client bytes) m = refl
+brings_none (Bytes Server bytes) m = refl
+brings_none (Ends Client) m = refl
+brings_none (Ends Server) m = refl
+brings_none (Resets side) m = cc
+brings_none (Connects made) m = cc
+brings_none (Takes side n) m = refl
+
+pub come_told : (c : ℕ) (h : Heard) (input : Input) (group : List Note) → may_come input ≡ true → h.connects ≡ [] → About c group → Told c h (Comes c input) group (taken_more input)
+come_told c h input group m e a = told_by c h (Comes c input) group (taken_more input) a (subst P (sym (eq_self c)) (marks_few input h m e)) (by_end (h.finished || finish_told (notes_about c group)))
+  where
+    P : Bool → Type 0
+    P b = Marked h (if b then marks input h else h) (taken_more input)
+
+    by_end : (b : Bool) → (if b then brought_nothing else (if nat_eq c c then brings_in input else brought_nothing)).connects ≡ []
+    by_end true = refl
+    by_end false = ap (λ b. (if b then brings_in input else brought_nothing).connects) (eq_self c) ∙ brings_none input m
+
+pub run_told : (c : ℕ) (h : Heard) (group : List Note) → h.connects ≡ [] → About c group → Told c h Runs group 0
+run_told c h group e a = told_by c h Runs group 0 a (unmarked h e) (by_end (h.finished || finish_told (notes_about c group)))
+  where
+    by_end : (b : Bool) → (if b then brought_nothing else brought_nothing).connects ≡ []
+    by_end true = refl
+    by_end false = refl
+
+-- what was taken, where nothing is heard of a server or a reset
+abbrev pub counts : ℕ → TakenCounts
+counts n = record { client = Some n; servers = [] }
+
+pub taken_plain : (h : Heard) → h.client.reset ≡ false → h.connects ≡ [] → taken h ≡ counts h.client.took
+taken_plain h r e =
+    let make : Bool → List (Option SideHeard) → TakenCounts = λ b cs. record { client = taken_by b h.client.took; servers = servers_taken cs } in
+    ap (λ b. make b h.connects) r ∙ ap (make false) e
+
+pub counts_more : (n m : ℕ) → n ≤ m → TakesMore (counts n) (counts m)
+counts_more n m le = record { client = le; servers = by_number }
+  where
+    by_number : (k : ℕ) → AtLeast (taken_of [] k) (taken_of [] k)
+    by_number zero = omega arith
+    by_number (suc k) = omega arith
+
+-- it still heard of no server, reset or cut, where its notes tell of none
+pub still_plain : (c : ℕ) (h : Heard) (v : EventKind) (group : List Note) (n : ℕ) → IsPlain h → Told c h v group n → replies_told (map tells group) ≡ [] → ((took : TakenCounts) → cut_told took (map tells group) ≡ None) → IsPlain (hears c h v group)
+still_plain c h v group n p t replies cut = record {
+  not_reset = t.reset ∙ p.not_reset;
+  connects = t.connects;
+  replies = t.replies ∙ ap (λ r. r ++ replies_told (map tells group)) p.replies ∙ replies;
+  cut = t.cut ∙ ap (λ x. first_cut x (cut_told t.at (map tells group))) p.cut ∙ cut t.at;
+}

@@ -1,0 +1,335 @@
+-- What each kind of event owes: its own connection.
+use Rattle.std.proofs.Common.{◌≡◌, refl, sym, ap, subst, ◌∙◌, ℕ, ◌+◌, ◌≤◌, List, [], ◌∷◌, ◌++◌, length, map, Bool, true, false, ◌&&◌, ◌||◌, not, Option, Some, None, nat_eq, arith, append-nil, append_assoc, length-append, if◌then◌else◌}
+use Rattle.std.specs.Prelude.{is_some}
+use Rattle.std.specs.Bool.{MatchBool}
+use Rattle.std.specs.List.{IsDistinct}
+use Rattle.std.proofs.lemmas.Grind.{flat_map-append}
+use Rattle.connection_model.specs.declared.note.Cause.TheVariants.{Memory}
+use Rattle.connection_model.specs.declared.note.Note.{Note}
+use Rattle.connection_model.specs.declared.note.Note.TheVariants.{Finish}
+use Rattle.connection_model.specs.Further.{Further, longer, CutMeets}
+use Rattle.px_bytes.specs.declared.addr.Side.TheVariants.{Client, Server}
+use Rattle.connection_model.specs.Gates.{Counts, TakenCounts, no_bytes, sent_from, to_take, Met}
+use Rattle.connection_model.specs.Heard.{Input, EventKind, Accepts, Comes, Runs, Accepted, Heard, nothing_heard, taken, hears, start_of, further_of}
+use Rattle.connection_model.specs.HeardLaws.{cut_in, TellsNothing}
+use Rattle.connection_model.specs.Item.{Item, to_client, client_output, note_of, notes_of}
+use Rattle.connection_model.specs.Laws.{TakesMore}
+use Rattle.connection_model.specs.Setup.{Setup}
+use Rattle.connection_model.specs.State.{Cut, TraceState}
+use Rattle.connection_model.specs.Tellings.{tells, notes_about, replies_told, cut_told, failure_told}
+use Rattle.connection_model.specs.Trace.{Unfolds}
+use Rattle.connection_model.proofs.Hearing.{event_stands, run_stands}
+use Rattle.connection_model.proofs.Taking.{met_more}
+use Rattle.connection_model.proofs.Querying.{met_joins}
+use Rattle.connection_model.proofs.Telling.{notes_tell_cut}
+use Rattle.proxy_core.specs.Moves.{MovesAccept, is_drained_at, came, may_come, ran}
+use Rattle.proxy_core.specs.Past.{Past, heard, ended_in, without_all, shared}
+use Rattle.proxy_core.specs.Ready.{is_in, without}
+use Rattle.proxy_core.specs.RunsItems.{closing, is_drained, closing_if, Passes}
+use Rattle.proxy_core.specs.Scheduler.{State, entries, Seen, seen, seen_after, untaken_all}
+use Rattle.proxy_core.specs.Setup.{setup_in, setup_of, stand_of}
+use Rattle.proxy_core.specs.Sound.{unseen, IsPlain, last_notes, Spot, ServedAt, Served, SoundAt}
+use Rattle.proxy_core.specs.declared.config.Config.{Config}
+use Rattle.proxy_core.proofs.Entries.{entries_pushed_self, entries_without_self, rest_of, ready_of, entries_ready_self}
+use Rattle.proxy_core.proofs.Framing.{same_seen}
+use Rattle.proxy_core.proofs.GroupNotes.{About, about_joined, about_closing_if, OfItems, of_items, about_items, tells_all, replies_behind, failure_behind, ended_behind, cut_behind, quiet_closing_if, quiet_closing, quiet_memory}
+use Rattle.proxy_core.proofs.Hearing.{taken_more, Told, come_told, run_told, counts, taken_plain, counts_more, still_plain}
+use Rattle.proxy_core.proofs.Members.{eq_self, in_pushed_self, not_in_without}
+use Rattle.proxy_core.proofs.Standing.{served_at, drained_at, sent_at}
+
+pub or_false : (b : Bool) → (b || false) ≡ b
+or_false true = refl
+or_false false = refl
+
+-- Accepts: a connection that begins, or for which no memory was found
+abbrev pub first_notes : ℕ → Bool → List Note
+first_notes c failed = if failed then Finish c Memory ∷ [] else []
+
+abbrev pub fresh : ℕ → Accepted → Bool → Seen
+fresh c a failed = record {
+  heard = record nothing_heard { accepted = Some a; finished = failed; failed = failed; notes = first_notes c failed };
+  live = true;
+  ready = c ∷ [];
+  place = [];
+}
+
+pub fresh_sound : (C : Config) (c : ℕ) (a : Accepted) (failed : Bool) → SoundAt C c (fresh c a failed)
+fresh_sound C c a true = record { stands = refl; met = tt; within = omega arith; noted = refl; plain = record { not_reset = refl; connects = refl; replies = refl; cut = refl }; no_server = refl; spot = tt }
+fresh_sound C c a false = record { stands = refl; met = tt; within = omega arith; noted = refl; plain = record { not_reset = refl; connects = refl; replies = refl; cut = refl }; no_server = refl; spot = tt }
+
+first_heard : (c : ℕ) (a : Accepted) (failed : Bool) → hears c nothing_heard (Accepts c a.virtual a.from) (first_notes c failed) ≡ (fresh c a failed).heard
+first_heard c a true = rw (eq_self c) refl
+first_heard c a false = rw (eq_self c) refl
+
+first_ended : (c : ℕ) (failed : Bool) (live : List ℕ) → without_all (ended_in (first_notes c failed)) live ≡ live
+first_ended c true live = refl
+first_ended c false live = refl
+
+pub seen_accept : (past : Past) (c : ℕ) (a : Accepted) (failed : Bool) (group : List Note) (old new : State) → seen past old c ≡ unseen → group ≡ first_notes c failed → new ≡ record old { ring = old.ring ++ c ∷ [] }
+    → seen_after past (Accepts c a.virtual a.from) group new c ≡ fresh c a failed
+seen_accept past c a failed group old new u e f =
+    let v = Accepts c a.virtual a.from in
+    same_seen (seen_after past v group new c) (fresh c a failed)
+    (ap (λ h. hears c h v group) (ap (λ z. z.heard) u) ∙ ap (hears c nothing_heard v) e ∙ first_heard c a failed)
+    (ap (λ g. is_in (without_all (ended_in g) ((shared past).live ++ c ∷ [])) c) e ∙ ap (λ ns. is_in ns c) (first_ended c failed ((shared past).live ++ c ∷ [])) ∙ in_pushed_self c (shared past).live)
+    (ap (λ s. entries c s.ring) f ∙ entries_pushed_self c old.ring ∙ ap (λ z. z.ready ++ c ∷ []) u)
+    (ap (λ s. s.places c) f ∙ ap (λ z. z.place) u)
+
+-- Comes
+pub ended_closing : (over : Bool) (c : ℕ) (live : List ℕ) → IsDistinct nat_eq live → is_in live c ≡ true → is_in (without_all (ended_in (closing_if over c)) live) c ≡ not over
+ended_closing true c live d e = not_in_without c live d
+ended_closing false c live d e = e
+
+pub failure_closing : (over : Bool) (c : ℕ) → failure_told (map tells (closing_if over c)) ≡ false
+failure_closing true c = refl
+failure_closing false c = refl
+
+pub replies_closing : (over : Bool) (c : ℕ) → replies_told (map tells (closing_if over c)) ≡ []
+replies_closing true c = refl
+replies_closing false c = refl
+
+pub cut_closing : (over : Bool) (c : ℕ) (took : TakenCounts) → cut_told took (map tells (closing_if over c)) ≡ None
+cut_closing true c took = refl
+cut_closing false c took = refl
+
+ring_came : (over : Bool) (c : ℕ) (old : State) → entries c (came c over old).ring ≡ (if over then rest_of (entries c old.ring) else ready_of c (entries c old.ring))
+ring_came true c old = entries_without_self c old.ring
+ring_came false c old = entries_ready_self c old.ring
+
+-- when it ends: not where it found no memory, and else where it is drained
+abbrev pub Judged : (failed over drained : Bool) → Type 0
+Judged failed over drained = MatchBool failed (over ≡ false) (over ≡ drained)
+
+spot_came : (failed over : Bool) (c : ℕ) (ready : List ℕ) (g : Setup) (took took' : TakenCounts) (l at : TraceState) → Spot failed true ready g took l → Judged failed over (is_drained g took' at) → Spot failed (not over) (if over then rest_of ready else ready_of c ready) g took' at
+spot_came false false c [] g took took' l at s j = tt
+spot_came false true c [] g took took' l at s j = sym j
+spot_came false false c (x ∷ []) g took took' l at s j = tt
+spot_came false true c (x ∷ []) g took took' l at s j = sym j
+spot_came false over c (x ∷ y ∷ ys) g took took' l at s j = absurd s
+spot_came true over c [] g took took' l at s j = absurd s
+spot_came true false c (x ∷ []) g took took' l at s j = tt
+spot_came true true c (x ∷ []) g took took' l at s j = absurd (cc)
+spot_came true over c (x ∷ y ∷ ys) g took took' l at s j = absurd s
+
+last_came : (failed over drained : Bool) (c d d' : ℕ) → Judged failed over drained → last_notes c failed true d ++ closing_if over c ≡ last_notes c failed (not over) d'
+last_came false false drained c d d' j = refl
+last_came false true drained c d d' j = refl
+last_came true false drained c d d' j = refl
+last_came true true drained c d d' j = absurd (cc)
+
+-- of an event by which something comes: the connection is live, and no more is taken than was sent
+pub record MayCome (C : Config) (c : ℕ) (input : Input) (z : Seen) : Type 0 where
+  pub live : z.live ≡ true
+  pub accepted : is_some z.heard.accepted ≡ true
+  pub served : Served C c z
+  pub within : z.heard.client.took + taken_more input ≤ length (client_output z.place)
+
+-- where it stands then
+pub record Came (C : Config) (c : ℕ) (z : Seen) (v : EventKind) (group : List Note) : Type 0 where
+  pub setup : setup_of C (hears c z.heard v group) ≡ setup_of C z.heard
+  pub stands : Unfolds (setup_of C z.heard) (start_of (setup_of C z.heard) (hears c z.heard v group)) z.place (longer (further_of c z.heard v group) (stand_of C z.heard z.place))
+
+pub came_at : (C : Config) (c n : ℕ) (z : Seen) (v : EventKind) (group : List Note) → TellsNothing c group → Served C c z → Told c z.heard v group n → Came C c z v group
+came_at C c n z v group quiet k t =
+    let h = z.heard in
+    let P : Option Cut → Type 0 = λ o. CutMeets o no_bytes z.place in
+    record {
+      setup = ap (setup_in C) t.accepted;
+      stands = event_stands (setup_of C h) c h v group z.place (stand_of C h z.place) k.plain.cut (subst P (sym (quiet.cut _)) tt) k.stands;
+    }
+
+-- as much was taken, or more
+takes_more : (h h' : Heard) (n : ℕ) → IsPlain h → IsPlain h' → h'.client.took ≡ h.client.took + n → TakesMore (taken h) (taken h')
+takes_more h h' n p p' e =
+    let le : h.client.took ≤ h'.client.took = omega (arith, e) in
+    let P : TakenCounts → Type 0 = λ t. TakesMore t (taken h') in
+    let Q : TakenCounts → Type 0 = λ t. TakesMore (counts h.client.took) t in
+    subst P (sym (taken_plain h p.not_reset p.connects)) (subst Q (sym (taken_plain h' p'.not_reset p'.connects)) (counts_more h.client.took h'.client.took le))
+
+pub come_served : (C : Config) (past : Past) (c : ℕ) (input : Input) (over : Bool) (old : State) → may_come input ≡ true → IsDistinct nat_eq (shared past).live → MayCome C c input (seen past old c)
+    → Judged (heard c past).failed over (is_drained_at C (hears c (heard c past) (Comes c input) (closing_if over c)) (old.places c))
+    → Served C c (seen_after past (Comes c input) (closing_if over c) (came c over old) c)
+come_served C past c input over old may d m j =
+    let z = seen past old c in
+    let h = z.heard in
+    let v = Comes c input in
+    let group = closing_if over c in
+    let h' = hears c h v group in
+    let g = setup_of C h in
+    let k = m.served in
+    let l = stand_of C h z.place in
+    let t = come_told c h input group may k.plain.connects (about_closing_if over c) in
+    let a = came_at C c (taken_more input) z v group (quiet_closing_if over c) k t in
+    let at = longer (further_of c h v group) l in
+    let plain = still_plain c h v group (taken_more input) k.plain t (replies_closing over c) (cut_closing over c) in
+    let failed : h'.failed ≡ h.failed = t.failed ∙ ap (λ b. h.failed || b) (failure_closing over c) ∙ or_false h.failed in
+    let z' = seen_after past v group (came c over old) c in
+    let live : z'.live ≡ not over = ended_closing over c (shared past).live d m.live in
+    let ready : z'.ready ≡ (if over then rest_of z.ready else ready_of c z.ready) = ring_came over c old in
+    let J : Bool → Type 0 = λ b. Judged h.failed over b in
+    let judged : Judged h.failed over (is_drained g (taken h') at) = subst J (drained_at C h' g z.place at a.setup a.stands) j in
+    let S : Bool → Type 0 = λ b. Spot h.failed b z.ready g (taken h) l in
+    let spot = spot_came h.failed over c z.ready g (taken h) (taken h') l at (subst S m.live k.spot) judged in
+    let F : Bool → Type 0 = λ b. Spot b z'.live z'.ready g (taken h') at in
+    let L : Bool → Type 0 = λ b. Spot h.failed b z'.ready g (taken h') at in
+    let R : List ℕ → Type 0 = λ r. Spot h.failed (not over) r g (taken h') at in
+    served_at C c z' g at a.setup (record {
+      stands = a.stands;
+      met = met_more no_bytes (taken h) (taken h') z.place (takes_more h h' (taken_more input) k.plain plain t.took) k.met;
+      within = omega (arith, t.took, m.within);
+      noted =
+          t.notes ∙ ap (λ ns. ns ++ group) (k.noted ∙ ap (λ b. notes_of c z.place ++ last_notes c h.failed b (untaken_all h z.place)) m.live)
+          ∙ append_assoc (notes_of c z.place) (last_notes c h.failed true (untaken_all h z.place)) group
+          ∙ ap (λ ns. notes_of c z.place ++ ns) (last_came h.failed over (is_drained g (taken h') at) c (untaken_all h z.place) (untaken_all h' z.place) judged ∙ ap (λ b. last_notes c b (not over) (untaken_all h' z.place)) (sym failed) ∙ ap (λ b. last_notes c h'.failed b (untaken_all h' z.place)) (sym live));
+      plain = plain;
+      no_server = k.no_server;
+      spot = subst F (sym failed) (subst L (sym live) (subst R (sym ready) spot));
+    })
+
+-- Runs: what is behind the items' notes
+pub record Behind (c : ℕ) (behind : List Note) (fails over : Bool) (d : ℕ) : Type 0 where
+  pub about : About c behind
+  pub quiet : TellsNothing c behind
+  pub replies : replies_told (map tells behind) ≡ []
+  pub cut : (took : TakenCounts) → cut_told took (map tells behind) ≡ None
+  pub failure : failure_told (map tells behind) ≡ fails
+  pub ended : (live : List ℕ) → IsDistinct nat_eq live → is_in live c ≡ true → is_in (without_all (ended_in behind) live) c ≡ not over
+  pub last : last_notes c fails (not over) d ≡ behind
+
+pub behind_closing : (over : Bool) (c d : ℕ) → Behind c (closing_if over c) false over d
+behind_closing true c d = record { about = (refl, (refl, tt)); quiet = quiet_closing_if true c; replies = refl; cut = λ took. refl; failure = refl; ended = ended_closing true c; last = refl }
+behind_closing false c d = record { about = tt; quiet = quiet_closing_if false c; replies = refl; cut = λ took. refl; failure = refl; ended = ended_closing false c; last = refl }
+
+pub behind_memory : (c d : ℕ) → Behind c (Finish c Memory ∷ closing c d) true true d
+behind_memory c d = record { about = (refl, (refl, (refl, tt))); quiet = quiet_memory c d; replies = refl; cut = λ took. refl; failure = refl; ended = ended_closing true c; last = refl }
+
+-- the front of the ring is there once
+pub at_front : (c : ℕ) (rest : List ℕ) (failed live : Bool) (g : Setup) (took : TakenCounts) (l : TraceState) → Spot failed live (c ∷ entries c rest) g took l → (live ≡ true) × (entries c rest ≡ [])
+at_front c rest failed live g took l s = by_spot failed live (entries c rest) s
+  where
+    by_spot : (f b : Bool) (r : List ℕ) → Spot f b (c ∷ r) g took l → (b ≡ true) × (r ≡ [])
+    by_spot true true [] k = (refl, refl)
+    by_spot false true [] k = (refl, refl)
+    by_spot true true (x ∷ xs) k = absurd k
+    by_spot false true (x ∷ xs) k = absurd k
+    by_spot true false r k = absurd k
+    by_spot false false r k = absurd k
+
+-- where it stands behind the items that it gave
+pub ran_at : (C : Config) (c : ℕ) (z : Seen) (more : List Item) (at : TraceState) (behind : List Note) → TellsNothing c behind → Passes (setup_of C z.heard) (taken z.heard) (stand_of C z.heard z.place) more at → Served C c z
+    → Unfolds (setup_of C z.heard) (start_of (setup_of C z.heard) (hears c z.heard Runs (notes_of c more ++ behind))) (z.place ++ more) at
+ran_at C c z more at behind quiet p k =
+    let h = z.heard in
+    let P : Option Cut → Type 0 = λ o. CutMeets o no_bytes z.place in
+    run_stands (setup_of C h) c h z.place more behind (stand_of C h z.place) at k.plain.cut quiet (subst P (sym (p.uncut (taken h))) tt) k.stands p.passed
+
+pub run_about : (c : ℕ) (more : List Item) (behind : List Note) → About c behind → About c (notes_of c more ++ behind)
+run_about c more behind a = about_joined c (notes_of c more) behind (about_items c (notes_of c more) (of_items c more)) a
+
+pub run_cut : (c : ℕ) (more : List Item) (behind : List Note) → ((t : TakenCounts) → cut_in t more ≡ None) → ((t : TakenCounts) → cut_told t (map tells behind) ≡ None) → (t : TakenCounts) → cut_told t (map tells (notes_of c more ++ behind)) ≡ None
+run_cut c more behind uncut cut t =
+    let e = ap (cut_told t) (sym (tells_all c (notes_of c more) (about_items c (notes_of c more) (of_items c more)))) ∙ notes_tell_cut c t more ∙ uncut t in
+    cut_behind t (notes_of c more) behind e ∙ cut t
+
+pub run_plain : (c : ℕ) (h : Heard) (more : List Item) (behind : List Note) (fails over : Bool) (d : ℕ) → IsPlain h → Behind c behind fails over d → ((t : TakenCounts) → cut_in t more ≡ None) → IsPlain (hears c h Runs (notes_of c more ++ behind))
+run_plain c h more behind fails over d p b uncut =
+    let group = notes_of c more ++ behind in
+    still_plain c h Runs group 0 p (run_told c h group p.connects (run_about c more behind b.about)) (replies_behind c (notes_of c more) behind (of_items c more) ∙ b.replies) (run_cut c more behind uncut b.cut)
+
+pub took_stays : (h h' : Heard) → IsPlain h → IsPlain h' → h'.client.took ≡ h.client.took + 0 → taken h' ≡ taken h
+took_stays h h' p p' e =
+    let same : h'.client.took ≡ h.client.took = omega (arith, e) in
+    taken_plain h' p'.not_reset p'.connects ∙ ap counts same ∙ sym (taken_plain h p.not_reset p.connects)
+
+pub run_served : (C : Config) (past : Past) (c : ℕ) (rest : List ℕ) (old : State) (more : List Item) (at : TraceState) (behind : List Note) (fails over : Bool) (d : ℕ)
+    → IsDistinct nat_eq (shared past).live → old.ring ≡ c ∷ rest → (heard c past).failed ≡ false → Served C c (seen past old c)
+    → Passes (setup_of C (heard c past)) (taken (heard c past)) (stand_of C (heard c past) (old.places c)) more at → Behind c behind fails over d
+    → d ≡ untaken_all (heard c past) (old.places c ++ more)
+    → Spot fails (not over) [] (setup_of C (heard c past)) (taken (heard c past)) at
+    → Served C c (seen_after past Runs (notes_of c more ++ behind) (ran c rest more old) c)
+run_served C past c rest old more at behind fails over d distinct front_is not_failed k p b dropped spot =
+    let z = seen past old c in
+    let h = z.heard in
+    let group = notes_of c more ++ behind in
+    let h' = hears c h Runs group in
+    let g = setup_of C h in
+    let l = stand_of C h z.place in
+    let t = run_told c h group k.plain.connects (run_about c more behind b.about) in
+    let plain = run_plain c h more behind fails over d k.plain b p.uncut in
+    let took = took_stays h h' k.plain plain t.took in
+    let z' = seen_after past Runs group (ran c rest more old) c in
+    let place : z'.place ≡ z.place ++ more = ap (λ x. if x then z.place ++ more else z.place) (eq_self c) in
+    let ready : z.ready ≡ c ∷ entries c rest = ap (entries c) front_is ∙ ap (λ x. if x then c ∷ entries c rest else entries c rest) (eq_self c) in
+    let S : List ℕ → Type 0 = λ r. Spot h.failed z.live r g (taken h) l in
+    let f = at_front c rest h.failed z.live g (taken h) l (subst S ready k.spot) in
+    let failed : h'.failed ≡ fails = t.failed ∙ ap (λ x. x || failure_told (map tells group)) not_failed ∙ failure_behind c (notes_of c more) behind (of_items c more) ∙ b.failure in
+    let live : z'.live ≡ not over = ap (λ ns. is_in (without_all ns (shared past).live) c) (ended_behind c (notes_of c more) behind (of_items c more)) ∙ b.ended (shared past).live distinct f.0 in
+    let M : TakenCounts → Type 0 = λ y. Met no_bytes y (z.place ++ more) in
+    let N : Counts → Type 0 = λ s. Met s (taken h) more in
+    let untaken : untaken_all h' (z.place ++ more) ≡ untaken_all h (z.place ++ more) = ap (λ y. untaken_by y (z.place ++ more)) took in
+    let none : last_notes c h.failed z.live (untaken_all h z.place) ≡ [] = ap (λ x. last_notes c x z.live (untaken_all h z.place)) not_failed ∙ ap (λ x. last_notes c false x (untaken_all h z.place)) f.0 in
+    let W : List Item → Type 0 = λ items. ServedAt g c (record z' { place = items }) at in
+    let F : Bool → Type 0 = λ x. Spot x z'.live z'.ready g (taken h') at in
+    let L : Bool → Type 0 = λ x. Spot fails x z'.ready g (taken h') at in
+    let R : List ℕ → Type 0 = λ r. Spot fails (not over) r g (taken h') at in
+    let T : TakenCounts → Type 0 = λ y. Spot fails (not over) [] g y at in
+    served_at C c z' g at (ap (setup_in C) t.accepted) (subst W (sym place) (record {
+      stands = ran_at C c z more at behind b.quiet p k;
+      met = subst M (sym took) (met_joins no_bytes (taken h) z.place more k.met (subst N (sent_at g h z.place l k.stands) p.met));
+      within = rw (ap length (flat_map-append to_client z.place more)) (simp length-append (omega (arith, k.within, t.took)));
+      noted =
+          t.notes ∙ ap (λ ns. ns ++ group) (k.noted ∙ ap (λ ns. notes_of c z.place ++ ns) none ∙ append-nil (notes_of c z.place))
+          ∙ sym (append_assoc (notes_of c z.place) (notes_of c more) behind) ∙ ap (λ ns. ns ++ behind) (sym (flat_map-append (note_of c) z.place more))
+          ∙ ap (λ ns. notes_of c (z.place ++ more) ++ ns)
+          (sym b.last ∙ ap (λ n. last_notes c fails (not over) n) (dropped ∙ sym untaken) ∙ ap (λ x. last_notes c x (not over) (untaken_all h' (z.place ++ more))) (sym failed) ∙ ap (λ x. last_notes c h'.failed x (untaken_all h' (z.place ++ more))) (sym live));
+      plain = plain;
+      no_server = p.no_server;
+      spot = subst F (sym failed) (subst L (sym live) (subst R (sym f.1) (subst T (sym took) spot)));
+    }))
+  where
+    untaken_by : TakenCounts → List Item → ℕ
+    untaken_by t items = to_take (sent_from no_bytes items) t Client + to_take (sent_from no_bytes items) t Server
+
+-- one that found no memory ends
+pub failed_served : (C : Config) (past : Past) (c : ℕ) (rest : List ℕ) (old : State) → IsDistinct nat_eq (shared past).live → old.ring ≡ c ∷ rest → (heard c past).failed ≡ true → Served C c (seen past old c)
+    → Served C c (seen_after past Runs (closing c (untaken_all (heard c past) (old.places c))) (record old { ring = rest }) c)
+failed_served C past c rest old distinct front_is has_failed k =
+    let z = seen past old c in
+    let h = z.heard in
+    let d = untaken_all h z.place in
+    let group = closing c d in
+    let h' = hears c h Runs group in
+    let g = setup_of C h in
+    let l = stand_of C h z.place in
+    let t = run_told c h group k.plain.connects (refl, (refl, tt)) in
+    let a = came_at C c 0 z Runs group (quiet_closing c d) k t in
+    let at = longer (further_of c h Runs group) l in
+    let plain = still_plain c h Runs group 0 k.plain t refl (λ took. refl) in
+    let took = took_stays h h' k.plain plain t.took in
+    let z' = seen_after past Runs group (record old { ring = rest }) c in
+    let ready : z.ready ≡ c ∷ entries c rest = ap (entries c) front_is ∙ ap (λ x. if x then c ∷ entries c rest else entries c rest) (eq_self c) in
+    let S : List ℕ → Type 0 = λ r. Spot h.failed z.live r g (taken h) l in
+    let f = at_front c rest h.failed z.live g (taken h) l (subst S ready k.spot) in
+    let failed : h'.failed ≡ true = t.failed ∙ ap (λ b. b || failure_told (map tells group)) has_failed in
+    let live : z'.live ≡ false = not_in_without c (shared past).live distinct in
+    let M : TakenCounts → Type 0 = λ y. Met no_bytes y z.place in
+    let untaken : untaken_all h' z.place ≡ d = ap (λ y. untaken_by y z.place) took in
+    let F : Bool → Type 0 = λ x. Spot x z'.live z'.ready g (taken h') at in
+    let L : Bool → Type 0 = λ x. Spot true x z'.ready g (taken h') at in
+    let R : List ℕ → Type 0 = λ r. Spot true false r g (taken h') at in
+    served_at C c z' g at a.setup (record {
+      stands = a.stands;
+      met = subst M (sym took) k.met;
+      within = omega (arith, k.within, t.took);
+      noted =
+          t.notes ∙ ap (λ ns. ns ++ group) (k.noted ∙ ap (λ x. notes_of c z.place ++ last_notes c x z.live d) has_failed ∙ ap (λ x. notes_of c z.place ++ last_notes c true x d) f.0)
+          ∙ append_assoc (notes_of c z.place) (Finish c Memory ∷ []) group
+          ∙ ap (λ ns. notes_of c z.place ++ ns)
+          (ap (λ n. last_notes c true false n) (sym untaken) ∙ ap (λ x. last_notes c x false (untaken_all h' z.place)) (sym failed) ∙ ap (λ x. last_notes c h'.failed x (untaken_all h' z.place)) (sym live));
+      plain = plain;
+      no_server = k.no_server;
+      spot = subst F (sym failed) (subst L (sym live) (subst R (sym f.1) tt));
+    })
+  where
+    untaken_by : TakenCounts → List Item → ℕ
+    untaken_by t items = to_take (sent_from no_bytes items) t Client + to_take (sent_from no_bytes items) t Server
