@@ -1,2 +1,4 @@
+pub mod Alive
 pub mod Causes
+pub mod MemReads
 pub mod ToldMore

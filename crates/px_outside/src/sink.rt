@@ -7,6 +7,7 @@ ghost use Rattle.std.specs.Prelude.{
   ◌≤◌,
   List,
   Option,
+  None,
   length,
   take,
   IfOk,
@@ -14,6 +15,7 @@ ghost use Rattle.std.specs.Prelude.{
   OnErr,
   IsErrOf,
 };
+ghost use Rattle.std.specs.Bool.{IsFalse};
 ghost use Rattle.px_outside.specs.Outside.{told_more, AddsPrefix, Rose};
 
 use crate::Failed;
@@ -25,6 +27,14 @@ pub trait Sink {
 
     /// How often a write failed, counted up to 2 ^ 64 - 1.
     ghost faults: { Self → ℕ };
+
+    /// Whether anything is kept of what is written. Text needn't be made for a sink that keeps
+    /// nothing.
+    fn keeps(&self) -> bool
+        ensures untold { IsFalse result → written self.now ≡ None }
+    {
+        true
+    }
 
     /// Writes a prefix of the bytes, and gives its length.
     fn write(&mut self, bytes: &[u8]) -> Result<usize, Failed>
