@@ -1,0 +1,39 @@
+use super::side::Tried;
+use px_outside::{Accepted, ConnectAnswer, Net};
+use std::fs::File;
+use std::net::{Ipv4Addr, SocketAddr, TcpStream};
+use std::test::Fail;
+
+/// The most descriptors that are used up. Where a process may have more, nothing is tried.
+const MOST: u32 = 70_000;
+
+#[test]
+fn descriptors_run_out(rt: HostRuntime) -> Result<(), Fail> {
+    let mut tried = Tried::new(&rt)?;
+    let at = SocketAddr::from((Ipv4Addr::LOCALHOST, tried.at.port));
+    let peer = TcpStream::connect(&rt, at)?;
+    let mut files = Vec::new(rt.alloc());
+    let mut full = false;
+    for _ in 0..MOST {
+        match File::open(&rt, "/dev/null") {
+            Ok(file) => files.push(file)?,
+            Err(_) => {
+                full = true;
+                break;
+            }
+        }
+    }
+    if full {
+        // a connect is refused, and an accept is tried again
+        let link = tried.net.connect(tried.at)?;
+        assert_eq!(rt; tried.answer(link)?, ConnectAnswer::Refused);
+        tried.wait()?;
+        assert_eq!(rt; tried.net.accept(0), Ok(Accepted::NotYet));
+    }
+    drop(files);
+    tried.wait()?;
+    assert!(rt; tried.listed.len() > 0, "the listener is not listed again");
+    assert!(rt; tried.accepted()? > 0);
+    drop(peer);
+    Ok(())
+}
