@@ -1,4 +1,4 @@
-mod Networks
+pub mod Networks
 mod Pieces
 mod Rows
 mod Sizes

@@ -36,13 +36,15 @@ fn compared(address: &[u8], word: &[u8], network: &[u8]) -> Option<bool>
     Some(agrees(ip, net))
 }
 
-fn read_address(text: &[u8]) -> Option<u32>
+/// The address that a text is. It takes no memory.
+pub fn read_address(text: &[u8]) -> Option<u32>
     ensures { result ≡ address_of text.now }
 {
     read_ip(text)
 }
 
-fn read_network(text: &[u8]) -> Option<Net4>
+/// The network that a text is. It takes no memory.
+pub fn read_network(text: &[u8]) -> Option<Net4>
     ensures value { result ≡ network_of text.now }
     ensures bits { IfSome result (λ net. net.bits ≤ 32) }
 {

@@ -7,7 +7,7 @@ mod digest;
 mod laws;
 mod percent;
 
-pub use addresses::ip_addr;
+pub use addresses::{ip_addr, read_address, read_network};
 pub use base64_text::{b64decode, b64encode};
 pub use digest::sha256;
 pub use laws::{decodes_encodings, decodes_nothing_else};

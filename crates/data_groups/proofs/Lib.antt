@@ -1,0 +1,6 @@
+mod Found
+mod Keys
+mod Longest
+mod Operators
+mod Positions
+mod Rows

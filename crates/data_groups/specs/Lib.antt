@@ -1,0 +1,5 @@
+pub mod Groups
+pub mod Index
+pub mod Laws
+pub mod Matches
+pub mod Networks
