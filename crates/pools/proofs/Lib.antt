@@ -1,0 +1,6 @@
+pub mod First
+mod Hits
+mod Kept
+mod Marks
+mod Rounds
+mod Turns

@@ -1,0 +1,56 @@
+-- Pools (TMOS concepts: local traffic, pools): members, each with a ratio, that are up or down.
+use Rattle.std.specs.Prelude.{◌≡◌, ℕ, ◌≤◌, Bool, true, ◌&&◌, ◌==◌, List, [], ◌∷◌, length, map, not}
+use Rattle.std.specs.Prelude.{count_by, nat_le, Option, option_map, slice_get}
+use Rattle.std.specs.List.{list_all, list_any}
+use Rattle.px_bytes.specs.declared.addr.Addr.{Addr}
+use Rattle.pools.specs.First.{with_first}
+use Rattle.pools.specs.declared.member.Marked.{Marked}
+use Rattle.pools.specs.declared.member.Member.{Member}
+use Rattle.pools.specs.declared.member.Method.{Method}
+
+-- The members in the order of the file, each with whether it is up, and the counter by which
+-- members are taken in turn.
+pub record PoolState : Type 0 where
+  pub method : Method
+  pub members : List Marked
+  pub counter : ℕ
+
+abbrev pub same_addr : Addr → Addr → Bool
+same_addr a b = (a.ip == b.ip) && (a.port == b.port)
+
+abbrev pub ratio_fits : Member → Bool
+ratio_fits member = nat_le 1 member.ratio && nat_le member.ratio 100
+
+-- no two members have the same address
+abbrev pub are_apart : List Member → Bool
+are_apart [] = true
+are_apart (member ∷ members) =
+    not (list_any (λ other. same_addr member.addr other.addr) members) && are_apart members
+
+-- 1,000 members at most, each with a ratio from 1 to 100, and no address twice
+pub record AreMembers (members : List Member) : Type 0 where
+  pub few : length members ≤ 1000
+  pub ratios : list_all ratio_fits members ≡ true
+  pub apart : are_apart members ≡ true
+
+abbrev pub up : Member → Marked
+up member = record { member = member; up = true }
+
+-- a pool of these members begins with all up
+abbrev pub new_pool : Method → List Member → PoolState
+new_pool method members = record { method = method; members = map up members; counter = 0 }
+
+abbrev pub has_addr : Addr → Marked → Bool
+has_addr addr marked = same_addr marked.member.addr addr
+
+-- the members with the mark of one changed
+abbrev pub with_mark : Addr → Bool → List Marked → List Marked
+with_mark addr mark members =
+    with_first (has_addr addr) (λ member. record member { up = mark }) members
+
+-- the address at a place
+abbrev pub addr_at : PoolState → ℕ → Option Addr
+addr_at pool at = option_map (λ marked. marked.member.addr) (slice_get pool.members at)
+
+abbrev pub up_count : PoolState → ℕ
+up_count pool = count_by (λ marked. marked.up) pool.members
