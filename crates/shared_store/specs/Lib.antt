@@ -1,0 +1,4 @@
+pub mod Addresses
+pub mod Calls
+pub mod Rows
+pub mod Store

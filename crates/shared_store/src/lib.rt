@@ -1,0 +1,11 @@
+//! The store that all connections share, which answers their calls one after another.
+#![tactic(auto)]
+
+mod named;
+mod named_pools;
+mod store;
+mod words;
+
+pub use named::{NamedPool, VirtualTime, VirtualTimes};
+pub use named_pools::Pools;
+pub use store::Store;

@@ -1,0 +1,39 @@
+// The words of calls.
+
+ghost use Rattle.std.specs.Prelude.{◌≡◌};
+ghost use Rattle.shared_store.specs.Addresses.{addr_of};
+ghost use Rattle.shared_store.specs.Calls.{wanted_by, wanted_of};
+
+use pools::Wanted;
+use px_bytes::{Addr, Text, read_addr};
+
+/// What `any`, `wish ADDR` or `only ADDR` asks for.
+pub(crate) fn wanted_of(words: &[Text]) -> Option<Wanted>
+    ensures { result ≡ wanted_of words.now }
+{
+    match words {
+        [word] if word.as_bytes() == b"any".as_slice() => Some(Wanted::Any),
+        [word, addr] => wanted_by(word.as_bytes(), addr_of(addr.as_bytes())),
+        _ => None,
+    }
+}
+
+fn wanted_by(word: &[u8], addr: Option<Addr>) -> Option<Wanted>
+    ensures { result ≡ wanted_by word.now addr }
+{
+    let addr = addr?;
+    if word == b"wish".as_slice() {
+        return Some(Wanted::Wish(addr));
+    }
+    if word == b"only".as_slice() {
+        return Some(Wanted::Only(addr));
+    }
+    None
+}
+
+// The address that a text is.
+fn addr_of(text: &[u8]) -> Option<Addr>
+    ensures { result ≡ addr_of text.now }
+{
+    read_addr(text)
+}
