@@ -1,0 +1,39 @@
+// Answers as they stand in a line.
+
+use px_bytes::{M, Text, print_hex};
+use std::alloc::Global;
+
+/// The most bytes of a text that an answer writes out.
+const WRITTEN: usize = 600;
+
+/// These bytes as they are.
+pub fn plain(alloc: Global, text: &str) -> M<Option<Text>> {
+    Ok(Some(Text::new(alloc, text.as_bytes())?))
+}
+
+/// A number in decimal, or `none`.
+pub fn number_or_none(alloc: Global, number: Option<u64>) -> M<Option<Text>> {
+    match number {
+        Some(number) => Ok(Some(decimal(alloc, number)?)),
+        None => plain(alloc, "none"),
+    }
+}
+
+/// A number in decimal.
+pub fn decimal(alloc: Global, number: u64) -> M<Text> {
+    Ok(Text::from_vec(format!(in alloc; "{number}")?.into_bytes()))
+}
+
+/// `true` or `false`.
+pub fn truth(alloc: Global, holds: bool) -> M<Option<Text>> {
+    plain(alloc, if holds { "true" } else { "false" })
+}
+
+/// A text in hexadecimal, or its length behind `#` where it is long.
+pub fn hexadecimal(alloc: Global, text: &Text) -> M<Option<Text>> {
+    if text.len() <= WRITTEN {
+        return Ok(Some(print_hex(alloc, text.as_bytes())?));
+    }
+    let length = format!(in alloc; "#{}", text.len())?;
+    Ok(Some(Text::from_vec(length.into_bytes())))
+}
