@@ -1,0 +1,4 @@
+pub mod Blanks
+pub mod Cookies
+pub mod Laws
+pub mod MemberCookie
