@@ -1,20 +1,6 @@
 -- The words of the command line.
-use Rattle.std.specs.Prelude.{
-  ℕ,
-  List,
-  [],
-  ◌∷◌,
-  Bool,
-  false,
-  not,
-  ◌&&◌,
-  nat_eq,
-  Option,
-  Some,
-  None,
-  if◌then◌else◌,
-  codes,
-}
+use Rattle.std.specs.Prelude.{ℕ, List, [], ◌∷◌, Bool, false, not, ◌&&◌, nat_eq, Option, Some, None}
+use Rattle.std.specs.Prelude.{if◌then◌else◌, codes}
 use Rattle.std.specs.Str.{bytes_eq}
 use Rattle.proxy.specs.declared.command.Replay.{Replay}
 

@@ -1,21 +1,6 @@
 -- What a configuration loads: a document of this profile, and what it configures.
-use Rattle.std.specs.Prelude.{
-  ◌≡◌,
-  ℕ,
-  ◌<◌,
-  ◌≤◌,
-  List,
-  [],
-  ◌∷◌,
-  length,
-  Bool,
-  ◌&&◌,
-  ◌||◌,
-  ◌==◌,
-  nat_le,
-  Some,
-  IsUtf8,
-}
+use Rattle.std.specs.Prelude.{◌≡◌, ℕ, ◌<◌, ◌≤◌, List, [], ◌∷◌, length, Bool, ◌&&◌, ◌||◌, ◌==◌}
+use Rattle.std.specs.Prelude.{nat_le, Some, IsUtf8}
 use Rattle.std.specs.List.{AllPass}
 use Rattle.px_bytes.specs.Address.{addr_text, IsAddr}
 use Rattle.px_bytes.specs.declared.addr.Addr.{Addr}

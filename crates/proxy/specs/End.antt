@@ -1,15 +1,8 @@
 -- The status of each end.
 use Rattle.std.specs.Prelude.{ℕ, Result, Ok, Err}
 use Rattle.proxy.specs.declared.end.End.{End}
-use Rattle.proxy.specs.declared.end.End.TheVariants.{
-  Done,
-  Usage,
-  Config,
-  Schedule,
-  ReadFault,
-  WriteFault,
-  Memory,
-}
+use Rattle.proxy.specs.declared.end.End.TheVariants.{Done, Usage, Config, Schedule, ReadFault}
+use Rattle.proxy.specs.declared.end.End.TheVariants.{WriteFault, Memory}
 
 abbrev pub status_of : End → ℕ
 status_of Done = 0

@@ -5,15 +5,8 @@ use Rattle.px_outside.specs.declared.failed.Failed.{Failed}
 use Rattle.px_outside.specs.declared.failed.Failed.TheVariants as failed
 use Rattle.proxy_core.specs.declared.config.Config as configured
 use Rattle.proxy.specs.declared.end.End.{End}
-use Rattle.proxy.specs.declared.end.End.TheVariants.{
-  Done,
-  Usage,
-  Config,
-  Schedule,
-  ReadFault,
-  WriteFault,
-  Memory,
-}
+use Rattle.proxy.specs.declared.end.End.TheVariants.{Done, Usage, Config, Schedule, ReadFault}
+use Rattle.proxy.specs.declared.end.End.TheVariants.{WriteFault, Memory}
 use Rattle.proxy.specs.Command.{Named, replay_of}
 use Rattle.proxy.specs.Config.{Loads}
 use Rattle.proxy.specs.Report.{config_fault, usage_fault}

@@ -1,17 +1,5 @@
 -- The report of a past, in this project's own format.
-use Rattle.std.specs.Prelude.{
-  ℕ,
-  List,
-  [],
-  ◌∷◌,
-  ◌++◌,
-  take,
-  map,
-  Option,
-  Some,
-  None,
-  if◌then◌else◌,
-}
+use Rattle.std.specs.Prelude.{ℕ, List, [], ◌∷◌, ◌++◌, take, map, Option, Some, None, if◌then◌else◌}
 use Rattle.px_bytes.specs.declared.addr.Side.TheVariants.{Client, Server}
 use Rattle.connection_model.specs.Item.{client_output}
 use Rattle.proxy_core.specs.Past.{Past, kind_of, heard, with_accepted, shared}

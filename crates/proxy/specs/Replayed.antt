@@ -10,15 +10,8 @@ use Rattle.proxy_core.specs.declared.config.Config as configured
 use Rattle.proxy_core.specs.declared.core_state.Core.{Core}
 use Rattle.proxy_core.specs.declared.event.BadEvent.{BadEvent}
 use Rattle.proxy.specs.declared.end.End.{End}
-use Rattle.proxy.specs.declared.end.End.TheVariants.{
-  Done,
-  Usage,
-  Config,
-  Schedule,
-  ReadFault,
-  WriteFault,
-  Memory,
-}
+use Rattle.proxy.specs.declared.end.End.TheVariants.{Done, Usage, Config, Schedule, ReadFault}
+use Rattle.proxy.specs.declared.end.End.TheVariants.{WriteFault, Memory}
 use Rattle.proxy.specs.declared.replay.Replay.{Replay}
 use Rattle.proxy.specs.Lines.{Reads, Faulty, Refuses, events_of}
 use Rattle.proxy.specs.Report.{end_text, text_fault, event_fault}

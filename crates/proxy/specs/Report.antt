@@ -4,39 +4,23 @@ use Rattle.std.specs.Fmt.{decimal}
 use Rattle.px_bytes.specs.Escapes.{escaped}
 use Rattle.px_bytes.specs.Hexadecimal.{hex_text}
 use Rattle.px_bytes.specs.declared.fault.FaultKind.{FaultKind}
-use Rattle.px_bytes.specs.declared.fault.FaultKind.TheVariants.{
-  NoVariable,
-  NoCommand,
-  Arity,
-  NotWhole,
-  OutOfRange,
-  DivideByZero,
-  TooLong,
-  TooDeep,
-  Budget,
-  Context,
-  Raised,
-  Syntax,
-  NoSuch,
-  TableFull,
-}
+use Rattle.px_bytes.specs.declared.fault.FaultKind.TheVariants.{NoVariable, NoCommand, Arity}
+use Rattle.px_bytes.specs.declared.fault.FaultKind.TheVariants.{NotWhole, OutOfRange, DivideByZero}
+use Rattle.px_bytes.specs.declared.fault.FaultKind.TheVariants.{TooLong, TooDeep, Budget, Context}
+use Rattle.px_bytes.specs.declared.fault.FaultKind.TheVariants.{Raised, Syntax, NoSuch, TableFull}
 use Rattle.proxy_core.specs.declared.event.BadEvent.{BadEvent}
-use Rattle.proxy_core.specs.declared.event.BadEvent.TheVariants.{
-  NoConn,
-  TookTooMuch,
-  Full,
-  TwiceConn,
-  NoVirtual,
-}
+use Rattle.proxy_core.specs.declared.event.BadEvent.TheVariants.{NoConn, TookTooMuch, Full}
+use Rattle.proxy_core.specs.declared.event.BadEvent.TheVariants.{TwiceConn, NoVirtual}
 use Rattle.connection_model.specs.declared.note.Cause.{Cause}
-use Rattle.connection_model.specs.declared.note.Cause.TheVariants.{Closed, Tcl, Unselected, Rejected}
-use Rattle.connection_model.specs.declared.note.Cause.TheVariants.{Cut, Memory}
+use Rattle.connection_model.specs.declared.note.Cause.TheVariants.{Closed, Tcl, Unselected}
+use Rattle.connection_model.specs.declared.note.Cause.TheVariants.{Rejected, Cut, Memory}
 use Rattle.connection_model.specs.declared.note.CutReason.{CutReason}
 use Rattle.connection_model.specs.declared.note.CutReason.TheVariants.{ClientReset, ServerReset}
 use Rattle.connection_model.specs.declared.note.CutReason.TheVariants.{Idle}
 use Rattle.connection_model.specs.declared.note.Note.{Note}
-use Rattle.connection_model.specs.declared.note.Note.TheVariants.{Connect, Sleep, History, Log, Pass}
-use Rattle.connection_model.specs.declared.note.Note.TheVariants.{Fired, Reuse, Finish, HalfClose}
+use Rattle.connection_model.specs.declared.note.Note.TheVariants.{Connect, Sleep, History, Log}
+use Rattle.connection_model.specs.declared.note.Note.TheVariants.{Pass, Fired, Reuse, Finish}
+use Rattle.connection_model.specs.declared.note.Note.TheVariants.{HalfClose}
 use Rattle.connection_model.specs.declared.note.Note.TheVariants.{CloseServer, CloseClient, Ended}
 use Rattle.px_bytes.specs.declared.fault.Reply.{Reply}
 use Rattle.px_bytes.specs.declared.fault.Reply.TheVariants as reply

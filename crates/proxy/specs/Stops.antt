@@ -29,7 +29,8 @@ abbrev pub StoppedAtEvent : Config → (text line : List ℕ) → (number : ℕ)
 StoppedAtEvent C text line number at event core taken events old new (Text l) = ⊥
 StoppedAtEvent C text line number at event core taken events old new (Refused l why) =
     (l ≡ at) × ((st : Stands C text number core taken events old new)
-    × Gives line (events_of st.past) event × (refused C st.past st.state (kind_of event) ≡ Some why))
+    × Gives line (events_of st.past) event
+    × (refused C st.past st.state (kind_of event) ≡ Some why))
 StoppedAtEvent C text line number at event core taken events old new WriteFault =
     WritesNotes C (with_line text line) old new
 StoppedAtEvent C text line number at event core taken events old new Memory =
@@ -43,7 +44,8 @@ StoppedAtLine C text line number at core taken events old new (Text l) =
     × GivesNone line (events_of st.past))
 StoppedAtLine C text line number at core taken events old new (Refused l why) =
     (l ≡ at) × ((st : Stands C text number core taken events old new) × (event : Event)
-    × Gives line (events_of st.past) event × (refused C st.past st.state (kind_of event) ≡ Some why))
+    × Gives line (events_of st.past) event
+    × (refused C st.past st.state (kind_of event) ≡ Some why))
 StoppedAtLine C text line number at core taken events old new WriteFault =
     WritesNotes C (with_line text line) old new
 StoppedAtLine C text line number at core taken events old new Memory =
@@ -82,8 +84,8 @@ StopsBehind at line before after taken taken' events events' old new why =
     → Stands C text number before taken events told old
     → StoppedAtLine C text line number at after taken' events' told new why
 
--- In a schedule: behind the lines that were read stands a faulty one, or one whose event is refused,
--- and its number, the first being 1, is told.
+-- In a schedule: behind the lines that were read stands a faulty one, or one whose event is
+-- refused, and its number, the first being 1, is told.
 pub record StoppedText (C : Config) (schedule : List ℕ) (l : ℕ) (core : Core) (taken : List Taken)
     (events : ℕ) (old new : Option (List ℕ)) : Type 0 where
   pub text : List ℕ

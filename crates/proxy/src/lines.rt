@@ -1,21 +1,7 @@
 // The lines of a schedule.
 
-ghost use Rattle.std.specs.Prelude.{
-  ◌≡◌,
-  ◌≤◌,
-  ◌<◌,
-  ◌+◌,
-  ◌^◌,
-  OnOk,
-  IfErr,
-  IfSome,
-  Option,
-  List,
-  [],
-  ℕ,
-  length,
-  nat_eq,
-};
+ghost use Rattle.std.specs.Prelude.{◌≡◌, ◌≤◌, ◌<◌, ◌+◌, ◌^◌, OnOk, IfErr, IfSome, Option, List, []};
+ghost use Rattle.std.specs.Prelude.{ℕ, length, nat_eq};
 ghost use Rattle.std.specs.List.{position_from};
 ghost use Rattle.px_outside.specs.Outside.{Rose};
 ghost use Rattle.proxy_core.specs.declared.config.Config.{Config};

@@ -7,7 +7,6 @@ mod end;
 mod finish;
 mod lines;
 mod offline;
-mod real;
 mod replay;
 mod report;
 mod run_schedule;
@@ -18,8 +17,8 @@ mod tests;
 
 use crate::end::Status;
 use crate::offline::offline;
-use crate::real::{RealFiles, StdoutSink};
 use px_bytes::{Text, Texts};
+use px_real::{RealFiles, StdoutSink};
 use std::alloc::Global;
 use std::io::{self, ErrorKind};
 use std::process::ExitCode;
@@ -44,14 +43,8 @@ fn run(rt: &HostRuntime) -> io::Result<Status> {
         Err(error) if error.kind() == ErrorKind::InvalidData => Texts::new(alloc),
         Err(error) => return Err(error),
     };
-    let mut files = RealFiles {
-        rt: rt.clone()?,
-        faults: 0,
-    };
-    let mut out = StdoutSink {
-        rt: rt.clone()?,
-        faults: 0,
-    };
+    let mut files = RealFiles::new(rt.clone()?);
+    let mut out = StdoutSink::new(rt.clone()?);
     Ok(offline(alloc, &words, &mut files, &mut out))
 }
 

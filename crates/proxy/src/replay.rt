@@ -1,19 +1,7 @@
 // A replay of a schedule, line by line.
 
-ghost use Rattle.std.specs.Prelude.{
-  ◌≡◌,
-  ◌≤◌,
-  ◌<◌,
-  ◌+◌,
-  ◌^◌,
-  IfOk,
-  OnOk,
-  IfErr,
-  Option,
-  List,
-  ℕ,
-  [],
-};
+ghost use Rattle.std.specs.Prelude.{◌≡◌, ◌≤◌, ◌<◌, ◌+◌, ◌^◌, IfOk, OnOk, IfErr, Option, List, ℕ};
+ghost use Rattle.std.specs.Prelude.{[]};
 ghost use Rattle.px_outside.specs.Outside.{Rose};
 ghost use Rattle.proxy.specs.Written.{Stands};
 ghost use Rattle.proxy.specs.Stops.{GoesOnWith, StopsWith};

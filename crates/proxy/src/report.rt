@@ -1,21 +1,9 @@
 // The lines of a report.
 
 ghost use Rattle.std.specs.Prelude.{◌≡◌, IfOk, string_bytes};
-ghost use Rattle.proxy.specs.Report.{
-  fault_number,
-  refusal_number,
-  note_line,
-  note_lines,
-  reply_text,
-  side_text,
-  client_text,
-  open_text,
-  end_text,
-  text_fault,
-  event_fault,
-  config_fault,
-  usage_fault,
-};
+ghost use Rattle.proxy.specs.Report.{fault_number, refusal_number, note_line, note_lines};
+ghost use Rattle.proxy.specs.Report.{reply_text, side_text, client_text, open_text, end_text};
+ghost use Rattle.proxy.specs.Report.{text_fault, event_fault, config_fault, usage_fault};
 
 use connection_model::CutReason;
 use proxy_core::{BadEvent, Cause, Note};

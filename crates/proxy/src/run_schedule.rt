@@ -16,8 +16,8 @@ const NOT_BUILT: u8 = 6;
 
 /// Gives the events of the schedule to a core of this configuration, and writes the report.
 pub fn replay<K: Sink>(alloc: Global, config: Config, schedule: &[u8], out: &mut K) -> End
-    ensures replayed { Replayed config schedule.now (K.written out.old) (K.written out.new) (K.faults out.old)
-        (K.faults out.new) result }
+    ensures replayed { Replayed config schedule.now (K.written out.old) (K.written out.new)
+        (K.faults out.old) (K.faults out.new) result }
     ensures faults_never_fall { K.faults out.old ≤ K.faults out.new }
 {
     let Ok(mut replay) = Replay::new(alloc, config) else {

@@ -1,20 +1,7 @@
 // The lines of a schedule.
 
-ghost use Rattle.std.specs.Prelude.{
-  ◌≡◌,
-  ℕ,
-  ◌^◌,
-  ◌<◌,
-  [],
-  ◌∷◌,
-  ◌↔◌,
-  map,
-  IsTrue,
-  IfOk,
-  IfSome,
-  IfNone,
-  IsErrOf,
-};
+ghost use Rattle.std.specs.Prelude.{◌≡◌, ℕ, ◌^◌, ◌<◌, [], ◌∷◌, ◌↔◌, map, IsTrue, IfOk, IfSome};
+ghost use Rattle.std.specs.Prelude.{IfNone, IsErrOf};
 ghost use Rattle.std.specs.Fmt.{decimal};
 ghost use Rattle.px_bytes.specs.Address.{ip_text};
 ghost use Rattle.proxy.specs.Schedule.{IsSkipped, SpellsEvent, WordsSpell, is_blank, words_of};

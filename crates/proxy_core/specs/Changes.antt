@@ -1,24 +1,6 @@
 -- What an event changes in a core, and the notes that come of it.
-use Rattle.std.specs.Prelude.{
-  ◌≡◌,
-  ◌⊎◌,
-  ℕ,
-  List,
-  [],
-  ◌∷◌,
-  ◌++◌,
-  Bool,
-  true,
-  false,
-  Option,
-  Some,
-  None,
-  length,
-  slice_get,
-  slice_set,
-  remove,
-  if◌then◌else◌,
-}
+use Rattle.std.specs.Prelude.{◌≡◌, ◌⊎◌, ℕ, List, [], ◌∷◌, ◌++◌, Bool, true, false, Option, Some}
+use Rattle.std.specs.Prelude.{None, length, slice_get, slice_set, remove, if◌then◌else◌}
 use Rattle.std.specs.Bool.{MatchBool}
 use Rattle.px_bytes.specs.declared.addr.Addr.{Addr}
 use Rattle.proxy_core.specs.declared.core_state.Core.{Core}

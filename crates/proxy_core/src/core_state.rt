@@ -1,17 +1,7 @@
 // All connections.
 
-ghost use Rattle.std.specs.Prelude.{
-  ◌≡◌,
-  ◌≤◌,
-  ℕ,
-  Bool,
-  true,
-  nat_eq,
-  vec_len,
-  vec_capacity,
-  [],
-  IfOk,
-};
+ghost use Rattle.std.specs.Prelude.{◌≡◌, ◌≤◌, ℕ, Bool, true, nat_eq, vec_len, vec_capacity, []};
+ghost use Rattle.std.specs.Prelude.{IfOk};
 ghost use Rattle.std.proofs.Props.{props};
 ghost use Rattle.std.specs.List.{IsDistinct};
 ghost use Rattle.proxy_core.specs.Ready.{numbers, is_in};

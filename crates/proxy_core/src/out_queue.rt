@@ -1,18 +1,7 @@
 // Bytes that wait to be taken.
 
-ghost use Rattle.std.specs.Prelude.{
-  ◌≡◌,
-  ◌≤◌,
-  ℕ,
-  List,
-  [],
-  ◌++◌,
-  length,
-  drop,
-  OnOk,
-  OnErr,
-  vec_len,
-};
+ghost use Rattle.std.specs.Prelude.{◌≡◌, ◌≤◌, ℕ, List, [], ◌++◌, length, drop, OnOk, OnErr};
+ghost use Rattle.std.specs.Prelude.{vec_len};
 ghost use Rattle.proxy_core.specs.Queue.{is_empty};
 
 use px_bytes::M;

@@ -1,20 +1,7 @@
 // A client takes bytes.
 
-ghost use Rattle.std.specs.Prelude.{
-  ◌≡◌,
-  ◌≤◌,
-  ◌<◌,
-  ◌+◌,
-  ◌++◌,
-  Some,
-  None,
-  OnOk,
-  OnErr,
-  IfErr,
-  IfSome,
-  List,
-  length,
-};
+ghost use Rattle.std.specs.Prelude.{◌≡◌, ◌≤◌, ◌<◌, ◌+◌, ◌++◌, Some, None, OnOk, OnErr, IfErr};
+ghost use Rattle.std.specs.Prelude.{IfSome, List, length};
 ghost use Rattle.proxy_core.specs.Ready.{place_of};
 ghost use Rattle.px_bytes.specs.declared.addr.Side.TheVariants.{Client};
 ghost use Rattle.connection_model.specs.Heard.{Comes, Takes as Taking};

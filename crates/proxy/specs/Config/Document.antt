@@ -1,18 +1,8 @@
 -- The document of a configuration, as TOML's data. A table's members stand in the order of their
 -- keys.
 use Rattle.std.specs.Prelude.{ℕ, pos, List, codes}
-use Rattle.toml.specs.Data.{
-  Data,
-  string,
-  integer,
-  array,
-  table,
-  no_items,
-  item,
-  Members,
-  no_members,
-  member,
-}
+use Rattle.toml.specs.Data.{Data, string, integer, array, table, no_items, item, Members}
+use Rattle.toml.specs.Data.{no_members, member}
 
 -- the virtual server's name, where it listens, its rule's name, and the rule's text
 pub record Texts : Type 0 where

@@ -1,21 +1,6 @@
 -- What the reader finds in a document. That it is what the document says is proved.
-use Rattle.std.specs.Prelude.{
-  ℕ,
-  ℤ,
-  pos,
-  List,
-  [],
-  ◌∷◌,
-  codes,
-  Bool,
-  false,
-  ◌&&◌,
-  Option,
-  Some,
-  None,
-  option_and_then,
-  if◌then◌else◌,
-}
+use Rattle.std.specs.Prelude.{ℕ, ℤ, pos, List, [], ◌∷◌, codes, Bool, false, ◌&&◌, Option, Some}
+use Rattle.std.specs.Prelude.{None, option_and_then, if◌then◌else◌}
 use Rattle.std.specs.Ordering.{int_eq}
 use Rattle.std.specs.Str.{bytes_eq}
 use Rattle.toml.specs.Data.{Members}

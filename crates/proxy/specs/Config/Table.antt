@@ -1,33 +1,9 @@
 -- What a look-up in a TOML table finds.
-use Rattle.std.specs.Prelude.{
-  ℕ,
-  ℤ,
-  List,
-  [],
-  ◌∷◌,
-  Bool,
-  true,
-  false,
-  ◌&&◌,
-  Option,
-  Some,
-  None,
-  option_and_then,
-}
+use Rattle.std.specs.Prelude.{ℕ, ℤ, List, [], ◌∷◌, Bool, true, false, ◌&&◌, Option, Some, None}
+use Rattle.std.specs.Prelude.{option_and_then}
 use Rattle.std.specs.Str.{bytes_eq}
-use Rattle.toml.specs.Data.{
-  Data,
-  array,
-  no_items,
-  item,
-  Members,
-  no_members,
-  member,
-  get_member,
-  as_str,
-  as_integer,
-  as_table,
-}
+use Rattle.toml.specs.Data.{Data, array, no_items, item, Members, no_members, member, get_member}
+use Rattle.toml.specs.Data.{as_str, as_integer, as_table}
 
 -- the members have exactly these keys, in this order
 abbrev pub has_keys : List (List ℕ) → Members → Bool

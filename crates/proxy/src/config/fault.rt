@@ -14,9 +14,7 @@ pub enum ConfigFault {
 }
 
 impl From<Memory> for ConfigFault {
-    ghost use Rattle.proxy.specs.declared.config.fault.ConfigFault.TheVariants.{
-      Memory as OutOfMemory,
-    };
+    ghost use Rattle.proxy.specs.declared.config.fault.ConfigFault.TheVariants.{Memory as OutOfMemory};
 
     ghost from_gives = { λ _ e. e ≡ OutOfMemory };
 

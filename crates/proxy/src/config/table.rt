@@ -3,14 +3,8 @@
 ghost use Rattle.std.specs.Prelude.{◌≡◌, ℕ, map, option_map};
 ghost use Rattle.toml.specs.Data.{as_str, get_member};
 ghost use Rattle.toml.specs.View.{table_view, view};
-ghost use Rattle.proxy.specs.Config.Table.{
-  has_keys,
-  only_item,
-  text_at,
-  integer_at,
-  only_table_at,
-  only_text_at,
-};
+ghost use Rattle.proxy.specs.Config.Table.{has_keys, only_item, text_at, integer_at, only_table_at};
+ghost use Rattle.proxy.specs.Config.Table.{only_text_at};
 
 use toml::{Table, Value};
 
