@@ -1,4 +1,4 @@
--- The value of the cookie by which BIG-IP finds the member of a client again (F5, K6917: BIG-IP
+-- The value of the cookie by which BIG-IP finds the member of a client again (article K6917: BIG-IP
 -- persistence cookie encoding): the bytes of the address as one number, the first byte the least;
 -- the port with its two bytes swapped; and four zeros.
 use Rattle.std.specs.Prelude.{ℕ, ◌^◌, ◌<◌, List, ◌++◌, codes, decimal}
