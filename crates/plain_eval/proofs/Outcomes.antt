@@ -1,51 +1,63 @@
 -- What the caller is told is the evaluator's outcome.
-use Rattle.std.proofs.Common.{◌≡◌, sym, subst, ℕ, ◌≤◌, List, [], length}
+use Rattle.std.proofs.Common.{◌≡◌, refl, sym, ap, ◌∙◌, ℕ, ◌+◌, ◌-◌, ◌≤◌, List, [], ◌∷◌, ◌++◌, length, drop, arith, length-append}
 use Rattle.std.specs.Prelude.{Result, Ok, Err, IfOk, true}
 use Rattle.px_bytes.specs.declared.memory.Memory.{Memory}
 use Rattle.px_bytes.specs.declared.fault.Reply.{Reply}
 use Rattle.tcl_compile.specs.Tree.{Tree}
 use Rattle.tcl_vars.specs.Scopes.{Scopes}
 use Rattle.rule_model.specs.Evaluator.{eval, inner, inner_limit, evaluate}
+use Rattle.rule_model.specs.Laws.{state_after}
 use Rattle.rule_model.specs.Outcome.{Outcome, Ends, Waits, state}
 use Rattle.rule_model.specs.Setting.{Setting}
-use Rattle.plain_eval.specs.declared.plain.PlainCode.{PlainCode}
-use Rattle.plain_eval.specs.declared.plain.PlainCode.TheVariants as code
+use Rattle.rule_model.proofs.Facts.{acts_stay}
+use Rattle.plain_eval.specs.Plain.{IsOutcome, code_of}
+use Rattle.plain_eval.specs.Stand.{Stand, EndsAs, Ran}
+use Rattle.plain_eval.specs.Told.{IsTold}
 use Rattle.plain_eval.specs.declared.plain.Plain.{Plain}
 use Rattle.plain_eval.specs.declared.plain.Plain.TheVariants.{Done, Waits as WaitsFor}
-use Rattle.plain_eval.specs.declared.progress.Progress.{Progress}
-use Rattle.plain_eval.specs.declared.stop.Stop.{Stop}
-use Rattle.plain_eval.specs.declared.stop.Stop.TheVariants as stop
-use Rattle.plain_eval.specs.Plain.{IsOutcome, code_of}
-use Rattle.plain_eval.specs.Stop.{plain_of}
-use Rattle.plain_eval.specs.Stand.{stand, EndsAs, WaitsAs, Matches}
+use Rattle.plain_eval.specs.declared.run.End.{End}
+use Rattle.plain_eval.specs.declared.run.End.TheVariants as end
 
-ends_is : {H : Type 0} (o : Outcome H) (c : PlainCode) (answers : List Reply) (vars : Scopes) (host : H) (p : Progress)
-    → EndsAs o (code_of c) (stand answers vars host p) → p.used ≤ length answers → IsOutcome o (Done c p.used) vars host answers
-ends_is (Ends end st) c answers vars host p m used = (m.0, m.1, m.2, used, m.3)
-ends_is (Waits path call st) c answers vars host p m used = absurd m
+behind_taken : {A : Type 0} (taken rest : List A) → rest ≡ drop (length taken) (taken ++ rest)
+behind_taken [] rest = refl
+behind_taken (x ∷ xs) rest = behind_taken xs rest
 
-waits_is : {H : Type 0} (o : Outcome H) (call : List (List ℕ)) (answers : List Reply) (vars : Scopes) (host : H) (p : Progress)
-    → WaitsAs o call (stand answers vars host p) → IsOutcome o (WaitsFor call) vars host answers
-waits_is (Ends end st) call answers vars host p m = absurd m
-waits_is (Waits path asked st) call answers vars host p m = m
+taken_is : {A : Type 0} (all taken rest : List A) (n : ℕ) → all ≡ taken ++ rest → n ≡ length all - length rest → (n ≤ length all) × (rest ≡ drop n all)
+taken_is all taken rest n is count =
+    let len = ap length is ∙ length-append taken rest in
+    let e : n ≡ length taken = omega (arith, len, count) in
+    (omega (arith, len, count), rw (e, is) (behind_taken taken rest))
 
-told_is : {H : Type 0} (o : Outcome H) (end : Result (List ℕ) Stop) (answers : List Reply) (vars : Scopes) (host : H) (p : Progress)
-    → Matches true o end (stand answers vars host p) → p.used ≤ length answers → IfOk (plain_of p.used end) (λ plain. IsOutcome o plain vars host answers)
-told_is o (Ok v) answers vars host p m used = ends_is o (code.Ends v) answers vars host p m used
-told_is o (Err (stop.Raised f)) answers vars host p m used = ends_is o (code.Raised f) answers vars host p m used
-told_is o (Err (stop.Return v)) answers vars host p m used = ends_is o (code.Return v) answers vars host p m used
-told_is o (Err stop.Break) answers vars host p m used = ends_is o code.Break answers vars host p m used
-told_is o (Err stop.Continue) answers vars host p m used = ends_is o code.Continue answers vars host p m used
-told_is o (Err (stop.Waits call)) answers vars host p m used = waits_is o call answers vars host p m
-told_is o (Err stop.Memory) answers vars host p m used = tt
-
-by_told : {H : Type 0} (o : Outcome H) (told : Result Plain Memory) (answers : List Reply) (vars : Scopes) (host : H) (p : Progress)
-    → Matches true o p.end (stand answers vars host p) → p.used ≤ length answers → told ≡ plain_of p.used p.end → IfOk told (λ plain. IsOutcome o plain vars host answers)
-by_told o told answers vars host p m used is = subst (λ r. IfOk r (λ plain. IsOutcome o plain vars host answers)) (sym is) (told_is o p.end answers vars host p m used)
+told_is : {H : Type 0} (o : Outcome H) (e : End) (told : Result Plain Memory) (s : Stand H) (used : ℕ) (answers taken : List Reply) → EndsAs true o e s → IsTold e used told
+    → answers ≡ taken ++ (state_after o).replies → used ≡ length answers - length s.replies → IfOk told (λ plain. IsOutcome o plain s.vars s.host answers)
+told_is (Ends c st) (end.Done d) (Ok (Done code n)) s used answers taken m t grown count =
+    let same : st.replies ≡ s.replies = ap (λ x. x.replies) m.1 in
+    let there : n ≡ length answers - length st.replies = rw same (t.1 ∙ count) in
+    let left = taken_is answers taken st.replies n grown there in
+    (m.0 ∙ t.0, ap (λ x. x.vars) m.1, ap (λ x. x.host) m.1, left.0, left.1)
+told_is (Ends c st) (end.Done d) (Ok (WaitsFor call)) s used answers taken m t grown count = absurd t
+told_is (Ends c st) (end.Done d) (Err x) s used answers taken m t grown count = absurd t
+told_is (Waits p call st) (end.Done d) told s used answers taken m t grown count = absurd m
+told_is (Ends c st) (end.Waits asked) told s used answers taken m t grown count = absurd m
+told_is (Waits p call st) (end.Waits asked) (Ok (Done code n)) s used answers taken m t grown count = absurd t
+told_is (Waits p call st) (end.Waits asked) (Ok (WaitsFor c)) s used answers taken m t grown count = (sym m.0 ∙ t, ap (λ x. x.vars) m.1, ap (λ x. x.host) m.1)
+told_is (Waits p call st) (end.Waits asked) (Err x) s used answers taken m t grown count = absurd t
+told_is o end.Memory (Ok plain) s used answers taken m t grown count = absurd t
+told_is o end.Memory (Err x) s used answers taken m t grown count = tt
 
 -- the evaluation of a body is that of its tree from the beginning
-pub outcome_is : {H : Type 0} (g : Setting H) (tree : Tree) (begin : Scopes) (before : H) (budget : ℕ) (told : Result Plain Memory) (answers : List Reply) (vars : Scopes) (host : H) (p : Progress)
-    → Matches true (eval g (inner g inner_limit inner_limit) tree [] (state begin before answers budget 0 [])) p.end (stand answers vars host p) → p.used ≤ length answers → told ≡ plain_of p.used p.end
-    → IfOk told (λ plain. IsOutcome (evaluate g tree begin before answers budget) plain vars host answers)
+outcome_is : {H : Type 0} (g : Setting H) (tree : Tree) (begin : Scopes) (before : H) (budget : ℕ) (answers : List Reply) (e : End) (told : Result Plain Memory) (s : Stand H) (used : ℕ)
+    → EndsAs true (eval g (inner g inner_limit inner_limit) tree [] (state begin before answers budget 0 [])) e s → IsTold e used told → used ≡ length answers - length s.replies
+    → IfOk told (λ plain. IsOutcome (evaluate g tree begin before answers budget) plain s.vars s.host answers)
 unfolding evaluate
-outcome_is g tree begin before budget told answers vars host p m used is = by_told (eval g (inner g inner_limit inner_limit) tree [] (state begin before answers budget 0 [])) told answers vars host p m used is
+outcome_is g tree begin before budget answers e told s used m t count =
+    let grown = (acts_stay g inner_limit inner_limit tree [] (state begin before answers budget 0 [])).replies in
+    told_is (eval g (inner g inner_limit inner_limit) tree [] (state begin before answers budget 0 [])) e told s used answers grown.0 m t grown.1 count
+
+-- the same, where the code has the variables, the replies and their number by other names
+pub outcome_of : {H : Type 0} (g : Setting H) (tree : Tree) (begin first : Scopes) (before : H) (budget : ℕ) (answers given : List Reply) (e : End) (told : Result Plain Memory) (s : Stand H) (used count : ℕ) → begin ≡ first → given ≡ answers
+    → Ran true (eval g (inner g inner_limit inner_limit) tree) (record { vars = begin; host = before; replies = given; budget = budget }) e s → IsTold e used told → count ≡ length answers → used ≡ count - length s.replies
+    → IfOk told (λ plain. IsOutcome (evaluate g tree first before answers budget) plain s.vars s.host answers)
+outcome_of g tree begin first before budget answers given e told s used count a b ran t all left =
+    let number : used ≡ length given - length s.replies = rw (all, sym b) at left in
+    rw (sym a, sym b) (outcome_is g tree begin before budget given e told s used (ran.by [] 0 []) t number)

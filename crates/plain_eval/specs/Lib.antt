@@ -1,10 +1,5 @@
 pub mod Plain
-pub mod Stop
-pub mod Ends
+pub mod End
 pub mod Stand
-pub mod Trees
-pub mod Steps
-pub mod Leaves
-pub mod Verdict
-pub mod Choice
-pub mod Leaving
+pub mod Ran
+pub mod Told

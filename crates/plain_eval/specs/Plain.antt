@@ -6,9 +6,10 @@ use Rattle.px_bytes.specs.declared.fault.HostAnswer.TheVariants as answer
 use Rattle.tcl_compile.specs.Procedures.{Procedure}
 use Rattle.tcl_vars.specs.Scopes.{Scopes, Level}
 use Rattle.rule_model.specs.Host.{HostStep, Gives, Faults, Asks}
-use Rattle.rule_model.specs.Outcome.{Code, Value, Raised, Return, Break, Continue, Outcome, Ends}
-use Rattle.rule_model.specs.Outcome.{Waits}
+use Rattle.rule_model.specs.Outcome.{Outcome, Ends, Waits}
 use Rattle.rule_model.specs.Setting.{Setting}
+use Rattle.rule_model.specs.declared.code.Code.{Code}
+use Rattle.rule_model.specs.declared.code.Code.TheVariants.{Value, Raised, Return, Break, Continue}
 use Rattle.plain_eval.specs.declared.plain.PlainCode.{PlainCode}
 use Rattle.plain_eval.specs.declared.plain.PlainCode.TheVariants as code
 use Rattle.plain_eval.specs.declared.plain.Plain.{Plain}

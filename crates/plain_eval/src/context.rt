@@ -1,6 +1,5 @@
 // What an evaluation is given.
 
-use crate::Replies;
 use std::alloc::Global;
 use tcl_compile::Procs;
 use tcl_vars::Vars;
@@ -14,13 +13,12 @@ pub(crate) struct Room {
 }
 
 /// What stays over an evaluation: the static variables where they are only read, what the host
-/// only reads, all replies, the procedures, and how much may still nest.
+/// only reads, the procedures, and how much may still nest.
 #[derive(Clone, Copy)]
 pub(crate) struct Context<'a, E> {
     pub(crate) alloc: Global,
     pub(crate) statics: Option<&'a Vars>,
     pub(crate) env: &'a E,
-    pub(crate) answers: &'a Replies,
     pub(crate) procs: &'a Procs,
     pub(crate) room: Room,
 }

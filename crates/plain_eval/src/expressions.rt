@@ -1,25 +1,20 @@
-// The evaluation of expressions by recursion.
+// The evaluation of expressions.
 
-ghost use Rattle.std.specs.Prelude.{Err, IfErr, List, length, true, ◌≡◌, ◌≤◌};
-ghost use Rattle.tcl_expr.specs.declared.expr.Joint.{Joint};
-ghost use Rattle.plain_eval.specs.Trees.{FollowJoints, FollowValues, Follows, OfAll, children_of};
-ghost use Rattle.rule_model.specs.Evaluator.{expression_command};
-ghost use Rattle.rule_model.specs.Expressions.{choice, prefixes, row};
-ghost use Rattle.rule_model.specs.Outcome.{Meaning, below};
-ghost use Rattle.plain_eval.specs.Ends.{ended};
-ghost use Rattle.plain_eval.specs.Stand.{Comes, inner_of, meaning_of, setting_of, stand};
-ghost use Rattle.plain_eval.specs.Steps.{TestComes};
+ghost use Rattle.std.specs.Prelude.{Err, IfErr, true, ◌≡◌};
+ghost use Rattle.tcl_compile.specs.Tree.{expr, operands_of, prefixed, row};
+ghost use Rattle.tcl_compile.specs.TreeView.{node_view, operands_view};
+ghost use Rattle.plain_eval.specs.End.{ended};
+ghost use Rattle.plain_eval.specs.Ran.{Evaluates, test_of};
+ghost use Rattle.plain_eval.specs.Stand.{Gave, stand};
 
 use crate::context::Context;
 use crate::host::PlainHost;
-use crate::operators::{combine, prefix, test_value, undecided, whole_value};
-use crate::progress::Progress;
-use crate::rows::children;
-use crate::stop::Halted;
+use crate::run::{Halted, Halts, Run};
 use crate::tree::eval_tree;
+use crate::uncounted::{both_text, prefixed_text};
+use rule_steps::{decide, truth_of, whole_text};
 use tcl_compile::Node;
 use tcl_expr::{Joint, Op1};
-use tcl_vars::Vars;
 
 /// Whether a condition holds.
 #[inline(never)]
@@ -28,49 +23,36 @@ pub(crate) fn eval_test<H: PlainHost>(
     context: &Context<'_, H::Env>,
     levels: usize,
     condition: &Node,
-    vars: &mut Vars,
+    run: &mut Run<'_>,
     host: &mut H,
-    progress: &mut Progress,
 ) -> Result<bool, Halted>
-    requires { progress.old.used ≤ length context.now.answers.now }
-    ensures used { progress.new.used ≤ length context.now.answers.now }
-    ensures halts { IfErr result (λ h. ended progress.new.end ≡ Err h) }
-    ensures comes { let answers = context.now.answers.now in
-        let before = stand answers vars.old host.old progress.old in
-        let after = stand answers vars.new host.new progress.new in
-        (m : Meaning H)
-        → Follows (setting_of H.table context.now) (inner_of H.table context.now) m condition.now
-        → TestComes m before result progress.new.end after }
+    ensures halts { IfErr result (λ h. ended run.new.end ≡ Err h) }
+    ensures gave { let before = stand run.old host.old in
+        let after = stand run.new host.new in
+        Gave (test_of H.table context.now condition.now) before result run.new.end after }
 {
-    eval_tree(context, levels, condition, true, vars, host, progress)?;
-    test_value(context.alloc, progress)
+    eval_tree(context, levels, condition, true, run, host)?;
+    let holds = truth_of(context.alloc, run.value());
+    run.kept(holds)
 }
 
 /// The expression of an `expr`.
 #[inline(never)]
 #[cycle(plain)]
-pub(crate) fn eval_whole<H: PlainHost>(
+pub(crate) fn eval_expr<H: PlainHost>(
     context: &Context<'_, H::Env>,
     levels: usize,
-    tree: &Node,
-    vars: &mut Vars,
+    expression: &Node,
+    run: &mut Run<'_>,
     host: &mut H,
-    progress: &mut Progress,
-) -> Result<(), Halted>
-    requires { progress.old.used ≤ length context.now.answers.now }
-    ensures used { progress.new.used ≤ length context.now.answers.now }
-    ensures ended { result ≡ ended progress.new.end }
-    ensures comes { let answers = context.now.answers.now in
-        let before = stand answers vars.old host.old progress.old in
-        let after = stand answers vars.new host.new progress.new in
-        OfAll H.table context.now (children_of tree.now)
-        (λ ms. Comes true (expression_command ms) before progress.new.end after) }
+) -> Halts
+    ensures ended { result ≡ ended run.new.end }
+    ensures ran { let tree = expr (node_view expression.now) in
+        Evaluates H.table context.now true tree run.old host.old run.new host.new }
 {
-    let Some(expression) = children(tree).first() else {
-        return progress.nothing(context.alloc);
-    };
-    eval_tree(context, levels, expression, true, vars, host, progress)?;
-    whole_value(context.alloc, progress)
+    eval_tree(context, levels, expression, true, run, host)?;
+    let value = run.take(context.alloc);
+    run.settle(whole_text(context.alloc, value))
 }
 
 /// Operators before an operand.
@@ -81,85 +63,43 @@ pub(crate) fn eval_prefixed<H: PlainHost>(
     levels: usize,
     ops: &[Op1],
     operand: &Node,
-    vars: &mut Vars,
+    run: &mut Run<'_>,
     host: &mut H,
-    progress: &mut Progress,
-) -> Result<(), Halted>
-    requires { progress.old.used ≤ length context.now.answers.now }
-    ensures used { progress.new.used ≤ length context.now.answers.now }
-    ensures ended { result ≡ ended progress.new.end }
-    ensures comes { let answers = context.now.answers.now in
-        let before = stand answers vars.old host.old progress.old in
-        let after = stand answers vars.new host.new progress.new in
-        let operand = below 0 (meaning_of H.table context.now operand.now) in
-        Comes true (prefixes ops.now operand) before progress.new.end after }
+) -> Halts
+    ensures ended { result ≡ ended run.new.end }
+    ensures ran { let tree = prefixed ops.now (node_view operand.now) in
+        Evaluates H.table context.now true tree run.old host.old run.new host.new }
 {
-    eval_tree(context, levels, operand, true, vars, host, progress)?;
-    prefix(context.alloc, ops, progress)
+    eval_tree(context, levels, operand, true, run, host)?;
+    let value = run.take(context.alloc);
+    run.settle(prefixed_text(context.alloc, ops, value))
 }
 
-/// The operands of a row.
+/// The operands of a row, from the left, up to one that decides it.
 #[inline(never)]
 #[cycle(plain)]
-pub(crate) fn eval_operands<H: PlainHost>(
+pub(crate) fn eval_row<H: PlainHost>(
     context: &Context<'_, H::Env>,
     levels: usize,
     first: &Node,
     rest: &[(Joint, Node)],
-    vars: &mut Vars,
+    run: &mut Run<'_>,
     host: &mut H,
-    progress: &mut Progress,
-) -> Result<(), Halted>
-    requires { progress.old.used ≤ length context.now.answers.now }
-    ensures used { progress.new.used ≤ length context.now.answers.now }
-    ensures ended { result ≡ ended progress.new.end }
-    ensures comes { let answers = context.now.answers.now in
-        let before = stand answers vars.old host.old progress.old in
-        let after = stand answers vars.new host.new progress.new in
-        (joints : List (Joint × Meaning H))
-        → FollowJoints (setting_of H.table context.now) (inner_of H.table context.now) joints rest.now
-        → let first = below 0 (meaning_of H.table context.now first.now) in
-        Comes true (row first joints) before progress.new.end after }
+) -> Halts
+    ensures ended { result ≡ ended run.new.end }
+    ensures ran { let tree = row (node_view first.now) (operands_of (operands_view rest.now)) in
+        Evaluates H.table context.now true tree run.old host.old run.new host.new }
 {
-    eval_tree(context, levels, first, true, vars, host, progress)?;
+    eval_tree(context, levels, first, true, run, host)?;
     for (joint, operand) in rest {
-        let Some(left) = undecided(context.alloc, *joint, progress)? else {
-            return Ok(());
-        };
-        eval_tree(context, levels, operand, true, vars, host, progress)?;
-        combine(context.alloc, *joint, &left, progress)?;
+        let left = run.take(context.alloc);
+        let decided = decide(context.alloc, *joint, left.as_bytes());
+        if let Some(value) = run.kept(decided)? {
+            return run.settle(Ok(value));
+        }
+        eval_tree(context, levels, operand, true, run, host)?;
+        let value = both_text(context.alloc, *joint, &left, run.value());
+        run.settle(value)?;
     }
     Ok(())
-}
-
-/// The value beside the first condition that holds, or else the last.
-#[inline(never)]
-#[cycle(plain)]
-pub(crate) fn eval_choice<H: PlainHost>(
-    context: &Context<'_, H::Env>,
-    levels: usize,
-    values: &[(Node, Node)],
-    last: &Node,
-    wanted: bool,
-    vars: &mut Vars,
-    host: &mut H,
-    progress: &mut Progress,
-) -> Result<(), Halted>
-    requires { progress.old.used ≤ length context.now.answers.now }
-    ensures used { progress.new.used ≤ length context.now.answers.now }
-    ensures ended { result ≡ ended progress.new.end }
-    ensures comes { let answers = context.now.answers.now in
-        let before = stand answers vars.old host.old progress.old in
-        let after = stand answers vars.new host.new progress.new in
-        (choices : List (Meaning H × Meaning H)) (other : Meaning H)
-        → FollowValues (setting_of H.table context.now) (inner_of H.table context.now) choices values.now
-        → Follows (setting_of H.table context.now) (inner_of H.table context.now) other last.now
-        → Comes wanted (choice choices other) before progress.new.end after }
-{
-    for (condition, value) in values {
-        if eval_test(context, levels, condition, vars, host, progress)? {
-            return eval_tree(context, levels, value, wanted, vars, host, progress);
-        }
-    }
-    eval_tree(context, levels, last, wanted, vars, host, progress)
 }

@@ -2,24 +2,20 @@
 //! anew from its beginning, with that reply behind the others.
 #![tactic(auto)]
 
-mod caught;
+mod branches;
+mod calls;
+mod catches;
+mod choice;
 mod commands;
 mod context;
-mod control;
 mod expressions;
-mod foreach;
 mod host;
-mod leaving;
 mod loops;
-mod nested;
-mod operators;
 mod plain;
-mod progress;
-mod rows;
-mod stop;
-mod switch;
+mod run;
 mod tree;
-mod values;
+mod uncounted;
+mod words;
 
 pub use host::PlainHost;
 pub use plain::{Plain, PlainCode, Replies, eval_plain};

@@ -6,15 +6,16 @@ ghost use Rattle.tcl_compile.specs.TreeView.{node_view};
 ghost use Rattle.rule_model.specs.Evaluator.{evaluate};
 ghost use Rattle.rule_model.specs.Outcome.{uncaught_of};
 ghost use Rattle.plain_eval.specs.Plain.{IsOutcome, code_of, setting};
-ghost use Rattle.plain_eval.specs.Stop.{plain_of};
+ghost use Rattle.plain_eval.specs.Told.{IsTold};
 
 use crate::context::{Context, Room};
 use crate::host::PlainHost;
-use crate::progress::Progress;
-use crate::stop::Stop;
+use crate::run::{End, Run};
 use crate::tree::eval_tree;
 use px_bytes::{M, Memory, Reply, Seq, TclFault, Text, Texts};
+use rule_model::Code;
 use std::alloc::Global;
+use std::mem;
 use tcl_compile::{Node, Procs};
 use tcl_vars::Vars;
 
@@ -85,35 +86,47 @@ pub fn eval_plain<H: PlainHost>(
         alloc,
         statics,
         env,
-        answers,
         procs,
         room: Room {
             calls: INNER_LIMIT,
             expressions: INNER_LIMIT,
         },
     };
-    let mut progress = Progress {
-        used: 0,
+    let mut run = Run {
+        vars: mem::replace(vars, Vars::new(alloc)),
+        left: answers.as_slice(),
         budget,
-        end: Ok(Text::empty(alloc)),
+        end: End::Memory,
     };
-    let _ = eval_tree(&context, LEVELS, tree, true, vars, host, &mut progress);
-    told(progress.end, progress.used)
+    let _ = eval_tree(&context, LEVELS, tree, true, &mut run, host);
+    let used = answers.len().saturating_sub(run.left.len());
+    *vars = run.vars;
+    told(run.end, used)
 }
 
 // An end or a wait, told to the caller.
 #[inline(never)]
-fn told(end: Result<Text, Stop>, used: usize) -> M<Plain>
-    ensures { result ≡ plain_of used end }
+fn told(end: End, used: usize) -> M<Plain>
+    ensures { IsTold end used result }
 {
-    let code = match end {
-        Ok(value) => PlainCode::Ends(value),
-        Err(Stop::Raised(fault)) => PlainCode::Raised(fault),
-        Err(Stop::Return(value)) => PlainCode::Return(value),
-        Err(Stop::Break) => PlainCode::Break,
-        Err(Stop::Continue) => PlainCode::Continue,
-        Err(Stop::Waits(call)) => return Ok(Plain::Waits { call }),
-        Err(Stop::Memory) => return Err(Memory),
-    };
-    Ok(Plain::Done { code, used })
+    match end {
+        End::Done(code) => Ok(Plain::Done {
+            code: plain_code(code),
+            used,
+        }),
+        End::Waits(call) => Ok(Plain::Waits { call }),
+        End::Memory => Err(Memory),
+    }
+}
+
+fn plain_code(code: Code) -> PlainCode
+    ensures { code_of result ≡ code }
+{
+    match code {
+        Code::Value(value) => PlainCode::Ends(value),
+        Code::Raised(fault) => PlainCode::Raised(fault),
+        Code::Return(value) => PlainCode::Return(value),
+        Code::Break => PlainCode::Break,
+        Code::Continue => PlainCode::Continue,
+    }
 }

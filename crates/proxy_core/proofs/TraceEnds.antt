@@ -12,7 +12,8 @@ use Rattle.tcl_vars.specs.Scopes.{Scopes, Level, no_scopes}
 use Rattle.rule_model.specs.Host as effect
 use Rattle.rule_model.specs.Host.{HostStep}
 use Rattle.rule_model.specs.Outcome as act
-use Rattle.rule_model.specs.Outcome.{Act, Did, State, state, Outcome, Ends, Waits as Stops, Code, uncaught_of}
+use Rattle.rule_model.specs.Outcome.{Act, Did, State, state, Outcome, Ends, Waits as Stops, uncaught_of}
+use Rattle.rule_model.specs.declared.code.Code.{Code}
 use Rattle.rule_model.specs.Evaluator.{evaluate, inner_limit}
 use Rattle.rule_model.specs.Laws.{waits, state_after, StepShows, TableShows, step_seen, state_seen, outcome_seen, SeenAs}
 use Rattle.rule_model.proofs.Facts.{acts_stay, host_shows}

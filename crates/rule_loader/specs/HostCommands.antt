@@ -3,8 +3,9 @@ use Rattle.std.specs.Prelude.{◌≡◌, ℕ, List, [], ◌∷◌, ◌++◌, cod
 use Rattle.std.specs.List.{All, list_all}
 use Rattle.std.specs.Str.{bytes_eq}
 use Rattle.event_order.specs.Command.{IsHostCommand, command_row, every_command}
-use Rattle.tcl_compile.specs.Tree.{Tree, plain, variable, element, word, script, command, cases}
-use Rattle.tcl_compile.specs.Tree.{next_body, prefixed, row, choice, Trees, no_trees, and_tree}
+use Rattle.tcl_compile.specs.Tree.{Tree, plain, variable, element, word, script, command, expr}
+use Rattle.tcl_compile.specs.Tree.{branches, loop, each, switch, catch, catch_in, next_body}
+use Rattle.tcl_compile.specs.Tree.{prefixed, row, choice, Trees, no_trees, and_tree}
 use Rattle.tcl_compile.specs.Tree.{Operands, no_operands, and_operand, Values, no_values, and_value}
 use Rattle.tcl_compile.specs.declared.node.Verb.{Verb}
 use Rattle.tcl_compile.specs.declared.node.Verb.TheVariants.{Named}
@@ -23,16 +24,17 @@ literal (word parts) = only_text parts
 literal t = []
 
 -- Tcl(n), Evaluation: "the first word is used to locate a command procedure"; the name of a command
--- that isn't a control command, where its first word tells it
+-- that isn't a control command, where its first word stands literally
 abbrev pub first_literal : Trees → List (List ℕ)
 first_literal no_trees = []
 first_literal (and_tree t ts) = literal t
 
 abbrev pub name_of : Verb → Trees → List (List ℕ)
-name_of Named children = first_literal children
-name_of v children = []
+name_of Named words = first_literal words
+name_of v words = []
 
--- the names of all commands in a tree, in order: in brackets, bodies, expressions and cases too
+-- the names of all commands in a tree, in brackets, bodies and expressions
+-- too
 abbrev mutual
   pub names_in : Tree → List (List ℕ)
   names_in (plain text) = []
@@ -40,8 +42,15 @@ abbrev mutual
   names_in (element name index) = names_in_all index
   names_in (word parts) = names_in_all parts
   names_in (script commands) = names_in_all commands
-  names_in (command v children) = name_of v children ++ names_in_all children
-  names_in (cases bodies) = names_in_all bodies
+  names_in (command v words) = name_of v words ++ names_in_all words
+  names_in (expr e) = names_in e
+  names_in (branches values last) = names_in_values values ++ names_in last
+  names_in (loop start test next body) =
+      names_in start ++ (names_in test ++ (names_in next ++ names_in body))
+  names_in (each words body) = names_in_all words ++ names_in body
+  names_in (switch front words bodies) = names_in_all words ++ names_in_all bodies
+  names_in (catch body) = names_in body
+  names_in (catch_in body name) = names_in body ++ names_in name
   names_in next_body = []
   names_in (prefixed operators operand) = names_in operand
   names_in (row first behind) = names_in first ++ names_in_operands behind

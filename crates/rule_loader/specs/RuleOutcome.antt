@@ -1,4 +1,4 @@
--- What `read_rule` gave, beside what the text is. Want of memory is free.
+-- What `read_rule` gave, beside what the text is. Out of memory is free.
 use Rattle.std.specs.Prelude.{◌≡◌, Option, Some, None, Result, Ok, Err, ⊤}
 use Rattle.rule_loader.specs.declared.rule_fault.RuleFault.{RuleFault}
 use Rattle.rule_loader.specs.declared.rule_fault.RuleFault.TheVariants.{NotBuilt, Memory}

@@ -7,7 +7,7 @@ use Rattle.px_bytes.specs.Limit.{is_short}
 use Rattle.rule_loader.specs.HostCommands.{is_built}
 use Rattle.tcl_compile.specs.Compiled.{compiled_body}
 use Rattle.tcl_compile.specs.Pieces.{all_commands, all_words}
-use Rattle.tcl_compile.specs.Roles.{is_braced, is_text}
+use Rattle.tcl_compile.specs.Texts.{is_braced, is_text}
 use Rattle.tcl_compile.specs.Tree.{Tree}
 use Rattle.tcl_words.specs.Reading.{reading}
 use Rattle.tcl_words.specs.Tree.{Word, Command, command, Commands}

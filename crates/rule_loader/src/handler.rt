@@ -2,7 +2,7 @@
 
 ghost use Rattle.std.specs.Prelude.{◌≡◌, map, option_map};
 ghost use Rattle.rule_loader.specs.RuleText.{handler_body, only_body, script_body};
-ghost use Rattle.tcl_compile.specs.Roles.{is_braced, is_text};
+ghost use Rattle.tcl_compile.specs.Texts.{is_braced, is_text};
 ghost use Rattle.tcl_words.specs.View.{command_view, script_view, word_view};
 
 use tcl_words::{Command, Form, Script, Word};

@@ -58,11 +58,11 @@ fn may_word_stand(word: &Node) -> bool
     }
 }
 
-// The same of the name of a command by its children.
-fn may_run(verb: Verb, children: &[Node]) -> bool
-    ensures { result ≡ may_all_stand (name_of verb (trees_of (nodes_view children.now))) }
+// The same of the name of a command by its words.
+fn may_run(verb: Verb, words: &[Node]) -> bool
+    ensures { result ≡ may_all_stand (name_of verb (trees_of (nodes_view words.now))) }
 {
-    match (verb, children.first()) {
+    match (verb, words.first()) {
         (Verb::Named, Some(name)) => may_word_stand(name),
         _ => true,
     }
@@ -83,13 +83,27 @@ fn node_is_built(node: &Node) -> bool
 {
     match node {
         Node::Plain(_) | Node::Variable(_) | Node::NextBody => true,
-        Node::Element(_, nodes) | Node::Word(nodes) | Node::Script(nodes) | Node::Cases(nodes) => {
-            nodes_are_built(nodes)
+        Node::Element(_, nodes) | Node::Word(nodes) | Node::Script(nodes) => nodes_are_built(nodes),
+        Node::Command(verb, words) => may_run(*verb, words) && nodes_are_built(words),
+        Node::Expr(node) | Node::Catch(node) | Node::Prefixed(_, node) => node_is_built(node),
+        Node::If(values, last) | Node::Choice(values, last) => {
+            values_are_built(values) && node_is_built(last)
         }
-        Node::Command(verb, children) => may_run(*verb, children) && nodes_are_built(children),
-        Node::Prefixed(_, operand) => node_is_built(operand),
+        Node::Loop {
+            start,
+            test,
+            next,
+            body,
+        } => {
+            node_is_built(start)
+                && node_is_built(test)
+                && node_is_built(next)
+                && node_is_built(body)
+        }
+        Node::Foreach { words, body } => nodes_are_built(words) && node_is_built(body),
+        Node::Switch { words, bodies, .. } => nodes_are_built(words) && nodes_are_built(bodies),
+        Node::CatchIn { body, name } => node_is_built(body) && node_is_built(name),
         Node::Row(first, behind) => node_is_built(first) && operands_are_built(behind),
-        Node::Choice(values, last) => values_are_built(values) && node_is_built(last),
     }
 }
 

@@ -7,7 +7,9 @@ use Rattle.px_bytes.specs.declared.fault.TclFault.{TclFault}
 use Rattle.tcl_vars.specs.Scopes.{Scopes, in_proc}
 use Rattle.tcl_var_commands.specs.Changed.{Changed}
 use Rattle.rule_model.specs.Host.{HostStep}
-use Rattle.rule_model.specs.Outcome.{Code, Value, Raised, Return, Break, Continue, State, Outcome, Ends, Meaning, then_code, with_value, then_value, paid, spend, ends, code_of, changed, answered}
+use Rattle.rule_model.specs.Outcome.{State, Outcome, Ends, Meaning, then_code, with_value, then_value, paid, spend, ends, code_of, changed, answered}
+use Rattle.rule_model.specs.declared.code.Code.{Code}
+use Rattle.rule_model.specs.declared.code.Code.TheVariants.{Value, Raised, Return, Break, Continue}
 use Rattle.rule_model.specs.Commands.{leave}
 
 -- the state with these variables, and the one that spent a unit
@@ -47,8 +49,8 @@ Same {H = H} {K = K} R O Q m n = ((a : State H) (b : State K) → R a b → O (m
 abbrev pub SameMeaning : {H K : Type 0} (R : State H → State K → Type 0) (O : Outcome H → Outcome K → Type 0) (Q : State K → Outcome K → Type 0) → Meaning H → Meaning K → Type 0
 SameMeaning R O Q m n = (path : List ℕ) → Same R O Q (m path) (n path)
 
-module _ {H K : Type 0} {t : H → List (List ℕ) → HostStep H} {u : K → List (List ℕ) → HostStep K} (V : Scopes → Scopes → Type 0)
-    (R : State H → State K → Type 0) (O : Outcome H → Outcome K → Type 0) (Q : State K → Outcome K → Type 0) (s : Alike t u R O Q) (f : Fact u V Q) where
+module _ {H K : Type 0} {t : H → List (List ℕ) → HostStep H} {u : K → List (List ℕ) → HostStep K} {V : Scopes → Scopes → Type 0}
+    {R : State H → State K → Type 0} {O : Outcome H → Outcome K → Type 0} {Q : State K → Outcome K → Type 0} (s : Alike t u R O Q) (f : Fact u V Q) where
   pub ends_same : (c : Code) → Same R O Q (Ends c) (Ends c)
   ends_same c = ((λ a b r. s.ends a b c r), λ b. f.ends c b)
 

@@ -1,21 +1,20 @@
 -- What an evaluation leaves of the state before it: laws of one evaluation.
 use Rattle.std.proofs.Common.{◌≡◌, refl, sym, ap, ◌∙◌, ℕ, ◌≤◌, List, [], ◌∷◌, ◌++◌, map, Bool, true, false, if◌then◌else◌}
-use Rattle.std.proofs.Common.{append_assoc, arith, drop, zero, suc, Option, Some, None, Result, Ok, Err}
+use Rattle.std.proofs.Common.{append_assoc, arith, zero, suc, Result, Ok, Err}
 use Rattle.std.proofs.lemmas.List.{append-nil}
 use Rattle.std.proofs.lemmas.Grind.{flat_map-append}
 use Rattle.std.specs.List.{flat_map}
 use Rattle.px_bytes.specs.declared.fault.Reply.{Reply}
-use Rattle.px_bytes.specs.declared.fault.Reply.TheVariants as reply
 use Rattle.px_bytes.specs.declared.fault.TclFault.{TclFault}
-use Rattle.tcl_compile.specs.Procedures.{Procedure, procedure_named, values_bound}
 use Rattle.tcl_compile.specs.Tree.{Tree}
-use Rattle.tcl_vars.specs.Scopes.{Level, Scopes, no_level, innermost, with_innermost, with_value_in, without_value_in, is_static, in_proc}
+use Rattle.tcl_vars.specs.Scopes.{Level, Scopes, no_level, innermost, with_innermost, with_value_in, without_value_in, is_static, in_proc, without_innermost, out_of_proc}
 use Rattle.tcl_var_commands.specs.Assigning.{row_assigned}
 use Rattle.tcl_var_commands.proofs.Kept.{Changing, row_kept}
 use Rattle.rule_model.specs.Host.{HostStep, Gives, Faults, Asks}
-use Rattle.rule_model.specs.Outcome.{Act, Did, Called, Code, Value, Raised, Return, Break, Continue, State, Outcome, Ends, Waits, then_code, then_value, code_of, changed, paid, ask_in, answered}
+use Rattle.rule_model.specs.Outcome.{Act, Did, Called, State, Outcome, Ends, Waits, then_code, then_value, code_of, changed, paid, ask_in, answered}
+use Rattle.rule_model.specs.declared.code.Code.{Code}
 use Rattle.rule_model.specs.Setting.{Setting}
-use Rattle.rule_model.specs.Commands.{left, leave, deeper, entered, call_bound, call_named, call_command}
+use Rattle.rule_model.specs.Commands.{left, leave, deeper, Bound, bound_of, entered, called, call_command}
 use Rattle.rule_model.specs.Evaluator.{inner}
 use Rattle.rule_model.specs.Laws.{meaning, state_after, Grows, StepShows, TableShows, ShowsActs, asks, waits, KeepsOuter, KeepsLevels}
 use Rattle.rule_model.proofs.Alike.{with_vars, spent, Fact, Alike}
@@ -44,7 +43,7 @@ itself table Q = record {
 pub holds : {H : Type 0} (V : Scopes → Scopes → Type 0) (c : Changing V) (Q : State H → Outcome H → Type 0) (g : Setting H) → Fact g.table V Q
     → (expressions calls : ℕ) (tree : Tree) (path : List ℕ) (st : State H) → Q st (meaning g expressions calls tree path st)
 holds V c Q g f expressions calls tree path st =
-    (meaning_same V c (λ a b. a ≡ b) (λ o p. Unit {0}) Q (itself g.table Q) f g.statics g.procedures expressions calls tree path).1 st
+    (meaning_same c (itself g.table Q) f g.statics g.procedures expressions calls tree path).1 st
 
 -- what was done stays
 still : {H : Type 0} (a b : State H) → b.acts ≡ a.acts → a.replies ≡ b.replies → a.cost ≤ b.cost → b.budget ≤ a.budget → Grows a b
@@ -60,8 +59,7 @@ joined a b c p q = record {
 
 asked : {H : Type 0} (left : List Reply) (call : List (List ℕ)) (path : List ℕ) (a : State H) → a.replies ≡ left → Grows a (state_after (ask_in left call path a))
 asked [] call path a is = record { acts = (Called path call ∷ [], refl); replies = ([], refl); cost = omega arith; budget = omega arith }
-asked (reply.Ok v ∷ more) call path a is = record { acts = (Called path call ∷ [], refl); replies = (reply.Ok v ∷ [], is); cost = omega arith; budget = omega arith }
-asked (reply.Fault f ∷ more) call path a is = record { acts = (Called path call ∷ [], refl); replies = (reply.Fault f ∷ [], is); cost = omega arith; budget = omega arith }
+asked (r ∷ more) call path a is = record { acts = (Called path call ∷ [], refl); replies = (r ∷ [], is); cost = omega arith; budget = omega arith }
 
 answers : {H : Type 0} (step : HostStep H) (path : List ℕ) (a : State H) → Grows a (state_after (answered step path a))
 answers (Gives v h effects) path a = record { acts = (map Did effects, refl); replies = ([], refl); cost = omega arith; budget = omega arith }
@@ -78,11 +76,7 @@ then_grown b (Ends c d) go h k = joined b d (state_after (go c d)) h (k c d)
 then_grown b (Waits path call d) go h k = h
 
 pub leave_grown : {H : Type 0} (c : Code) (d : State H) → Grown d (leave c d)
-leave_grown (Value v) d = still d (left d) refl refl (omega arith) (omega arith)
-leave_grown (Raised f) d = still d (left d) refl refl (omega arith) (omega arith)
-leave_grown (Return v) d = still d (left d) refl refl (omega arith) (omega arith)
-leave_grown Break d = still d (left d) refl refl (omega arith) (omega arith)
-leave_grown Continue d = still d (left d) refl refl (omega arith) (omega arith)
+leave_grown c d = still d (left d) refl refl (omega arith) (omega arith)
 
 before_grown : {H : Type 0} (b d : State H) (p : Outcome H) → d.acts ≡ b.acts → b.replies ≡ d.replies → b.cost ≤ d.cost → d.budget ≤ b.budget → Grown d p → Grown b p
 before_grown b d p acts replies cost budget h = joined b d (state_after p) (still b d acts replies cost budget) h
@@ -122,8 +116,7 @@ shows_one of act = append-nil (of act)
 shows_asked : {H M : Type 0} (of : Act → List M) (shown : H → List M) (left : List Reply) (call : List (List ℕ)) (path : List ℕ) (h : H) (a : State H) → shown h ≡ shown a.host ++ of (Called path call)
     → ShowsActs of shown a (state_after (ask_in left call path (record a { host = h })))
 shows_asked of shown [] call path h a is = record { new = Called path call ∷ []; acts = refl; grown = is ∙ ap (λ x. shown a.host ++ x) (sym (shows_one of (Called path call))) }
-shows_asked of shown (reply.Ok v ∷ more) call path h a is = record { new = Called path call ∷ []; acts = refl; grown = is ∙ ap (λ x. shown a.host ++ x) (sym (shows_one of (Called path call))) }
-shows_asked of shown (reply.Fault f ∷ more) call path h a is = record { new = Called path call ∷ []; acts = refl; grown = is ∙ ap (λ x. shown a.host ++ x) (sym (shows_one of (Called path call))) }
+shows_asked of shown (r ∷ more) call path h a is = record { new = Called path call ∷ []; acts = refl; grown = is ∙ ap (λ x. shown a.host ++ x) (sym (shows_one of (Called path call))) }
 
 shows_answers : {H M : Type 0} (of : Act → List M) (shown : H → List M) (step : HostStep H) (path : List ℕ) (a : State H) → StepShows of shown a.host step → ShowsActs of shown a (state_after (answered step path a))
 shows_answers of shown (Gives v h effects) path a is = record { new = map Did effects; acts = refl; grown = is }
@@ -138,11 +131,7 @@ then_shown of shown b (Ends c d) go h k = shows_joined of shown b d (state_after
 then_shown of shown b (Waits path call d) go h k = h
 
 leave_shown : {H M : Type 0} (of : Act → List M) (shown : H → List M) (c : Code) (d : State H) → Shown of shown d (leave c d)
-leave_shown of shown (Value v) d = same_host of shown d (left d) refl refl
-leave_shown of shown (Raised f) d = same_host of shown d (left d) refl refl
-leave_shown of shown (Return v) d = same_host of shown d (left d) refl refl
-leave_shown of shown Break d = same_host of shown d (left d) refl refl
-leave_shown of shown Continue d = same_host of shown d (left d) refl refl
+leave_shown of shown c d = same_host of shown d (left d) refl refl
 
 shows : {H M : Type 0} (of : Act → List M) (shown : H → List M) (table : H → List (List ℕ) → HostStep H) → TableShows of shown table → Fact table Free (Shown of shown)
 shows of shown table is = record {
@@ -167,11 +156,7 @@ then_moves b (Ends c d) go h k = k c d
 then_moves b (Waits path call d) go h k = h
 
 leave_moves : {H : Type 0} (c : Code) (d : State H) → Moves d (leave c d)
-leave_moves (Value v) d = refl
-leave_moves (Raised f) d = refl
-leave_moves (Return v) d = refl
-leave_moves Break d = refl
-leave_moves Continue d = refl
+leave_moves c d = refl
 
 answered_moves : {H : Type 0} (step : HostStep H) → asks step ≡ false → (path : List ℕ) (b : State H) → Moves b (answered step path b)
 answered_moves (Gives v h effects) is path b = refl
@@ -219,24 +204,20 @@ then_within : {H : Type 0} (b : State H) (p : Outcome H) (go : Code → State H 
 then_within b (Ends c d) go h k level outer e = let now = h level outer e in k c d now.0 outer now.1
 then_within b (Waits path call d) go h k level outer e = tt
 
-leave_by : {H : Type 0} (outer : List Level) (c : Code) (d : State H) → (left d).vars.levels ≡ outer → (level : Level) (more : List Level) → outer ≡ level ∷ more → KeepsOuter more (leave c d)
-leave_by outer (Value v) d h level more e = (level, h ∙ e)
-leave_by outer (Raised f) d h level more e = (level, h ∙ e)
-leave_by outer (Return v) d h level more e = (level, h ∙ e)
-leave_by outer Break d h level more e = (level, h ∙ e)
-leave_by outer Continue d h level more e = (level, h ∙ e)
+-- a level that ends has one outside, which is there again
+level_back : (d : Scopes) (now level : Level) (outer levels : List Level) → d.levels ≡ now ∷ levels → levels ≡ level ∷ outer → (out_of_proc d).levels ≡ level ∷ outer
+level_back d now level outer levels e k = ap without_innermost e ∙ ap (λ x. without_innermost (now ∷ x)) k
 
 calls_within : {H : Type 0} (b : State H) (v : Scopes) (p : Outcome H) → Outer (in_proc b.vars) v → Within (with_vars v b) p → Within b (then_code p leave)
 calls_within b v (Ends c d) r h level outer e =
     let entered = r no_level b.vars.levels refl in
     let now = h entered.0 b.vars.levels entered.1 in
-    leave_by b.vars.levels c d (ap (drop 1) now.1) level outer e
+    (level, level_back d.vars now.0 level outer b.vars.levels now.1 e)
 calls_within b v (Waits path call d) r h level outer e = tt
 
 asked_within : {H : Type 0} (left : List Reply) (call : List (List ℕ)) (path : List ℕ) (b : State H) → Within b (ask_in left call path b)
 asked_within [] call path b level outer e = tt
-asked_within (reply.Ok v ∷ more) call path b level outer e = (level, e)
-asked_within (reply.Fault f ∷ more) call path b level outer e = (level, e)
+asked_within (r ∷ more) call path b level outer e = (level, e)
 
 answered_within : {H : Type 0} (step : HostStep H) (path : List ℕ) (b : State H) → Within b (answered step path b)
 answered_within (Gives v h effects) path b level outer e = (level, e)
@@ -258,16 +239,9 @@ pub callers_stay : {H : Type 0} (g : Setting H) (expressions calls : ℕ) (tree 
 callers_stay g expressions calls tree path st level outer e = holds Outer outer_kept Within g (within g.table) expressions calls tree path st level outer e
 
 -- a call's own level goes with it
-leave_exactly : {H : Type 0} (outer : List Level) (c : Code) (d : State H) → (left d).vars.levels ≡ outer → KeepsLevels outer (leave c d)
-leave_exactly outer (Value v) d h = h
-leave_exactly outer (Raised f) d h = h
-leave_exactly outer (Return v) d h = h
-leave_exactly outer Break d h = h
-leave_exactly outer Continue d h = h
-
-left_levels : {H : Type 0} (outer : List Level) (p : Outcome H) → KeepsOuter outer p → KeepsLevels outer (then_code p leave)
-left_levels outer (Ends c d) h = leave_exactly outer c d (ap (drop 1) h.1)
-left_levels outer (Waits path call d) h = tt
+left_levels : {H : Type 0} (level : Level) (outer levels : List Level) (p : Outcome H) → levels ≡ level ∷ outer → KeepsOuter levels p → KeepsLevels (level ∷ outer) (then_code p leave)
+left_levels level outer levels (Ends c d) e h = level_back d.vars h.0 level outer levels h.1 e
+left_levels level outer levels (Waits path call d) e h = tt
 
 value_outer : {H : Type 0} (outer : List Level) (r : Result (List ℕ) TclFault) (d : State H) (go : List ℕ → State H → Outcome H) → (level : Level) × (d.vars.levels ≡ level ∷ outer)
     → ((v : List ℕ) → KeepsOuter outer (go v d)) → KeepsOuter outer (then_value (Ends (code_of r) d) go)
@@ -279,29 +253,23 @@ body_outer : {H : Type 0} (g : Setting H) (expressions calls : ℕ) (tree : Tree
 body_outer g expressions zero tree path d level outer e = (level, e)
 body_outer g expressions (suc calls) tree path d level outer e = callers_stay g expressions calls tree path d level outer e
 
-entered_levels : {H : Type 0} (g : Setting H) (expressions calls : ℕ) (p : Procedure) (values : List (List ℕ)) (path : List ℕ) (st : State H)
-    → KeepsLevels st.vars.levels (entered g (inner g expressions calls) p values path st)
-entered_levels {H} g expressions calls p values path st =
-    let names = map (λ q. q.name) p.parameters in
-    let set = row_assigned g.statics names values (in_proc st.vars) in
+entered_levels : {H : Type 0} (g : Setting H) (expressions calls : ℕ) (b : Bound) (path : List ℕ) (st : State H) (level : Level) (outer : List Level) → st.vars.levels ≡ level ∷ outer
+    → KeepsLevels (level ∷ outer) (entered g (inner g expressions calls) b path st)
+entered_levels {H} g expressions calls b path st level outer e =
+    let names = map (λ q. q.name) b.procedure.parameters in
+    let set = row_assigned g.statics names b.values (in_proc st.vars) in
     let inside : State H = record st { vars = set.vars } in
-    let now = row_kept Outer outer_kept g.statics names values (in_proc st.vars) no_level st.vars.levels refl in
-    left_levels st.vars.levels (then_value (changed set st) (λ v t. deeper (inner g expressions calls).call p.body path t))
-    (value_outer st.vars.levels set.value inside (λ v t. deeper (inner g expressions calls).call p.body path t) now
-    (λ v. body_outer g expressions calls p.body path inside now.0 st.vars.levels now.1))
+    let go = λ (v : List ℕ) (t : State H). deeper (inner g expressions calls).call b.procedure.body path t in
+    let now = row_kept Outer outer_kept g.statics names b.values (in_proc st.vars) no_level st.vars.levels refl in
+    left_levels level outer st.vars.levels (then_value (changed set st) go) e
+    (value_outer st.vars.levels set.value inside go now
+    (λ v. body_outer g expressions calls b.procedure.body path inside now.0 st.vars.levels now.1))
 
-bound_levels : {H : Type 0} (g : Setting H) (expressions calls : ℕ) (p : Procedure) (o : Option (List (List ℕ))) (path : List ℕ) (st : State H)
-    → KeepsLevels st.vars.levels (call_bound g (inner g expressions calls) p o path st)
-bound_levels g expressions calls p None path st = refl
-bound_levels g expressions calls p (Some values) path st = entered_levels g expressions calls p values path st
+called_levels : {H : Type 0} (g : Setting H) (expressions calls : ℕ) (result : Result Bound TclFault) (path : List ℕ) (st : State H) (level : Level) (outer : List Level) → st.vars.levels ≡ level ∷ outer
+    → KeepsLevels (level ∷ outer) (called g (inner g expressions calls) result path st)
+called_levels g expressions calls (Ok b) path st level outer e = entered_levels g expressions calls b path st level outer e
+called_levels g expressions calls (Err f) path st level outer e = e
 
-named_levels : {H : Type 0} (g : Setting H) (expressions calls : ℕ) (o : Option Procedure) (name : List ℕ) (words : List (List ℕ)) (path : List ℕ) (st : State H)
-    → KeepsLevels st.vars.levels (call_named g (inner g expressions calls) o name words path st)
-named_levels g expressions calls None name words path st = refl
-named_levels g expressions calls (Some p) name words path st = bound_levels g expressions calls p (values_bound p.parameters words) path st
-
-pub calls_keep : {H : Type 0} (g : Setting H) (expressions calls : ℕ) (words : List (List ℕ)) (path : List ℕ) (st : State H)
-    → KeepsLevels st.vars.levels (call_command g (inner g expressions calls) words path st)
-calls_keep g expressions calls [] path st = refl
-calls_keep g expressions calls (verb ∷ []) path st = refl
-calls_keep g expressions calls (verb ∷ (name ∷ words)) path st = named_levels g expressions calls (procedure_named name g.procedures) name words path st
+pub calls_keep : {H : Type 0} (g : Setting H) (expressions calls : ℕ) (words : List (List ℕ)) (path : List ℕ) (st : State H) (level : Level) (outer : List Level) → st.vars.levels ≡ level ∷ outer
+    → KeepsLevels (level ∷ outer) (call_command g (inner g expressions calls) words path st)
+calls_keep g expressions calls words path st level outer e = called_levels g expressions calls (bound_of g.procedures words) path st level outer e

@@ -6,3 +6,6 @@ pub mod Trees
 pub mod Facts
 pub mod Pairs
 pub mod Order
+pub mod Turns
+pub mod CostRows
+pub mod LimitRows

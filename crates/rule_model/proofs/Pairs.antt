@@ -2,14 +2,14 @@
 use Rattle.std.proofs.Common.{◌≡◌, refl, sym, ap, ◌∙◌, subst, Option, ℕ, List, [], ◌∷◌, ◌++◌, append_assoc}
 use Rattle.std.proofs.lemmas.List.{append-nil}
 use Rattle.px_bytes.specs.declared.fault.Reply.{Reply}
-use Rattle.px_bytes.specs.declared.fault.Reply.TheVariants as reply
 use Rattle.tcl_compile.specs.Procedures.{Procedure}
 use Rattle.tcl_compile.specs.Tree.{Tree}
 use Rattle.tcl_vars.specs.Scopes.{Level}
 use Rattle.rule_model.specs.Host.{HostStep, Gives, Faults, Asks}
-use Rattle.rule_model.specs.Outcome.{Code, Value, Raised, Return, Break, Continue, State, Outcome, Ends, Waits, then_code, paid, ask_in, answered}
+use Rattle.rule_model.specs.Outcome.{State, Outcome, Ends, Waits, then_code, paid, ask_in, answered}
+use Rattle.rule_model.specs.declared.code.Code.{Code}
 use Rattle.rule_model.specs.Setting.{Setting}
-use Rattle.rule_model.specs.Commands.{left, leave}
+use Rattle.rule_model.specs.Commands.{leave}
 use Rattle.rule_model.specs.Laws.{meaning, with_more, Lengthens, step_seen, state_seen, outcome_seen, SeenAs}
 use Rattle.rule_model.proofs.Alike.{with_vars, spent, Fact, Alike}
 use Rattle.rule_model.proofs.Facts.{Free, free, Grown, grows, leave_grown}
@@ -29,18 +29,12 @@ module _ {H : Type 0} (more : List Reply) where
   then_longer (Waits path call a) (Waits path' call' b) go on h k l = h
 
   leave_longer : (c : Code) (a b : State H) → Behind a b → Lengthens more (leave c a) (leave c b)
-  leave_longer (Value v) a b e = ap (λ st. Ends (Value v) (left st)) e
-  leave_longer (Raised f) a b e = ap (λ st. Ends (Raised f) (left st)) e
-  leave_longer (Return v) a b e = ap (λ st. Ends (Value v) (left st)) e
-  leave_longer Break a b e = ap (λ st. leave Break st) e
-  leave_longer Continue a b e = ap (λ st. leave Continue st) e
+  leave_longer c a b e = ap (leave c) e
 
   ask_by : (left behind : List Reply) (call : List (List ℕ)) (path : List ℕ) (st : State H) → Lengthens behind (ask_in left call path st) (ask_in (left ++ behind) call path (with_more behind st))
   ask_by [] [] call path st = ([], sym (append-nil _))
-  ask_by [] (reply.Ok v ∷ behind) call path st = ([], sym (append-nil _))
-  ask_by [] (reply.Fault f ∷ behind) call path st = ([], sym (append-nil _))
-  ask_by (reply.Ok v ∷ left) behind call path st = refl
-  ask_by (reply.Fault f ∷ left) behind call path st = refl
+  ask_by [] (r ∷ behind) call path st = ([], sym (append-nil _))
+  ask_by (r ∷ left) behind call path st = refl
 
   ask_longer : (left : List Reply) (call : List (List ℕ)) (path : List ℕ) (st : State H) → Lengthens more (ask_in left call path st) (ask_in (left ++ more) call path (with_more more st))
   ask_longer left call path st = ask_by left more call path st
@@ -66,7 +60,7 @@ module _ {H : Type 0} (more : List Reply) where
 pub more_replies : {H : Type 0} (g : Setting H) (expressions calls : ℕ) (tree : Tree) (path : List ℕ) (st : State H) (more : List Reply)
     → Lengthens more (meaning g expressions calls tree path st) (meaning g expressions calls tree path (with_more more st))
 more_replies g expressions calls tree path st more =
-    (meaning_same Free free (Behind more) (goes more) Grown (longer more g.table) (grows g.table) g.statics g.procedures expressions calls tree path).0 st (with_more more st) refl
+    (meaning_same free (longer more g.table) (grows g.table) g.statics g.procedures expressions calls tree path).0 st (with_more more st) refl
 
 -- by a wider host
 module _ {H K : Type 0} (view : K → H) where
@@ -84,16 +78,11 @@ module _ {H K : Type 0} (view : K → H) where
   then_seen (Waits path call a) p go on h k = ap (λ p. then_code p on) h
 
   leave_seen : (c : Code) (a : State K) (b : State H) → Seen a b → Ended (leave c a) (leave c b)
-  leave_seen (Value v) a b e = ap (leave (Value v)) e
-  leave_seen (Raised f) a b e = ap (leave (Raised f)) e
-  leave_seen (Return v) a b e = ap (leave (Return v)) e
-  leave_seen Break a b e = ap (leave Break) e
-  leave_seen Continue a b e = ap (leave Continue) e
+  leave_seen c a b e = ap (leave c) e
 
   asked_seen : (left : List Reply) (call : List (List ℕ)) (path : List ℕ) (a : State K) → Ended (ask_in left call path a) (ask_in left call path (state_seen view a))
   asked_seen [] call path a = refl
-  asked_seen (reply.Ok v ∷ more) call path a = refl
-  asked_seen (reply.Fault f ∷ more) call path a = refl
+  asked_seen (r ∷ more) call path a = refl
 
   answered_seen : (step : HostStep K) (path : List ℕ) (a : State K) → Ended (answered step path a) (answered (step_seen view step) path (state_seen view a))
   answered_seen (Gives v h effects) path a = refl
@@ -136,5 +125,5 @@ with_same g statics procedures e k expressions calls tree path st =
 pub wider_agrees : {H K : Type 0} (view : K → H) (wide : Setting K) (plain : Setting H) → SeenAs view wide plain → (expressions calls : ℕ) (tree : Tree) (path : List ℕ) (st : State K)
     → outcome_seen view (meaning wide expressions calls tree path st) ≡ meaning plain expressions calls tree path (state_seen view st)
 wider_agrees view wide plain is expressions calls tree path st =
-    (meaning_same Free free (Seen view) (Ended view) (Anything view) (seen view wide.table plain.table is.steps) (anything view plain.table) wide.statics wide.procedures expressions calls tree path).0 st (state_seen view st) refl
+    (meaning_same free (seen view wide.table plain.table is.steps) (anything view plain.table) wide.statics wide.procedures expressions calls tree path).0 st (state_seen view st) refl
     ∙ with_same plain wide.statics wide.procedures is.statics is.procedures expressions calls tree path (state_seen view st)

@@ -1,35 +1,27 @@
--- The commands that hold bodies (Tcl 8.4, if(n), while(n), for(n), foreach(n), switch(n), catch(n)).
-use Rattle.std.specs.Prelude.{ℕ, zero, suc, ◌+◌, ◌-◌, ◌*◌, ◌/◌, max, List, [], ◌∷◌, ◌++◌, length, map}
-use Rattle.std.specs.Prelude.{take, drop, codes, Bool, true, false, ◌||◌, not, Option, Some}
-use Rattle.std.specs.Prelude.{None, Result, Ok, Err, if◌then◌else◌, slice_get, unwrap_or}
-use Rattle.std.specs.Prelude.{option_map}
+-- The commands that hold bodies (Tcl 8.4, while(n), for(n), foreach(n), switch(n), catch(n)).
+use Rattle.std.specs.Prelude.{ℕ, zero, suc, ◌+◌, ◌-◌, ◌*◌, ◌/◌, max, List, [], ◌∷◌, length, take, drop}
+use Rattle.std.specs.Prelude.{codes, Bool, true, false, ◌||◌, not, Option, Some, None, Result, Ok, Err}
+use Rattle.std.specs.Prelude.{if◌then◌else◌, slice_get, unwrap_or, option_map}
 use Rattle.std.specs.Str.{bytes_eq}
 use Rattle.px_bytes.specs.FaultText.{budget_spent, syntax_error}
 use Rattle.px_bytes.specs.GlobTest.{matches}
 use Rattle.px_bytes.specs.declared.fault.FaultKind.{FaultKind}
 use Rattle.px_bytes.specs.declared.fault.FaultKind.TheVariants as kind
+use Rattle.px_bytes.specs.declared.fault.TclFault.{TclFault}
 use Rattle.tcl_lists.specs.Read.{list_values}
 use Rattle.tcl_lists.specs.declared.fault.ListFault.{ListFault}
 use Rattle.tcl_vars.specs.Names.{name_of}
 use Rattle.tcl_vars.specs.Scopes.{Level, Scopes}
 use Rattle.tcl_var_commands.specs.Assigning.{assigned, row_assigned}
-use Rattle.tcl_var_commands.specs.Changed.{Changed, in_turn}
-use Rattle.rule_model.specs.Outcome.{Code, Value, Raised, Return, Break, Continue, State, Outcome}
-use Rattle.rule_model.specs.Outcome.{Ends, Meaning, then_code, then_value, spend, changed}
-use Rattle.rule_model.specs.Words.{in_order}
+use Rattle.tcl_var_commands.specs.Changed.{Changed, gives, in_turn, then_changed}
+use Rattle.rule_model.specs.Outcome.{State, Outcome, Ends, Meaning, then_code, then_value, spend, changed}
+use Rattle.rule_model.specs.declared.code.Code.{Code}
+use Rattle.rule_model.specs.declared.code.Code.TheVariants.{Value, Raised, Return, Break, Continue}
 use Rattle.rule_model.specs.Expressions.{then_truth}
 
 -- nothing is done
 abbrev pub nothing : {H : Type 0} → Meaning H
 nothing path st = Ends (Value []) st
-
--- conditions, each followed by its body, and perhaps a last body (if(n))
-abbrev pub if_command : {H : Type 0} → List (Meaning H) → Meaning H
-if_command [] path st = Ends (Value []) st
-if_command (body ∷ []) path st = body path st
-if_command (condition ∷ (body ∷ more)) path st =
-    then_truth (condition path st) (λ holds t.
-    if holds then body path t else if_command more path t)
 
 -- A loop's body ends: `continue` ends it early, and `break` ends the loop.
 abbrev pub after_body : {H : Type 0} → (State H → Outcome H) → Code → State H → Outcome H
@@ -47,33 +39,22 @@ after_next go (Return v) st = Ends (Return v) st
 after_next go Break st = Ends (Value []) st
 after_next go Continue st = Ends Continue st
 
--- A loop from its condition on: as many turns as there is budget, each with a unit once the
--- condition holds.
-abbrev pub turns : {H : Type 0} → ℕ → Meaning H → Meaning H → Meaning H → Meaning H
-turns zero test body next path st =
-    then_truth (test path st) (λ holds t.
-    if holds then Ends (Raised budget_spent) t else Ends (Value []) t)
-turns (suc n) test body next path st =
-    then_truth (test path st) (λ holds t.
-    if holds then spend t (λ s.
+-- A loop after its condition, where so many turns may still be made: each takes a unit once the
+-- condition holds, and then come the body, what follows each turn, and the condition again.
+abbrev pub turn : {H : Type 0} → ℕ → (test body next : Meaning H) → List ℕ → Bool → State H
+    → Outcome H
+turn n test body next path false st = Ends (Value []) st
+turn zero test body next path true st = Ends (Raised budget_spent) st
+turn (suc n) test body next path true st =
+    spend st (λ s.
     then_code (body path s) (after_body (λ b.
-    then_code (next path b) (after_next (λ e. turns n test body next path e)))))
-    else Ends (Value []) t)
+    then_code (next path b) (after_next (λ e.
+    then_truth (test path e) (turn n test body next path))))))
 
--- the budget is more than its turns can spend
-abbrev pub loop : {H : Type 0} → Meaning H → Meaning H → Meaning H → Meaning H
-loop test body next path st = turns st.budget test body next path st
-
--- `while` has the condition and the body
-abbrev pub while_command : {H : Type 0} → List (Meaning H) → Meaning H
-while_command (test ∷ (body ∷ [])) path st = loop test body nothing path st
-while_command ms path st = Ends (Value []) st
-
--- `for` has the body that starts, the condition, what comes after each turn, and the body
-abbrev pub for_command : {H : Type 0} → List (Meaning H) → Meaning H
-for_command (start ∷ (test ∷ (next ∷ (body ∷ [])))) path st =
-    then_value (start path st) (λ v t. loop test body next path t)
-for_command ms path st = Ends (Value []) st
+-- a loop from its condition on; with as many turns as there is budget, or more, it never runs out of
+-- them
+abbrev pub turns : {H : Type 0} → ℕ → (test body next : Meaning H) → Meaning H
+turns n test body next path st = then_truth (test path st) (turn n test body next path)
 
 -- the variables that a `foreach` sets from a list
 pub record Row : Type 0 where
@@ -126,24 +107,9 @@ rows_command statics body None path st = Ends (Raised (syntax_error (codes "fore
 rows_command statics body (Some rows) path st =
     row_loop statics rows body (most_turns rows) 0 path st
 
--- the last of a row, and those before it
-abbrev pub last_of : {H : Type 0} → Meaning H → List (Meaning H) → Meaning H
-last_of m [] = m
-last_of m (n ∷ ns) = last_of n ns
-
-abbrev pub all_but_last : {H : Type 0} → List (Meaning H) → List (Meaning H)
-all_but_last ms = take (length ms - 1) ms
-
--- names and lists in turn, and the body (foreach(n))
-abbrev pub foreach_command : {H : Type 0} → Option Level → List (Meaning H) → Meaning H
-foreach_command statics ms path st =
-    in_order (λ words. rows_command statics (last_of nothing ms) (rows_of words))
-    (all_but_last ms) [] path st
-
--- a pattern of a `switch` with its body; none where the next one is meant
-pub record Case (H : Type 0) : Type 0 where
-  pub pattern : Meaning H
-  pub body : Option (Meaning H)
+-- names and lists in turn (foreach(n))
+abbrev pub each_rows : {H : Type 0} → Option Level → Meaning H → List (List ℕ) → Meaning H
+each_rows statics body words = rows_command statics body (rows_of words)
 
 -- how a `switch` compares: like `string match`, or byte by byte (switch(n)); None for an option that
 -- it doesn't have
@@ -162,33 +128,44 @@ hits glob text pattern [] =
 hits glob text pattern (p ∷ more) =
     if glob then matches pattern text else bytes_eq pattern text
 
+-- the number of the first pattern that is hit
+abbrev pub first_hit : Bool → List ℕ → List (List ℕ) → Option ℕ
+first_hit glob text [] = None
+first_hit glob text (pattern ∷ more) =
+    if hits glob text pattern more then Some zero else option_map suc (first_hit glob text more)
+
+-- the same, where the first so many words are the options and the text
+abbrev pub hit_in : Bool → ℕ → List (List ℕ) → Option ℕ
+hit_in glob front words =
+    first_hit glob (unwrap_or (slice_get words (front - 1)) []) (drop front words)
+
+abbrev pub hit_by : Option Bool → ℕ → List (List ℕ) → Result (Option ℕ) TclFault
+hit_by (Some glob) front words = Ok (hit_in glob front words)
+hit_by None front words = Err (syntax_error (codes "switch"))
+
+-- the same, by how the options compare; a fault where an option is none
+abbrev pub hit_of : ℕ → List (List ℕ) → Result (Option ℕ) TclFault
+hit_of front words = hit_by (is_glob false (take (front - 1) words)) front words
+
+-- a body of a `switch`; none where the next one is meant
+abbrev pub unless : {A : Type 0} → Bool → A → Option A
+unless true a = None
+unless false a = Some a
+
 -- the first body from here on
-abbrev pub first_body : {H : Type 0} → List (Case H) → Meaning H
+abbrev pub first_body : {H : Type 0} → List (Option (Meaning H)) → Meaning H
 first_body [] = nothing
-first_body (c ∷ cs) = unwrap_or c.body (first_body cs)
+first_body (b ∷ bs) = unwrap_or b (first_body bs)
 
--- the body of the first case whose pattern is hit
-abbrev pub chosen : {H : Type 0} → Bool → List ℕ → List (Case H) → List (List ℕ) → Meaning H
-chosen glob text [] patterns = nothing
-chosen glob text (c ∷ cs) [] = nothing
-chosen glob text (c ∷ cs) (pattern ∷ more) =
-    if hits glob text pattern more then first_body (c ∷ cs) else chosen glob text cs more
-
-abbrev pub choose : {H : Type 0} → Option Bool → List ℕ → List (Case H) → List (List ℕ)
+abbrev pub chosen : {H : Type 0} → Result (Option ℕ) TclFault → List (Option (Meaning H))
     → Meaning H
-choose None text cases patterns path st = Ends (Raised (syntax_error (codes "switch"))) st
-choose (Some glob) text cases patterns path st = chosen glob text cases patterns path st
+chosen (Ok (Some k)) bodies path st = first_body (drop k bodies) path st
+chosen (Ok None) bodies path st = Ends (Value []) st
+chosen (Err f) bodies path st = Ends (Raised f) st
 
--- options and the text, which are so many words, and then the patterns
-abbrev pub switch_words : {H : Type 0} → ℕ → List (Case H) → List (List ℕ) → Meaning H
-switch_words n cases words =
-    choose (is_glob false (take (n - 1) words)) (unwrap_or (slice_get words (n - 1)) []) cases
-    (drop n words)
-
--- options, the text and the cases (switch(n))
-abbrev pub switch_command : {H : Type 0} → List (Meaning H) → List (Case H) → Meaning H
-switch_command front cases =
-    in_order (switch_words (length front) cases) (front ++ map (λ c. c.pattern) cases) []
+-- options and the text, which are so many words, and then the patterns (switch(n))
+abbrev pub chosen_of : {H : Type 0} → ℕ → List (Option (Meaning H)) → List (List ℕ) → Meaning H
+chosen_of front bodies words = chosen (hit_of front words) bodies
 
 -- catch(n): 0 where the script has a value, 1 where it raises a fault, 2 for `return`, 3 for
 -- `break`, 4 for `continue`
@@ -216,21 +193,22 @@ abbrev pub is_caught : Code → Bool
 is_caught (Raised f) = not (is_budget f.kind)
 is_caught code = true
 
--- the variable that is named, where one is, gets the text, and the number is the value
+-- the number of a code, where the variable that is named got its text
+abbrev pub number_changed : Option Level → List ℕ → Code → Scopes → Changed
+number_changed statics name code vars =
+    then_changed (assigned statics (name_of name) (code_text code) vars)
+    (λ text after. gives (code_number code) after)
+
+-- the number is the value, and the variable that is named, where one is, gets the text
 abbrev pub caught_as : {H : Type 0} → Option Level → Option (List ℕ) → Code → State H → Outcome H
 caught_as statics None code st = Ends (Value (code_number code)) st
-caught_as statics (Some name) code st =
-    then_value (changed (assigned statics (name_of name) (code_text code) st.vars) st) (λ v t.
-    Ends (Value (code_number code)) t)
+caught_as statics (Some name) code st = changed (number_changed statics name code st.vars) st
 
 abbrev pub caught : {H : Type 0} → Option Level → Option (List ℕ) → Code → State H → Outcome H
 caught statics name code st =
     if is_caught code then caught_as statics name code st else Ends code st
 
--- the body, and perhaps a name, which is evaluated before it (catch(n))
-abbrev pub catch_command : {H : Type 0} → Option Level → List (Meaning H) → Meaning H
-catch_command statics [] path st = Ends (Value []) st
-catch_command statics (body ∷ []) path st = then_code (body path st) (caught statics None)
-catch_command statics (body ∷ (name ∷ [])) path st =
-    then_value (name path st) (λ v t. then_code (body path t) (caught statics (Some v)))
-catch_command statics (body ∷ (name ∷ (m ∷ ms))) path st = Ends (Value []) st
+-- the body, after the words: none, or the name of a variable
+abbrev pub caught_in : {H : Type 0} → Option Level → Meaning H → List (List ℕ) → Meaning H
+caught_in statics body words path st =
+    then_code (body path st) (caught statics (slice_get words 0))

@@ -9,8 +9,9 @@ use Rattle.tcl_vars.specs.Scopes.{Level}
 use Rattle.tcl_compile.specs.Tree.{Tree}
 use Rattle.rule_model.specs.Host.{HostStep, Gives, Faults, Asks}
 use Rattle.rule_model.specs.Outcome.{Act, Did, Called, State, state, Outcome, Ends, Waits, Meaning}
-use Rattle.rule_model.specs.Outcome.{Raised, Value}
-use Rattle.rule_model.specs.Control.{catch_command}
+use Rattle.rule_model.specs.declared.code.Code.TheVariants.{Value, Raised}
+use Rattle.rule_model.specs.Children.{child, free, alone}
+use Rattle.rule_model.specs.Control.{caught_in, turns}
 use Rattle.rule_model.specs.Words.{in_order}
 use Rattle.rule_model.specs.Commands.{call_command}
 use Rattle.rule_model.specs.Setting.{Setting}
@@ -155,14 +156,32 @@ KeepsLevels levels (Waits path call st) = Unit {0}
 abbrev pub CallsKeepLevels : Type 0 → Type 0
 CallsKeepLevels H =
     (g : Setting H) (expressions calls : ℕ) (words : List (List ℕ)) (path : List ℕ) (st : State H)
-    → KeepsLevels st.vars.levels (call_command g (inner g expressions calls) words path st)
+    (level : Level) (outer : List Level) → st.vars.levels ≡ level ∷ outer
+    → KeepsLevels (level ∷ outer) (call_command g (inner g expressions calls) words path st)
 
 -- catch(n), in this profile: a spent budget goes through
 abbrev pub SpentBudgetPasses : Type 0 → Type 0
 SpentBudgetPasses H =
-    (statics : Option Level) (body : Meaning H) (path : List ℕ) (st after : State H)
-    → body path st ≡ Ends (Raised budget_spent) after
-    → catch_command statics (body ∷ []) path st ≡ Ends (Raised budget_spent) after
+    (statics : Option Level) (body : Meaning H) (words : List (List ℕ)) (path : List ℕ)
+    (st after : State H) → body path st ≡ Ends (Raised budget_spent) after
+    → caught_in statics body words path st ≡ Ends (Raised budget_spent) after
+
+-- a loop's turns, where so many may be made
+abbrev pub loop_turns : {H : Type 0} → Setting H → (expressions calls : ℕ) → (test body next : Tree)
+    → ℕ → Meaning H
+loop_turns g expressions calls test body next n =
+    turns n (child alone 1 test (meaning g expressions calls test))
+    (child free 3 body (meaning g expressions calls body))
+    (child free 2 next (meaning g expressions calls next))
+
+-- while(n), for(n): a loop's turns, with as many as the budget or more, never show their number: each
+-- takes a unit, and where none is left the fault is the same
+abbrev pub TurnsShowNoNumber : Type 0 → Type 0
+TurnsShowNoNumber H =
+    (g : Setting H) (expressions calls : ℕ) (test body next : Tree) (n m : ℕ) (path : List ℕ)
+    (st : State H) → st.budget ≤ n → st.budget ≤ m
+    → loop_turns g expressions calls test body next n path st
+    ≡ loop_turns g expressions calls test body next m path st
 
 -- Tcl(n): "substitutions take place from left to right": the second word is evaluated where the first
 -- one ended, and what is done with both comes where the second one did

@@ -1,5 +1,6 @@
 pub mod Host
 pub mod Outcome
+pub mod Children
 pub mod Words
 pub mod Expressions
 pub mod Control

@@ -1,6 +1,6 @@
 -- How an evaluation ends, where it stands, and what goes on from there.
 use Rattle.std.specs.Prelude.{ℕ, ◌+◌, ◌-◌, List, [], ◌∷◌, ◌++◌, map, codes, Option, Some, None}
-use Rattle.std.specs.Prelude.{Result, Ok, Err, nat_eq, if◌then◌else◌}
+use Rattle.std.specs.Prelude.{Result, Ok, Err, Bool, true, false, nat_eq, if◌then◌else◌}
 use Rattle.px_bytes.specs.FaultText.{budget_spent, outside_loop}
 use Rattle.px_bytes.specs.declared.fault.TclFault.{TclFault}
 use Rattle.px_bytes.specs.declared.fault.Reply.{Reply}
@@ -8,14 +8,8 @@ use Rattle.px_bytes.specs.declared.fault.Reply.TheVariants as reply
 use Rattle.tcl_vars.specs.Scopes.{Scopes}
 use Rattle.tcl_var_commands.specs.Changed.{Changed}
 use Rattle.rule_model.specs.Host.{Effect, HostStep, Gives, Faults, Asks}
-
--- how a command or a body ends (Tcl 8.4, return(n), break(n), continue(n), error(n))
-pub data Code : Type 0 where
-  Value : List ℕ → Code
-  Raised : TclFault → Code
-  Return : List ℕ → Code
-  Break : Code
-  Continue : Code
+use Rattle.rule_model.specs.declared.code.Code.{Code}
+use Rattle.rule_model.specs.declared.code.Code.TheVariants.{Value, Raised, Return, Break, Continue}
 
 -- the fault that a body leaves uncaught; `break` and `continue` may stand in a loop alone (Tcl 8.4,
 -- break(n))
@@ -30,6 +24,11 @@ uncaught_of Continue = Some (outside_loop (codes "continue"))
 abbrev pub code_of : Result (List ℕ) TclFault → Code
 code_of (Ok v) = Value v
 code_of (Err fault) = Raised fault
+
+-- the answer to a shared call as a code
+abbrev pub reply_code : Reply → Code
+reply_code (reply.Ok v) = Value v
+reply_code (reply.Fault f) = Raised f
 
 -- what was done so far, in order: an effect of a host command, or a shared call with the path to
 -- the node that made it
@@ -60,10 +59,6 @@ pub data Outcome (H : Type 0) : Type 0 where
 abbrev pub Meaning : Type 0 → Type 0
 Meaning H = List ℕ → State H → Outcome H
 
--- the child of this number
-abbrev pub below : {H : Type 0} → ℕ → Meaning H → Meaning H
-below k m path st = m (path ++ k ∷ []) st
-
 -- goes on with a code
 abbrev pub then_code : {H : Type 0} → Outcome H → (Code → State H → Outcome H) → Outcome H
 then_code (Ends code st) go = go code st
@@ -79,6 +74,22 @@ with_value go Continue st = Ends Continue st
 
 abbrev pub then_value : {H : Type 0} → Outcome H → (List ℕ → State H → Outcome H) → Outcome H
 then_value o go = then_code o (with_value go)
+
+-- A value that nothing hears is as good as the empty one.
+abbrev pub unvalued : Code → Code
+unvalued (Value v) = Value []
+unvalued (Raised f) = Raised f
+unvalued (Return v) = Return v
+unvalued Break = Break
+unvalued Continue = Continue
+
+abbrev pub heard_code : (wanted : Bool) → Code → Code
+heard_code true code = code
+heard_code false code = unvalued code
+
+abbrev pub heard : {H : Type 0} → (wanted : Bool) → Outcome H → Outcome H
+heard wanted (Ends code st) = Ends (heard_code wanted code) st
+heard wanted (Waits path call st) = Waits path call st
 
 -- so much more cost
 abbrev pub paid : {H : Type 0} → ℕ → State H → State H
@@ -101,10 +112,8 @@ changed c st = Ends (code_of c.value) (record st { vars = c.vars })
 -- a shared call: its reply, or a wait
 abbrev pub ask_in : {H : Type 0} → List Reply → List (List ℕ) → Meaning H
 ask_in [] call path st = Waits path call (record st { acts = st.acts ++ Called path call ∷ [] })
-ask_in (reply.Ok v ∷ more) call path st =
-    Ends (Value v) (record st { replies = more; acts = st.acts ++ Called path call ∷ [] })
-ask_in (reply.Fault f ∷ more) call path st =
-    Ends (Raised f) (record st { replies = more; acts = st.acts ++ Called path call ∷ [] })
+ask_in (r ∷ more) call path st =
+    Ends (reply_code r) (record st { replies = more; acts = st.acts ++ Called path call ∷ [] })
 
 abbrev pub ask : {H : Type 0} → List (List ℕ) → Meaning H
 ask call path st = ask_in st.replies call path st

@@ -2,7 +2,8 @@
 
 ghost use Rattle.rule_model.specs.Laws.{ActsStay, AskedByNoneWaitsNever, CallersVariablesStay};
 ghost use Rattle.rule_model.specs.Laws.{CallsKeepLevels, HostShowsActs, MoreRepliesOnlyLengthen};
-ghost use Rattle.rule_model.specs.Laws.{SpentBudgetPasses, WiderHostAgrees, WordsGoFromTheLeft};
+ghost use Rattle.rule_model.specs.Laws.{SpentBudgetPasses, TurnsShowNoNumber, WiderHostAgrees};
+ghost use Rattle.rule_model.specs.Laws.{WordsGoFromTheLeft};
 
 /// What was done before an evaluation stays, its cost never falls, and its budget never rises.
 pub fn acts_stay<H>()
@@ -42,6 +43,11 @@ pub fn calls_keep_levels<H>()
 /// A spent budget goes through a `catch`.
 pub fn spent_budget_passes<H>()
     ensures { SpentBudgetPasses H }
+{}
+
+/// A loop's turns never show how many may be made, where those are as many as the budget or more.
+pub fn turns_show_no_number<H>()
+    ensures { TurnsShowNoNumber H }
 {}
 
 /// Words are evaluated from the left, each where the one before it ended.

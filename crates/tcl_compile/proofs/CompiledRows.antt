@@ -26,15 +26,17 @@ use Rattle.tcl_words.specs.Tree.{Commands}
 use Rattle.tcl_words.specs.Values.{many, next_byte, run, brace_bytes, brace_unit_end, inner_after}
 use Rattle.tcl_words.specs.Values.{deepened, ends_braces, braces}
 use Rattle.tcl_words.specs.declared.parse_fault.Fault.{Fault}
+use Rattle.tcl_words.specs.declared.parse_fault.Fault.TheVariants.{ExtraAfter, MissingBracket}
 use Rattle.tcl_compile.specs.Compiled.{script_within, level, compiled}
 use Rattle.tcl_compile.specs.Flaws.{place_in, comes_first, noted}
-use Rattle.tcl_compile.specs.Making.{gathered}
+use Rattle.tcl_compile.specs.Fits.{fits}
+use Rattle.tcl_compile.specs.Making.{gathered, in_turn}
 use Rattle.tcl_compile.specs.Opened.{one_more, turned, scanned}
-use Rattle.tcl_compile.specs.Roles.{named as verb_named, flow_named, body_named, fits}
-use Rattle.tcl_compile.specs.Tree.{Tree, plain, element, word, script, command, cases, next_body, row}
-use Rattle.tcl_compile.specs.Tree.{trees_of, operands_of}
-use Rattle.tcl_compile.specs.declared.node.Verb.TheVariants as verb
-use Rattle.tcl_compile.specs.declared.node.Verb.TheVariants.{Named, Set, If, For, Switch}
+use Rattle.tcl_compile.specs.Shapes.{named as shape_named, flow_named, body_named}
+use Rattle.tcl_compile.specs.Tree.{Tree, plain, variable, element, word, script, command, expr}
+use Rattle.tcl_compile.specs.Tree.{branches, loop, each, switch, catch, catch_in, next_body, row}
+use Rattle.tcl_compile.specs.Tree.{trees_of, operands_of, values_of}
+use Rattle.tcl_compile.specs.declared.node.Verb.TheVariants.{Named, Computed, Set, ExprOfWords}
 use Rattle.tcl_expr.specs.declared.expr.Joint.TheVariants.{Both}
 use Rattle.tcl_expr.specs.declared.operator.Op2.TheVariants.{Add}
 use Rattle.tcl_compile.specs.declared.compile_fault.Flaw.{Flaw}
@@ -76,9 +78,19 @@ record Rows : Type 0 where
   switch_option : compiled_text (codes "switch -exact") ≡ Err (Arity 0)
   switch_inner : compiled_text (codes "switch a {b {while 1}}") ≡ Err (Arity 13)
   two_down : compiled_text (codes "while {1} {while {2} {while 3}}") ≡ Err (Arity 22)
+  -- a flaw before the fault of a body is told, also one of the command with the fault
+  before_fault : compiled_text (codes "catch {while 1 ; set x \"a\"b}") ≡ Err (Arity 7)
+  at_fault : compiled_text (codes "catch {while 1 [b}") ≡ Err (Parse (MissingBracket 15))
+  with_fault : compiled_text (codes "catch {while [b}") ≡ Err (Arity 7)
+  behind_fault : compiled_text (codes "catch {a; b \"c\"d; while 1}") ≡ Err (Parse (ExtraAfter 15))
+  body_before_fault : compiled_text (codes "catch {while $x {}; a \"b\"c}") ≡ Err (BadBody 13)
+  -- an expression with a fault has that alone
+  expression_alone : compiled_text (codes "if {[while 1] + } {}") ≡ Err (Expr (Syntax 16))
+  -- an element in braces is a body
+  braced_dash : compiled_text (codes "switch a {b {-} c -}") ≡ Err (BadBody 18)
 
 rows : Rows
-unfolding digit is_digit with_digit digits letter after_backslash escape unit words_first words_noted closed is_literal stands is_letter letter_stands names after_name opens_name in_name starts_variable skips_newline is_space is_blank after_blank separates closes ends_run ends_script ends_command in_comment after_comment_byte in_gap read_braced read_name named read_variable read_part parts trailing read_word words read_command commands words_level limit reading skip spaces_end name_end brace_end blanks_end comment_end after_gap_part gap_end many next_byte run brace_bytes brace_unit_end inner_after deepened ends_braces braces expression enclosed_at whole_at cases_at row_at more_at prefixes_at operand_at literal_at closed_by taken white_stands white_end reads_word prefix_at joint_at digit_stands digits_end number_end place_in comes_first noted verb_named flow_named body_named fits gathered script_within level compiled one_more turned scanned
+unfolding digit is_digit with_digit digits letter after_backslash escape unit words_first words_noted closed is_literal stands is_letter letter_stands names after_name opens_name in_name starts_variable skips_newline is_space is_blank after_blank separates closes ends_run ends_script ends_command in_comment after_comment_byte in_gap read_braced read_name named read_variable read_part parts trailing read_word words read_command commands words_level limit reading skip spaces_end name_end brace_end blanks_end comment_end after_gap_part gap_end many next_byte run brace_bytes brace_unit_end inner_after deepened ends_braces braces expression enclosed_at whole_at cases_at row_at more_at prefixes_at operand_at literal_at closed_by taken white_stands white_end reads_word prefix_at joint_at digit_stands digits_end number_end place_in comes_first noted shape_named flow_named body_named fits gathered in_turn script_within level compiled one_more turned scanned
 rows = record {
   while_arity = refl;
   while_body = refl;
@@ -108,6 +120,13 @@ rows = record {
   switch_option = refl;
   switch_inner = refl;
   two_down = refl;
+  before_fault = refl;
+  at_fault = refl;
+  with_fault = refl;
+  behind_fault = refl;
+  body_before_fault = refl;
+  expression_alone = refl;
+  braced_dash = refl;
 }
 
 -- a word of this text
@@ -121,43 +140,81 @@ call words = command Named (trees_of words)
 abbrev body : List Tree → Tree
 body commands = script (trees_of commands)
 
+abbrev only : Tree → Result Tree Flaw
+only t = Ok (body (t ∷ []))
+
+abbrev a : Tree
+a = body (call (text (codes "a") ∷ []) ∷ [])
+
+abbrev b : Tree
+b = body (call (text (codes "b") ∷ []) ∷ [])
+
 record Trees : Type 0 where
-  -- noise words leave no child
-  branches : compiled_text (codes "if 1 then {a} else {b c}") ≡ Ok (body
-      (command If (trees_of (plain (codes "1") ∷ body (call (text (codes "a") ∷ []) ∷ [])
-      ∷ body (call (text (codes "b") ∷ text (codes "c") ∷ []) ∷ []) ∷ [])) ∷ []))
   -- a command that evaluates all its words keeps its name
-  variables : compiled_text (codes "set a $b(c)") ≡ Ok (body
+  variables : compiled_text (codes "set a $b(c)") ≡ only
       (command Set (trees_of (text (codes "set") ∷ text (codes "a")
-      ∷ word (trees_of (element (codes "b") (trees_of (plain (codes "c") ∷ [])) ∷ [])) ∷ [])) ∷ []))
-  -- patterns and bodies are one child, as words of their own or in a list
-  listed : compiled_text (codes "switch -glob x {a - b {c}}") ≡ Ok (body
-      (command Switch (trees_of (text (codes "-glob") ∷ text (codes "x")
-      ∷ cases (trees_of (plain (codes "a") ∷ next_body ∷ plain (codes "b")
-      ∷ body (call (text (codes "c") ∷ []) ∷ []) ∷ [])) ∷ [])) ∷ []))
-  alone : compiled_text (codes "switch x a - b {c}") ≡ Ok (body
-      (command Switch (trees_of (text (codes "x")
-      ∷ cases (trees_of (text (codes "a") ∷ next_body ∷ text (codes "b")
-      ∷ body (call (text (codes "c") ∷ []) ∷ []) ∷ [])) ∷ [])) ∷ []))
-  nothing_chosen : compiled_text (codes "switch x {}") ≡ Ok (body
-      (command Switch (trees_of (text (codes "x") ∷ cases (trees_of []) ∷ [])) ∷ []))
-  -- a bracket in an expression
-  operands : compiled_text (codes "expr {1 + [f]}") ≡ Ok (body
-      (command verb.Expr (trees_of (row (plain (codes "1"))
-      (operands_of ((Both Add, word (trees_of (body (call (text (codes "f") ∷ []) ∷ []) ∷ []))) ∷ []))
-      ∷ [])) ∷ []))
-  loops : compiled_text (codes "for {} {1} {} a") ≡ Ok (body
-      (command For (trees_of (body [] ∷ plain (codes "1") ∷ body [] ∷ body (call (text (codes "a") ∷ []) ∷ [])
-      ∷ [])) ∷ []))
+      ∷ word (trees_of (element (codes "b") (trees_of (plain (codes "c") ∷ [])) ∷ [])) ∷ [])))
+  -- a name with a substitution or a backslash
+  variable_name : compiled_text (codes "$f a") ≡ only
+      (command Computed (trees_of (word (trees_of (variable (codes "f") ∷ [])) ∷ text (codes "a") ∷ [])))
+  backslash_name : compiled_text (codes "poo\\x6c a") ≡ only
+      (command Computed (trees_of (text (codes "pool") ∷ text (codes "a") ∷ [])))
+  -- noise words leave no child
+  noise_words : compiled_text (codes "if 1 then {a} else {b}") ≡ only
+      (branches (values_of ((plain (codes "1"), a) ∷ [])) b)
+  no_last_body : compiled_text (codes "if 1 {a} elseif 2 {b}") ≡ only
+      (branches (values_of ((plain (codes "1"), a) ∷ (plain (codes "2"), b) ∷ [])) (body []))
+  for_loop : compiled_text (codes "for {} {1} {b} a") ≡ only (loop (body []) (plain (codes "1")) b a)
+  while_loop : compiled_text (codes "while {1} a") ≡ only (loop (body []) (plain (codes "1")) (body []) a)
+  names_and_body : compiled_text (codes "foreach x {} a") ≡ only
+      (each (trees_of (text (codes "x") ∷ text [] ∷ [])) a)
+  caught : compiled_text (codes "catch {a}") ≡ only (catch a)
+  caught_in : compiled_text (codes "catch {a} m") ≡ only (catch_in a (text (codes "m")))
+  -- patterns and bodies are words of their own, or stand in a list
+  listed : compiled_text (codes "switch -glob x {a - b {a}}") ≡ only
+      (switch 2 (trees_of (text (codes "-glob") ∷ text (codes "x") ∷ plain (codes "a") ∷ plain (codes "b") ∷ []))
+      (trees_of (next_body ∷ a ∷ [])))
+  alone : compiled_text (codes "switch x a - b {a}") ≡ only
+      (switch 1 (trees_of (text (codes "x") ∷ text (codes "a") ∷ text (codes "b") ∷ []))
+      (trees_of (next_body ∷ a ∷ [])))
+  dash_in_braces : compiled_text (codes "switch x {a {-}}") ≡ only
+      (switch 1 (trees_of (text (codes "x") ∷ plain (codes "a") ∷ []))
+      (trees_of (body (call (text (codes "-") ∷ []) ∷ []) ∷ [])))
+  nothing_chosen : compiled_text (codes "switch x {}") ≡ only (switch 1 (trees_of (text (codes "x") ∷ [])) (trees_of []))
+  -- an operand is its own part, and one in quotes a word
+  operands : compiled_text (codes "expr {1 + [a]}") ≡ only
+      (expr (row (plain (codes "1")) (operands_of ((Both Add, a) ∷ []))))
+  variable_operand : compiled_text (codes "expr {$x}") ≡ only (expr (variable (codes "x")))
+  quoted_operand : compiled_text (codes "expr {\"a$x\"}") ≡ only
+      (expr (word (trees_of (plain (codes "a") ∷ variable (codes "x") ∷ []))))
+  quoted_alone : compiled_text (codes "expr {\"$x\"}") ≡ only
+      (expr (word (trees_of (variable (codes "x") ∷ []))))
+  braced_operand : compiled_text (codes "expr {{a}}") ≡ only (expr (plain (codes "a")))
+  -- an expression that is read when it runs
+  later : compiled_text (codes "expr $x") ≡ only
+      (command ExprOfWords (trees_of (text (codes "expr") ∷ word (trees_of (variable (codes "x") ∷ [])) ∷ [])))
 
 trees : Trees
-unfolding digit is_digit with_digit digits letter after_backslash escape unit words_first words_noted closed is_literal stands is_letter letter_stands names after_name opens_name in_name starts_variable skips_newline is_space is_blank after_blank separates closes ends_run ends_script ends_command in_comment after_comment_byte in_gap read_braced read_name named read_variable read_part parts trailing read_word words read_command commands words_level limit reading skip spaces_end name_end brace_end blanks_end comment_end after_gap_part gap_end many next_byte run brace_bytes brace_unit_end inner_after deepened ends_braces braces expression enclosed_at whole_at cases_at row_at more_at prefixes_at operand_at literal_at closed_by taken white_stands white_end reads_word prefix_at joint_at digit_stands digits_end number_end place_in comes_first noted verb_named flow_named body_named fits gathered script_within level compiled one_more turned scanned
+unfolding digit is_digit with_digit digits letter after_backslash escape unit words_first words_noted closed is_literal stands is_letter letter_stands names after_name opens_name in_name starts_variable skips_newline is_space is_blank after_blank separates closes ends_run ends_script ends_command in_comment after_comment_byte in_gap read_braced read_name named read_variable read_part parts trailing read_word words read_command commands words_level limit reading skip spaces_end name_end brace_end blanks_end comment_end after_gap_part gap_end many next_byte run brace_bytes brace_unit_end inner_after deepened ends_braces braces expression enclosed_at whole_at cases_at row_at more_at prefixes_at operand_at literal_at closed_by taken white_stands white_end reads_word prefix_at joint_at digit_stands digits_end number_end place_in comes_first noted shape_named flow_named body_named fits gathered in_turn script_within level compiled one_more turned scanned
 trees = record {
-  branches = refl;
   variables = refl;
+  variable_name = refl;
+  backslash_name = refl;
+  noise_words = refl;
+  no_last_body = refl;
+  for_loop = refl;
+  while_loop = refl;
+  names_and_body = refl;
+  caught = refl;
+  caught_in = refl;
   listed = refl;
   alone = refl;
+  dash_in_braces = refl;
   nothing_chosen = refl;
   operands = refl;
-  loops = refl;
+  variable_operand = refl;
+  quoted_operand = refl;
+  quoted_alone = refl;
+  braced_operand = refl;
+  later = refl;
 }

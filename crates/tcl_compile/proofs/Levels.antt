@@ -1,10 +1,7 @@
 -- What is compiled at each level, case by case.
 use Rattle.std.proofs.Common.{◌≡◌, ℕ, zero, suc, ◌-◌, ◌<◌, ◌≤◌, List, [], ◌∷◌, map, Option, Some}
-use Rattle.std.proofs.Common.{None}
-use Rattle.std.proofs.Common.{length, cond, refl, sym, ap, ap₂, ◌∙◌, arith}
-use Rattle.std.specs.Prelude.{true, false, ◌%◌, ◌==◌, codes}
-use Rattle.std.specs.Str.{bytes_eq}
-use Rattle.std.proofs.lemmas.Bool.Decides.{nat_tests}
+use Rattle.std.proofs.Common.{None, Bool, true, false}
+use Rattle.std.proofs.Common.{cond, refl, sym, ap, ap₂, ◌∙◌, arith}
 use Rattle.tcl_compile.specs.Pieces.{all_parts, all_words, all_commands}
 use Rattle.tcl_expr.specs.ExpressionReading.{parts_of_word}
 use Rattle.tcl_words.proofs.Views.{word-parts, script-commands, command-words, view-Bracket}
@@ -13,38 +10,32 @@ use Rattle.tcl_words.specs.declared.script.Command.{out-Command}
 use Rattle.tcl_words.specs.declared.script.Part as code_part
 use Rattle.tcl_words.specs.declared.script.Part.{Bracket}
 use Rattle.tcl_words.specs.declared.script.Span.{Span}
-use Rattle.tcl_compile.specs.CaseList.{listed, listed_of, case_item, case_body, dash_at}
-use Rattle.tcl_compile.specs.Roles.{is_quoted, verb_of, roles_of}
-use Rattle.tcl_compile.specs.declared.case_list.Item.{Item}
-use Rattle.tcl_compile.specs.declared.node.Verb.{Verb}
-use Rattle.tcl_compile.specs.declared.roles.Role.{Role}
-use Rattle.tcl_compile.specs.declared.roles.Sequence.TheVariants as sequence
-use Rattle.tcl_words.specs.Reading as reading
-use Rattle.tcl_words.specs.Tree.{Part, Word, Command, Commands}
+use Rattle.tcl_words.specs.Tree.{Part, Word, Command}
 use Rattle.tcl_words.specs.View.{part_view, word_view, command_view, script_view, parts_of}
 use Rattle.tcl_words.specs.View.{words_of}
 use Rattle.tcl_words.specs.View.{commands_of}
-use Rattle.tcl_words.specs.declared.parse_fault.Fault.{Fault}
-use Rattle.tcl_words.specs.declared.progress.Progress.{Progress}
 use Rattle.tcl_words.specs.declared.script.Script.{Script, out-Script}
 use Rattle.tcl_words.specs.declared.script.Word as code_word
 use Rattle.tcl_words.specs.declared.script.Word.{out-Word}
+use Rattle.tcl_compile.specs.CaseList.{case_item, other_item}
+use Rattle.tcl_compile.specs.declared.case_list.Item.{Item}
 use Rattle.tcl_compile.specs.Compiled.{level, body_at, body_of, condition_at, condition_of}
-use Rattle.tcl_compile.specs.Compiled.{cases_at_word, inner_place, text_at, script_within}
+use Rattle.tcl_compile.specs.Compiled.{cases_at_word, inner_place, text_at}
 use Rattle.tcl_compile.specs.Compiled.{room_inside}
 use Rattle.tcl_compile.specs.Compiled.{expression_text_at}
-use Rattle.tcl_compile.specs.Compiling.{parts_at, script_at, word_place, word_at, command_at}
-use Rattle.tcl_compile.specs.Compiling.{words_at, judged_at}
-use Rattle.tcl_compile.specs.Compiling.{is_switch, fitting_at, switch_at, children_at, part_at}
+use Rattle.tcl_compile.specs.Compiling.{script_at, command_at, words_at, shaped_at}
 use Rattle.tcl_compile.specs.Conditions.{parts_under}
 use Rattle.tcl_compile.specs.Flaws.{place_in, noted}
-use Rattle.tcl_compile.specs.Making.{Level, nothing, flawed, unmade, one_too_many, word_of, command_of}
-use Rattle.tcl_compile.specs.Tree.{plain}
-use Rattle.tcl_compile.specs.TreeView.{node_view, nodes_view}
+use Rattle.tcl_compile.specs.Making.{Level, flawed, unmade, no_cases, one_too_many, word_of}
+use Rattle.tcl_compile.specs.Shapes.{shape_of}
+use Rattle.tcl_compile.specs.Texts.{is_quoted}
+use Rattle.tcl_compile.specs.TreeView.{nodes_view}
+use Rattle.tcl_compile.specs.Words.{parts_at, part_at, word_at, word_place}
 use Rattle.tcl_compile.specs.declared.compile_fault.Flaw.{Flaw}
-use Rattle.tcl_compile.specs.declared.compile_fault.Flaw.TheVariants.{Arity, BadBody}
+use Rattle.tcl_compile.specs.declared.compile_fault.Flaw.TheVariants.{BadBody}
 use Rattle.tcl_compile.specs.declared.findings.Findings.{Findings}
 use Rattle.tcl_compile.specs.declared.node.Node.{Node}
+use Rattle.tcl_compile.specs.declared.shapes.Shape.{Shape}
 
 pub all_parts-of : (ps : List Part) → all_parts (parts_of ps) ≡ ps
 all_parts-of [] = refl
@@ -69,7 +60,7 @@ deepest = record {
   parts = λ base at parts. unmade (one_too_many (place_in base at));
   body = λ base w. flawed (one_too_many (place_in base (word_place w)));
   condition = λ base w. flawed (one_too_many (place_in base (word_place w)));
-  cases = λ base at w. unmade (one_too_many (place_in base (word_place w)));
+  cases = λ base at w. no_cases (one_too_many (place_in base (word_place w)));
   under = λ openers base parts. unmade (one_too_many base);
   inside = λ place text. flawed (one_too_many place);
 }
@@ -111,25 +102,24 @@ under_beyond n zero base ps h = absurd (omega arith)
 under_beyond zero (suc k) base ps h = refl
 under_beyond (suc n) (suc k) base ps h = under_beyond n k base ps (omega arith)
 
--- a node that isn't made, beside what was noted
-pub shown : (f : Flaw) (s s2 : Findings) (node : Node) → node_view node ≡ nothing → s2 ≡ noted f s
-    → flawed f s ≡ (node_view node, s2)
-shown f s s2 node made note = ap₂ (λ t x. (t, x)) (sym made) (sym note)
-
+-- lists of nodes that aren't made, beside what was noted
 pub shown_none : (f : Flaw) (s s2 : Findings) (done : List Node) → done ≡ [] → s2 ≡ noted f s
     → unmade f s ≡ (nodes_view done, s2)
 shown_none f s s2 done made note = ap₂ (λ t x. (t, x)) (ap nodes_view (sym made)) (sym note)
+
+pub shown_no_cases : (f : Flaw) (s s2 : Findings) (patterns bodies : List Node) → patterns ≡ []
+    → bodies ≡ [] → s2 ≡ noted f s
+    → no_cases f s ≡ ((nodes_view patterns, nodes_view bodies), s2)
+shown_no_cases f s s2 ps bs no_patterns no_bodies note =
+    ap₂ (λ t x. ((t, []), x)) (ap nodes_view (sym no_patterns)) (sym note)
+    ∙ ap (λ t. ((nodes_view ps, t), s2)) (ap nodes_view (sym no_bodies))
 
 module _ (w : code_word.Word) where
   pub place_seen : word_place (word_view w) ≡ (out-Word w).span.start
   place_seen = ap word_place (word-parts w)
 
-  -- what was noted of a word's place
-  pub deep_at : (base place : ℕ) (s s2 : Findings) → place ≡ place_in base (out-Word w).span.start
-      → s2 ≡ noted (one_too_many place) s
-      → s2 ≡ noted (one_too_many (place_in base (word_place (word_view w)))) s
-  deep_at base place s s2 at note =
-      note ∙ ap (λ p. noted (one_too_many p) s) (at ∙ ap (place_in base) (sym place_seen))
+  pub placed_at : (base : ℕ) → place_in base (word_place (word_view w)) ≡ place_in base (out-Word w).span.start
+  placed_at base = ap (place_in base) place_seen
 
   module _ (level : Level) (room base : ℕ) (s : Findings) where
     pub body_none : (out-Word w).raw ≡ None
@@ -166,13 +156,6 @@ module _ (w : code_word.Word) where
   pub inner_seen : inner_place (word_view w) ≡ (out-Word w).inner.start
   inner_seen = ap inner_place (word-parts w)
 
--- the script that was read
-pub whole_script : (room : ℕ) (text : List ℕ) (v : Commands) (p : Progress) (f : Option Fault)
-    → reading.commands (reading.level room) false text reading.beginning ≡ (v, p) → p.fault ≡ f
-    → script_within room text ≡ reading.unless f v
-unfolding script_within
-whole_script room text v p f read is = ap reading.judged read ∙ ap (λ x. reading.unless x v) is
-
 pub none_left : {A : Type 0} (o : Option A) → ((x : A) → o ≡ Some x → ⊥) → o ≡ None
 none_left None h = refl
 none_left (Some x) h = absurd (h x refl)
@@ -190,32 +173,17 @@ module _ (level : Level) (base : ℕ) (s : Findings) where
       (ap (λ x. all_parts (parts_of_word x)) (word-parts w)
       ∙ all_parts-of (map part_view (out-Word w).parts.items))
 
-  -- the command, once its verb and the roles of its words are known
-  pub command_judged : (c : code_command.Command) (ws : List code_word.Word) (v : Verb)
-      (r : Option (List Role)) → ws ≡ (out-Command c).words.items → v ≡ verb_of (map word_view ws)
-      → r ≡ roles_of v (map word_view ws)
+  -- the command, once it is known what it does
+  pub command_shaped : (c : code_command.Command) (ws : List code_word.Word) (h : Shape)
+      → ws ≡ (out-Command c).words.items → h ≡ shape_of (map word_view ws)
       → command_at level base (command_view c) s
-      ≡ judged_at level base (out-Command c).span.start v r (map word_view ws) s
-  command_judged c ws v r are is roled =
+      ≡ shaped_at level base (out-Command c).span.start h (map word_view ws) s
+  command_shaped c ws h are is =
       let at = (out-Command c).span.start in
       ap (λ x. command_at level base x s) (command-words c)
       ∙ ap (λ l. words_at level base at l s) (all_words-of (map word_view (out-Command c).words.items))
       ∙ ap (λ l. words_at level base at (map word_view l) s) (sym are)
-      ∙ ap (λ u. judged_at level base at u (roles_of u (map word_view ws)) (map word_view ws) s) (sym is)
-      ∙ ap (λ q. judged_at level base at v q (map word_view ws) s) (sym roled)
-
-  pub fitting_switch : (at : ℕ) (v : Verb) (roles : List Role) (ws : List Word) → is_switch v ≡ true
-      → fitting_at level base at v roles ws s ≡ switch_at level base at ws s
-  fitting_switch at v roles ws e =
-      ap (λ b. cond b (switch_at level base at ws s)
-      (command_of v (children_at level base (sequence.Command v) roles ws s))) e
-
-  pub fitting_other : (at : ℕ) (v : Verb) (roles : List Role) (ws : List Word) → is_switch v ≡ false
-      → fitting_at level base at v roles ws s
-      ≡ command_of v (children_at level base (sequence.Command v) roles ws s)
-  fitting_other at v roles ws e =
-      ap (λ b. cond b (switch_at level base at ws s)
-      (command_of v (children_at level base (sequence.Command v) roles ws s))) e
+      ∙ ap (λ u. shaped_at level base at u (map word_view ws) s) (sym is)
 
   pub bracket_part : (p : code_part.Part) (span : Span) (inside : Script) → p ≡ Bracket span inside
       → part_at level base (part_view p) s ≡ level.script base span.start (script_view inside) s
@@ -223,26 +191,7 @@ module _ (level : Level) (base : ℕ) (s : Findings) where
       ap (λ x. part_at level base x s) (ap part_view e ∙ view-Bracket span inside)
 
   -- a body in a list
-  pub item_body : (place count at : ℕ) (item : Item) → (at % 2 == 0) ≡ false
-      → bytes_eq item.text (codes "-") ≡ false → item.braced ≡ true
-      → case_item level place count at item s ≡ level.inside (place_in place item.start) item.text s
-  item_body place count at item odd other braced =
-      ap (λ b. cond b (plain item.text, s) (case_body level place (count - at == 1) item s)) odd
-      ∙ ap (λ b. cond b (dash_at place (count - at == 1) item s) (cond item.braced (level.inside (place_in place item.start) item.text s)
-      (flawed (BadBody (place_in place item.opener)) s))) other
-      ∙ ap (λ b. cond b (level.inside (place_in place item.start) item.text s)
-      (flawed (BadBody (place_in place item.opener)) s)) braced
-
-  pub listed_even : (word at place : ℕ) (items : List Item) → (length items % 2 == 0) ≡ true
-      → listed_of level word at place (Some items) s ≡ listed level place items s
-  listed_even whole at place items e =
-      ap (λ b. cond b (listed level place items s) (unmade (Arity at) s)) e
-
-  pub listed_odd : (word at place : ℕ) (items : List Item) → (length items % 2 == 0) ≡ false
-      → listed_of level word at place (Some items) s ≡ unmade (Arity at) s
-  listed_odd whole at place items e =
-      ap (λ b. cond b (listed level place items s) (unmade (Arity at) s)) e
-
-pub not_none : (n : ℕ) → (n ≡ 0 → ⊥) → (n == 0) ≡ false
-not_none zero h = absurd (h refl)
-not_none (suc n) h = grind (arith, nat_tests)
+  pub item_body : (place : ℕ) (last : Bool) (item : Item) → item.braced ≡ true
+      → case_item level place last item s ≡ level.inside (place_in place item.start) item.text s
+  item_body place last item braced =
+      ap (λ b. cond b (level.inside (place_in place item.start) item.text s) (other_item place last item s)) braced

@@ -1,6 +1,7 @@
+pub mod Arms
 pub mod CompiledRows
+pub mod ControlTurns
 pub mod ExpressionTurns
-pub mod IfRoles
 pub mod Levels
 pub mod ListItems
 pub mod Named

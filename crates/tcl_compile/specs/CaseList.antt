@@ -7,11 +7,12 @@ use Rattle.tcl_lists.specs.Read.{elements}
 use Rattle.tcl_lists.specs.declared.place.Place.{Place}
 use Rattle.tcl_lists.specs.declared.fault.ListFault.{ListFault}
 use Rattle.tcl_words.specs.Places.{stands}
-use Rattle.tcl_words.specs.Tree as source
 use Rattle.tcl_words.specs.Tree.{Word}
+use Rattle.tcl_compile.specs.Controls.{next_at}
 use Rattle.tcl_compile.specs.Flaws.{place_in}
-use Rattle.tcl_compile.specs.Making.{Made, Level, flawed, unmade, gathered, one}
-use Rattle.tcl_compile.specs.Tree.{Tree, plain, next_body}
+use Rattle.tcl_compile.specs.Making.{Made, Level, Cases, flawed, no_cases, in_turn}
+use Rattle.tcl_compile.specs.Texts.{raw_of}
+use Rattle.tcl_compile.specs.Tree.{Tree, plain}
 use Rattle.tcl_compile.specs.declared.case_list.Item.{Item}
 use Rattle.tcl_compile.specs.declared.compile_fault.Flaw.TheVariants.{Arity, BadBody}
 use Rattle.tcl_compile.specs.declared.findings.Findings.{Findings}
@@ -41,26 +42,24 @@ items_of text (Err f) = None
 abbrev pub items : List ℕ → Option (List Item)
 items text = items_of text (elements text)
 
--- `-` stands for the next body, which must come
-abbrev pub dash_at : ℕ → Bool → Item → Findings → Made Tree
-dash_at place last item s =
-    if last then flawed (BadBody (place_in place item.opener)) s else (next_body, s)
+-- an element that isn't in braces stands for the next body, which must come, or is no body
+abbrev pub other_item : (place : ℕ) → Bool → Item → Findings → Made Tree
+other_item place last item =
+    if bytes_eq item.text (codes "-") then next_at (place_in place item.opener) last
+    else flawed (BadBody (place_in place item.opener))
 
--- another body stands in braces
-abbrev pub case_body : Level → ℕ → Bool → Item → Findings → Made Tree
-case_body level place last item s =
-    if bytes_eq item.text (codes "-") then dash_at place last item s
-    else (if item.braced then level.inside (place_in place item.start) item.text s
-    else flawed (BadBody (place_in place item.opener)) s)
+-- one in braces is a body whatever stands in it
+abbrev pub case_item : Level → (place : ℕ) → Bool → Item → Findings → Made Tree
+case_item level place last item s =
+    if item.braced then level.inside (place_in place item.start) item.text s
+    else other_item place last item s
 
-abbrev pub case_item : Level → (place count at : ℕ) → Item → Findings → Made Tree
-case_item level place count at item s =
-    if at % 2 == 0 then (plain item.text, s)
-    else case_body level place (count - at == 1) item s
+-- a pattern stands for itself
+abbrev pub pattern_item : Item → Findings → Made Tree
+pattern_item item s = (plain item.text, s)
 
-abbrev pub listed : Level → (place : ℕ) → List Item → Findings → Made (List Tree)
-listed level place items =
-    gathered (λ i e s. one (case_item level place (length items) i e s)) 0 items
+abbrev pub listed : Level → (place : ℕ) → List Item → Findings → Made Cases
+listed level place = in_turn pattern_item (case_item level place)
 
 -- the elements of a word without substitution
 abbrev pub raw_items : Option (List ℕ) → Option (List Item)
@@ -68,11 +67,10 @@ raw_items None = None
 raw_items (Some raw) = items raw
 
 abbrev pub word_items : Word → Option (List Item)
-word_items (source.word span form inner raw parts) = raw_items raw
+word_items w = raw_items (raw_of w)
 
 -- what a list's fault, and an odd number of elements, are: the places of the word and the command
-abbrev pub listed_of : Level → (word command place : ℕ) → Option (List Item) → Findings
-    → Made (List Tree)
-listed_of level word command place None s = unmade (BadBody word) s
+abbrev pub listed_of : Level → (word command place : ℕ) → Option (List Item) → Findings → Made Cases
+listed_of level word command place None s = no_cases (BadBody word) s
 listed_of level word command place (Some items) s =
-    if length items % 2 == 0 then listed level place items s else unmade (Arity command) s
+    if length items % 2 == 0 then listed level place items s else no_cases (Arity command) s

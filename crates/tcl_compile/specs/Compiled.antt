@@ -12,29 +12,37 @@ use Rattle.tcl_words.specs.declared.script.Form.{Form}
 use Rattle.tcl_words.specs.declared.script.Form.TheVariants.{Bare}
 use Rattle.tcl_words.specs.declared.script.Span.{Span}
 use Rattle.tcl_compile.specs.CaseList.{word_items, listed_of}
-use Rattle.tcl_compile.specs.Compiling.{parts_at, script_at, word_place}
+use Rattle.tcl_compile.specs.Compiling.{script_at}
 use Rattle.tcl_compile.specs.Conditions.{MadeTo, parts_under, expression_at}
-use Rattle.tcl_compile.specs.Flaws.{place_in, moved_fault, moved_misread}
-use Rattle.tcl_compile.specs.Making.{Made, Level, flawed, unmade, one_too_many}
+use Rattle.tcl_compile.specs.Flaws.{noted, place_in, moved_fault, moved_misread}
+use Rattle.tcl_compile.specs.Making.{Made, Level, Cases, flawed, unmade, no_cases, one_too_many}
 use Rattle.tcl_compile.specs.Opened.{unopened}
 use Rattle.tcl_compile.specs.Tree.{Tree}
+use Rattle.tcl_compile.specs.Words.{parts_at, word_place}
 use Rattle.tcl_compile.specs.declared.compile_fault.Flaw.{Flaw}
 use Rattle.tcl_compile.specs.declared.compile_fault.Flaw.TheVariants.{Parse, Expr, BadBody}
 use Rattle.tcl_compile.specs.declared.findings.Findings.{Findings}
 
--- the script that a text is, with so many openers, or its fault
-unfoldable pub script_within : ℕ → List ℕ → Result Commands Fault
+-- the script that a text is, with so many openers, as far as it can be read, and its fault
+unfoldable pub script_within : ℕ → List ℕ → Commands × Option Fault
 script_within room text =
-    reading.judged (reading.commands (reading.level room) false text reading.beginning)
+    let r = reading.commands (reading.level room) false text reading.beginning in
+    (r.0, r.1.fault)
 
--- what was read from the place on as a script, and as an expression
-abbrev pub read_script : Level → ℕ → Result Commands Fault → Findings → Made Tree
-read_script level place (Ok commands) s = script_at level place (all_commands commands) s
-read_script level place (Err f) s = flawed (Parse (moved_fault place f)) s
+-- the fault of a text that begins at the place, among what was found
+abbrev pub with_fault : ℕ → Option Fault → Findings → Findings
+with_fault place None s = s
+with_fault place (Some f) s = noted (Parse (moved_fault place f)) s
+
+-- What was read from the place on as a script. Where it has a fault, the commands that were read
+-- have their flaws too, and so has the command with the fault, as far as it was read.
+abbrev pub read_script : Level → ℕ → Commands × Option Fault → Findings → Made Tree
+read_script level place r s = script_at level place (all_commands r.0) (with_fault place r.1 s)
 
 abbrev pub tree_of : MadeTo Tree → Made Tree
 tree_of r = (r.0.0, r.1)
 
+-- what was read from the place on as an expression; one with a fault has that alone
 abbrev pub read_expression : Level → ℕ → List ℕ → Result Expression Misread → Findings → Made Tree
 read_expression level place text (Ok e) s = tree_of (expression_at level place text e unopened s)
 read_expression level place text (Err f) s = flawed (Expr (moved_misread place f)) s
@@ -75,7 +83,7 @@ condition_at level room base (source.word span form inner raw parts) =
 abbrev pub inner_place : Word → ℕ
 inner_place (source.word span form inner raw parts) = inner.start
 
-abbrev pub cases_at_word : Level → (base at : ℕ) → Word → Findings → Made (List Tree)
+abbrev pub cases_at_word : Level → (base at : ℕ) → Word → Findings → Made Cases
 cases_at_word level base at w =
     listed_of level (place_in base (word_place w)) (place_in base at)
     (place_in base (inner_place w)) (word_items w)
@@ -88,7 +96,7 @@ level zero = record {
   parts = λ base at parts. unmade (one_too_many (place_in base at));
   body = λ base w. flawed (one_too_many (place_in base (word_place w)));
   condition = λ base w. flawed (one_too_many (place_in base (word_place w)));
-  cases = λ base at w. unmade (one_too_many (place_in base (word_place w)));
+  cases = λ base at w. no_cases (one_too_many (place_in base (word_place w)));
   under = λ openers base parts. unmade (one_too_many base);
   inside = λ place text. flawed (one_too_many place);
 }

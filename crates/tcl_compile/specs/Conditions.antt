@@ -1,18 +1,19 @@
 -- The tree that an expression becomes: its operands in the order in which they stand in the source.
-use Rattle.std.specs.Prelude.{ℕ, zero, suc, List, [], ◌∷◌}
+use Rattle.std.specs.Prelude.{ℕ, zero, suc, List, [], ◌∷◌, Bool, false}
 use Rattle.tcl_compile.specs.Pieces.{all_parts}
 use Rattle.tcl_expr.specs.Expression as source
 use Rattle.tcl_expr.specs.Expression.{Expression, More, Cases}
 use Rattle.tcl_expr.specs.declared.expr.Joint.{Joint}
 use Rattle.tcl_expr.specs.declared.operator.Op1.{Op1}
 use Rattle.tcl_words.specs.Tree.{Part}
-use Rattle.tcl_compile.specs.Compiling.{parts_at}
 use Rattle.tcl_compile.specs.Making.{Made, Level}
 use Rattle.tcl_compile.specs.Opened.{scanned}
 use Rattle.tcl_compile.specs.Tree.{Tree, plain, word, prefixed, row, choice, trees_of}
 use Rattle.tcl_compile.specs.Tree.{operands_of, values_of}
+use Rattle.tcl_compile.specs.Words.{parts_at}
 use Rattle.tcl_compile.specs.declared.findings.Findings.{Findings}
 use Rattle.tcl_compile.specs.declared.opened.Opened.{Opened}
+use Rattle.tcl_compile.specs.declared.opened.Enclosure.{Enclosure}
 
 -- what was made, and how far the expression was then looked at
 abbrev pub MadeTo : Type 0 → Type 0
@@ -23,11 +24,17 @@ abbrev pub parts_under : Level → (base openers : ℕ) → List Part → Findin
 parts_under level base zero parts = parts_at level base parts
 parts_under level base (suc openers) parts = level.under openers base parts
 
-abbrev pub word_to : Opened → Made (List Tree) → MadeTo Tree
-word_to o r = ((word (trees_of r.0), o), r.1)
+-- an operand without quotes is its only part: a variable, a bracket, or a text in braces
+abbrev pub operand : Bool → List Tree → Tree
+operand false (t ∷ []) = t
+operand quoted parts = word (trees_of parts)
 
-abbrev pub operand_at : Level → ℕ → List Part → ℕ × Opened → Findings → MadeTo Tree
-operand_at level base parts q s = word_to q.1 (parts_under level base q.0 parts s)
+abbrev pub operand_to : Bool → Opened → Made (List Tree) → MadeTo Tree
+operand_to quoted o r = ((operand quoted r.0, o), r.1)
+
+abbrev pub operand_at : Level → ℕ → List Part → Enclosure → Findings → MadeTo Tree
+operand_at level base parts q s =
+    operand_to q.quoted q.behind (parts_under level base q.openers parts s)
 
 abbrev pub prefixed_of : List Op1 → MadeTo Tree → MadeTo Tree
 prefixed_of ops r = ((prefixed ops r.0.0, r.0.1), r.1)

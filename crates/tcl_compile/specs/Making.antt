@@ -1,5 +1,5 @@
 -- How trees are made of pieces, and what is found meanwhile.
-use Rattle.std.specs.Prelude.{ℕ, ◌+◌, List, [], ◌∷◌, ◌++◌}
+use Rattle.std.specs.Prelude.{ℕ, List, [], ◌∷◌, Bool, true, false}
 use Rattle.tcl_words.specs.Tree.{Part, Parts, Word, Commands}
 use Rattle.tcl_words.specs.declared.parse_fault.Fault.TheVariants as fault
 use Rattle.tcl_compile.specs.Flaws.{noted}
@@ -13,7 +13,7 @@ use Rattle.tcl_compile.specs.declared.node.Verb.{Verb}
 abbrev pub Made : Type 0 → Type 0
 Made A = A × Findings
 
--- what stands for a tree that isn't made
+-- a script of no command, which stands for a tree that isn't made too
 abbrev pub nothing : Tree
 nothing = script (trees_of [])
 
@@ -27,17 +27,35 @@ unmade f s = ([], noted f s)
 abbrev pub one_too_many : ℕ → Flaw
 one_too_many place = Parse (fault.TooDeep place)
 
--- one item after another, each with its number; what they give is joined
-unfoldable pub gathered : {A B : Type 0} → (ℕ → A → Findings → Made (List B)) → ℕ → List A
-    → Findings → Made (List B)
-gathered item at [] s = ([], s)
-gathered item at (a ∷ items) s =
-    let first = item at a s in
-    let rest = gathered item (at + 1) items first.1 in
-    (first.0 ++ rest.0, rest.1)
+-- one item after another
+unfoldable pub gathered : {A B : Type 0} → (A → Findings → Made B) → List A → Findings
+    → Made (List B)
+gathered item [] s = ([], s)
+gathered item (a ∷ items) s =
+    let first = item a s in
+    let rest = gathered item items first.1 in
+    (first.0 ∷ rest.0, rest.1)
 
-abbrev pub one : {B : Type 0} → Made B → Made (List B)
-one r = (r.0 ∷ [], r.1)
+-- patterns, and the bodies that belong to them
+abbrev pub Cases : Type 0
+Cases = List Tree × List Tree
+
+abbrev pub no_cases : Flaw → Findings → Made Cases
+no_cases f s = (([], []), noted f s)
+
+abbrev pub is_end : {A : Type 0} → List A → Bool
+is_end [] = true
+is_end (a ∷ items) = false
+
+-- patterns and bodies in turn; of a body it is known whether it is the last one
+unfoldable pub in_turn : {A : Type 0} → (A → Findings → Made Tree)
+    → (Bool → A → Findings → Made Tree) → List A → Findings → Made Cases
+in_turn pattern body (a ∷ b ∷ items) s =
+    let first = pattern a s in
+    let second = body (is_end items) b first.1 in
+    let rest = in_turn pattern body items second.1 in
+    ((first.0 ∷ rest.0.0, second.0 ∷ rest.0.1), rest.1)
+in_turn pattern body items s = (([], []), s)
 
 abbrev pub element_of : List ℕ → Made (List Tree) → Made Tree
 element_of name r = (element name (trees_of r.0), r.1)
@@ -61,7 +79,7 @@ pub record Level : Type 0 where
   pub body : (base : ℕ) → Word → Findings → Made Tree
   pub condition : (base : ℕ) → Word → Findings → Made Tree
   -- a word that holds patterns and bodies, of the command at the place
-  pub cases : (base at : ℕ) → Word → Findings → Made (List Tree)
+  pub cases : (base at : ℕ) → Word → Findings → Made Cases
   -- parts around which one opener more than so many stands
   pub under : (openers base : ℕ) → List Part → Findings → Made (List Tree)
   -- a body in braces that begins at the place of the source

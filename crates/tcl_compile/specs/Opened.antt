@@ -1,10 +1,12 @@
 -- Which parentheses and question marks of an expression are open before an operand. They stand
 -- between operands; a `:` closes the question mark before it.
-use Rattle.std.specs.Prelude.{ℕ, zero, suc, ◌+◌, ◌-◌, List, [], ◌∷◌, ◌||◌, nat_lt, if◌then◌else◌}
+use Rattle.std.specs.Prelude.{ℕ, zero, suc, ◌+◌, ◌-◌, List, [], ◌∷◌, Bool, ◌||◌, nat_lt}
+use Rattle.std.specs.Prelude.{if◌then◌else◌}
 use Rattle.tcl_words.specs.Places.{stands}
 use Rattle.tcl_words.specs.Tree.{Part, plain, variable, element, bracket}
 use Rattle.tcl_words.specs.declared.script.Span.{Span}
 use Rattle.tcl_compile.specs.declared.opened.Opened.{Opened}
+use Rattle.tcl_compile.specs.declared.opened.Enclosure.{Enclosure}
 
 -- one more, up to the greatest number of 64 bits
 unfoldable pub one_more : ℕ → ℕ
@@ -39,15 +41,19 @@ last_end otherwise (p ∷ ps) = last_end (part_span p).end ps
 abbrev pub unopened : Opened
 unopened = record { at = 0; count = 0 }
 
-abbrev pub scanned_to : List ℕ → List Part → (start count : ℕ) → ℕ × Opened
-scanned_to text parts start count = (
-  if stands text (start - 1) 34 then one_more count else count,
-  record { at = last_end start parts; count = count },
-)
+-- a quote stands before an operand's first byte
+abbrev pub in_quotes : List ℕ → ℕ → Bool
+in_quotes text start = stands text (start - 1) 34
 
--- how many openers stand around the parts of the next operand, which may stand in quotes, and what
--- is open behind it
-unfoldable pub scanned : List ℕ → List Part → Opened → ℕ × Opened
+abbrev pub scanned_to : List ℕ → List Part → (start count : ℕ) → Enclosure
+scanned_to text parts start count = record {
+  quoted = in_quotes text start;
+  openers = if in_quotes text start then one_more count else count;
+  behind = record { at = last_end start parts; count = count };
+}
+
+-- what stands around the parts of the next operand, and what is open behind it
+unfoldable pub scanned : List ℕ → List Part → Opened → Enclosure
 scanned text parts o =
     let start = first_start o.at parts in
     scanned_to text parts start (counted text (start - o.at) o.at o.count)

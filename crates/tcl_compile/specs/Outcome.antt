@@ -1,4 +1,4 @@
--- What `compile` gave, beside what the script is. Want of memory is free.
+-- What `compile` gave, beside what the script is. Out of memory is free.
 use Rattle.std.specs.Prelude.{◌≡◌, Result, Ok, Err, ⊤}
 use Rattle.tcl_compile.specs.Tree.{Tree}
 use Rattle.tcl_compile.specs.TreeView.{node_view}

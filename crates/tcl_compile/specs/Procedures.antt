@@ -1,7 +1,7 @@
 -- Procedures, and the values that a call gives their parameters: Tcl 8.4, proc(n).
 use Rattle.std.specs.Prelude.{ℕ, List, [], ◌∷◌, drop, map, codes, Bool, false, Option, Some, None}
 use Rattle.std.specs.Prelude.{option_map, if◌then◌else◌}
-use Rattle.std.specs.List.{find}
+use Rattle.std.specs.List.{find, position}
 use Rattle.std.specs.Str.{bytes_eq}
 use Rattle.tcl_lists.specs.Write.{joined}
 use Rattle.tcl_compile.specs.Tree.{Tree}
@@ -29,6 +29,10 @@ procs_view ps = map procedure_view ps
 -- the first one of that name
 abbrev pub procedure_named : List ℕ → List Procedure → Option Procedure
 procedure_named name ps = find (λ p. bytes_eq p.name name) ps
+
+-- its place among them
+abbrev pub place_named : List ℕ → List Procedure → Option ℕ
+place_named name ps = position (λ p. bytes_eq p.name name) ps
 
 -- "If the last formal argument has the name args, then a call may contain more actual arguments
 -- than the procedure has formals."

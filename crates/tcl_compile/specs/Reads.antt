@@ -4,14 +4,6 @@ use Rattle.tcl_expr.specs.Expression.{Expression}
 use Rattle.tcl_expr.specs.ExpressionView.{expr_view}
 use Rattle.tcl_expr.specs.declared.expr.Expr.{Expr}
 use Rattle.tcl_expr.specs.declared.expr_fault.Misread.{Misread}
-use Rattle.tcl_words.specs.Tree.{Commands}
-use Rattle.tcl_words.specs.View.{script_view}
-use Rattle.tcl_words.specs.declared.parse_fault.Fault.{Fault}
-use Rattle.tcl_words.specs.declared.script.Script.{Script}
-
-abbrev pub seen_script : Result Script Fault → Result Commands Fault
-seen_script (Ok s) = Ok (script_view s)
-seen_script (Err f) = Err f
 
 abbrev pub seen_expression : Result Expr Misread → Result Expression Misread
 seen_expression (Ok e) = Ok (expr_view e)

@@ -14,15 +14,27 @@ mutual
     word : Trees → Tree
     -- commands in order
     script : Trees → Tree
-    -- a command by its children
+    -- a command that evaluates all its words first, its name among them
     command : Verb → Trees → Tree
-    -- patterns, each followed by its body, and what stands for a body where the next one is meant
-    cases : Trees → Tree
+    -- `expr` of one expression
+    expr : Tree → Tree
+    -- `if` and `?:`: values, each after its condition, and the last value
+    branches : Values → Tree → Tree
+    choice : Values → Tree → Tree
+    -- `for`, and `while`, whose start and next are empty scripts
+    loop : (start test next body : Tree) → Tree
+    -- `foreach`: names and lists in turn, and the body
+    each : Trees → Tree → Tree
+    -- `switch`: so many words of options and text, the patterns behind them, and a body for each
+    switch : ℕ → (words bodies : Trees) → Tree
+    -- `catch` of a body, and with the name of the variable that gets its result
+    catch : Tree → Tree
+    catch_in : (body name : Tree) → Tree
+    -- what stands for a body of a `switch` where the next one is meant
     next_body : Tree
-    -- an expression
+    -- operators before an operand, and operands of one row of operators
     prefixed : List Op1 → Tree → Tree
     row : Tree → Operands → Tree
-    choice : Values → Tree → Tree
 
   pub data Trees : Type 0 where
     no_trees : Trees

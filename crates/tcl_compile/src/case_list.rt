@@ -1,12 +1,9 @@
 // The braced word of a `switch`, read as a list.
 
-ghost use Rattle.std.specs.Prelude.{◌≡◌, IfOk, codes, option_map};
-ghost use Rattle.std.specs.Str.{bytes_eq};
+ghost use Rattle.std.specs.Prelude.{◌≡◌, IfOk, option_map};
 ghost use Rattle.tcl_words.specs.View.{word_view};
-ghost use Rattle.tcl_compile.specs.CaseList.{dash_at, item_from, items, opener_of, word_items};
-ghost use Rattle.tcl_compile.specs.Flaws.{noted, place_in};
+ghost use Rattle.tcl_compile.specs.CaseList.{item_from, items, opener_of, other_item, word_items};
 ghost use Rattle.tcl_compile.specs.TreeView.{node_view};
-ghost use Rattle.tcl_compile.specs.declared.compile_fault.Flaw.TheVariants.{BadBody};
 
 use crate::compile_fault::Flaw;
 use crate::findings::Findings;
@@ -86,29 +83,22 @@ pub(crate) fn word_items(alloc: Global, word: &Word) -> M<Option<Vec<Item>>>
     }
 }
 
-/// Whether `-` stands there.
-pub(crate) fn is_dash(item: &Item) -> bool
-    ensures { result ≡ bytes_eq item.now.text (codes "-") }
-{
-    item.text.as_bytes() == b"-".as_slice()
-}
-
 impl Findings {
-    /// Notes an element that is no body.
-    pub(crate) fn note_item(&mut self, place: usize, item: &Item)
-        ensures { self.new ≡ noted (BadBody (place_in place item.now.opener)) self.old }
+    /// What an element that isn't in braces stands for.
+    pub(crate) fn other_item(
+        &mut self,
+        alloc: Global,
+        place: usize,
+        last: bool,
+        item: &Item,
+    ) -> Node
+        ensures { other_item place last item.now self.old ≡ (node_view result, self.new) }
     {
-        self.note(Flaw::BadBody(place_in(place, item.opener)));
-    }
-
-    /// What stands for the body of a `-`.
-    pub(crate) fn dash(&mut self, alloc: Global, place: usize, last: bool, item: &Item) -> Node
-        ensures { dash_at place last item.now self.old ≡ (node_view result, self.new) }
-    {
-        if last {
-            self.note_item(place, item);
-            return nothing(alloc);
+        let at = place_in(place, item.opener);
+        if item.text.as_bytes() == b"-".as_slice() {
+            return self.next_body(alloc, at, last);
         }
-        Node::NextBody
+        self.note(Flaw::BadBody(at));
+        nothing(alloc)
     }
 }

@@ -21,7 +21,7 @@ pub enum Flaw {
     BadBody(usize),
 }
 
-/// Why no tree was given: the script's flaw, or want of memory.
+/// Why no tree was given: the script's flaw, or out of memory.
 #[derive(Clone, Copy, Debug, PartialEq, Eq)]
 pub enum CompileFault {
     Flaw(Flaw),

@@ -4,7 +4,8 @@ ghost use Rattle.std.specs.Prelude.{◌≡◌, ◌≤◌, IfOk, map};
 ghost use Rattle.tcl_expr.specs.ExpressionView.{cases_view, expr_view, more_view};
 ghost use Rattle.tcl_words.specs.View.{part_view};
 ghost use Rattle.tcl_compile.specs.Compiled.{level};
-ghost use Rattle.tcl_compile.specs.Conditions.{expression_at, operands_at, parts_under, values_at};
+ghost use Rattle.tcl_compile.specs.Conditions.{expression_at, operand, operands_at, parts_under};
+ghost use Rattle.tcl_compile.specs.Conditions.{values_at};
 ghost use Rattle.tcl_compile.specs.TreeView.{node_view, nodes_view, operands_view, values_view};
 
 use crate::findings::Findings;
@@ -14,6 +15,19 @@ use px_bytes::{M, Memory};
 use std::alloc::Global;
 use tcl_expr::{Expr, Joint};
 use tcl_words::Part;
+
+/// An operand of these parts: one in quotes is a word, and any other its only part.
+fn operand(quoted: bool, mut parts: Vec<Node>) -> Node
+    ensures { node_view result ≡ operand quoted (nodes_view parts.items) }
+{
+    if quoted || parts.len() != 1 {
+        return Node::Word(parts);
+    }
+    match parts.pop() {
+        Some(part) => part,
+        None => Node::Word(parts),
+    }
+}
 
 impl Findings {
     /// The parts around which so many openers stand.
@@ -38,7 +52,7 @@ impl Findings {
     }
 
     /// An expression of a text that begins at `base`, in which no more than so many expressions
-    /// stand inside one another: where more do it gives up as for want of memory.
+    /// stand inside one another: where more do it gives up as for out of memory.
     #[cycle(compiled)]
     pub(crate) fn expression(
         &mut self,
@@ -61,9 +75,9 @@ impl Findings {
         match expr {
             Expr::Literal(bytes) => Ok((Node::Plain(bytes.copy()?), opened)),
             Expr::Parts(parts) => {
-                let (openers, end) = scanned(text, parts, opened);
-                let nodes = self.under(alloc, base, openers, parts, levels)?;
-                Ok((Node::Word(nodes), end))
+                let scanned = scanned(text, parts, opened);
+                let nodes = self.under(alloc, base, scanned.openers, parts, levels)?;
+                Ok((operand(scanned.quoted, nodes), scanned.behind))
             }
             Expr::Prefixed(operators, operand) => {
                 let operators = Vec::from_slice(alloc, operators)?;

@@ -4,24 +4,28 @@
 
 mod binding;
 mod bodies;
+mod branches;
 mod case_list;
 mod commands;
 mod compile_fault;
 mod compiler;
 mod conditions;
+mod controls;
 mod findings;
 mod fits;
-mod if_roles;
+mod forms;
+mod if_form;
 mod node;
 mod notes;
 mod opened;
 mod places;
 mod procs;
 mod reads;
-mod roles;
+mod shapes;
+mod switches;
 mod texts;
-mod verbs;
 mod whole_result;
+mod words;
 
 pub use binding::bound_values;
 pub use compile_fault::{CompileFault, Flaw};

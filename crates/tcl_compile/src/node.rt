@@ -3,12 +3,14 @@
 use px_bytes::Text;
 use tcl_expr::{Joint, Op1};
 
-/// What a command does. The first group evaluate all their words first, their names among them, and
-/// are checked when they run. The others decide which of their children are evaluated.
+/// What a command does that evaluates all its words first, its name among them, and is checked when
+/// it runs.
 #[derive(Clone, Copy, Debug, PartialEq, Eq)]
 pub enum Verb {
-    /// The command that the first word names, which is no control command.
+    /// The command that the first word names, a literal that is no command below or of control.
     Named,
+    /// The command that the first word names when it runs: it has a substitution or a backslash.
+    Computed,
     Set,
     Unset,
     Incr,
@@ -23,28 +25,14 @@ pub enum Verb {
     Call,
     /// `expr` whose words are joined by blanks and read when it runs.
     ExprOfWords,
-    /// `expr` whose one child is the expression.
-    Expr,
-    /// Conditions, each followed by its body, and perhaps a last body.
-    If,
-    /// The condition and the body.
-    While,
-    /// The body that starts, the condition, the body that goes on, and the body.
-    For,
-    /// Names and list in turn, and the body.
-    Foreach,
-    /// The option words, the text, and the cases, which are one child.
-    Switch,
-    /// The body, and perhaps the name that gets the result.
-    Catch,
 }
 
 /// A piece of a word, a word, a command, a body or an expression.
 ///
-/// The children of a node are numbered from 0 in the order in which they stand in the source: the
-/// parts of an index or a word, the commands of a script, what `Verb` tells of a command's
-/// children, patterns and bodies of cases in turn, and the operands of an expression, where a
-/// condition stands before its value.
+/// A node's children are numbered from 0, as they stand in its fields: an index's or a word's parts,
+/// a script's commands, a command's words, conditions and values in turn with the last value behind
+/// them, a loop's start, test, next and body, the words of a `foreach` and its body, the words of a
+/// `switch` and its bodies, the body of a `catch` and its name, an expression's operands.
 #[derive(Drop)]
 pub enum Node {
     /// These bytes.
@@ -53,20 +41,47 @@ pub enum Node {
     Variable(Text),
     /// The value of an array's element: its name, and the parts of its index.
     Element(Text, Vec<Node>),
-    /// The values of the parts, joined. There is at least one.
+    /// The values of the parts, joined: a command's word, or a quoted operand.
     Word(Vec<Node>),
-    /// The commands in order.
+    /// The commands in order: a body, or a bracket.
     Script(Vec<Node>),
-    /// A command by its children.
+    /// A command that evaluates all its words first.
     Command(Verb, Vec<Node>),
-    /// Patterns, each followed by its body.
-    Cases(Vec<Node>),
-    /// `-` in place of a body: the next one is meant.
+    /// `expr` of one expression.
+    Expr(Box<Node>),
+    /// `if`: conditions with their bodies, and the last body, which is empty where none stands.
+    If(Vec<(Node, Node)>, Box<Node>),
+    /// `for`, and `while`, whose start and next are empty.
+    Loop {
+        start: Box<Node>,
+        test: Box<Node>,
+        next: Box<Node>,
+        body: Box<Node>,
+    },
+    /// Names and lists in turn, and the body.
+    Foreach {
+        words: Vec<Node>,
+        body: Box<Node>,
+    },
+    /// `switch`: so many words of options and text, the patterns behind them, and a body for each.
+    Switch {
+        front: usize,
+        words: Vec<Node>,
+        bodies: Vec<Node>,
+    },
+    /// `catch` of a body.
+    Catch(Box<Node>),
+    /// `catch` of a body, and the name of the variable that gets its result.
+    CatchIn {
+        body: Box<Node>,
+        name: Box<Node>,
+    },
+    /// `-` in place of a body of a `switch`: the next one is meant.
     NextBody,
     /// Operators before an operand, the outermost first.
     Prefixed(Vec<Op1>, Box<Node>),
     /// Operands of one row of operators, which group from the left.
     Row(Box<Node>, Vec<(Joint, Node)>),
-    /// Conditions with their values, and the last value.
+    /// `?:`: conditions with their values, and the last value.
     Choice(Vec<(Node, Node)>, Box<Node>),
 }

@@ -1,37 +1,27 @@
-// What is noted of words and openers.
+// What is noted of words and openers, and what stands for a tree that isn't made.
 
-ghost use Rattle.std.specs.Prelude.{◌≡◌, ◌++◌, OnOk};
+ghost use Rattle.std.specs.Prelude.{◌≡◌};
 ghost use Rattle.tcl_words.specs.View.{word_view};
-ghost use Rattle.tcl_compile.specs.Compiling.{word_place};
+ghost use Rattle.tcl_compile.specs.Compiled.{with_fault};
+ghost use Rattle.tcl_compile.specs.Controls.{next_at};
 ghost use Rattle.tcl_compile.specs.Flaws.{noted, place_in};
-ghost use Rattle.tcl_compile.specs.Making.{nothing, one_too_many};
-ghost use Rattle.tcl_compile.specs.TreeView.{node_list, node_view, nodes_view};
-ghost use Rattle.tcl_compile.specs.declared.compile_fault.Flaw.TheVariants.{BadBody};
+ghost use Rattle.tcl_compile.specs.Making.{flawed, nothing, one_too_many};
+ghost use Rattle.tcl_compile.specs.TreeView.{node_view};
+ghost use Rattle.tcl_compile.specs.Words.{word_place, wrong_number};
+ghost use Rattle.tcl_compile.specs.declared.compile_fault.Flaw.TheVariants.{Arity, BadBody};
 
 use crate::compile_fault::Flaw;
 use crate::findings::Findings;
 use crate::node::Node;
-use crate::places::place_in;
-use px_bytes::M;
+use crate::places::{moved_fault, place_in};
 use std::alloc::Global;
 use tcl_words::{Fault, Word};
 
-/// What stands for a tree that isn't made.
+/// A script of no command.
 pub(crate) fn nothing(alloc: Global) -> Node
     ensures { node_view result ≡ nothing }
 {
     Node::Script(Vec::new(alloc))
-}
-
-/// Adds a node at the end, if there is one.
-pub(crate) fn add(nodes: &mut Vec<Node>, node: Option<Node>) -> M<()>
-    ensures { OnOk result (nodes_view nodes.new.items
-        ≡ nodes_view nodes.old.items ++ node_list node) }
-{
-    if let Some(node) = node {
-        nodes.push(node)?;
-    }
-    Ok(())
 }
 
 impl Findings {
@@ -48,5 +38,57 @@ impl Findings {
             ≡ noted (BadBody (place_in base (word_place (word_view word.now)))) self.old }
     {
         self.note(Flaw::BadBody(place_in(base, word.span.start)));
+    }
+
+    /// Notes that the command at the place has a wrong number of words.
+    pub(crate) fn note_number(&mut self, base: usize, at: usize)
+        ensures { self.new ≡ noted (Arity (place_in base at)) self.old }
+    {
+        self.note(Flaw::Arity(place_in(base, at)));
+    }
+
+    /// Notes the fault of a text that begins at the place, if it has one.
+    pub(crate) fn note_fault(&mut self, place: usize, fault: Option<Fault>)
+        ensures { self.new ≡ with_fault place fault self.old }
+    {
+        if let Some(fault) = fault {
+            self.note(Flaw::Parse(moved_fault(place, fault)));
+        }
+    }
+
+    /// What stands for what an opener encloses that is one too many.
+    pub(crate) fn too_deep(&mut self, alloc: Global, place: usize) -> Node
+        ensures { flawed (one_too_many place) self.old ≡ (node_view result, self.new) }
+    {
+        self.note_deep(place);
+        nothing(alloc)
+    }
+
+    /// What stands for a word that is neither a body nor a condition.
+    pub(crate) fn no_body(&mut self, alloc: Global, base: usize, word: &Word) -> Node
+        ensures { flawed (BadBody (place_in base (word_place (word_view word.now)))) self.old
+            ≡ (node_view result, self.new) }
+    {
+        self.note_body(base, word);
+        nothing(alloc)
+    }
+
+    /// What stands for a command at the place that has a wrong number of words.
+    pub(crate) fn wrong_number(&mut self, alloc: Global, base: usize, at: usize) -> Node
+        ensures { wrong_number base at self.old ≡ (node_view result, self.new) }
+    {
+        self.note_number(base, at);
+        nothing(alloc)
+    }
+
+    /// What a `-` at the place stands for.
+    pub(crate) fn next_body(&mut self, alloc: Global, place: usize, last: bool) -> Node
+        ensures { next_at place last self.old ≡ (node_view result, self.new) }
+    {
+        if last {
+            self.note(Flaw::BadBody(place));
+            return nothing(alloc);
+        }
+        Node::NextBody
     }
 }

@@ -15,6 +15,15 @@ pub(crate) struct Opened {
     pub count: usize,
 }
 
+/// What stands around the parts of an operand: whether quotes, and how many openers; and how far the
+/// expression has been looked at behind them.
+#[derive(Clone, Copy, Debug, PartialEq, Eq)]
+pub(crate) struct Enclosure {
+    pub quoted: bool,
+    pub openers: usize,
+    pub behind: Opened,
+}
+
 #[tactic(auto, unfolding(crate::specs::Opened::one_more))]
 fn one_more(count: usize) -> usize
     ensures { result ≡ one_more count }
@@ -82,18 +91,20 @@ fn last_end(parts: &[Part], otherwise: usize) -> usize
     end
 }
 
-/// How many openers of the expression stand around the parts of its next operand, and how far it
-/// has been looked at behind them.
+/// What stands around the parts of the expression's next operand.
 #[tactic(auto, unfolding(crate::specs::Opened::scanned))]
-pub(crate) fn scanned(text: &[u8], parts: &[Part], opened: Opened) -> (usize, Opened)
+pub(crate) fn scanned(text: &[u8], parts: &[Part], opened: Opened) -> Enclosure
     ensures { result ≡ scanned text.now (map part_view parts.now) opened }
 {
     let start = first_start(parts, opened.at);
     let count = counted(text, opened.at, start, opened.count);
     let at = last_end(parts, start);
     let behind = Opened { at, count };
-    if stands(text, start.saturating_sub(1), b'"') {
-        return (one_more(count), behind);
+    let quoted = stands(text, start.saturating_sub(1), b'"');
+    let openers = if quoted { one_more(count) } else { count };
+    Enclosure {
+        quoted,
+        openers,
+        behind,
     }
-    (count, behind)
 }

@@ -1,9 +1,10 @@
 // The procedures of a script.
 
-ghost use Rattle.std.specs.Prelude.{◌≡◌, [], ◌∷◌, ◌++◌, option_map, OnOk, OnErr};
-ghost use Rattle.std.specs.List.{find};
+ghost use Rattle.std.specs.Prelude.{◌≡◌, [], ◌∷◌, ◌++◌, option_map, slice_get, OnOk, OnErr};
+ghost use Rattle.std.specs.List.{find, position};
 ghost use Rattle.std.specs.Str.{bytes_eq};
-ghost use Rattle.tcl_compile.specs.Procedures.{procedure_named, procedure_view, procs_view};
+ghost use Rattle.tcl_compile.specs.Procedures.{place_named, procedure_named, procedure_view};
+ghost use Rattle.tcl_compile.specs.Procedures.{procs_view};
 
 use crate::node::Node;
 use px_bytes::{M, Text};
@@ -68,6 +69,35 @@ impl Procs {
             ≡ procedure_named name.now (procs_view self.now) }
     {
         self.first(name)
+    }
+
+    /// The place of the procedure of that name.
+    pub fn place(&self, name: &[u8]) -> Option<usize>
+        ensures { result ≡ place_named name.now (procs_view self.now) }
+    {
+        self.first_place(name)
+    }
+
+    /// The procedure at the place.
+    pub fn at(&self, place: usize) -> Option<&Proc>
+        ensures { option_map (λ p. procedure_view p.now) result
+            ≡ slice_get (procs_view self.now) place }
+    {
+        self.nth(place)
+    }
+
+    fn nth(&self, place: usize) -> Option<&Proc>
+        ensures { option_map (λ p. p.now) result ≡ slice_get self.now place }
+    {
+        self.procs.get(place)
+    }
+
+    fn first_place(&self, name: &[u8]) -> Option<usize>
+        ensures { result ≡ position (λ p. bytes_eq p.name name.now) self.now }
+    {
+        self.procs
+            .iter()
+            .position(|procedure| procedure.name.as_bytes() == name)
     }
 
     fn first(&self, name: &[u8]) -> Option<&Proc>

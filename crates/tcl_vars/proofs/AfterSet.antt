@@ -14,7 +14,7 @@ use Rattle.std.proofs.lemmas.Slice.Eq.{bytes_eq-Decides}
 use Rattle.tcl_vars.specs.Scopes.{Table, Level, Scopes, find_in, put_in, take_out, replace_in}
 use Rattle.tcl_vars.specs.Scopes.{with_elements, elements, value_in, with_value_in}
 use Rattle.tcl_vars.specs.Scopes.{without_value_in, innermost, with_innermost, is_static}
-use Rattle.tcl_vars.specs.Scopes.{no_level}
+use Rattle.tcl_vars.specs.Scopes.{no_level, without_innermost}
 use Rattle.tcl_vars.specs.Tables.{IsInOrder, IsInOrderAt}
 use Rattle.tcl_vars.specs.Laws.{IsOther, SetIsRead, SetKeepsOthers, UnsetIsGone}
 use Rattle.tcl_vars.specs.Laws.{UnsetKeepsOthers, OuterLevelsStay, CallsHaveTheirOwn}
@@ -214,4 +214,8 @@ nothing_there name None = refl
 nothing_there name (Some index) = refl
 
 pub calls_have_their_own : CallsHaveTheirOwn
-calls_have_their_own vars name index own = (cond-false _ _ _ own ∙ nothing_there name index, refl)
+calls_have_their_own vars name index level outer has own = (
+  cond-false _ _ _ own ∙ nothing_there name index,
+  ap (λ levels. record vars { levels = without_innermost (no_level ∷ levels) }) has
+      ∙ ap (λ levels. record vars { levels = levels }) (sym has),
+)

@@ -1,6 +1,6 @@
 -- What setting a variable and taking one away do to what is read: Tcl 8.4, set(n), unset(n),
 -- proc(n).
-use Rattle.std.specs.Prelude.{◌≡◌, ℕ, List, Option, Some, None, false, drop, if◌then◌else◌}
+use Rattle.std.specs.Prelude.{◌≡◌, ℕ, List, ◌∷◌, Option, Some, None, false, drop, if◌then◌else◌}
 use Rattle.tcl_vars.specs.Scopes.{Level, Scopes, in_proc, innermost, is_static, out_of_proc}
 use Rattle.tcl_vars.specs.Scopes.{value_at, with_value, without_value}
 use Rattle.tcl_vars.specs.Tables.{IsInOrderAt}
@@ -44,8 +44,8 @@ OuterLevelsStay = (vars : Scopes) (name : List ℕ) (index : Option (List ℕ)) 
     × (drop 1 (without_value name index vars).levels ≡ drop 1 vars.levels)
 
 -- a procedure call begins with no variables but the static ones, and its end gives the caller's
--- back
+-- back, who has a level
 abbrev pub CallsHaveTheirOwn : Type 0
-CallsHaveTheirOwn = (vars : Scopes) (name : List ℕ) (index : Option (List ℕ))
-    → is_static name ≡ false
+CallsHaveTheirOwn = (vars : Scopes) (name : List ℕ) (index : Option (List ℕ)) (level : Level)
+    (outer : List Level) → vars.levels ≡ level ∷ outer → is_static name ≡ false
     → (value_at (in_proc vars) name index ≡ None) × (out_of_proc (in_proc vars) ≡ vars)

@@ -1,7 +1,7 @@
 -- The variables that a script sees: static ones, and a level for the body and for each procedure
 -- call that hasn't ended (Tcl 8.4, proc(n): a procedure's variables are its own; array(n): an array
 -- has elements; iRules: `static::` variables).
-use Rattle.std.specs.Prelude.{ℕ, is_some, drop, ◌+◌, List, [], ◌∷◌, length, Bool, Option, Some}
+use Rattle.std.specs.Prelude.{ℕ, is_some, ◌+◌, List, [], ◌∷◌, length, Bool, Option, Some}
 use Rattle.std.specs.Prelude.{None, codes, nat_eq, if◌then◌else◌, sum_by, unwrap_or}
 use Rattle.std.specs.List.{starts_with}
 use Rattle.std.specs.Str.{bytes_eq}
@@ -119,8 +119,14 @@ without_value name index vars =
 abbrev pub in_proc : Scopes → Scopes
 in_proc vars = record vars { levels = no_level ∷ vars.levels }
 
+-- the levels without the innermost; one that has none outside stays
+abbrev pub without_innermost : List Level → List Level
+without_innermost [] = []
+without_innermost (level ∷ []) = level ∷ []
+without_innermost (level ∷ (caller ∷ outer)) = caller ∷ outer
+
 abbrev pub out_of_proc : Scopes → Scopes
-out_of_proc vars = record vars { levels = drop 1 vars.levels }
+out_of_proc vars = record vars { levels = without_innermost vars.levels }
 
 abbrev pub vars_bytes : Scopes → ℕ
 vars_bytes vars = level_bytes vars.statics + sum_by level_bytes vars.levels

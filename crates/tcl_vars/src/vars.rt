@@ -179,8 +179,7 @@ impl Vars {
 
     /// Ends a procedure call, with its variables; outside of all calls it does nothing.
     pub fn leave_proc(&mut self)
-        ensures left { 1 < length self.old.levels → self.new ≡ out_of_proc self.old }
-        ensures alone { length self.old.levels ≤ 1 → self.new ≡ self.old }
+        ensures { self.new ≡ out_of_proc self.old }
     {
         if let Some(caller) = self.outer.pop() {
             self.outer_bytes -= caller.bytes();

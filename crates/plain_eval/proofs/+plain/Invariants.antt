@@ -1,13 +1,19 @@
-use Rattle.std.proofs.Common.{◌≡◌, ◌≤◌, ◌+◌, ◌-◌, ◌*◌, length, drop, map, Ok, [], ℕ}
-use Rattle.std.specs.Prelude.{sum_by, option_map}
+use Rattle.std.proofs.Common.{◌≡◌, ◌≤◌, ◌+◌, ◌-◌, ◌*◌, ◌++◌, length, drop, map, Ok, true, ℕ, List, Bool}
+use Rattle.std.specs.Prelude.{sum_by}
 use Rattle.px_bytes.specs.Limit.{text_limit}
-use Rattle.rule_model.specs.Control.{last_of, nothing}
-use Rattle.plain_eval.specs.Ends.{value_in}
-use Rattle.plain_eval.specs.Leaves.{row_view}
-use Rattle.plain_eval.specs.Stand.{setting_of, inner_of, stand}
-use Rattle.plain_eval.specs.Trees.{OfAll, OfLoop, children_of, finish_of, row_of}
-use Rattle.plain_eval.proofs.Turns.{ChoiceLeft, CommandsLeft, CommandsSome, IfLeft, RowLeft, OperandsLeft}
-use Rattle.plain_eval.proofs.Repeats.{LoopLeft, RowsLeft}
+use Rattle.tcl_compile.specs.Tree.{Tree, operands_of, row, trees_of, script, values_of}
+use Rattle.tcl_compile.specs.TreeView.{node_view, nodes_view, operands_view, values_view}
+use Rattle.rule_model.specs.Children.{child, free, places_of}
+use Rattle.rule_model.specs.Control.{most_turns, row_loop}
+use Rattle.rule_model.specs.Evaluator.{eval}
+use Rattle.rule_model.specs.Outcome.{Meaning}
+use Rattle.rule_steps.specs.Rows.{row_view}
+use Rattle.plain_eval.specs.End.{ended, value_in}
+use Rattle.plain_eval.specs.Ran.{first_of, loop_tree, meaning_of, pieces_of, rows_of, turns_of, words_of}
+use Rattle.plain_eval.specs.Stand.{GoesOn, inner_of, setting_of, stand}
+use Rattle.plain_eval.proofs.InExpressions.{first_left, operands_left}
+use Rattle.plain_eval.proofs.InScripts.{ScriptLeft}
+use Rattle.plain_eval.proofs.InWords.{pieces_left, words_left}
 use Rattle.plain_eval.proofs.+plain.Given as goal
 
 -- what a function of the cycle calls at the same level comes before it; one tree further in is a level
@@ -18,26 +24,35 @@ at_level levels order = 16 * levels + order
 abbrev pub decreases-tree::eval_tree : goal.decreases-tree::eval_tree
 decreases-tree::eval_tree g l = at_level l.levels 0
 
+abbrev pub decreases-tree::eval_script : goal.decreases-tree::eval_script
+decreases-tree::eval_script g l = at_level l.levels 1
+
+abbrev pub decreases-words::eval_word : goal.decreases-words::eval_word
+decreases-words::eval_word g l = at_level l.levels 1
+
+abbrev pub decreases-words::eval_element : goal.decreases-words::eval_element
+decreases-words::eval_element g l = at_level l.levels 2
+
+abbrev pub decreases-words::eval_words : goal.decreases-words::eval_words
+decreases-words::eval_words g l = at_level l.levels 2
+
+abbrev pub decreases-commands::eval_command : goal.decreases-commands::eval_command
+decreases-commands::eval_command g l = at_level l.levels 3
+
 abbrev pub decreases-expressions::eval_test : goal.decreases-expressions::eval_test
 decreases-expressions::eval_test g l = at_level l.levels 1
 
-abbrev pub decreases-expressions::eval_whole : goal.decreases-expressions::eval_whole
-decreases-expressions::eval_whole g l = at_level l.levels 1
+abbrev pub decreases-expressions::eval_expr : goal.decreases-expressions::eval_expr
+decreases-expressions::eval_expr g l = at_level l.levels 1
 
 abbrev pub decreases-expressions::eval_prefixed : goal.decreases-expressions::eval_prefixed
 decreases-expressions::eval_prefixed g l = at_level l.levels 1
 
-abbrev pub decreases-expressions::eval_operands : goal.decreases-expressions::eval_operands
-decreases-expressions::eval_operands g l = at_level l.levels 1
+abbrev pub decreases-expressions::eval_row : goal.decreases-expressions::eval_row
+decreases-expressions::eval_row g l = at_level l.levels 1
 
-abbrev pub decreases-expressions::eval_choice : goal.decreases-expressions::eval_choice
-decreases-expressions::eval_choice g l = at_level l.levels 2
-
-abbrev pub decreases-control::eval_if : goal.decreases-control::eval_if
-decreases-control::eval_if g l = at_level l.levels 2
-
-abbrev pub decreases-control::eval_catch : goal.decreases-control::eval_catch
-decreases-control::eval_catch g l = at_level l.levels 1
+abbrev pub decreases-branches::eval_branches : goal.decreases-branches::eval_branches
+decreases-branches::eval_branches g l = at_level l.levels 2
 
 abbrev pub decreases-loops::eval_turn : goal.decreases-loops::eval_turn
 decreases-loops::eval_turn g l = at_level l.levels 2
@@ -45,138 +60,76 @@ decreases-loops::eval_turn g l = at_level l.levels 2
 abbrev pub decreases-loops::eval_loop : goal.decreases-loops::eval_loop
 decreases-loops::eval_loop g l = at_level l.levels 3
 
-abbrev pub decreases-loops::eval_while : goal.decreases-loops::eval_while
-decreases-loops::eval_while g l = at_level l.levels 4
+abbrev pub decreases-loops::eval_rows : goal.decreases-loops::eval_rows
+decreases-loops::eval_rows g l = at_level l.levels 1
 
-abbrev pub decreases-loops::eval_for : goal.decreases-loops::eval_for
-decreases-loops::eval_for g l = at_level l.levels 4
+abbrev pub decreases-loops::eval_each : goal.decreases-loops::eval_each
+decreases-loops::eval_each g l = at_level l.levels 3
 
-abbrev pub decreases-loops::eval_foreach : goal.decreases-loops::eval_foreach
-decreases-loops::eval_foreach g l = at_level l.levels 2
+abbrev pub decreases-choice::eval_switch : goal.decreases-choice::eval_switch
+decreases-choice::eval_switch g l = at_level l.levels 3
 
-abbrev pub decreases-loops::eval_last : goal.decreases-loops::eval_last
-decreases-loops::eval_last g l = at_level l.levels 1
+abbrev pub decreases-catches::eval_catch : goal.decreases-catches::eval_catch
+decreases-catches::eval_catch g l = at_level l.levels 1
 
-abbrev pub decreases-switch::eval_chosen : goal.decreases-switch::eval_chosen
-decreases-switch::eval_chosen g l = at_level l.levels 1
+abbrev pub decreases-catches::eval_catch_in : goal.decreases-catches::eval_catch_in
+decreases-catches::eval_catch_in g l = at_level l.levels 3
 
-abbrev pub decreases-nested::eval_procedure : goal.decreases-nested::eval_procedure
-decreases-nested::eval_procedure g l = at_level l.levels 1
+abbrev pub decreases-calls::eval_procedure : goal.decreases-calls::eval_procedure
+decreases-calls::eval_procedure g l = at_level l.levels 1
 
-abbrev pub decreases-nested::eval_call : goal.decreases-nested::eval_call
-decreases-nested::eval_call g l = at_level l.levels 2
+abbrev pub decreases-calls::eval_call : goal.decreases-calls::eval_call
+decreases-calls::eval_call g l = at_level l.levels 2
 
-abbrev pub decreases-nested::eval_expression : goal.decreases-nested::eval_expression
-decreases-nested::eval_expression g l = at_level l.levels 1
+abbrev pub decreases-calls::eval_expression : goal.decreases-calls::eval_expression
+decreases-calls::eval_expression g l = at_level l.levels 1
 
-abbrev pub decreases-tree::finish : goal.decreases-tree::finish
-decreases-tree::finish g l = at_level l.levels 3
+abbrev pub invariant-tree::eval_script-loop-command : goal.invariant-tree::eval_script-loop-command
+invariant-tree::eval_script-loop-command g l =
+    let table = g.H.PlainHost.table in
+    ScriptLeft (setting_of table l.context) (inner_of table l.context) l.last l.wanted (meaning_of table l.context (script (trees_of (nodes_view l.commands))))
+    (stand l.fn.run l.fn.host) l.front l.command-index (stand l.run l.host)
 
-abbrev pub decreases-tree::eval_row : goal.decreases-tree::eval_row
-decreases-tree::eval_row g l = at_level l.levels 4
-
-abbrev pub decreases-tree::eval_word : goal.decreases-tree::eval_word
-decreases-tree::eval_word g l = at_level l.levels 5
-
-abbrev pub decreases-tree::eval_commands : goal.decreases-tree::eval_commands
-decreases-tree::eval_commands g l = at_level l.levels 1
-
-abbrev pub invariant-tree::eval_commands-loop-rest : goal.invariant-tree::eval_commands-loop-rest
-invariant-tree::eval_commands-loop-rest g l =
-    let s = setting_of g.H.PlainHost.table l.context in
-    let i = inner_of g.H.PlainHost.table l.context in
-    let answers = l.context.answers.now in
-    let before = stand answers l.fn.vars l.fn.host l.fn.progress in
-    let mid = stand answers l.vars l.host l.progress in
+abbrev pub invariant-words::eval_words-loop-word : goal.invariant-words::eval_words-loop-word
+invariant-words::eval_words-loop-word g l =
+    let table = g.H.PlainHost.table in
     record {
-      used : l.progress.used ≤ length answers;
-      rest : CommandsLeft s i l.wanted (children_of l.tree) before l.rest mid;
-      none : l.rest ≡ [] → CommandsSome s i l.wanted (children_of l.tree) before (Ok []) mid;
-    }
-
-abbrev pub decreases-tree::eval_commands-loop-rest : goal.decreases-tree::eval_commands-loop-rest
-decreases-tree::eval_commands-loop-rest g l = length l.rest
-
-abbrev pub invariant-control::eval_if-loop-rest : goal.invariant-control::eval_if-loop-rest
-invariant-control::eval_if-loop-rest g l =
-    let s = setting_of g.H.PlainHost.table l.context in
-    let i = inner_of g.H.PlainHost.table l.context in
-    let answers = l.context.answers.now in
-    let before = stand answers l.fn.vars l.fn.host l.fn.progress in
-    let mid = stand answers l.vars l.host l.progress in
-    record {
-      used : l.progress.used ≤ length answers;
-      rest : IfLeft s i l.wanted (children_of l.tree) before l.rest mid;
-    }
-
-abbrev pub decreases-control::eval_if-loop-rest : goal.decreases-control::eval_if-loop-rest
-decreases-control::eval_if-loop-rest g l = length l.rest
-
-abbrev pub invariant-expressions::eval_choice-loop-condition : goal.invariant-expressions::eval_choice-loop-condition
-invariant-expressions::eval_choice-loop-condition g l =
-    let s = setting_of g.H.PlainHost.table l.context in
-    let i = inner_of g.H.PlainHost.table l.context in
-    let answers = l.context.answers.now in
-    let before = stand answers l.fn.vars l.fn.host l.fn.progress in
-    let mid = stand answers l.vars l.host l.progress in
-    record {
-      used : l.progress.used ≤ length answers;
-      rest : ChoiceLeft s i l.wanted l.last l.values before (drop l.condition-index l.values) mid;
-    }
-
-abbrev pub invariant-tree::eval_row-loop-item : goal.invariant-tree::eval_row-loop-item
-invariant-tree::eval_row-loop-item g l =
-    let s = setting_of g.H.PlainHost.table l.context in
-    let i = inner_of g.H.PlainHost.table l.context in
-    let answers = l.context.answers.now in
-    let before = stand answers l.fn.vars l.fn.host l.fn.progress in
-    let mid = stand answers l.vars l.host l.progress in
-    record {
-      used : l.progress.used ≤ length answers;
-      total : l.total ≡ sum_by length l.values;
+      total : l.total ≡ l.name_len + sum_by length l.values;
       fits : l.total ≤ text_limit;
-      rest : RowLeft s i l.wanted (finish_of g.H.PlainHost.table l.context l.tree) (row_of l.tree) before l.values
-          (drop (length l.values) (row_of l.tree)) mid;
+      left : (w : Bool) (name : List (List ℕ)) (k : ℕ) (p : Tree → ℕ) (go : List (List ℕ) → Meaning _) → sum_by length name ≡ l.name_len
+          → GoesOn w (words_of table l.context name k p l.words go) (stand l.fn.run l.fn.host)
+          (words_left (setting_of table l.context) (inner_of table l.context) (λ all. go (drop (length name) all)) p l.words l.word-index (k + l.word-index) (name ++ l.values)) (stand l.run l.host);
     }
 
-abbrev pub decreases-tree::eval_row-loop-item : goal.decreases-tree::eval_row-loop-item
-decreases-tree::eval_row-loop-item g l = length (row_of l.tree) - length l.values
+abbrev pub invariant-words::eval_word-loop-part : goal.invariant-words::eval_word-loop-part
+invariant-words::eval_word-loop-part g l =
+    let table = g.H.PlainHost.table in
+    (p : Tree → ℕ) → GoesOn true (pieces_of table l.context p l.parts) (stand l.fn.run l.fn.host)
+    (pieces_left (setting_of table l.context) (inner_of table l.context) p l.parts l.part-index l.text) (stand l.run l.host)
 
-abbrev pub invariant-expressions::eval_operands-loop-joint : goal.invariant-expressions::eval_operands-loop-joint
-invariant-expressions::eval_operands-loop-joint g l =
-    let s = setting_of g.H.PlainHost.table l.context in
-    let i = inner_of g.H.PlainHost.table l.context in
-    let answers = l.context.answers.now in
-    let before = stand answers l.fn.vars l.fn.host l.fn.progress in
-    let mid = stand answers l.vars l.host l.progress in
+abbrev pub invariant-expressions::eval_row-loop-joint : goal.invariant-expressions::eval_row-loop-joint
+invariant-expressions::eval_row-loop-joint g l =
+    let table = g.H.PlainHost.table in
     record {
-      used : l.progress.used ≤ length answers;
-      end : l.progress.end ≡ Ok (value_in l.progress.end);
-      rest : OperandsLeft s i l.first l.rest before (value_in l.progress.end) (drop l.joint-index l.rest) mid;
+      value : Ok tt ≡ ended l.run.end;
+      left : GoesOn true (meaning_of table l.context (row (node_view l.first) (operands_of (operands_view l.rest)))) (stand l.fn.run l.fn.host)
+          (operands_left (setting_of table l.context) (inner_of table l.context) l.rest l.joint-index (value_in l.run.end)) (stand l.run l.host);
     }
+
+abbrev pub invariant-branches::eval_branches-loop-condition : goal.invariant-branches::eval_branches-loop-condition
+invariant-branches::eval_branches-loop-condition g l =
+    let table = g.H.PlainHost.table in
+    (n : ℕ) (p q r : Tree → ℕ) → GoesOn l.wanted (first_of table l.context n p q r l.values l.last) (stand l.fn.run l.fn.host)
+    (first_left (setting_of table l.context) (inner_of table l.context) n p q l.values l.condition-index (l.condition-index * 2)
+    (child r (places_of (values_of (values_view l.values))) (node_view l.last) (meaning_of table l.context (node_view l.last)))) (stand l.run l.host)
 
 abbrev pub invariant-loops::eval_loop-loop : goal.invariant-loops::eval_loop-loop
 invariant-loops::eval_loop-loop g l =
-    let s = setting_of g.H.PlainHost.table l.context in
-    let i = inner_of g.H.PlainHost.table l.context in
-    let answers = l.context.answers.now in
-    let before = stand answers l.fn.vars l.fn.host l.fn.progress in
-    let mid = stand answers l.vars l.host l.progress in
-    record {
-      used : l.progress.used ≤ length answers;
-      rest : OfLoop g.H.PlainHost.table l.context l.parts (λ test body next. LoopLeft test body next l.fn.progress.budget before (l.most - l.counter) mid);
-    }
+    let table = g.H.PlainHost.table in
+    GoesOn true (meaning_of table l.context (loop_tree l.start l.parts)) (stand l.fn.run l.fn.host) (turns_of table l.context l.parts (l.end - l.counter)) (stand l.run l.host)
 
-abbrev pub invariant-loops::eval_foreach-loop-number : goal.invariant-loops::eval_foreach-loop-number
-invariant-loops::eval_foreach-loop-number g l =
-    let s = setting_of g.H.PlainHost.table l.context in
-    let i = inner_of g.H.PlainHost.table l.context in
-    let answers = l.context.answers.now in
-    let before = stand answers l.fn.vars l.fn.host l.fn.progress in
-    let mid = stand answers l.vars l.host l.progress in
-    record {
-      used : l.progress.used ≤ length answers;
-      rest : OfAll g.H.PlainHost.table l.context (children_of l.tree) (λ ms.
-          RowsLeft (option_map (λ v. v.now.statics) l.context.statics) (map row_view l.rows.items) (last_of nothing ms)
-          l.number-end before (l.number-end - l.number) l.number mid);
-    }
+abbrev pub invariant-loops::eval_rows-loop-number : goal.invariant-loops::eval_rows-loop-number
+invariant-loops::eval_rows-loop-number g l =
+    let table = g.H.PlainHost.table in
+    (k : ℕ) → GoesOn true (rows_of table l.context k l.rows l.body) (stand l.fn.run l.fn.host)
+    (row_loop (setting_of table l.context).statics (map row_view l.rows) (child free k (node_view l.body) (meaning_of table l.context (node_view l.body))) (l.number-end - l.number) l.number) (stand l.run l.host)

@@ -1,53 +1,67 @@
-use Rattle.std.proofs.Common.{◌≡◌, ◌-◌, [], ◌∷◌, length, map, Some, None, sym, ap, subst, ◌∙◌, arith, true, false, rules}
+use Rattle.std.proofs.Common.{◌≡◌, ◌-◌, ◌<◌, [], ◌∷◌, ◌++◌, length, get_or, map, cond, refl, sym, ap, ap₂, subst, ◌∙◌, arith, true, false, rules}
+use Rattle.std.proofs.lemmas.List.{length-map}
 use Rattle.std.proofs.lemmas.Result.{IfOk-weaker}
+use Rattle.std.specs.Prelude.{option_map, ◌%◌, ◌==◌}
 use Rattle.tcl_expr.proofs.ExpressionViews as read
 use Rattle.tcl_expr.specs.ExpressionView.{expr_view, more_view, cases_view}
-use Rattle.std.specs.Prelude.{option_map, ◌%◌, ◌==◌}
-use Rattle.std.proofs.lemmas.List.{length-map}
-use Rattle.tcl_compile.specs.Conditions.{operands_at, values_at, row_of, choice_of, word_to, operand_at}
-use Rattle.tcl_compile.specs.Compiled.{tree_of}
-use Rattle.tcl_compile.specs.Opened.{scanned}
-use Rattle.tcl_compile.specs.Making.{word_of, command_of}
-use Rattle.tcl_compile.specs.Tree.{row, choice, operands_of, values_of}
-use Rattle.tcl_compile.specs.TreeView.{node_list, operands_view, values_view}
-use Rattle.tcl_compile.specs.Compiled.{inner_place}
-use Rattle.tcl_compile.specs.Compiling.{children_at, word_place}
-use Rattle.tcl_words.specs.declared.script.Command.{out-Command}
-use Rattle.tcl_compile.specs.declared.roles.Sequence.TheVariants as sequence
 use Rattle.tcl_words.specs.View.{command_view, part_view, word_view, parts_of, script_view}
-use Rattle.tcl_compile.specs.CaseList.{case_item, listed, listed_of}
-use Rattle.tcl_compile.specs.Compiled.{level, text_at, read_script, read_expression, expression_text_at}
-use Rattle.tcl_compile.specs.Compiling.{child_at, command_at, part_at, parts_at, script_at}
-use Rattle.tcl_compile.specs.Conditions.{expression_at}
-use Rattle.tcl_compile.specs.Flaws.{noted, place_in}
-use Rattle.tcl_compile.specs.Making.{one, one_too_many}
-use Rattle.tcl_compile.specs.Reads.{seen_expression, seen_script}
-use Rattle.tcl_compile.specs.Roles.{due_role}
-use Rattle.tcl_compile.specs.TreeView.{node_view, nodes_view}
-use Rattle.tcl_compile.specs.declared.compile_fault.Flaw.TheVariants.{Expr, Arity}
-use Rattle.tcl_compile.proofs.Levels.{level_none, level_some, shown, shown_none, deep_at, body_none, body_some}
-use Rattle.tcl_compile.proofs.Levels.{condition_none, condition_some, none_left, script_commands}
-use Rattle.tcl_compile.proofs.Levels.{all_parts-of, word_plain, command_judged, fitting_switch, fitting_other, bracket_part}
-use Rattle.tcl_compile.proofs.Levels.{under_within, under_beyond, item_body, listed_even, listed_odd, inner_seen, not_none}
-use Rattle.tcl_compile.proofs.ExpressionTurns.{view-Parts, operands_turn, values_turn}
-use Rattle.tcl_compile.proofs.TreeViews.{view-Word, view-Command, view-Row, view-Choice}
 use Rattle.tcl_words.specs.declared.script.Word.{out-Word}
-use Rattle.tcl_compile.proofs.Turns.{gathered_none, gathered_turn, gathered_next, nodes_push}
+use Rattle.tcl_compile.specs.CaseList.{case_item, listed, listed_of, pattern_item}
+use Rattle.tcl_compile.specs.Compiled.{level, text_at, read_script, read_expression, expression_text_at}
+use Rattle.tcl_compile.specs.Compiled.{inner_place, tree_of}
+use Rattle.tcl_compile.specs.Compiling.{command_at, script_at}
+use Rattle.tcl_compile.specs.Conditions.{expression_at, operands_at, values_at, row_of, choice_of}
+use Rattle.tcl_compile.specs.Conditions.{operand_to, operand_at}
+use Rattle.tcl_compile.specs.Controls.{arm_at, case_word, for_at, while_at}
+use Rattle.tcl_compile.specs.Flaws.{noted, place_in}
+use Rattle.tcl_compile.specs.IfView.{arm_view}
+use Rattle.tcl_compile.specs.Making.{Cases, flawed, in_turn, no_cases, one_too_many, word_of}
+use Rattle.tcl_compile.specs.Opened.{scanned}
+use Rattle.tcl_compile.specs.Pieces.{all_commands}
+use Rattle.tcl_compile.specs.Reads.{seen_expression}
+use Rattle.tcl_compile.specs.Tree.{plain, loop, row, choice, operands_of, values_of}
+use Rattle.tcl_compile.specs.TreeView.{node_view, nodes_view, operands_view, values_view}
+use Rattle.tcl_compile.specs.Words.{part_at, parts_at, word_at, word_place}
+use Rattle.tcl_compile.specs.declared.compile_fault.Flaw.TheVariants.{Expr, Arity}
+use Rattle.tcl_compile.specs.declared.node.Node.{Plain}
+use Rattle.tcl_compile.specs.declared.shapes.Shape.TheVariants as shape
+use Rattle.tcl_compile.proofs.ControlTurns.{three_items, five_items, while_made, for_made}
+use Rattle.tcl_compile.proofs.ExpressionTurns.{view-Parts, operands_turn, values_turn}
+use Rattle.tcl_compile.proofs.Levels.{level_none, level_some, shown_none, shown_no_cases, placed_at, body_none}
+use Rattle.tcl_compile.proofs.Levels.{body_some, condition_none, condition_some, script_commands, all_parts-of}
+use Rattle.tcl_compile.proofs.Levels.{command_shaped, word_plain, bracket_part, under_within, under_beyond, item_body, inner_seen}
+use Rattle.tcl_compile.proofs.TreeViews.{view-Plain, view-Word, view-Row, view-Choice}
+use Rattle.tcl_compile.proofs.Turns.{gathered_none, gathered_turn, nodes_push, values_push, arm_of}
+use Rattle.tcl_compile.proofs.Turns.{cases_then, cases_turn, cases_end, end_seen, end_told}
 use Rattle.tcl_compile.proofs.findings.Findings.+compiled.Goals as goal
 
 pub body-returns-then-levels-eq0 : goal.body-returns-then-levels-eq0
 body-returns-then-levels-eq0 t c =
     let w = c.args.word.now in
     ap (λ l. l.body c.args.base (word_view w) c.args.self.now) (level_none c.args.levels c.if-levels-eq0.true)
-    ∙ shown _ c.args.self.now c.note_deep.new.self c.nothing.result c.nothing.ensures
-    (deep_at w c.args.base c.place_in.result c.args.self.now c.note_deep.new.self c.place_in.ensures c.note_deep.ensures)
+    ∙ ap (λ p. flawed (one_too_many p) c.args.self.now) (placed_at w c.args.base ∙ sym c.place_in.ensures)
+    ∙ c.too_deep.ensures
 
 pub body-returns-in-None : goal.body-returns-in-None
 body-returns-in-None t c =
     let w = c.args.word.now in
     ap (λ l. l.body c.args.base (word_view w) c.args.self.now) (level_some c.args.levels (omega arith))
     ∙ body_none w (level (c.args.levels - 1)) (c.args.levels - 1) c.args.base c.args.self.now c.in-None.is
-    ∙ shown _ c.args.self.now c.note_body.new.self c.nothing-in-None.result c.nothing-in-None.ensures c.note_body.ensures
+    ∙ c.no_body.ensures
+
+pub condition-returns-then-levels-eq0 : goal.condition-returns-then-levels-eq0
+condition-returns-then-levels-eq0 t c =
+    let w = c.args.word.now in
+    ap (λ l. l.condition c.args.base (word_view w) c.args.self.now) (level_none c.args.levels c.if-levels-eq0.true)
+    ∙ ap (λ p. flawed (one_too_many p) c.args.self.now) (placed_at w c.args.base ∙ sym c.place_in.ensures)
+    ∙ c.too_deep.ensures
+
+pub condition-returns-in-None : goal.condition-returns-in-None
+condition-returns-in-None t c =
+    let w = c.args.word.now in
+    ap (λ l. l.condition c.args.base (word_view w) c.args.self.now) (level_some c.args.levels (omega arith))
+    ∙ condition_none w (level (c.args.levels - 1)) (c.args.levels - 1) c.args.base c.args.self.now c.in-None.is
+    ∙ c.no_body.ensures
 
 pub body-returns-in-Some : goal.body-returns-in-Some
 body-returns-in-Some t c =
@@ -61,19 +75,17 @@ body-returns-in-Some t c =
     ∙ ap (λ b. text_at inner c.room_inside-room.result c.place_in-place.result b s) (sym c.as_bytes.ensures) in
     IfOk-weaker c.text.result _ _ (λ v is. same ∙ is) c.text.ensures
 
-pub condition-returns-then-levels-eq0 : goal.condition-returns-then-levels-eq0
-condition-returns-then-levels-eq0 t c =
+pub condition-returns-in-Some : goal.condition-returns-in-Some
+condition-returns-in-Some t c =
     let w = c.args.word.now in
-    ap (λ l. l.condition c.args.base (word_view w) c.args.self.now) (level_none c.args.levels c.if-levels-eq0.true)
-    ∙ shown _ c.args.self.now c.note_deep.new.self c.nothing.result c.nothing.ensures
-    (deep_at w c.args.base c.place_in.result c.args.self.now c.note_deep.new.self c.place_in.ensures c.note_deep.ensures)
-
-pub condition-returns-in_default : goal.condition-returns-in_default
-condition-returns-in_default t c =
-    let w = c.args.word.now in
-    ap (λ l. l.condition c.args.base (word_view w) c.args.self.now) (level_some c.args.levels (omega arith))
-    ∙ condition_none w (level (c.args.levels - 1)) (c.args.levels - 1) c.args.base c.args.self.now (none_left _ c.in_default.not-Some)
-    ∙ shown _ c.args.self.now c.note_body.new.self c.nothing-in_default.result c.nothing-in_default.ensures c.note_body.ensures
+    let inner = level (c.args.levels - 1) in
+    let s = c.args.self.now in
+    let same = ap (λ l. l.condition c.args.base (word_view w) s) (level_some c.args.levels (omega arith))
+    ∙ condition_some w inner (c.args.levels - 1) c.args.base s c.in-Some.raw c.in-Some.is
+    ∙ ap (λ r. expression_text_at inner r (place_in c.args.base (out-Word w).inner.start) c.in-Some.raw s) (sym c.room_inside-room.ensures.value)
+    ∙ ap (λ p. expression_text_at inner c.room_inside-room.result p c.in-Some.raw s) (sym c.place_in-place.ensures)
+    ∙ ap (λ b. expression_text_at inner c.room_inside-room.result c.place_in-place.result b s) (sym c.as_bytes.ensures) in
+    IfOk-weaker c.expression_text.result _ _ (λ v is. same ∙ is) c.expression_text.ensures
 
 pub enclosed-returns-then-levels-eq0 : goal.enclosed-returns-then-levels-eq0
 enclosed-returns-then-levels-eq0 t c =
@@ -89,56 +101,74 @@ enclosed-returns t c =
 
 pub parts-loop-part-init : goal.parts-loop-part-init
 parts-loop-part-init t c =
-    gathered_none (λ i p s. one (part_at (level c.args.levels) c.args.base p s)) c.args.self.now
+    gathered_none (part_at (level c.args.levels) c.args.base) c.args.self.now
     ∙ ap (λ l. (nodes_view l, c.args.self.now)) (sym c.new-nodes.ensures.items)
 
 pub parts-loop-part-preserved : goal.parts-loop-part-preserved
 parts-loop-part-preserved t c =
     let l = c.loop-part in
-    gathered_turn (λ i p s. one (part_at (level c.args.levels) c.args.base p s)) part_view c.args.parts.now l.part-index c.part-item.result (omega arith) c.part-item.is
-    c.args.self.now l.self c.part.new.self (nodes_view l.nodes.items) (node_view c.in_ok-node.node ∷ []) l.invariant (ap one c.in_ok-node.ensures)
+    gathered_turn (part_at (level c.args.levels) c.args.base) part_view c.args.parts.now l.part-index c.part-item.result (omega arith) c.part-item.is
+    c.args.self.now l.self c.part.new.self (nodes_view l.nodes.items) (node_view c.in_ok-node.node) l.invariant c.in_ok-node.ensures
     ∙ ap (λ x. (x, c.part.new.self)) (nodes_push l.nodes.items c.push.new.self.items c.in_ok-node.node c.in_ok-push.ensures.items)
+
+pub words-loop-word-init : goal.words-loop-word-init
+words-loop-word-init t c =
+    gathered_none (word_at (level c.args.levels) c.args.base) c.args.self.now
+    ∙ ap (λ l. (nodes_view l, c.args.self.now)) (sym c.new-nodes.ensures.items)
+
+pub words-loop-word-preserved : goal.words-loop-word-preserved
+words-loop-word-preserved t c =
+    let l = c.loop-word in
+    gathered_turn (word_at (level c.args.levels) c.args.base) word_view c.args.words.now l.word-index c.word-item.result (omega arith) c.word-item.is
+    c.args.self.now l.self c.word.new.self (nodes_view l.nodes.items) (node_view c.in_ok-node.node) l.invariant c.in_ok-node.ensures
+    ∙ ap (λ x. (x, c.word.new.self)) (nodes_push l.nodes.items c.push.new.self.items c.in_ok-node.node c.in_ok-push.ensures.items)
 
 pub script-loop-command-init : goal.script-loop-command-init
 script-loop-command-init t c =
-    gathered_none (λ i p s. one (command_at (level c.args.levels) c.args.base p s)) c.args.self.now
+    gathered_none (command_at (level c.args.levels) c.args.base) c.args.self.now
     ∙ ap (λ l. (nodes_view l, c.args.self.now)) (sym c.new-nodes.ensures.items)
 
 pub script-loop-command-preserved : goal.script-loop-command-preserved
 script-loop-command-preserved t c =
     let l = c.loop-command in
-    gathered_turn (λ i p s. one (command_at (level c.args.levels) c.args.base p s)) command_view c.args.commands.now l.command-index c.command-item.result (omega arith) c.command-item.is
-    c.args.self.now l.self c.command.new.self (nodes_view l.nodes.items) (node_view c.in_ok-node.node ∷ []) l.invariant (ap one c.in_ok-node.ensures)
+    gathered_turn (command_at (level c.args.levels) c.args.base) command_view c.args.commands.now l.command-index c.command-item.result (omega arith) c.command-item.is
+    c.args.self.now l.self c.command.new.self (nodes_view l.nodes.items) (node_view c.in_ok-node.node) l.invariant c.in_ok-node.ensures
     ∙ ap (λ x. (x, c.command.new.self)) (nodes_push l.nodes.items c.push.new.self.items c.in_ok-node.node c.in_ok-push.ensures.items)
 
-pub listed-loop-at-init : goal.listed-loop-at-init
-listed-loop-at-init t c =
-    gathered_none (λ i e s. one (case_item (level c.args.levels) c.args.place (length c.args.items.now) i e s)) c.args.self.now
-    ∙ ap (λ l. (nodes_view l, c.args.self.now)) (sym c.new-nodes.ensures.items)
+pub arms-loop-arm-init : goal.arms-loop-arm-init
+arms-loop-arm-init t c =
+    gathered_none (arm_at (level c.args.levels) c.args.base) c.args.self.now
+    ∙ ap (λ l. (values_view l, c.args.self.now)) (sym c.new-values.ensures.items)
 
-pub listed-loop-at-preserved : goal.listed-loop-at-preserved
-listed-loop-at-preserved t c =
-    let l = c.loop-at in
-    gathered_next (λ i e s. one (case_item (level c.args.levels) c.args.place (length c.args.items.now) i e s)) c.args.items.now l.at c.index-items-at.result (omega arith) c.index-items-at.is
-    c.args.self.now l.self c.case_item.new.self (nodes_view l.nodes.items) (node_view c.in_ok-node.node ∷ []) l.invariant (ap one c.in_ok-node.ensures)
-    ∙ ap (λ x. (x, c.case_item.new.self)) (nodes_push l.nodes.items c.push.new.self.items c.in_ok-node.node c.in_ok-push.ensures.items)
+pub arms-loop-arm-preserved : goal.arms-loop-arm-preserved
+arms-loop-arm-preserved t c =
+    let l = c.loop-arm in
+    let base = c.args.base in
+    let inner = level c.args.levels in
+    let a = c.arm-item.result in
+    let now = ap (λ r. arm_of r (inner.body base (word_view a.body.now) r.1)) c.in_ok-condition.ensures
+    ∙ ap (arm_of (node_view c.in_ok-condition.condition, c.condition.new.self)) c.in_ok-body.ensures in
+    gathered_turn (arm_at inner base) arm_view c.args.arms.now l.arm-index a (omega arith) c.arm-item.is
+    c.args.self.now l.self c.body.new.self (values_view l.values.items) (node_view c.in_ok-condition.condition, node_view c.in_ok-body.body) l.invariant now
+    ∙ ap (λ x. (x, c.body.new.self)) (values_push l.values.items c.push.new.self.items c.in_ok-condition.condition c.in_ok-body.body c.in_ok-push.ensures.items)
 
-pub children-loop-at-init : goal.children-loop-at-init
-children-loop-at-init t c =
-    gathered_none (λ i w. child_at (level c.args.levels) c.args.base (due_role c.args.row c.args.roles.now (length (map word_view c.args.words.now)) i w) w) c.args.self.now
-    ∙ ap (λ l. (nodes_view l, c.args.self.now)) (sym c.new-nodes.ensures.items)
-
-pub condition-returns : goal.condition-returns
-condition-returns t c =
-    let w = c.args.word.now in
-    let inner = level (c.args.levels - 1) in
+pub text-returns : goal.text-returns
+text-returns t c =
+    let inner = level c.args.levels in
     let s = c.args.self.now in
-    let same = ap (λ l. l.condition c.args.base (word_view w) s) (level_some c.args.levels (omega arith))
-    ∙ condition_some w inner (c.args.levels - 1) c.args.base s c.in-Some.raw c.in-Some.is
-    ∙ ap (λ r. expression_text_at inner r (place_in c.args.base (out-Word w).inner.start) c.in-Some.raw s) (sym c.room_inside-room.ensures.value)
-    ∙ ap (λ p. expression_text_at inner c.room_inside-room.result p c.in-Some.raw s) (sym c.place_in-place.ensures)
-    ∙ ap (λ b. expression_text_at inner c.room_inside-room.result c.place_in-place.result b s) (sym c.as_bytes.ensures) in
-    IfOk-weaker c.expression_text.result _ _ (λ v is. same ∙ is) c.expression_text.ensures
+    let read = ap (λ r. read_script inner c.args.place r s) c.in_ok-script.ensures
+    ∙ ap (script_at inner c.args.place (all_commands (script_view c.in_ok-script.script))) (sym c.note_fault.ensures)
+    ∙ ap (λ cs. script_at inner c.args.place cs c.note_fault.new.self)
+    (script_commands c.in_ok-script.script ∙ ap (map command_view) (sym c.deref.ensures.value)) in
+    IfOk-weaker c.script.result _ _ (λ v is. read ∙ is) c.script.ensures
+
+pub expression_text-returns-in_ok-node-in-Ok : goal.expression_text-returns-in_ok-node-in-Ok
+expression_text-returns-in_ok-node-in-Ok t c =
+    let s = c.args.self.now in
+    let inner = level c.args.levels in
+    ap (λ r. read_expression inner c.args.place c.args.text.now r s) c.in_ok-expr.ensures
+    ∙ ap (λ r. read_expression inner c.args.place c.args.text.now (seen_expression r) s) c.in-Ok.is
+    ∙ ap tree_of c.in_ok-node-in-Ok.ensures
 
 pub expression_text-returns-in-Err : goal.expression_text-returns-in-Err
 expression_text-returns-in-Err t c =
@@ -146,26 +176,16 @@ expression_text-returns-in-Err t c =
     let inner = level c.args.levels in
     ap (λ r. read_expression inner c.args.place c.args.text.now r s) c.in_ok-expr.ensures
     ∙ ap (λ r. read_expression inner c.args.place c.args.text.now (seen_expression r) s) c.in-Err.is
-    ∙ shown _ s c.note.new.self c.nothing.result c.nothing.ensures
-    (c.note.ensures ∙ ap (λ f. noted (Expr f) s) c.moved_misread.ensures)
-
-pub text-returns-in-Ok : goal.text-returns-in-Ok
-text-returns-in-Ok t c =
-    let inner = level c.args.levels in
-    let s = c.args.self.now in
-    let read = ap (λ r. read_script inner c.args.place r s) c.in_ok-script.ensures
-    ∙ ap (λ r. read_script inner c.args.place (seen_script r) s) c.in-Ok.is
-    ∙ ap (λ cs. script_at inner c.args.place cs s)
-    (script_commands c.in-Ok.script ∙ ap (map command_view) (sym c.deref.ensures.value)) in
-    IfOk-weaker c.script.result _ _ (λ v is. read ∙ is) c.script.ensures
+    ∙ ap (λ f. flawed (Expr f) s) (sym c.moved_misread.ensures)
+    ∙ ap₂ (λ n x. (n, x)) (sym c.nothing.ensures) (sym c.note.ensures)
 
 pub part-returns-then-levels-eq0 : goal.part-returns-then-levels-eq0
 part-returns-then-levels-eq0 t c =
     let s = c.args.self.now in
     bracket_part (level c.args.levels) c.args.base s c.args.part.now c.in-Bracket.span c.in-Bracket.script c.in-Bracket.is
     ∙ ap (λ l. l.script c.args.base c.in-Bracket.span.start (script_view c.in-Bracket.script) s) (level_none c.args.levels c.if-levels-eq0.true)
-    ∙ shown _ s c.note_deep.new.self c.nothing.result c.nothing.ensures
-    (subst (λ p. c.note_deep.new.self ≡ noted (one_too_many p) s) c.place_in.ensures c.note_deep.ensures)
+    ∙ ap (λ p. flawed (one_too_many p) s) (sym c.place_in.ensures)
+    ∙ c.too_deep.ensures
 
 pub part-returns-else-levels-eq0 : goal.part-returns-else-levels-eq0
 part-returns-else-levels-eq0 t c =
@@ -184,43 +204,6 @@ word-returns t c =
     ∙ ap (λ ps. word_of (parts_at inner c.args.base (map part_view ps) s)) (sym c.deref-2.ensures.value)
     ∙ ap word_of c.in_ok-parts-2.ensures
     ∙ ap (λ x. (x, c.parts.new.self)) (sym (view-Word c.in_ok-parts-2.parts))
-
-pub command-returns-in_default : goal.command-returns-in_default
-command-returns-in_default t c =
-    let s = c.args.self.now in
-    let none = ap (option_map (λ v. v.items)) (none_left c.in_ok-roles.field-0 c.in_default.not-Some) in
-    command_judged (level c.args.levels) c.args.base s c.args.command.now c.as_slice-words.result.now c.verb_of-verb.result None
-    c.as_slice-words.ensures.value c.verb_of-verb.ensures (sym none ∙ c.in_ok-roles.ensures)
-    ∙ shown _ s c.note.new.self c.nothing.result c.nothing.ensures
-    (c.note.ensures ∙ ap (λ p. noted (Arity p) s) c.place_in.ensures)
-
-pub command-returns-then-is_switch : goal.command-returns-then-is_switch
-command-returns-then-is_switch t c =
-    let s = c.args.self.now in
-    let inner = level c.args.levels in
-    let ws = c.as_slice-words.result.now in
-    let at = (out-Command c.args.command.now).span.start in
-    let roles = c.in-Some.roles.items in
-    let some = ap (option_map (λ v. v.items)) c.in-Some.is in
-    let same = command_judged inner c.args.base s c.args.command.now ws c.verb_of-verb.result (Some roles)
-    c.as_slice-words.ensures.value c.verb_of-verb.ensures (sym some ∙ c.in_ok-roles.ensures) in
-    let switched = same ∙ fitting_switch inner c.args.base s at c.verb_of-verb.result roles (map word_view ws) (sym c.is_switch.ensures ∙ c.if-is_switch.true) in
-    IfOk-weaker c.switch.result _ _ (λ v is. switched ∙ is) c.switch.ensures
-
-pub command-returns : goal.command-returns
-command-returns t c =
-    let s = c.args.self.now in
-    let inner = level c.args.levels in
-    let ws = c.as_slice-words.result.now in
-    let at = (out-Command c.args.command.now).span.start in
-    let roles = c.in-Some.roles.items in
-    let some = ap (option_map (λ v. v.items)) c.in-Some.is in
-    let same = command_judged inner c.args.base s c.args.command.now ws c.verb_of-verb.result (Some roles)
-    c.as_slice-words.ensures.value c.verb_of-verb.ensures (sym some ∙ c.in_ok-roles.ensures) in
-    same ∙ fitting_other inner c.args.base s at c.verb_of-verb.result roles (map word_view ws) (sym c.is_switch.ensures ∙ c.if-is_switch.false)
-    ∙ ap (λ rs. command_of c.verb_of-verb.result (children_at inner c.args.base (sequence.Command c.verb_of-verb.result) rs (map word_view ws) s)) (sym c.deref.ensures.value)
-    ∙ ap (command_of c.verb_of-verb.result) c.in_ok-nodes.ensures
-    ∙ ap (λ x. (x, c.children.new.self)) (sym (view-Command c.verb_of-verb.result c.in_ok-nodes.nodes))
 
 pub expression-returns-in_ok-new-in-Row : goal.expression-returns-in_ok-new-in-Row
 expression-returns-in_ok-new-in-Row t c =
@@ -273,92 +256,6 @@ values-loop-condition-preserved t c =
     l.values.items c.push.new.self.items c.in_ok-condition.condition c.in_ok-value.value
     l.invariant c.in_ok-condition.ensures c.in_ok-value.ensures c.in_ok-push.ensures.items
 
-pub children-loop-at-preserved : goal.children-loop-at-preserved
-children-loop-at-preserved t c =
-    let l = c.loop-at in
-    let inner = level c.args.levels in
-    let w = word_view c.index-words-at.result in
-    let due = c.due_role-role.ensures
-    ∙ ap (λ n. due_role c.args.row c.args.roles.now n l.at w) (sym (length-map c.args.words.now word_view)) in
-    let now = ap (λ r. child_at inner c.args.base r w l.self) (sym due) ∙ c.in_ok-node.ensures in
-    gathered_turn (λ i w. child_at (level c.args.levels) c.args.base (due_role c.args.row c.args.roles.now (length (map word_view c.args.words.now)) i w) w) word_view c.args.words.now l.at c.index-words-at.result (omega arith) c.index-words-at.is
-    c.args.self.now l.self c.child.new.self (nodes_view l.nodes.items) (node_list c.in_ok-node.node) l.invariant now
-    ∙ ap (λ x. (x, c.child.new.self)) (sym c.in_ok-add.ensures)
-
-pub cases-returns-then-levels-eq0 : goal.cases-returns-then-levels-eq0
-cases-returns-then-levels-eq0 t c =
-    let w = c.args.word.now in
-    ap (λ l. l.cases c.args.base c.args.at (word_view w) c.args.self.now) (level_none c.args.levels c.if-levels-eq0.true)
-    ∙ shown_none _ c.args.self.now c.note_deep.new.self c.new.result.items c.new.ensures.items
-    (deep_at w c.args.base c.place_in.result c.args.self.now c.note_deep.new.self c.place_in.ensures c.note_deep.ensures)
-
-pub cases-returns-in_default : goal.cases-returns-in_default
-cases-returns-in_default t c =
-    let w = c.args.word.now in
-    let s = c.args.self.now in
-    let base = c.args.base in
-    let inner = level (c.args.levels - 1) in
-    let same = ap (λ l. l.cases base c.args.at (word_view w) s) (level_some c.args.levels (omega arith))
-    ∙ ap (λ r. listed_of inner (place_in base (word_place (word_view w))) (place_in base c.args.at) (place_in base (inner_place (word_view w))) r s)
-    (sym c.in_ok-items.ensures ∙ ap (option_map (λ v. v.items)) c.in_default.is) in
-    same ∙ shown_none _ s c.note_body.new.self c.new-in_default.result.items c.new-in_default.ensures.items c.note_body.ensures
-
-pub cases-returns-then-len-ne0 : goal.cases-returns-then-len-ne0
-cases-returns-then-len-ne0 t c =
-    let w = c.args.word.now in
-    let s = c.args.self.now in
-    let base = c.args.base in
-    let inner = level (c.args.levels - 1) in
-    let same = ap (λ l. l.cases base c.args.at (word_view w) s) (level_some c.args.levels (omega arith))
-    ∙ ap (λ r. listed_of inner (place_in base (word_place (word_view w))) (place_in base c.args.at) (place_in base (inner_place (word_view w))) r s)
-    (sym c.in_ok-items.ensures ∙ ap (option_map (λ v. v.items)) c.in-Some.is) in
-    let odd : (length c.in-Some.items.items % 2 == 0) ≡ false = search rules in
-    same ∙ listed_odd inner base s (place_in base (word_place (word_view w))) (place_in base c.args.at) (place_in base (inner_place (word_view w))) c.in-Some.items.items odd
-    ∙ shown_none _ s c.note.new.self c.new-then-len-ne0.result.items c.new-then-len-ne0.ensures.items
-    (c.note.ensures ∙ ap (λ p. noted (Arity p) s) c.place_in-then-len-ne0.ensures)
-
-pub cases-returns : goal.cases-returns
-cases-returns t c =
-    let w = c.args.word.now in
-    let s = c.args.self.now in
-    let base = c.args.base in
-    let inner = level (c.args.levels - 1) in
-    let same = ap (λ l. l.cases base c.args.at (word_view w) s) (level_some c.args.levels (omega arith))
-    ∙ ap (λ r. listed_of inner (place_in base (word_place (word_view w))) (place_in base c.args.at) (place_in base (inner_place (word_view w))) r s)
-    (sym c.in_ok-items.ensures ∙ ap (option_map (λ v. v.items)) c.in-Some.is) in
-    let items = c.in-Some.items.items in
-    let even : (length items % 2 == 0) ≡ true = search rules in
-    let read = same ∙ listed_even inner base s (place_in base (word_place (word_view w))) (place_in base c.args.at) (place_in base (inner_place (word_view w))) items even
-    ∙ ap (λ p. listed inner p items s) (ap (place_in base) (inner_seen w) ∙ sym c.place_in-2.ensures)
-    ∙ ap (λ xs. listed inner c.place_in-2.result xs s) (sym c.deref.ensures.value) in
-    IfOk-weaker c.listed.result _ _ (λ v is. read ∙ is) c.listed.ensures
-
-pub case_item-returns-then-levels-eq0 : goal.case_item-returns-then-levels-eq0
-case_item-returns-then-levels-eq0 t c =
-    let s = c.args.self.now in
-    let item = c.args.item.now in
-    let braced : item.braced ≡ true = search rules in
-    let same = item_body (level c.args.levels) 0 s c.args.place c.args.count c.args.at item (not_none (c.args.at % 2) c.if-at-eq0.false)
-    (sym c.is_dash.ensures ∙ c.if-is_dash.false) braced in
-    same ∙ ap (λ l. l.inside (place_in c.args.place item.start) item.text s) (level_none c.args.levels c.if-levels-eq0.true)
-    ∙ shown _ s c.note_deep.new.self c.nothing-then-levels-eq0.result c.nothing-then-levels-eq0.ensures
-    (c.note_deep.ensures ∙ ap (λ p. noted (one_too_many p) s) c.place_in-start.ensures)
-
-pub case_item-returns : goal.case_item-returns
-case_item-returns t c =
-    let s = c.args.self.now in
-    let item = c.args.item.now in
-    let braced : item.braced ≡ true = search rules in
-    let same = item_body (level c.args.levels) 0 s c.args.place c.args.count c.args.at item (not_none (c.args.at % 2) c.if-at-eq0.false)
-    (sym c.is_dash.ensures ∙ c.if-is_dash.false) braced in
-    let inner = level (c.args.levels - 1) in
-    let room : c.args.levels - 1 - 1 ≡ c.args.levels - 2 = omega arith in
-    let read = same ∙ ap (λ l. l.inside (place_in c.args.place item.start) item.text s) (level_some c.args.levels (omega arith))
-    ∙ ap (λ r. text_at inner r (place_in c.args.place item.start) item.text s) (room ∙ sym c.saturating_sub-room.ensures)
-    ∙ ap (λ p. text_at inner c.saturating_sub-room.result p item.text s) (sym c.place_in-start.ensures)
-    ∙ ap (λ b. text_at inner c.saturating_sub-room.result c.place_in-start.result b s) (sym c.as_bytes.ensures) in
-    IfOk-weaker c.text.result _ _ (λ v is. read ∙ is) c.text.ensures
-
 pub under-returns-then-openers-levels : goal.under-returns-then-openers-levels
 under-returns-then-openers-levels t c =
     let s = c.args.self.now in
@@ -370,14 +267,6 @@ under-returns t c =
     let same = ap (λ f. f c.args.self.now) (under_within c.args.levels c.args.openers c.args.base (map part_view c.args.parts.now) (omega arith)) in
     IfOk-weaker c.parts.result _ _ (λ v is. same ∙ is) c.parts.ensures
 
-pub expression_text-returns-in_ok-node-in-Ok : goal.expression_text-returns-in_ok-node-in-Ok
-expression_text-returns-in_ok-node-in-Ok t c =
-    let s = c.args.self.now in
-    let inner = level c.args.levels in
-    ap (λ r. read_expression inner c.args.place c.args.text.now r s) c.in_ok-expr.ensures
-    ∙ ap (λ r. read_expression inner c.args.place c.args.text.now (seen_expression r) s) c.in-Ok.is
-    ∙ ap tree_of c.in_ok-node-in-Ok.ensures
-
 pub expression-returns-in_ok-nodes-in-Parts : goal.expression-returns-in_ok-nodes-in-Parts
 expression-returns-in_ok-nodes-in-Parts t c =
     let s = c.args.self.now in
@@ -386,11 +275,190 @@ expression-returns-in_ok-nodes-in-Parts t c =
     let base = c.args.base in
     let text = c.args.text.now in
     let ps = c.in-Parts.parts.items in
-    let q = c.scanned-openers.result in
+    let q = c.scanned-scanned.result in
     ap (λ e. expression_at inner base text e o s) (ap expr_view c.in-Parts.is ∙ view-Parts c.in-Parts.parts)
     ∙ ap (λ l. operand_at inner base l (scanned text l o) s) (all_parts-of (map part_view ps))
     ∙ ap (λ x. operand_at inner base (map part_view ps) x s) (ap (λ l. scanned text (map part_view l) o) (sym c.deref.ensures.value)
-    ∙ sym c.scanned-openers.ensures)
+    ∙ sym c.scanned-scanned.ensures)
     ∙ ap (λ l. operand_at inner base (map part_view l) q s) (sym c.deref-in-Parts.ensures.value)
-    ∙ ap (word_to q.1) c.in_ok-nodes-in-Parts.ensures
-    ∙ ap (λ x. ((x, q.1), c.under.new.self)) (sym (view-Word c.in_ok-nodes-in-Parts.nodes))
+    ∙ ap (operand_to q.quoted q.behind) c.in_ok-nodes-in-Parts.ensures
+    ∙ ap (λ x. ((x, q.behind), c.under.new.self)) (sym c.operand.ensures)
+
+pub cases_inside-returns-then-levels-eq0 : goal.cases_inside-returns-then-levels-eq0
+cases_inside-returns-then-levels-eq0 t c =
+    let w = c.args.word.now in
+    ap (λ l. l.cases c.args.base c.args.at (word_view w) c.args.self.now) (level_none c.args.levels c.if-levels-eq0.true)
+    ∙ shown_no_cases _ c.args.self.now c.note_deep.new.self c.new.result.items c.new-then-levels-eq0.result.items c.new.ensures.items c.new-then-levels-eq0.ensures.items
+    (c.note_deep.ensures ∙ ap (λ p. noted (one_too_many p) c.args.self.now) (c.place_in.ensures ∙ sym (placed_at w c.args.base)))
+
+pub cases_inside-returns-in_default : goal.cases_inside-returns-in_default
+cases_inside-returns-in_default t c =
+    let w = c.args.word.now in
+    let s = c.args.self.now in
+    let base = c.args.base in
+    let inner = level (c.args.levels - 1) in
+    let same = ap (λ l. l.cases base c.args.at (word_view w) s) (level_some c.args.levels (omega arith))
+    ∙ ap (λ r. listed_of inner (place_in base (word_place (word_view w))) (place_in base c.args.at) (place_in base (inner_place (word_view w))) r s)
+    (sym c.in_ok-items.ensures ∙ ap (option_map (λ v. v.items)) c.in_default.is) in
+    same ∙ shown_no_cases _ s c.note_body.new.self c.new-in_default.result.items c.new-in_default-2.result.items c.new-in_default.ensures.items c.new-in_default-2.ensures.items c.note_body.ensures
+
+pub cases_inside-returns-then-len-ne0 : goal.cases_inside-returns-then-len-ne0
+cases_inside-returns-then-len-ne0 t c =
+    let w = c.args.word.now in
+    let s = c.args.self.now in
+    let base = c.args.base in
+    let inner = level (c.args.levels - 1) in
+    let same = ap (λ l. l.cases base c.args.at (word_view w) s) (level_some c.args.levels (omega arith))
+    ∙ ap (λ r. listed_of inner (place_in base (word_place (word_view w))) (place_in base c.args.at) (place_in base (inner_place (word_view w))) r s)
+    (sym c.in_ok-items.ensures ∙ ap (option_map (λ v. v.items)) c.in-Some.is) in
+    let odd : (length c.in-Some.items.items % 2 == 0) ≡ false = search rules in
+    same ∙ ap (λ b. cond b (listed inner (place_in base (inner_place (word_view w))) c.in-Some.items.items s) (no_cases (Arity (place_in base c.args.at)) s)) odd
+    ∙ shown_no_cases _ s c.note_number.new.self c.new-then-len-ne0.result.items c.new-then-len-ne0-2.result.items c.new-then-len-ne0.ensures.items c.new-then-len-ne0-2.ensures.items c.note_number.ensures
+
+pub cases_inside-returns : goal.cases_inside-returns
+cases_inside-returns t c =
+    let w = c.args.word.now in
+    let s = c.args.self.now in
+    let base = c.args.base in
+    let inner = level (c.args.levels - 1) in
+    let items = c.in-Some.items.items in
+    let same = ap (λ l. l.cases base c.args.at (word_view w) s) (level_some c.args.levels (omega arith))
+    ∙ ap (λ r. listed_of inner (place_in base (word_place (word_view w))) (place_in base c.args.at) (place_in base (inner_place (word_view w))) r s)
+    (sym c.in_ok-items.ensures ∙ ap (option_map (λ v. v.items)) c.in-Some.is) in
+    let even : (length items % 2 == 0) ≡ true = search rules in
+    let read = same ∙ ap (λ b. cond b (listed inner (place_in base (inner_place (word_view w))) items s) (no_cases (Arity (place_in base c.args.at)) s)) even
+    ∙ ap (λ p. listed inner p items s) (ap (place_in base) (inner_seen w) ∙ sym c.place_in-2.ensures)
+    ∙ ap (λ xs. listed inner c.place_in-2.result xs s) (sym c.deref.ensures.value) in
+    IfOk-weaker c.listed.result _ _ (λ v is. read ∙ is) c.listed.ensures
+
+pub case_item-returns-then-levels-eq0 : goal.case_item-returns-then-levels-eq0
+case_item-returns-then-levels-eq0 t c =
+    let s = c.args.self.now in
+    let item = c.args.item.now in
+    let braced : item.braced ≡ true = search rules in
+    item_body (level c.args.levels) 0 s c.args.place c.args.last item braced
+    ∙ ap (λ l. l.inside (place_in c.args.place item.start) item.text s) (level_none c.args.levels c.if-levels-eq0.true)
+    ∙ ap (λ p. flawed (one_too_many p) s) (sym c.place_in-start.ensures)
+    ∙ c.too_deep.ensures
+
+pub case_item-returns : goal.case_item-returns
+case_item-returns t c =
+    let s = c.args.self.now in
+    let item = c.args.item.now in
+    let braced : item.braced ≡ true = search rules in
+    let inner = level (c.args.levels - 1) in
+    let room : c.args.levels - 1 - 1 ≡ c.args.levels - 2 = omega arith in
+    let read = item_body (level c.args.levels) 0 s c.args.place c.args.last item braced
+    ∙ ap (λ l. l.inside (place_in c.args.place item.start) item.text s) (level_some c.args.levels (omega arith))
+    ∙ ap (λ r. text_at inner r (place_in c.args.place item.start) item.text s) (room ∙ sym c.saturating_sub-room.ensures)
+    ∙ ap (λ p. text_at inner c.saturating_sub-room.result p item.text s) (sym c.place_in-start.ensures)
+    ∙ ap (λ b. text_at inner c.saturating_sub-room.result c.place_in-start.result b s) (sym c.as_bytes.ensures) in
+    IfOk-weaker c.text.result _ _ (λ v is. read ∙ is) c.text.ensures
+
+pub command-returns-in-Words : goal.command-returns-in-Words
+command-returns-in-Words t c =
+    let same = command_shaped (level c.args.levels) c.args.base c.args.self.now c.args.command.now c.as_slice-words.result.now (shape.Words c.in-Words.verb)
+    c.as_slice-words.ensures.value (sym c.in-Words.is ∙ c.shape_of.ensures) in
+    IfOk-weaker c.evaluated.result _ _ (λ v is. same ∙ is) c.evaluated.ensures
+
+pub command-returns-in-Expr : goal.command-returns-in-Expr
+command-returns-in-Expr t c =
+    let same = command_shaped (level c.args.levels) c.args.base c.args.self.now c.args.command.now c.as_slice-words.result.now shape.Expr
+    c.as_slice-words.ensures.value (sym c.in-Expr.is ∙ c.shape_of.ensures) in
+    IfOk-weaker c.expr.result _ _ (λ v is. same ∙ is) c.expr.ensures
+
+pub command-returns-in-If : goal.command-returns-in-If
+command-returns-in-If t c =
+    let same = command_shaped (level c.args.levels) c.args.base c.args.self.now c.args.command.now c.as_slice-words.result.now shape.If
+    c.as_slice-words.ensures.value (sym c.in-If.is ∙ c.shape_of.ensures) in
+    IfOk-weaker c.conditional.result _ _ (λ v is. same ∙ is) c.conditional.ensures
+
+pub command-returns-in-Foreach : goal.command-returns-in-Foreach
+command-returns-in-Foreach t c =
+    let same = command_shaped (level c.args.levels) c.args.base c.args.self.now c.args.command.now c.as_slice-words.result.now shape.Foreach
+    c.as_slice-words.ensures.value (sym c.in-Foreach.is ∙ c.shape_of.ensures) in
+    IfOk-weaker c.foreach.result _ _ (λ v is. same ∙ is) c.foreach.ensures
+
+pub command-returns-in-Switch : goal.command-returns-in-Switch
+command-returns-in-Switch t c =
+    let same = command_shaped (level c.args.levels) c.args.base c.args.self.now c.args.command.now c.as_slice-words.result.now shape.Switch
+    c.as_slice-words.ensures.value (sym c.in-Switch.is ∙ c.shape_of.ensures) in
+    IfOk-weaker c.switch.result _ _ (λ v is. same ∙ is) c.switch.ensures
+
+pub while_loop-returns : goal.while_loop-returns
+while_loop-returns t c =
+    let inner = level c.args.levels in
+    let ws = c.args.words.now in
+    let test = c.test-item.result in
+    let body = c.body-item.result in
+    let b = node_view c.in_ok-body.body in
+    let same = ap (λ l. while_at inner c.args.base c.args.at (map word_view l) c.args.self.now) (three_items ws test body (omega arith) c.test-item.is c.body-item.is)
+    ∙ while_made inner c.args.base c.args.at (word_view (get_or ws 0 test)) (word_view test) (word_view body) (node_view c.in_ok-test.test) b
+    c.args.self.now c.condition.new.self c.body.new.self c.in_ok-test.ensures c.in_ok-body.ensures
+    ∙ ap₂ (λ x y. (loop x (node_view c.in_ok-test.test) y b, c.body.new.self)) (sym c.nothing.ensures) (sym c.nothing-2.ensures) in
+    IfOk-weaker c.loop_of.result _ _ (λ v is. same ∙ ap (λ n. (n, c.body.new.self)) (sym is)) c.loop_of.ensures
+
+pub for_loop-returns : goal.for_loop-returns
+for_loop-returns t c =
+    let inner = level c.args.levels in
+    let ws = c.args.words.now in
+    let start = c.start-item.result in
+    let same = ap (λ l. for_at inner c.args.base c.args.at (map word_view l) c.args.self.now) (five_items ws start c.test-item.result c.next-item.result c.body-item.result (omega arith)
+    c.start-item.is c.test-item.is c.next-item.is c.body-item.is)
+    ∙ for_made inner c.args.base c.args.at (word_view (get_or ws 0 start)) (word_view start) (word_view c.test-item.result) (word_view c.next-item.result) (word_view c.body-item.result)
+    (node_view c.in_ok-start.start) (node_view c.in_ok-test.test) (node_view c.in_ok-next.next) (node_view c.in_ok-body.body)
+    c.args.self.now c.body.new.self c.condition.new.self c.body-2.new.self c.body-3.new.self
+    c.in_ok-start.ensures c.in_ok-test.ensures c.in_ok-next.ensures c.in_ok-body.ensures in
+    IfOk-weaker c.loop_of.result _ _ (λ v is. same ∙ ap (λ n. (n, c.body-3.new.self)) (sym is)) c.loop_of.ensures
+
+pub case_words-loop-pattern-preserved : goal.case_words-loop-pattern-preserved
+case_words-loop-pattern-preserved t c =
+    let l = c.loop-pattern in
+    let pattern = word_at (level c.args.levels) c.args.base in
+    let body = case_word (level c.args.levels) c.args.base in
+    let a = c.in-Some.pattern.now in
+    let b = c.in-Some.body.now in
+    let behind = c.in-Some.behind.now in
+    let done : Cases = (nodes_view l.patterns.items, nodes_view l.bodies.items) in
+    let all = in_turn pattern body (map word_view c.args.words.now) c.args.self.now in
+    cases_turn pattern body all done (word_view a) (word_view b) (map word_view behind) (node_view c.in_ok-pattern.pattern) (node_view c.in_ok-body.body)
+    l.self c.word.new.self c.case_word.new.self
+    (l.invariant ∙ ap (λ ws. cases_then done (in_turn pattern body (map word_view ws) l.self)) c.in-Some.ensures)
+    c.in_ok-pattern.ensures
+    (ap (λ e. body e (word_view b) c.word.new.self) (end_seen word_view behind c.is_empty.result c.is_empty.ensures) ∙ c.in_ok-body.ensures)
+    ∙ ap₂ (λ x y. cases_then (x, y) (in_turn pattern body (map word_view behind) c.case_word.new.self))
+    (nodes_push l.patterns.items c.push.new.self.items c.in_ok-pattern.pattern c.in_ok-push.ensures.items)
+    (nodes_push l.bodies.items c.push-in-Some.new.self.items c.in_ok-body.body c.in_ok-push-2.ensures.items)
+
+pub case_words-returns : goal.case_words-returns
+case_words-returns t c =
+    let l = c.loop-pattern in
+    cases_end (word_at (level c.args.levels) c.args.base) (case_word (level c.args.levels) c.args.base)
+    (in_turn (word_at (level c.args.levels) c.args.base) (case_word (level c.args.levels) c.args.base) (map word_view c.args.words.now) c.args.self.now)
+    (nodes_view l.patterns.items, nodes_view l.bodies.items) (map word_view l.left.now) l.self
+    (subst (λ n. n < 2) (sym (length-map l.left.now word_view)) c.in_default.ensures) l.invariant
+
+pub listed-loop-pattern-preserved : goal.listed-loop-pattern-preserved
+listed-loop-pattern-preserved t c =
+    let l = c.loop-pattern in
+    let body = case_item (level c.args.levels) c.args.place in
+    let a = c.in-Some.pattern.now in
+    let b = c.in-Some.body.now in
+    let behind = c.in-Some.behind.now in
+    let done : Cases = (nodes_view l.patterns.items, nodes_view l.bodies.items) in
+    let all = listed (level c.args.levels) c.args.place c.args.items.now c.args.self.now in
+    cases_turn pattern_item body all done a b behind (plain a.text) (node_view c.in_ok-body.body)
+    l.self l.self c.case_item.new.self
+    (l.invariant ∙ ap (λ xs. cases_then done (in_turn pattern_item body xs l.self)) c.in-Some.ensures)
+    refl
+    (ap (λ e. body e b l.self) (end_told behind c.is_empty.result c.is_empty.ensures) ∙ c.in_ok-body.ensures)
+    ∙ ap₂ (λ x y. cases_then (x, y) (in_turn pattern_item body behind c.case_item.new.self))
+    (ap (λ x. nodes_view l.patterns.items ++ x ∷ []) (ap plain (sym c.in_ok-copy.ensures) ∙ sym (view-Plain c.in_ok-copy.field-0)) ∙ nodes_push l.patterns.items c.push.new.self.items (Plain c.in_ok-copy.field-0) c.in_ok-push.ensures.items)
+    (nodes_push l.bodies.items c.push-in-Some.new.self.items c.in_ok-body.body c.in_ok-push-2.ensures.items)
+
+pub listed-returns : goal.listed-returns
+listed-returns t c =
+    let l = c.loop-pattern in
+    cases_end pattern_item (case_item (level c.args.levels) c.args.place)
+    (listed (level c.args.levels) c.args.place c.args.items.now c.args.self.now)
+    (nodes_view l.patterns.items, nodes_view l.bodies.items) l.left.now l.self c.in_default.ensures l.invariant

@@ -1,0 +1,64 @@
+-- What a step of a machine promises.
+use Rattle.std.specs.Prelude.{◌≡◌, ⊤, ℕ, ◌+◌, ◌*◌, ◌≤◌, List, [], ◌∷◌, ◌++◌}
+use Rattle.px_bytes.specs.declared.fault.Reply.{Reply}
+use Rattle.tcl_compile.specs.Tree.{Tree}
+use Rattle.tcl_vars.specs.Scopes.{Scopes}
+use Rattle.rule_model.specs.Host.{Effect}
+use Rattle.rule_model.specs.Outcome.{Act, Did, Called, state, Outcome, Ends, reply_code}
+use Rattle.rule_model.specs.Setting.{Setting}
+use Rattle.frame_machine.specs.Frames.{comes_to}
+use Rattle.frame_machine.specs.Owed.{owed, Heavy}
+use Rattle.frame_machine.specs.declared.frame.Mode.TheVariants as mode
+use Rattle.frame_machine.specs.declared.frame.Standing.{Standing}
+use Rattle.frame_machine.specs.declared.turn.Turn.{Turn}
+use Rattle.frame_machine.specs.declared.turn.Turn.TheVariants as turn
+
+-- the effects among acts
+abbrev pub effects_in : List Act → List Effect
+effects_in [] = []
+effects_in (Did e ∷ acts) = e ∷ effects_in acts
+effects_in (Called path call ∷ acts) = effects_in acts
+
+-- what a body comes to where a step said this: its end, where that is told
+abbrev pub comes_by : {H : Type 0} → Turn → Setting H → Tree → Standing → Scopes → H → List Reply
+    → ℕ → List Act → Outcome H
+comes_by (turn.Done code) g tree m vars host more cost acts =
+    Ends code (state vars host more m.budget cost acts)
+comes_by other g tree m vars host more cost acts = comes_to g tree m vars host more cost acts
+
+-- where a machine stands beside the variables and the host's state
+pub record Place (H : Type 0) : Type 0 where
+  pub machine : Standing
+  pub vars : Scopes
+  pub host : H
+
+-- the mode of what a step says
+abbrev pub TurnIs : Turn → Standing → Type 0
+TurnIs turn.More m = ⊤
+TurnIs (turn.Asks call) m = m.mode ≡ mode.Asked call
+TurnIs (turn.Done code) m = m.mode ≡ mode.Over
+
+-- A step from one place to the next, with so many ticks: whatever replies come, and whatever was paid
+-- and done before, the body comes to the same, with what the step paid and did. The effects among
+-- what it did were made. What it ticked and still owes is what was owed before, and three for each
+-- unit of cost.
+pub record Went {H : Type 0} (g : Setting H) (tree : Tree) (old new : Place H) (said : Turn)
+    (made : List Effect → Type 0) (ticks : ℕ) : Type 0 where
+  pub spent : ℕ
+  pub acts : List Act
+  pub same : (more : List Reply) (cost : ℕ) (before : List Act)
+      → comes_to g tree old.machine old.vars old.host more cost before
+      ≡ comes_by said g tree new.machine new.vars new.host more (cost + spent) (before ++ acts)
+  pub turn_is : TurnIs said new.machine
+  pub by : made (effects_in acts)
+  pub stays_heavy : Heavy g.procedures tree old.machine.frames.items old.machine.mode
+      → Heavy g.procedures tree new.machine.frames.items new.machine.mode
+  pub paid : Heavy g.procedures tree old.machine.frames.items old.machine.mode
+      → ticks + owed new.machine ≤ owed old.machine + 3 * spent
+
+-- a reply comes: the call's node goes on with it
+pub record Resumed {H : Type 0} (old new : Place H) (call : List (List ℕ)) (reply : Reply) : Type 0 where
+  pub asked : old.machine.mode ≡ mode.Asked call
+  pub machine : new.machine ≡ record old.machine { mode = mode.Back (reply_code reply) }
+  pub vars : new.vars ≡ old.vars
+  pub host : new.host ≡ old.host

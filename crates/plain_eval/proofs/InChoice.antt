@@ -1,0 +1,107 @@
+-- The body that a `switch` chooses.
+use Rattle.std.proofs.Common.{◌≡◌, refl, sym, ap, ◌∙◌, ℕ, zero, suc, ◌+◌, List, [], ◌∷◌, drop}
+use Rattle.std.proofs.Common.{Bool, true, false, Option, Some, None, Result, Ok, Err}
+use Rattle.std.specs.Prelude.{if◌then◌else◌}
+use Rattle.px_bytes.specs.Gives.{Gives}
+use Rattle.px_bytes.specs.declared.fault.Raise.{Raise}
+use Rattle.px_bytes.specs.declared.fault.Raise.TheVariants as raise
+use Rattle.px_bytes.specs.declared.fault.TclFault.{TclFault}
+use Rattle.tcl_compile.specs.Tree.{Tree, trees_of}
+use Rattle.tcl_compile.specs.TreeView.{node_step, node_view, nodes_view}
+use Rattle.tcl_compile.specs.declared.node.Node.{Node, out-Node, map-Node, fold_out-Node}
+use Rattle.tcl_compile.specs.declared.node.Node.TheOpen.{Node-F}
+use Rattle.rule_model.specs.Children.{child, free, is_next}
+use Rattle.rule_model.specs.Control.{chosen, first_body, hit_of}
+use Rattle.rule_model.specs.Evaluator.{bodies, eval}
+use Rattle.rule_model.specs.Outcome.{Meaning}
+use Rattle.rule_model.specs.Setting.{Setting, Inner}
+use Rattle.rule_model.specs.declared.code.Code.TheVariants.{Value, Raised}
+use Rattle.rule_steps.specs.Choice.{first_body_of, is_next_in}
+use Rattle.plain_eval.specs.End.{kept, kept_end, raise_end}
+use Rattle.plain_eval.specs.Stand.{Stand, from, Ran}
+use Rattle.plain_eval.specs.declared.run.End.{End}
+use Rattle.plain_eval.specs.declared.run.End.TheVariants as end
+use Rattle.plain_eval.specs.declared.run.Halted.{Halted}
+use Rattle.plain_eval.proofs.InWords.{child_by}
+use Rattle.plain_eval.proofs.Steps.{at_stand}
+
+abbrev step_of : Node-F Node → Tree
+step_of f = node_step (map-Node Node Tree node_view f)
+
+next_by : (f : Node-F Node) → is_next (step_of f) ≡ is_next_in f
+next_by (Node-F.Plain t) = refl
+next_by (Node-F.Variable t) = refl
+next_by (Node-F.Element t ns) = refl
+next_by (Node-F.Word ns) = refl
+next_by (Node-F.Script ns) = refl
+next_by (Node-F.Command v ns) = refl
+next_by (Node-F.Expr e) = refl
+next_by (Node-F.If vs last) = refl
+next_by (Node-F.Loop a b c d) = refl
+next_by (Node-F.Foreach ws b) = refl
+next_by (Node-F.Switch k ws bs) = refl
+next_by (Node-F.Catch b) = refl
+next_by (Node-F.CatchIn b n) = refl
+next_by Node-F.NextBody = refl
+next_by (Node-F.Prefixed ops e) = refl
+next_by (Node-F.Row t os) = refl
+next_by (Node-F.Choice vs last) = refl
+
+is_next_view : (n : Node) → is_next (node_view n) ≡ is_next_in (out-Node n)
+is_next_view n = ap is_next (fold_out-Node Tree node_step n) ∙ next_by (out-Node n)
+
+module _ {H : Type 0} (g : Setting H) (i : Inner H) where
+  abbrev pub bodies_at : ℕ → List Node → List (Option (Meaning H))
+  bodies_at m ns = bodies g i m (trees_of (nodes_view ns))
+
+  drop_bodies : (k m : ℕ) (ns : List Node) → (j : ℕ) × (drop k (bodies_at m ns) ≡ bodies_at j (drop k ns))
+  drop_bodies zero m ns = (m, refl)
+  drop_bodies (suc k) m [] = (m, refl)
+  drop_bodies (suc k) m (n ∷ ns) = drop_bodies k (m + 1) ns
+
+  body_by : (b : Bool) (w : Bool) (n x : Node) (m : ℕ) (ns : List Node) {s : Stand H} {e : End} {a : Stand H} → is_next (node_view n) ≡ b → (if b then first_body_of ns else Some n) ≡ Some x
+      → Ran w (eval g i (node_view x)) s e a → (first_body_of ns ≡ Some x → Ran w (first_body (bodies_at (m + 1) ns)) s e a) → Ran w (first_body (bodies_at m (n ∷ ns))) s e a
+  body_by true w n x m ns is at ran more = rw is (more at)
+  body_by false w n x m ns is at ran more =
+      let same : n ≡ x = cc in
+      rw is (record { by = λ path cost acts. child_by g i free m (node_view n) (rw same ran) path cost acts })
+
+  pub body_ran : (w : Bool) (ns : List Node) (m : ℕ) (x : Node) {s : Stand H} {e : End} {a : Stand H} → first_body_of ns ≡ Some x → Ran w (eval g i (node_view x)) s e a → Ran w (first_body (bodies_at m ns)) s e a
+  body_ran w [] m x is ran = cc
+  body_ran w (n ∷ ns) m x is ran = body_by (is_next_in (out-Node n)) w n x m ns (is_next_view n) is ran (λ at. body_ran w ns (m + 1) x at ran)
+
+  none_by : (b : Bool) (w : Bool) (n : Node) (m : ℕ) (ns : List Node) (s : Stand H) → is_next (node_view n) ≡ b → (if b then first_body_of ns else Some n) ≡ None
+      → (first_body_of ns ≡ None → Ran w (first_body (bodies_at (m + 1) ns)) s (end.Done (Value [])) s) → Ran w (first_body (bodies_at m (n ∷ ns))) s (end.Done (Value [])) s
+  none_by true w n m ns s is at more = rw is (more at)
+  none_by false w n m ns s is at more = cc
+
+  pub none_ran : (w : Bool) (ns : List Node) (m : ℕ) (s : Stand H) → first_body_of ns ≡ None → Ran w (first_body (bodies_at m ns)) s (end.Done (Value [])) s
+  none_ran w [] m s is = record { by = λ path cost acts. at_stand w (Value []) s cost acts }
+  none_ran w (n ∷ ns) m s is = none_by (is_next_in (out-Node n)) w n m ns s (is_next_view n) is (λ at. none_ran w ns (m + 1) s at)
+
+  -- what a `switch` does with its words, by the case that is hit
+  pub chosen_body : (w : Bool) (front m k : ℕ) (ns : List Node) (ws : List (List ℕ)) (x : Node) {s : Stand H} {e : End} {a : Stand H} → hit_of front ws ≡ Ok (Some k) → first_body_of (drop k ns) ≡ Some x
+      → Ran w (eval g i (node_view x)) s e a → Ran w (chosen (hit_of front ws) (bodies_at m ns)) s e a
+  chosen_body w front m k ns ws x hit at ran =
+      let d = drop_bodies k m ns in
+      let r = body_ran w (drop k ns) d.0 x at ran in
+      rw hit (record { by = λ path cost acts. rw d.1 (r.by path cost acts) })
+
+  pub chosen_last : (w : Bool) (front m k : ℕ) (ns : List Node) (ws : List (List ℕ)) (s : Stand H) → hit_of front ws ≡ Ok (Some k) → first_body_of (drop k ns) ≡ None
+      → Ran w (chosen (hit_of front ws) (bodies_at m ns)) s (end.Done (Value [])) s
+  chosen_last w front m k ns ws s hit at =
+      let d = drop_bodies k m ns in
+      let r = none_ran w (drop k ns) d.0 s at in
+      rw hit (record { by = λ path cost acts. rw d.1 (r.by path cost acts) })
+
+  pub chosen_none : (w : Bool) (front m : ℕ) (ns : List Node) (ws : List (List ℕ)) (s : Stand H) → hit_of front ws ≡ Ok None → Ran w (chosen (hit_of front ws) (bodies_at m ns)) s (end.Done (Value [])) s
+  chosen_none w front m ns ws s hit = rw hit (record { by = λ path cost acts. at_stand w (Value []) s cost acts })
+
+  pub chosen_fault : (w : Bool) (front m : ℕ) (ns : List Node) (ws : List (List ℕ)) (s : Stand H) (e : Raise) → Gives {A = Option ℕ} (Err e) (hit_of front ws) → Ran w (chosen (hit_of front ws) (bodies_at m ns)) s (raise_end e) s
+  chosen_fault w front m ns ws s (raise.Fault f) told = rw told (record { by = λ path cost acts. at_stand w (Raised f) s cost acts })
+  chosen_fault w front m ns ws s raise.Memory told = record { by = λ path cost acts. tt }
+
+  pub chosen_kept : (w : Bool) (front m : ℕ) (ns : List Node) (ws : List (List ℕ)) (s : Stand H) (r : Result (Option ℕ) Raise) (h : Halted) (end : End) → Err h ≡ kept r → Gives r (hit_of front ws)
+      → Ran w (chosen (hit_of front ws) (bodies_at m ns)) s (kept_end r end) s
+  chosen_kept w front m ns ws s (Ok k) h end none told = cc
+  chosen_kept w front m ns ws s (Err x) h end none told = chosen_fault w front m ns ws s x told

@@ -1,0 +1,284 @@
+-- Words in order, and the pieces of a word.
+use Rattle.std.proofs.Common.{◌≡◌, refl, sym, ap, ◌∙◌, ℕ, ◌+◌, ◌<◌, ◌≤◌, List, [], ◌∷◌, ◌++◌, length}
+use Rattle.std.proofs.Common.{Bool, true, false, Ok, Err, nat_lt, arith, drop, get_or, subst}
+use Rattle.std.specs.Prelude.{if◌then◌else◌, sum_by}
+use Rattle.std.proofs.lemmas.Bool.Decides.{nat_tests}
+use Rattle.std.proofs.Math.Seq.{drop-append_seam}
+use Rattle.std.proofs.lemmas.List.{append-nil, append_assoc, drop_all, drop_more}
+use Rattle.std.proofs.lemmas.List.Sums.{sum_by-append, sum_by_push}
+use Rattle.std.specs.Bool.{MatchBool}
+use Rattle.px_bytes.specs.FaultText.{too_long}
+use Rattle.px_bytes.specs.Limit.{text_limit}
+use Rattle.tcl_compile.specs.Tree.{Tree, Trees, trees_of}
+use Rattle.tcl_compile.specs.Tree as tree
+use Rattle.tcl_compile.specs.TreeView.{node_step, node_view, nodes_view}
+use Rattle.tcl_compile.specs.declared.node.Node.{Node, out-Node, map-Node, fold_out-Node}
+use Rattle.tcl_compile.specs.declared.node.Node.TheOpen.{Node-F}
+use Rattle.rule_model.specs.Children.{child, one}
+use Rattle.rule_model.specs.Evaluator.{eval, evals, parts, words}
+use Rattle.px_bytes.specs.declared.fault.TclFault.{TclFault}
+use Rattle.rule_model.specs.Outcome.{Act, Outcome, State, Ends, Waits, Meaning, then_value}
+use Rattle.rule_model.specs.Setting.{Setting, Inner}
+use Rattle.rule_model.specs.Words.{after_piece, after_word, in_order, in_word, told, word_at}
+use Rattle.rule_model.specs.declared.code.Code.TheVariants.{Value, Raised, Return, Break, Continue}
+use Rattle.rule_steps.specs.Parts.{or_alone, parts_in}
+use Rattle.plain_eval.specs.End.{AddsPiece, AddsValue, Is, Limited, ended, value_in}
+use Rattle.plain_eval.specs.Stand.{Stand, from, EndsAs, Ran, GoesOn}
+use Rattle.plain_eval.specs.declared.run.End.{End}
+use Rattle.plain_eval.specs.declared.run.End.TheVariants as end
+use Rattle.plain_eval.specs.declared.run.Halted.{Halted}
+use Rattle.plain_eval.proofs.Steps.{at_stand, goes_self, heard_goes, is_code, no_memory, value_stops}
+
+-- the node at a place, and those behind it
+pub split_at : {A : Type 0} (ns : List A) (k : ℕ) (n : A) → k < length ns → n ≡ get_or ns k n → drop k ns ≡ n ∷ drop (k + 1) ns
+split_at ns k n there is = drop_more ns k n there ∙ ap (λ x. x ∷ drop (k + 1) ns) (sym is)
+
+abbrev step_of : Node-F Node → Tree
+step_of f = node_step (map-Node Node Tree node_view f)
+
+pub total_more : (n t u : ℕ) (vs new : List (List ℕ)) (v : List ℕ) → t ≡ n + sum_by length vs → u ≡ t + length v → new ≡ vs ++ v ∷ [] → u ≡ n + sum_by length new
+total_more n t u vs new v a b is = let s = sum_by_push length vs v in rw is (omega (arith, s, a, b))
+
+module _ {H : Type 0} (g : Setting H) (i : Inner H) where
+  -- the parts of a word are those that the code has
+  word_parts : (p : Tree → ℕ) (ns : List Node) (n : Node) (P : List (Meaning H) → Type 0) → node_view n ≡ tree.word (trees_of (nodes_view ns))
+      → ((q : Tree → ℕ) → P (evals g i q 0 (trees_of (nodes_view (or_alone ns n))))) → P (parts g i p (node_view n) (eval g i (node_view n)))
+  word_parts p [] n P q h = rw q (rw q at (h p))
+  word_parts p (x ∷ xs) n P q h = rw q (h one)
+
+  parts_by : (p : Tree → ℕ) (f : Node-F Node) (n : Node) (P : List (Meaning H) → Type 0) → node_view n ≡ step_of f
+      → ((q : Tree → ℕ) → P (evals g i q 0 (trees_of (nodes_view (parts_in f n))))) → P (parts g i p (node_view n) (eval g i (node_view n)))
+  parts_by p (Node-F.Word ns) n P q h = word_parts p ns.items n P q h
+  parts_by p (Node-F.Plain t) n P q h = rw q (rw q at (h p))
+  parts_by p (Node-F.Variable t) n P q h = rw q (rw q at (h p))
+  parts_by p (Node-F.Element t ns) n P q h = rw q (rw q at (h p))
+  parts_by p (Node-F.Script ns) n P q h = rw q (rw q at (h p))
+  parts_by p (Node-F.Command v ns) n P q h = rw q (rw q at (h p))
+  parts_by p (Node-F.Expr e) n P q h = rw q (rw q at (h p))
+  parts_by p (Node-F.If vs last) n P q h = rw q (rw q at (h p))
+  parts_by p (Node-F.Loop a b c d) n P q h = rw q (rw q at (h p))
+  parts_by p (Node-F.Foreach ws b) n P q h = rw q (rw q at (h p))
+  parts_by p (Node-F.Switch k ws bs) n P q h = rw q (rw q at (h p))
+  parts_by p (Node-F.Catch b) n P q h = rw q (rw q at (h p))
+  parts_by p (Node-F.CatchIn b m) n P q h = rw q (rw q at (h p))
+  parts_by p Node-F.NextBody n P q h = rw q (rw q at (h p))
+  parts_by p (Node-F.Prefixed ops e) n P q h = rw q (rw q at (h p))
+  parts_by p (Node-F.Row t os) n P q h = rw q (rw q at (h p))
+  parts_by p (Node-F.Choice vs last) n P q h = rw q (rw q at (h p))
+
+  -- the pieces of these parts from a place on, and words from a place on
+  abbrev pub pieces_left : (Tree → ℕ) → List Node → ℕ → List ℕ → Meaning H
+  pieces_left p ns k text = in_word told (evals g i p k (trees_of (nodes_view (drop k ns)))) text
+
+  abbrev pub words_left : (List (List ℕ) → Meaning H) → (Tree → ℕ) → List Node → (k m : ℕ) → List (List ℕ) → Meaning H
+  words_left finish p ns k m done = in_order finish (words g i p m (trees_of (nodes_view (drop k ns)))) done
+
+  abbrev pub Word : Node → Stand H → End → Stand H → Type 0
+  Word n b e a = (p : Tree → ℕ) → Ran true (in_word told (evals g i p 0 (trees_of (nodes_view (parts_in (out-Node n) n)))) []) b e a
+
+  word_by : (p : Tree → ℕ) (m : ℕ) (n : Node) {b : Stand H} {e : End} {a : Stand H} → Word n b e a
+      → (path : List ℕ) (cost : ℕ) (acts : List Act) → EndsAs true (word_at m (parts g i p (node_view n) (eval g i (node_view n))) path (from b cost acts)) e a
+  word_by p m n {b = b} {e = e} {a = a} r path cost acts =
+      parts_by p (out-Node n) n (λ ms. EndsAs true (in_word told ms [] (path ++ m ∷ []) (from b cost acts)) e a) (fold_out-Node Tree node_step n)
+      (λ q. (r q).by (path ++ m ∷ []) cost acts)
+
+  -- a child comes to what its tree comes to
+  pub child_by : (p : Tree → ℕ) (k : ℕ) (t : Tree) {w : Bool} {b : Stand H} {e : End} {a : Stand H} → Ran w (eval g i t) b e a
+      → (path : List ℕ) (cost : ℕ) (acts : List Act) → EndsAs w (child p k t (eval g i t) path (from b cost acts)) e a
+  child_by p k t r path cost acts = r.by (path ++ k ∷ []) (cost + p t) acts
+
+  pub word_next : (w : Bool) (finish : List (List ℕ) → Meaning H) (p : Tree → ℕ) (ns : List Node) (k m : ℕ) (n : Node) (done : List (List ℕ)) (e : End) (u : Unit {0}) {b mid : Stand H}
+      → k < length ns → n ≡ get_or ns k n → Ok u ≡ ended e → Word n b e mid → sum_by length (done ++ value_in e ∷ []) ≤ text_limit
+      → GoesOn w (words_left finish p ns k m done) b (words_left finish p ns (k + 1) (m + 1) (done ++ value_in e ∷ [])) mid
+  word_next w finish p ns k m n done e u {b = b} {mid = mid} there is value ran fits = record {
+    closes = λ end last r. record {
+      by = λ path cost acts.
+          let rest = words g i p (m + 1) (trees_of (nodes_view (drop (k + 1) ns))) in
+          let t : nat_lt text_limit (sum_by length (done ++ value_in e ∷ [])) ≡ false = grind (arith, nat_tests) in
+          rw (split_at ns k n there is)
+          (heard_goes (word_at m (parts g i p (node_view n) (eval g i (node_view n))) path (from b cost acts)) (after_word (in_order finish rest) done path) e u mid w end last value (word_by p m n ran path cost acts)
+          (λ c a. rw t (r.by path c a)));
+    };
+  }
+
+  pub word_stops : (w : Bool) (finish : List (List ℕ) → Meaning H) (p : Tree → ℕ) (ns : List Node) (k m : ℕ) (n : Node) (done : List (List ℕ)) (e : End) (h : Halted) {b mid : Stand H}
+      → k < length ns → n ≡ get_or ns k n → Err h ≡ ended e → Word n b e mid → Ran w (words_left finish p ns k m done) b e mid
+  word_stops w finish p ns k m n done e h {b = b} {mid = mid} there is none ran = record {
+    by = λ path cost acts.
+        let rest = words g i p (m + 1) (trees_of (nodes_view (drop (k + 1) ns))) in
+        rw (split_at ns k n there is)
+        (value_stops true w (word_at m (parts g i p (node_view n) (eval g i (node_view n))) path (from b cost acts)) (after_word (in_order finish rest) done path) e h mid none (word_by p m n ran path cost acts));
+  }
+
+  pub word_long : (w : Bool) (finish : List (List ℕ) → Meaning H) (p : Tree → ℕ) (ns : List Node) (k m : ℕ) (n : Node) (done : List (List ℕ)) (e end : End) (u : Unit {0}) {b mid : Stand H}
+      → k < length ns → n ≡ get_or ns k n → Ok u ≡ ended e → Word n b e mid → text_limit < sum_by length (done ++ value_in e ∷ []) → Is (Raised too_long) end
+      → Ran w (words_left finish p ns k m done) b end mid
+  word_long w finish p ns k m n done e end u {b = b} {mid = mid} there is value ran long fault = record {
+    by = λ path cost acts.
+        let rest = words g i p (m + 1) (trees_of (nodes_view (drop (k + 1) ns))) in
+        let t : nat_lt text_limit (sum_by length (done ++ value_in e ∷ [])) ≡ true = grind (arith, nat_tests) in
+        rw (split_at ns k n there is)
+        (heard_goes (word_at m (parts g i p (node_view n) (eval g i (node_view n))) path (from b cost acts)) (after_word (in_order finish rest) done path) e u mid w end mid value (word_by p m n ran path cost acts)
+        (λ c a. rw t (is_code w (Raised too_long) end mid c a fault)));
+  }
+
+  -- the words of a row as the code keeps them, behind a name
+  abbrev behind : (List (List ℕ) → Meaning H) → List (List ℕ) → List (List ℕ) → Meaning H
+  behind go name all = go (drop (length name) all)
+
+  long_of : (name values : List (List ℕ)) (v : List ℕ) (n total : ℕ) → sum_by length name ≡ n → total ≡ n + sum_by length values → sum_by length ((name ++ values) ++ v ∷ []) ≡ total + length v
+  long_of name values v n total a b =
+      let p = sum_by_push length (name ++ values) v in let q = sum_by-append length name values in omega (arith, p, q, a, b)
+
+  pub words_begin : (w : Bool) (go : List (List ℕ) → Meaning H) (name values : List (List ℕ)) (k : ℕ) (p : Tree → ℕ) (ns : List Node) (s : Stand H) → values ≡ []
+      → GoesOn w (words_left (behind go name) p ns 0 k name) s (words_left (behind go name) p ns 0 (k + 0) (name ++ values)) s
+  words_begin w go name values k p ns s none =
+      let a : k + 0 ≡ k = omega arith in
+      let b : name ++ values ≡ name = rw none (append-nil name) in
+      rw (a, b) (goes_self _ _ _)
+
+  pub words_more : (w : Bool) (go : List (List ℕ) → Meaning H) (name values new : List (List ℕ)) (p : Tree → ℕ) (ns : List Node) (k m n total more : ℕ) (x : Node) (e last : End) (u : Unit {0}) {b mid : Stand H}
+      → k < length ns → x ≡ get_or ns k x → Ok u ≡ ended e → Word x b e mid → sum_by length name ≡ n → total ≡ n + sum_by length values → AddsValue total (value_in e) values (Ok more) new last
+      → GoesOn w (words_left (behind go name) p ns k (m + k) (name ++ values)) b (words_left (behind go name) p ns (k + 1) (m + (k + 1)) (name ++ new)) mid
+  words_more w go name values new p ns k m n total more x e last u there is value ran at sum adds =
+      let next : m + (k + 1) ≡ m + k + 1 = omega arith in
+      let all : name ++ new ≡ (name ++ values) ++ value_in e ∷ [] = ap (λ y. name ++ y) adds.2 ∙ sym (append_assoc name values (value_in e ∷ [])) in
+      let long = long_of name values (value_in e) n total at sum in
+      let fits : sum_by length ((name ++ values) ++ value_in e ∷ []) ≤ text_limit = omega (arith, long, adds.0, adds.1) in
+      rw (next, all) (word_next w (behind go name) p ns k (m + k) x (name ++ values) e u there is value ran fits)
+
+  refused_by : (w : Bool) (finish : List (List ℕ) → Meaning H) (p : Tree → ℕ) (ns : List Node) (k m n : ℕ) (x : Node) (done : List (List ℕ)) (e out : End) (u : Unit {0}) (t : Bool) {b mid : Stand H}
+      → k < length ns → x ≡ get_or ns k x → Ok u ≡ ended e → Word x b e mid → sum_by length (done ++ value_in e ∷ []) ≡ n → nat_lt text_limit n ≡ t → MatchBool t (Is (Raised too_long) out) (out ≡ end.Memory)
+      → Ran w (words_left finish p ns k m done) b out mid
+  refused_by w finish p ns k m n x done e out u true there is value ran long t fault =
+      let over : text_limit < sum_by length (done ++ value_in e ∷ []) = grind (arith, nat_tests) in
+      word_long w finish p ns k m x done e out u there is value ran over fault
+  refused_by w finish p ns k m n x done e out u false there is value ran long t none = rw none (no_memory _ _ _ _)
+
+  pub words_refused : (w : Bool) (go : List (List ℕ) → Meaning H) (name values new : List (List ℕ)) (p : Tree → ℕ) (ns : List Node) (k m n total : ℕ) (x : Node) (e end : End) (u : Unit {0}) (h : Halted) {b mid : Stand H}
+      → k < length ns → x ≡ get_or ns k x → Ok u ≡ ended e → Word x b e mid → sum_by length name ≡ n → total ≡ n + sum_by length values → AddsValue total (value_in e) values (Err h) new end
+      → Ran w (words_left (behind go name) p ns k (m + k) (name ++ values)) b end mid
+  words_refused w go name values new p ns k m n total x e end u h there is value ran at sum adds =
+      refused_by w (behind go name) p ns k (m + k) (total + length (value_in e)) x (name ++ values) e end u (nat_lt text_limit (total + length (value_in e))) there is value ran
+      (long_of name values (value_in e) n total at sum) refl adds
+
+  all_done : (w : Bool) (m n : Meaning H) (s : Stand H) → m ≡ n → GoesOn w m s n s
+  all_done w m n s is = rw is (goes_self _ _ _)
+
+  pub words_done : (w : Bool) (go : List (List ℕ) → Meaning H) (name values : List (List ℕ)) (p : Tree → ℕ) (ns : List Node) (k m : ℕ) (s : Stand H) → length ns ≤ k
+      → GoesOn w (words_left (behind go name) p ns k m (name ++ values)) s (go values) s
+  words_done w go name values p ns k m s over =
+      rw (drop_all k ns over) (all_done w (behind go name (name ++ values)) (go values) s (ap go (drop-append_seam name values)))
+
+  pub piece_next : (p : Tree → ℕ) (ns : List Node) (k : ℕ) (n : Node) (text : List ℕ) (e : End) (u : Unit {0}) {b mid : Stand H}
+      → k < length ns → n ≡ get_or ns k n → Ok u ≡ ended e → Ran true (eval g i (node_view n)) b e mid → length (text ++ value_in e) ≤ text_limit
+      → GoesOn true (pieces_left p ns k text) b (pieces_left p ns (k + 1) (text ++ value_in e)) mid
+  piece_next p ns k n text e u {b = b} {mid = mid} there is value ran fits = record {
+    closes = λ end last r. record {
+      by = λ path cost acts.
+          let rest = evals g i p (k + 1) (trees_of (nodes_view (drop (k + 1) ns))) in
+          let t : nat_lt text_limit (length (text ++ value_in e)) ≡ false = grind (arith, nat_tests) in
+          rw (split_at ns k n there is)
+          (heard_goes (child p k (node_view n) (eval g i (node_view n)) path (from b cost acts)) (after_piece (in_word told rest) text path) e u mid true end last value (child_by p k (node_view n) ran path cost acts)
+          (λ c a. rw t (r.by path c a)));
+    };
+  }
+
+  pub piece_stops : (p : Tree → ℕ) (ns : List Node) (k : ℕ) (n : Node) (text : List ℕ) (e : End) (h : Halted) {b mid : Stand H}
+      → k < length ns → n ≡ get_or ns k n → Err h ≡ ended e → Ran true (eval g i (node_view n)) b e mid → Ran true (pieces_left p ns k text) b e mid
+  piece_stops p ns k n text e h {b = b} {mid = mid} there is none ran = record {
+    by = λ path cost acts.
+        let rest = evals g i p (k + 1) (trees_of (nodes_view (drop (k + 1) ns))) in
+        rw (split_at ns k n there is)
+        (value_stops true true (child p k (node_view n) (eval g i (node_view n)) path (from b cost acts)) (after_piece (in_word told rest) text path) e h mid none (child_by p k (node_view n) ran path cost acts));
+  }
+
+  pub piece_long : (p : Tree → ℕ) (ns : List Node) (k : ℕ) (n : Node) (text : List ℕ) (e end : End) (u : Unit {0}) {b mid : Stand H}
+      → k < length ns → n ≡ get_or ns k n → Ok u ≡ ended e → Ran true (eval g i (node_view n)) b e mid → text_limit < length (text ++ value_in e) → Is (Raised too_long) end
+      → Ran true (pieces_left p ns k text) b end mid
+  piece_long p ns k n text e end u {b = b} {mid = mid} there is value ran long fault = record {
+    by = λ path cost acts.
+        let rest = evals g i p (k + 1) (trees_of (nodes_view (drop (k + 1) ns))) in
+        let t : nat_lt text_limit (length (text ++ value_in e)) ≡ true = grind (arith, nat_tests) in
+        rw (split_at ns k n there is)
+        (heard_goes (child p k (node_view n) (eval g i (node_view n)) path (from b cost acts)) (after_piece (in_word told rest) text path) e u mid true end mid value (child_by p k (node_view n) ran path cost acts)
+        (λ c a. rw t (is_code true (Raised too_long) end mid c a fault)));
+  }
+
+  piece_refused_by : (p : Tree → ℕ) (ns : List Node) (k : ℕ) (n : Node) (text : List ℕ) (e out : End) (u : Unit {0}) (t : Bool) {b mid : Stand H}
+      → k < length ns → n ≡ get_or ns k n → Ok u ≡ ended e → Ran true (eval g i (node_view n)) b e mid → nat_lt text_limit (length (text ++ value_in e)) ≡ t → MatchBool t (Is (Raised too_long) out) (out ≡ end.Memory)
+      → Ran true (pieces_left p ns k text) b out mid
+  piece_refused_by p ns k n text e out u true there is value ran t fault =
+      let over : text_limit < length (text ++ value_in e) = grind (arith, nat_tests) in
+      piece_long p ns k n text e out u there is value ran over fault
+  piece_refused_by p ns k n text e out u false there is value ran t none = rw none (no_memory _ _ _ _)
+
+  pub piece_refused : (p : Tree → ℕ) (ns : List Node) (k : ℕ) (n : Node) (text new : List ℕ) (e end : End) (u : Unit {0}) (h : Halted) {b mid : Stand H}
+      → k < length ns → n ≡ get_or ns k n → Ok u ≡ ended e → Ran true (eval g i (node_view n)) b e mid → AddsPiece (text ++ value_in e) (Err h) new end → Ran true (pieces_left p ns k text) b end mid
+  piece_refused p ns k n text new e end u h there is value ran adds =
+      piece_refused_by p ns k n text e end u (nat_lt text_limit (length (text ++ value_in e))) there is value ran refl adds
+
+  pub pieces_done : (p : Tree → ℕ) (ns : List Node) (k : ℕ) (text : List ℕ) (s : Stand H) → length ns ≤ k → Ran true (pieces_left p ns k text) s (end.Done (Value text)) s
+  pieces_done p ns k text s over = rw (drop_all k ns over) (record { by = λ path cost acts. at_stand true (Value text) s cost acts })
+
+  -- the only piece of a word
+  long_by : (t : Bool) (v : List ℕ) (out : End) (s : Stand H) (c : ℕ) (a : List Act) → MatchBool t (Is (Raised too_long) out) (out ≡ end.Done (Value v)) → EndsAs true (if t then Ends (Raised too_long) (from s c a) else Ends (Value v) (from s c a)) out s
+  long_by true v out s c a fault = is_code true (Raised too_long) out s c a fault
+  long_by false v out s c a same = rw same (at_stand true (Value v) s c a)
+
+  limit_by : (e out : End) (o : Outcome H) (path : List ℕ) (mid : Stand H) → EndsAs true o e mid → Limited e out → EndsAs true (then_value o (after_piece (in_word told []) [] path)) out mid
+  limit_by (end.Done (Value v)) out o path mid m lim = heard_goes o (after_piece (in_word told []) [] path) (end.Done (Value v)) tt mid true out mid refl m (λ c a. long_by (nat_lt text_limit (length v)) v out mid c a lim)
+  limit_by (end.Done (Raised f)) out o path mid m lim = rw lim (value_stops true true o (after_piece (in_word told []) [] path) (end.Done (Raised f)) (record {}) mid refl m)
+  limit_by (end.Done (Return v)) out o path mid m lim = rw lim (value_stops true true o (after_piece (in_word told []) [] path) (end.Done (Return v)) (record {}) mid refl m)
+  limit_by (end.Done Break) out o path mid m lim = rw lim (value_stops true true o (after_piece (in_word told []) [] path) (end.Done Break) (record {}) mid refl m)
+  limit_by (end.Done Continue) out o path mid m lim = rw lim (value_stops true true o (after_piece (in_word told []) [] path) (end.Done Continue) (record {}) mid refl m)
+  limit_by (end.Waits call) out o path mid m lim = rw lim (value_stops true true o (after_piece (in_word told []) [] path) (end.Waits call) (record {}) mid refl m)
+  limit_by end.Memory out o path mid m lim = rw lim tt
+
+  alone_at : (ns : List Node) (n : Node) → length ns ≡ 1 → n ≡ get_or ns 0 n → ns ≡ n ∷ []
+  alone_at ns n one is =
+      let some : 0 < length ns = omega (arith, one) in
+      let over : length ns ≤ 1 = omega (arith, one) in
+      split_at ns 0 n some is ∙ ap (λ x. n ∷ x) (drop_all 1 ns over)
+
+  alone_by : (p : Tree → ℕ) (n : Node) (e out : End) {b mid : Stand H} → Ran true (eval g i (node_view n)) b e mid → Limited e out → Ran true (pieces_left p (n ∷ []) 0 []) b out mid
+  alone_by p n e out {b = b} {mid = mid} ran lim = record {
+    by = λ path cost acts. limit_by e out (child p 0 (node_view n) (eval g i (node_view n)) path (from b cost acts)) path mid (child_by p 0 (node_view n) ran path cost acts) lim;
+  }
+
+  pub piece_alone : (p : Tree → ℕ) (ns : List Node) (n : Node) (e out : End) {b mid : Stand H} → length ns ≡ 1 → n ≡ get_or ns 0 n → Ran true (eval g i (node_view n)) b e mid → Limited e out → Ran true (pieces_left p ns 0 []) b out mid
+  piece_alone p ns n e out {b = b} {mid = mid} one is ran lim =
+      subst (λ x. Ran true (pieces_left p x 0 []) b out mid) (sym (alone_at ns n one is)) (alone_by p n e out ran lim)
+
+module _ {H : Type 0} where
+  -- what is done with a word, where its text was told
+  piece_by : (b : Bool) (f : TclFault) (st : State H) (x y : Outcome H) (go : List ℕ → State H → Outcome H) → x ≡ then_value y go → (if b then Ends (Raised f) st else x) ≡ then_value (if b then Ends (Raised f) st else y) go
+  piece_by true f st x y go h = refl
+  piece_by false f st x y go h = h
+
+  pieces_by : (o : Outcome H) (finish : List ℕ → Meaning H) (ms : List (Meaning H)) (text path : List ℕ) → ((more : List ℕ) (st : State H) → in_word finish ms more path st ≡ then_value (in_word told ms more path st) (λ v t. finish v path t))
+      → then_value o (after_piece (in_word finish ms) text path) ≡ then_value (then_value o (after_piece (in_word told ms) text path)) (λ v t. finish v path t)
+  pieces_by (Ends (Value v) st) finish ms text path h =
+      piece_by (nat_lt text_limit (length (text ++ v))) too_long st (in_word finish ms (text ++ v) path st) (in_word told ms (text ++ v) path st) (λ v t. finish v path t) (h (text ++ v) st)
+  pieces_by (Ends (Raised f) st) finish ms text path h = refl
+  pieces_by (Ends (Return v) st) finish ms text path h = refl
+  pieces_by (Ends Break st) finish ms text path h = refl
+  pieces_by (Ends Continue st) finish ms text path h = refl
+  pieces_by (Waits p call st) finish ms text path h = refl
+
+  told_then : (finish : List ℕ → Meaning H) (ms : List (Meaning H)) (text path : List ℕ) (st : State H) → in_word finish ms text path st ≡ then_value (in_word told ms text path st) (λ v t. finish v path t)
+  told_then finish [] text path st = refl
+  told_then finish (m ∷ ms) text path st = pieces_by (m path st) finish ms text path (λ more u. told_then finish ms more path u)
+
+  pub word_made : (finish : List ℕ → Meaning H) (ms : List (Meaning H)) (e end : End) (u : Unit {0}) {b mid : Stand H} → Ok u ≡ ended e → Ran true (in_word told ms []) b e mid
+      → ((path : List ℕ) (c : ℕ) (a : List Act) → EndsAs true (finish (value_in e) path (from mid c a)) end mid) → Ran true (in_word finish ms []) b end mid
+  word_made finish ms e end u {b = b} {mid = mid} value ran h = record {
+    by = λ path cost acts. rw (told_then finish ms [] path (from b cost acts))
+        (heard_goes (in_word told ms [] path (from b cost acts)) (λ v t. finish v path t) e u mid true end mid value (ran.by path cost acts) (h path));
+  }
+
+  pub word_halts : (finish : List ℕ → Meaning H) (ms : List (Meaning H)) (e : End) (h : Halted) {b mid : Stand H} → Err h ≡ ended e → Ran true (in_word told ms []) b e mid → Ran true (in_word finish ms []) b e mid
+  word_halts finish ms e h {b = b} {mid = mid} none ran = record {
+    by = λ path cost acts. rw (told_then finish ms [] path (from b cost acts))
+        (value_stops true true (in_word told ms [] path (from b cost acts)) (λ v t. finish v path t) e h mid none (ran.by path cost acts));
+  }

@@ -1,0 +1,44 @@
+// `switch`.
+
+ghost use Rattle.std.specs.Prelude.{◌≡◌};
+ghost use Rattle.tcl_compile.specs.Tree.{switch, trees_of};
+ghost use Rattle.tcl_compile.specs.TreeView.{nodes_view};
+ghost use Rattle.plain_eval.specs.End.{ended};
+ghost use Rattle.plain_eval.specs.Ran.{Evaluates};
+
+use crate::context::Context;
+use crate::host::PlainHost;
+use crate::run::{Halts, Run};
+use crate::tree::eval_tree;
+use crate::words::eval_words;
+use rule_steps::{first_body, hit_of};
+use tcl_compile::Node;
+
+/// Options, the text and the patterns, and then the body of the case that is hit.
+#[inline(never)]
+#[cycle(plain)]
+pub(crate) fn eval_switch<H: PlainHost>(
+    context: &Context<'_, H::Env>,
+    levels: usize,
+    front: usize,
+    words: &[Node],
+    bodies: &[Node],
+    wanted: bool,
+    run: &mut Run<'_>,
+    host: &mut H,
+) -> Halts
+    ensures ended { result ≡ ended run.new.end }
+    ensures ran { let words = trees_of (nodes_view words.now) in
+        let tree = switch front words (trees_of (nodes_view bodies.now)) in
+        Evaluates H.table context.now wanted tree run.old host.old run.new host.new }
+{
+    let words = eval_words(context, levels, b"switch".len(), words, run, host)?;
+    let hit = hit_of(context.alloc, front, words.as_slice());
+    let Some(number) = run.kept(hit)? else {
+        return run.nothing(context.alloc);
+    };
+    match first_body(bodies, number) {
+        Some(body) => eval_tree(context, levels, body, wanted, run, host),
+        None => run.nothing(context.alloc),
+    }
+}

@@ -1,0 +1,3 @@
+pub mod Hits
+pub mod Prefixes
+pub mod Numbers

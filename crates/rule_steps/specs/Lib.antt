@@ -1,0 +1,9 @@
+pub mod GivesAs
+pub mod Values
+pub mod Operators
+pub mod Rows
+pub mod Choice
+pub mod Parts
+pub mod Calls
+pub mod Own
+pub mod Goes

@@ -1,0 +1,25 @@
+//! What one node of a rule's tree does with the values of its children: calls on plain values, which
+//! every evaluator shares.
+#![tactic(auto)]
+
+mod calls;
+mod caught;
+mod choice;
+mod expression;
+mod goes;
+mod operators;
+mod own;
+mod rows;
+mod values;
+mod word_parts;
+
+pub use calls::{Call, bound, code_left, set_parameters, too_deep};
+pub use caught::{catch_code, code_number, code_text, is_caught};
+pub use choice::{first_body, hit_of};
+pub use expression::read_expression;
+pub use goes::{Goes, after_body, after_next};
+pub use operators::{decide, joint_text, prefixed, truth_of, truth_text, whole_text};
+pub use own::{code_of_reply, coded, is_own, own_command};
+pub use rows::{Row, most_turns, rows_of, set_turn};
+pub use values::{element, literal, variable};
+pub use word_parts::parts;
