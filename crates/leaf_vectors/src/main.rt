@@ -1,4 +1,4 @@
-//! Answers questions about data groups, pools and the store, one a line. `README.md` has the form
+//! Answers questions about data groups, pools, tables and the store, one a line. `README.md` has the form
 //! of the lines.
 #![tactic(auto)]
 
@@ -6,7 +6,9 @@ mod groups;
 mod pool_calls;
 mod pool_words;
 mod read;
+mod record_calls;
 mod store;
+mod table_calls;
 mod write;
 
 use px_bytes::{M, Text};
@@ -40,6 +42,9 @@ fn answer(alloc: Global, words: &[&str]) -> M<Option<Text>> {
     match words {
         ["pool", question @ ..] => pool_calls::answer(alloc, question),
         ["store", question @ ..] => store::answer(alloc, question),
+        ["table", question @ ..] => table_calls::answer(alloc, question),
+        ["check_words", question @ ..] => table_calls::check_answer(alloc, question),
+        ["records", question @ ..] => record_calls::answer(alloc, question),
         [call, question @ ..] => groups::answer(alloc, call, question),
         [] => Ok(None),
     }

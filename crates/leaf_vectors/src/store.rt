@@ -2,16 +2,22 @@
 
 use crate::pool_words::read_pool;
 use crate::read::{address, read_text};
-use crate::write::{hexadecimal, plain, truth};
-use px_bytes::{M, Reply, Text, Texts};
-use shared_store::{NamedPool, Pools, Store, VirtualTimes};
+use crate::write::{hexadecimal, plain, spaced, truth};
+use px_bytes::{M, Reply, Text, Texts, read_decimal};
+use shared_store::{NamedPool, Pools, Store, VirtualTime, VirtualTimes};
 use std::alloc::Global;
 
 /// The name of the one pool of such a store.
 const POOL: &[u8] = b"p";
 
-/// A store with the pool `p` of the words before `/`, and behind it one call: its words as texts, or
-/// `up` or `down` and an address behind it, which mark a member first.
+/// The name of its one virtual server, and for how many seconds that keeps members.
+const SERVER: &[u8] = b"s";
+
+const TIMEOUT: u32 = 180;
+
+/// A store with the pool `p` of the words before `/`, and behind it its calls, with `;` between. A call
+/// is its words as texts; `up` or `down` and an address, which mark a member; or `at` and a moment, at
+/// which the further calls come.
 pub fn answer(alloc: Global, words: &[&str]) -> M<Option<Text>> {
     let Some(slash) = words.iter().position(|word| *word == "/") else {
         return Ok(None);
@@ -31,29 +37,44 @@ fn read_store(alloc: Global, words: &[&str]) -> M<Option<Store>> {
         name: Text::new(alloc, POOL)?,
         pool,
     })?;
-    Ok(Some(Store::new(pools, VirtualTimes::new(alloc))))
+    let mut virtuals = VirtualTimes::new(alloc);
+    virtuals.push(VirtualTime {
+        name: Text::new(alloc, SERVER)?,
+        by_source: true,
+        timeout: TIMEOUT,
+    })?;
+    Ok(Some(Store::new(alloc, pools, virtuals)))
 }
 
-// The answers of calls with `;` behind each, one blank between.
+// The answers of the calls, one blank between; `at` has none.
 fn calls(alloc: Global, store: &mut Store, words: &[&str]) -> M<Option<Text>> {
     let mut out = Text::empty(alloc);
+    let mut moment = 0;
     for call in words.split(|word| *word == ";") {
-        let Some(answer) = call_answer(alloc, store, call)? else {
+        if let Some(later) = moment_of(call) {
+            moment = later;
+            continue;
+        }
+        let Some(answer) = call_answer(alloc, store, call, moment)? else {
             return Ok(None);
         };
-        if out.len() > 0 {
-            out.push(b" ")?;
-        }
-        out.push(answer.as_bytes())?;
+        spaced(&mut out, &answer)?;
     }
     Ok(Some(out))
 }
 
-fn call_answer(alloc: Global, store: &mut Store, words: &[&str]) -> M<Option<Text>> {
+fn moment_of(call: &[&str]) -> Option<u64> {
+    match call {
+        ["at", moment] => read_decimal(moment.as_bytes(), 1 << 53),
+        _ => None,
+    }
+}
+
+fn call_answer(alloc: Global, store: &mut Store, words: &[&str], moment: u64) -> M<Option<Text>> {
     match words {
         ["up", member] => mark_answer(alloc, store, member, true),
         ["down", member] => mark_answer(alloc, store, member, false),
-        _ => reply_answer(alloc, store, words),
+        _ => reply_answer(alloc, store, words, moment),
     }
 }
 
@@ -64,7 +85,7 @@ fn mark_answer(alloc: Global, store: &mut Store, member: &str, up: bool) -> M<Op
     }
 }
 
-fn reply_answer(alloc: Global, store: &mut Store, words: &[&str]) -> M<Option<Text>> {
+fn reply_answer(alloc: Global, store: &mut Store, words: &[&str], moment: u64) -> M<Option<Text>> {
     let mut call = Texts::new(alloc);
     for word in words {
         let Some(text) = read_text(alloc, word)? else {
@@ -72,7 +93,7 @@ fn reply_answer(alloc: Global, store: &mut Store, words: &[&str]) -> M<Option<Te
         };
         call.push(text)?;
     }
-    match store.answer(alloc, &call, 0)? {
+    match store.answer(alloc, &call, moment)? {
         Reply::Ok(text) => hexadecimal(alloc, &text),
         Reply::Fault(_) => plain(alloc, "fault"),
     }

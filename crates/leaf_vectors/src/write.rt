@@ -1,6 +1,6 @@
 // Answers as they stand in a line.
 
-use px_bytes::{M, Text, print_hex};
+use px_bytes::{M, Reply, TclFault, Text, print_hex};
 use std::alloc::Global;
 
 /// The most bytes of a text that an answer writes out.
@@ -36,4 +36,37 @@ pub fn hexadecimal(alloc: Global, text: &Text) -> M<Option<Text>> {
     }
     let length = format!(in alloc; "#{}", text.len())?;
     Ok(Some(Text::from_vec(length.into_bytes())))
+}
+
+/// A further answer behind others, with one blank between.
+pub fn spaced(out: &mut Text, answer: &Text) -> M<()> {
+    if out.len() > 0 {
+        out.push(b" ")?;
+    }
+    out.push(answer.as_bytes())
+}
+
+/// `ok=` and a text, or `fault=`, the number of its kind and its text.
+pub fn reply_of(alloc: Global, reply: &Reply) -> M<Text> {
+    match reply {
+        Reply::Ok(text) => joined(alloc, "ok=", text),
+        Reply::Fault(fault) => {
+            let kind = format!(in alloc; "fault={},", fault.kind as u32)?;
+            joined(alloc, &kind, &fault.text)
+        }
+    }
+}
+
+/// `fault`, the number of its kind and its text.
+pub fn fault_of(alloc: Global, fault: &TclFault) -> M<Text> {
+    let kind = format!(in alloc; "fault {} ", fault.kind as u32)?;
+    joined(alloc, &kind, &fault.text)
+}
+
+fn joined(alloc: Global, front: &str, text: &Text) -> M<Text> {
+    let mut out = Text::new(alloc, front.as_bytes())?;
+    if let Some(text) = hexadecimal(alloc, text)? {
+        out.push(text.as_bytes())?;
+    }
+    Ok(out)
 }

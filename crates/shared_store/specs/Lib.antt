@@ -1,4 +1,4 @@
 pub mod Addresses
+pub mod Sources
 pub mod Calls
-pub mod Rows
 pub mod Store

@@ -4,22 +4,29 @@ use Rattle.std.specs.Prelude.{ℕ, Bool, false, List, [], Option, Some, None, fi
 use Rattle.std.specs.List.{list_any}
 use Rattle.std.specs.Str.{bytes_eq}
 use Rattle.px_bytes.specs.declared.addr.Addr.{Addr}
+use Rattle.persistence.specs.Records.{live}
+use Rattle.persistence.specs.declared.record.Record.{Record}
 use Rattle.pools.specs.First.{with_first}
 use Rattle.pools.specs.Pools.{PoolState, has_addr, with_mark}
-use Rattle.shared_store.specs.Rows.{SessionRow, SourceRecord}
+use Rattle.session_table.specs.Tables.{TableState, expired, new_table}
 use Rattle.shared_store.specs.declared.named.NamedPool.{NamedPool}
 use Rattle.shared_store.specs.declared.named.VirtualTime.{VirtualTime}
 
--- The rows of the session table and the records of source addresses are lists from which what has
--- run out is left out; nothing makes one yet.
 pub record StoreState : Type 0 where
-  pub rows : List SessionRow
-  pub records : List SourceRecord
+  pub table : TableState
+  pub records : List Record
   pub pools : List NamedPool
   pub virtuals : List VirtualTime
 
+-- the session table has at most 65,536 live rows
 abbrev pub new_store : List NamedPool → List VirtualTime → StoreState
-new_store pools virtuals = record { rows = []; records = []; pools = pools; virtuals = virtuals }
+new_store pools virtuals =
+    record { table = new_table 65536; records = []; pools = pools; virtuals = virtuals }
+
+-- rows and records that have run out at a moment are gone for good
+abbrev pub at_moment : ℕ → StoreState → StoreState
+at_moment moment store =
+    record store { table = expired moment store.table; records = live moment store.records }
 
 abbrev pub has_name : List ℕ → NamedPool → Bool
 has_name name named = bytes_eq name named.name

@@ -3,6 +3,7 @@
 
 mod named;
 mod named_pools;
+mod source;
 mod store;
 mod words;
 

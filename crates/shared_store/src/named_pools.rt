@@ -1,10 +1,10 @@
 // Pools with their names.
 
-ghost use Rattle.std.specs.Prelude.{◌≡◌, ◌++◌, ◌<◌, [], ◌∷◌, length, List, map, option_map};
+ghost use Rattle.std.specs.Prelude.{◌≡◌, ◌++◌, ◌<◌, [], ◌∷◌, length, List, option_map};
 ghost use Rattle.std.specs.Prelude.{slice_get};
 ghost use Rattle.std.specs.Prelude.{OnOk, OnErr, IfSome, position};
 ghost use Rattle.std.specs.Option.{option_copied};
-ghost use Rattle.pools.specs.Pools.{PoolState, with_mark};
+ghost use Rattle.pools.specs.Pools.{with_mark};
 ghost use Rattle.pools.specs.Selection.{after_selection};
 ghost use Rattle.shared_store.specs.Store.{has_member, has_name, pool_of, with_pool};
 ghost use Rattle.shared_store.specs.declared.named.NamedPool.{NamedPool};

@@ -1,21 +1,33 @@
 // The store that all connections share.
 
 ghost use Rattle.std.specs.Prelude.{◌≡◌, [], IfOk, OnOk, OnErr};
+ghost use Rattle.std.specs.Fmt.{decimal};
 ghost use Rattle.px_bytes.specs.declared.fault.Reply.TheVariants.{Ok as Replied};
-ghost use Rattle.shared_store.specs.Calls.{active_members, member_text, reply, select};
-ghost use Rattle.shared_store.specs.Calls.{selected_addr};
-ghost use Rattle.shared_store.specs.Store.{StoreState, has_member, marked, new_store, pool_of};
+ghost use Rattle.shared_store.specs.Calls.{active_members, by_source, chosen, clock, live_reply};
+ghost use Rattle.shared_store.specs.Calls.{member_text, reply, select, select_any, select_by};
+ghost use Rattle.shared_store.specs.Calls.{select_wanted, selected_addr, table, up_member};
+ghost use Rattle.shared_store.specs.Sources.{source_in};
+ghost use Rattle.shared_store.specs.Store.{StoreState, at_moment, has_member, marked, new_store};
+ghost use Rattle.shared_store.specs.Store.{pool_of};
 
-use crate::words::wanted_of;
+use crate::source::{Source, source_of};
+use crate::words::{Call, call_of, wanted_of};
 use crate::{Pools, VirtualTimes};
+use persistence::{Record, Records};
 use pools::{Pool, Wanted};
 use px_bytes::{Addr, M, Reply, Text, Texts, print_addr};
+use session_table::Table;
 use std::alloc::Global;
 use std::marker::Model;
 
-/// Pools, and what is kept for the virtual servers.
+// The most live rows of the session table.
+const ROW_LIMIT: u32 = 65_536;
+
+/// The session table, the records of source addresses, pools, and the times of virtual servers.
 #[derive(Drop)]
 pub struct Store {
+    table: Table,
+    records: Records,
     pools: Pools,
     virtuals: VirtualTimes,
 }
@@ -23,35 +35,45 @@ pub struct Store {
 impl Model for Store {
     ghost Value = { StoreState };
 
-    ghost view = { λ s. new_store s.pools s.virtuals };
+    ghost view = { λ s. record {
+      table = s.table;
+      records = s.records;
+      pools = s.pools;
+      virtuals = s.virtuals;
+    } };
 }
 
 impl Store {
-    /// A store without rows and records. It takes no memory.
-    pub fn new(pools: Pools, virtuals: VirtualTimes) -> Store
+    /// A store without rows and records, which takes no memory.
+    pub fn new(alloc: Global, pools: Pools, virtuals: VirtualTimes) -> Store
         ensures { result ≡ new_store pools virtuals }
     {
-        Store { pools, virtuals }
+        Store {
+            table: Table::new(alloc, ROW_LIMIT),
+            records: Records::new(alloc),
+            pools,
+            virtuals,
+        }
     }
 
-    /// The reply to a call at a moment. What isn't a call, or names a pool that isn't there, has an
-    /// empty reply and changes nothing.
+    /// Takes away the rows and records that aren't live at a moment, and takes no memory.
+    pub fn expire(&mut self, moment: u64)
+        ensures { self.new ≡ at_moment moment self.old }
+    {
+        self.table.expire(moment);
+        self.records.expire(moment);
+    }
+
+    /// The reply to a call at a moment, in milliseconds. Rows and records that aren't live at it are
+    /// gone, also where memory is refused. What isn't a call, or names a pool that isn't there, has an
+    /// empty reply and changes nothing else.
     pub fn answer(&mut self, alloc: Global, call: &Texts, moment: u64) -> M<Reply>
         ensures reply { IfOk result (λ r. r ≡ (reply self.old moment call.now).reply) }
         ensures after { OnOk result (self.new ≡ (reply self.old moment call.now).after) }
-        ensures err { OnErr result (self.new ≡ self.old) }
+        ensures err { OnErr result (self.new ≡ at_moment moment self.old) }
     {
-        let _ = moment;
-        let [name, words @ ..] = call.as_slice() else {
-            return Ok(no_reply(alloc));
-        };
-        if name.as_bytes() == b"active_members".as_slice() {
-            return self.active_members(alloc, words);
-        }
-        if name.as_bytes() == b"select".as_slice() {
-            return self.select(alloc, words);
-        }
-        Ok(no_reply(alloc))
+        self.expire(moment);
+        self.live_reply(alloc, call.as_slice(), moment)
     }
 
     /// Marks a member of a pool up or down, where there is one. It takes no memory.
@@ -62,6 +84,24 @@ impl Store {
         self.pools.mark(pool, member, up)
     }
 
+    // The reply to a call where all is live.
+    fn live_reply(&mut self, alloc: Global, call: &[Text], moment: u64) -> M<Reply>
+        ensures reply { IfOk result (λ r. r ≡ (live_reply self.old moment call.now).reply) }
+        ensures after { OnOk result (self.new ≡ (live_reply self.old moment call.now).after) }
+        ensures err { OnErr result (self.new ≡ self.old) }
+    {
+        let [name, words @ ..] = call else {
+            return Ok(no_reply(alloc));
+        };
+        match call_of(name.as_bytes()) {
+            Call::ActiveMembers => self.active_members(alloc, words),
+            Call::Select => self.select(alloc, words, moment),
+            Call::Table => self.table(alloc, words, moment),
+            Call::Clock => self.clock(alloc, words, moment),
+            Call::Other => Ok(no_reply(alloc)),
+        }
+    }
+
     // `active_members POOL`
     fn active_members(&self, alloc: Global, words: &[Text]) -> M<Reply>
         ensures { IfOk result (λ r. r ≡ (active_members words.now self.now).reply) }
@@ -70,31 +110,153 @@ impl Store {
             return Ok(no_reply(alloc));
         };
         match self.pools.find(name.as_bytes()) {
-            Some(pool) => {
-                let count = format!(in alloc; "{}", pool.up_count())?;
-                Ok(Reply::Ok(Text::from_vec(count.into_bytes())))
-            }
+            Some(pool) => number_reply(alloc, u64::from(pool.up_count())),
             None => Ok(no_reply(alloc)),
         }
     }
 
-    // `select VIRTUAL POOL IP` and what is wanted
-    fn select(&mut self, alloc: Global, words: &[Text]) -> M<Reply>
-        ensures reply { IfOk result (λ r. r ≡ (select words.now self.old).reply) }
-        ensures after { OnOk result (self.new ≡ (select words.now self.old).after) }
+    // `table` and its words
+    fn table(&mut self, alloc: Global, words: &[Text], moment: u64) -> M<Reply>
+        ensures reply { IfOk result (λ r. r ≡ (table words.now moment self.old).reply) }
+        ensures after { OnOk result (self.new ≡ (table words.now moment self.old).after) }
         ensures err { OnErr result (self.new ≡ self.old) }
     {
+        self.table.reply(alloc, words, moment)
+    }
+
+    // `clock seconds`
+    fn clock(&self, alloc: Global, words: &[Text], moment: u64) -> M<Reply>
+        ensures { IfOk result (λ r. r ≡ (clock words.now moment self.now).reply) }
+    {
+        match words {
+            [word] if word.as_bytes() == b"seconds".as_slice() => {
+                number_reply(alloc, moment / 1000)
+            }
+            _ => Ok(no_reply(alloc)),
+        }
+    }
+
+    // `select VIRTUAL POOL IP` and what is wanted
+    fn select(&mut self, alloc: Global, words: &[Text], moment: u64) -> M<Reply>
+        ensures reply { IfOk result (λ r. r ≡ (select words.now moment self.old).reply) }
+        ensures after { OnOk result (self.new ≡ (select words.now moment self.old).after) }
+        ensures err { OnErr result (self.new ≡ self.old) }
+    {
+        let source = self.source(words);
         let [_virtual, name, _ip, wanted @ ..] = words else {
             return Ok(no_reply(alloc));
         };
-        let (Some(pool), Some(wanted)) = (self.pools.find(name.as_bytes()), wanted_of(wanted))
-        else {
+        self.select_by(alloc, name.as_bytes(), source, wanted_of(wanted), moment)
+    }
+
+    // The client's address of `VIRTUAL POOL IP ..`, where the virtual server keeps members.
+    fn source(&self, words: &[Text]) -> Option<Source>
+        ensures { result ≡ source_in words.now self.now.virtuals }
+    {
+        match words {
+            [name, _pool, ip, ..] => source_of(&self.virtuals, name.as_bytes(), ip.as_bytes()),
+            _ => None,
+        }
+    }
+
+    fn select_by(
+        &mut self,
+        alloc: Global,
+        name: &[u8],
+        source: Option<Source>,
+        wanted: Option<Wanted>,
+        moment: u64,
+    ) -> M<Reply>
+        ensures reply { let pool = pool_of name.now self.old.pools in
+            IfOk result (λ r. r
+            ≡ (select_by name.now pool source wanted moment self.old).reply) }
+        ensures after { let pool = pool_of name.now self.old.pools in
+            OnOk result (self.new
+            ≡ (select_by name.now pool source wanted moment self.old).after) }
+        ensures err { OnErr result (self.new ≡ self.old) }
+    {
+        match wanted {
+            Some(Wanted::Any) => self.select_any(alloc, name, source, moment),
+            Some(Wanted::Wish(addr)) => self.select_wanted(alloc, name, Wanted::Wish(addr)),
+            Some(Wanted::Only(addr)) => self.select_wanted(alloc, name, Wanted::Only(addr)),
+            None => Ok(no_reply(alloc)),
+        }
+    }
+
+    fn select_any(
+        &mut self,
+        alloc: Global,
+        name: &[u8],
+        source: Option<Source>,
+        moment: u64,
+    ) -> M<Reply>
+        ensures reply { let pool = pool_of name.now self.old.pools in
+            IfOk result (λ r. r ≡ (select_any name.now pool source moment self.old).reply) }
+        ensures after { let pool = pool_of name.now self.old.pools in
+            OnOk result (self.new ≡ (select_any name.now pool source moment self.old).after) }
+        ensures err { OnErr result (self.new ≡ self.old) }
+    {
+        match source {
+            Some(source) => self.select_by_source(alloc, name, source, moment),
+            None => self.select_wanted(alloc, name, Wanted::Any),
+        }
+    }
+
+    // A selection that no record bears on.
+    fn select_wanted(&mut self, alloc: Global, name: &[u8], wanted: Wanted) -> M<Reply>
+        ensures reply { IfOk result (λ r. r
+            ≡ (select_wanted name.now (pool_of name.now self.old.pools) wanted self.old).reply) }
+        ensures after { OnOk result (self.new
+            ≡ (select_wanted name.now (pool_of name.now self.old.pools) wanted self.old).after) }
+        ensures err { OnErr result (self.new ≡ self.old) }
+    {
+        let Some(pool) = self.pools.find(name) else {
             return Ok(no_reply(alloc));
         };
         let text = member_text(alloc, selected_addr(pool, wanted))?;
-        self.pools.select(name.as_bytes(), wanted);
+        self.pools.select(name, wanted);
         Ok(Reply::Ok(text))
     }
+
+    // A selection for a client's address: its record answers where the member is up, else what is
+    // selected is kept.
+    fn select_by_source(
+        &mut self,
+        alloc: Global,
+        name: &[u8],
+        source: Source,
+        moment: u64,
+    ) -> M<Reply>
+        ensures reply { IfOk result (λ r. r ≡ (by_source name.now
+            (pool_of name.now self.old.pools) source moment self.old).reply) }
+        ensures after { OnOk result (self.new ≡ (by_source name.now
+            (pool_of name.now self.old.pools) source moment self.old).after) }
+        ensures err { OnErr result (self.new ≡ self.old) }
+    {
+        let Some(pool) = self.pools.find(name) else {
+            return Ok(no_reply(alloc));
+        };
+        let held = self.records.find(source.virtual_server, source.ip);
+        if let Some(member) = up_member(pool, held) {
+            let text = print_addr(alloc, member)?;
+            self.records.keep(chosen(source, member, moment))?;
+            return Ok(Reply::Ok(text));
+        }
+        let selected = selected_addr(pool, Wanted::Any);
+        let text = member_text(alloc, selected)?;
+        if let Some(member) = selected {
+            self.records.keep(chosen(source, member, moment))?;
+        }
+        self.pools.select(name, Wanted::Any);
+        Ok(Reply::Ok(text))
+    }
+}
+
+fn number_reply(alloc: Global, number: u64) -> M<Reply>
+    ensures { IfOk result (λ r. r ≡ Replied (decimal number)) }
+{
+    let text = format!(in alloc; "{number}")?;
+    Ok(Reply::Ok(Text::from_vec(text.into_bytes())))
 }
 
 fn no_reply(alloc: Global) -> Reply
@@ -108,6 +270,27 @@ fn selected_addr(pool: &Pool, wanted: Wanted) -> Option<Addr>
     ensures { result ≡ selected_addr pool.now wanted }
 {
     pool.member(pool.peek(wanted)?)
+}
+
+// A member, where it is in the pool and up.
+fn up_member(pool: &Pool, member: Option<Addr>) -> Option<Addr>
+    ensures { result ≡ up_member pool.now member }
+{
+    let member = member?;
+    pool.peek(Wanted::Only(member)).map(|_| member)
+}
+
+// The record of a choice.
+fn chosen(source: Source, member: Addr, moment: u64) -> Record
+    ensures { result ≡ chosen source member moment }
+{
+    Record {
+        virtual_server: source.virtual_server,
+        ip: source.ip,
+        member,
+        timeout: source.timeout,
+        touched: moment,
+    }
 }
 
 fn member_text(alloc: Global, addr: Option<Addr>) -> M<Text>

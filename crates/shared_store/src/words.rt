@@ -2,10 +2,38 @@
 
 ghost use Rattle.std.specs.Prelude.{◌≡◌};
 ghost use Rattle.shared_store.specs.Addresses.{addr_of};
-ghost use Rattle.shared_store.specs.Calls.{wanted_by, wanted_of};
+ghost use Rattle.shared_store.specs.Calls.{call_of, wanted_by, wanted_of};
 
 use pools::Wanted;
 use px_bytes::{Addr, Text, read_addr};
+
+/// Which shared call a list of words is.
+#[derive(Clone, Copy, Debug, PartialEq, Eq)]
+pub(crate) enum Call {
+    ActiveMembers,
+    Select,
+    Table,
+    Clock,
+    Other,
+}
+
+pub(crate) fn call_of(name: &[u8]) -> Call
+    ensures { result ≡ call_of name.now }
+{
+    if name == b"active_members".as_slice() {
+        return Call::ActiveMembers;
+    }
+    if name == b"select".as_slice() {
+        return Call::Select;
+    }
+    if name == b"table".as_slice() {
+        return Call::Table;
+    }
+    if name == b"clock".as_slice() {
+        return Call::Clock;
+    }
+    Call::Other
+}
 
 /// What `any`, `wish ADDR` or `only ADDR` asks for.
 pub(crate) fn wanted_of(words: &[Text]) -> Option<Wanted>

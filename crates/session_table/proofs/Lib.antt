@@ -1,0 +1,6 @@
+pub mod Lives
+pub mod Counters
+pub mod Faults
+pub mod SortedKeys
+pub mod OnceKeys
+pub mod Places

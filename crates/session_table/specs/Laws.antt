@@ -1,0 +1,93 @@
+-- What holds of rows and calls.
+use Rattle.std.specs.Prelude.{◌≡◌, ℕ, ◌+◌, ◌*◌, ◌^◌, ◌≤◌, ◌<◌, pos, Bool, true, false, List, []}
+use Rattle.std.specs.Prelude.{◌∷◌, length, Option, Some, None, Result, Ok, Err, nat_lt}
+use Rattle.std.specs.Prelude.{sum_by, if◌then◌else◌}
+use Rattle.std.specs.Cmp.Lexicographic.{slice_cmp}
+use Rattle.std.specs.List.{list_any}
+use Rattle.std.specs.List.Sorted.{IsSortedBy}
+use Rattle.std.specs.Ordering.{is_lt, nat_cmp}
+use Rattle.std.specs.Str.{bytes_eq}
+use Rattle.px_bytes.specs.Gives.{with_value}
+use Rattle.px_bytes.specs.Whole.{whole}
+use Rattle.px_bytes.specs.declared.fault.TclFault.{TclFault}
+use Rattle.session_table.specs.Answers.{kept, touched}
+use Rattle.session_table.specs.Rows.{is_live, is_of}
+use Rattle.session_table.specs.Tables.{TableState, after, keys_in, live_served}
+use Rattle.session_table.specs.declared.request.Act.TheVariants.{Incr}
+use Rattle.session_table.specs.declared.row.Row.{Row}
+
+-- to touch a row never shortens its life
+abbrev pub TouchNeverShortens : Type 0
+TouchNeverShortens = (row : Row) (moment later : ℕ) → row.touched ≤ moment
+    → is_live later row ≡ true → is_live later (touched true moment row) ≡ true
+
+-- the moment at which what began at another ends
+abbrev pub end_of : Option ℕ → ℕ → Option ℕ
+end_of None since = None
+end_of (Some seconds) since = Some (since + 1000 * seconds)
+
+abbrev pub earlier : Option ℕ → Option ℕ → Option ℕ
+earlier None b = b
+earlier (Some a) None = Some a
+earlier (Some a) (Some b) = Some (if nat_lt a b then a else b)
+
+abbrev pub deadline : Row → Option ℕ
+deadline row =
+    earlier (end_of row.times.timeout row.touched) (end_of row.times.lifetime row.created)
+
+abbrev pub is_before : ℕ → Option ℕ → Bool
+is_before moment None = true
+is_before moment (Some end) = nat_lt moment end
+
+-- a row is live exactly up to its deadline
+abbrev pub LivesToDeadline : Type 0
+LivesToDeadline = (row : Row) (moment : ℕ) → is_live moment row ≡ is_before moment (deadline row)
+
+-- none of the rows stands under the key of this one
+abbrev pub StandsAlone : Row → List Row → Type 0
+StandsAlone row [] = Unit {0}
+StandsAlone row (other ∷ rows) =
+    (is_of row.subtable row.key other ≡ false) × StandsAlone row rows
+
+-- no two rows stand under one key
+abbrev pub KeysAreOnce : List Row → Type 0
+KeysAreOnce [] = Unit {0}
+KeysAreOnce (row ∷ rows) = StandsAlone row rows × KeysAreOnce rows
+
+abbrev pub KeysStayOnce : Type 0
+KeysStayOnce = (table : TableState) (moment : ℕ) (words : List (List ℕ))
+    → KeysAreOnce table.rows → KeysAreOnce (after table moment words).rows
+
+-- how often a key stands among keys
+abbrev pub times : List ℕ → List (List ℕ) → ℕ
+times key keys = sum_by (λ other. if bytes_eq key other then 1 else 0) keys
+
+-- the keys of a subtable are sorted, and each key of a row stands there once
+abbrev pub KeysAreSorted : Type 0
+KeysAreSorted = (subtable : List ℕ) (rows : List Row)
+    → IsSortedBy (λ x y. is_lt (slice_cmp nat_cmp x y)) (keys_in subtable rows)
+
+abbrev pub KeysAreAll : Type 0
+KeysAreAll = (subtable key : List ℕ) (rows : List Row) → KeysAreOnce rows
+    → times key (keys_in subtable rows)
+    ≡ (if list_any (is_of subtable key) rows then 1 else 0)
+
+-- a row after an `incr` at each of these moments
+abbrev pub counted : Bool → List ℕ → Row → Result Row TclFault
+counted touches [] row = Ok row
+counted touches (moment ∷ moments) row =
+    with_value (kept touches (Incr false (pos 1)) moment row)
+    (λ k. counted touches moments k.1)
+
+-- a counter that is incremented n times has its start and n
+abbrev pub CountersCount : Type 0
+CountersCount = (touches : Bool) (moments : List ℕ) (row : Row) (start : ℕ)
+    → whole row.text ≡ Some (pos start) → start + length moments < 2 ^ 63
+    → (last : Row) × (counted touches moments row ≡ Ok last)
+    × (whole last.text ≡ Some (pos (start + length moments)))
+
+-- a fault changes nothing
+abbrev pub FaultsChangeNothing : Type 0
+FaultsChangeNothing = (table : TableState) (moment : ℕ) (words : List (List ℕ)) (fault : TclFault)
+    → (live_served table moment words).given ≡ Err fault
+    → (live_served table moment words).rows ≡ table.rows

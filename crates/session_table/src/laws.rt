@@ -1,0 +1,40 @@
+// What holds of rows and calls.
+
+ghost use Rattle.session_table.specs.Laws.{CountersCount, FaultsChangeNothing, KeysAreAll};
+ghost use Rattle.session_table.specs.Laws.{KeysAreSorted, KeysStayOnce, LivesToDeadline};
+ghost use Rattle.session_table.specs.Laws.{TouchNeverShortens};
+
+/// The law that to touch a row never shortens its life.
+pub fn touch_never_shortens()
+    ensures { TouchNeverShortens }
+{}
+
+/// The law that a row is live exactly up to its deadline.
+pub fn lives_to_deadline()
+    ensures { LivesToDeadline }
+{}
+
+/// The law that calls leave no two rows under one key.
+pub fn keys_stay_once()
+    ensures { KeysStayOnce }
+{}
+
+/// The law that the keys of a subtable are sorted.
+pub fn keys_are_sorted()
+    ensures { KeysAreSorted }
+{}
+
+/// The law that the keys of a subtable have each key of a row once.
+pub fn keys_are_all()
+    ensures { KeysAreAll }
+{}
+
+/// The law that a counter counts.
+pub fn counters_count()
+    ensures { CountersCount }
+{}
+
+/// The law that a fault changes nothing.
+pub fn faults_change_nothing()
+    ensures { FaultsChangeNothing }
+{}
