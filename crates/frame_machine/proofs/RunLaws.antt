@@ -65,6 +65,11 @@ back_owes code = by_test (is_caught code)
     by_test true = omega arith
     by_test false = omega arith
 
+-- so a reply owes no more than the call that waited
+reply_owes : (fs : List Frame) (call : List (List ℕ)) (code : Code) → owed_by fs (mode.Back code) ≤ owed_by fs (mode.Asked call)
+reply_owes [] call code = omega arith
+reply_owes (f ∷ fs) call code = let k = back_owes code in omega (arith, k)
+
 first : {H : Type 0} (g : Setting H) (tree : Tree) (budget : ℕ) (vars : Scopes) (host : H) (more : List Reply) (m : Standing) → m.frames.items ≡ [] → m.mode ≡ mode.Begin → m.budget ≡ budget
     → evaluate g tree vars host more budget ≡ comes_to g tree m vars host more 0 []
 unfolding evaluate
@@ -130,7 +135,7 @@ replied g tree budget vars host reply old new a s =
       bound =
           (let owes : owed new.place.machine ≡ owed_by M.frames.items (mode.Back (reply_code reply)) = ap owed k.machine in
           let owed_before : owed M ≡ owed_by M.frames.items (mode.Asked s.call) = ap (λ m. owed_by M.frames.items m) k.asked in
-          let less = back_owes (reply_code reply) in
+          let less = reply_owes M.frames.items s.call (reply_code reply) in
           let c = s.cost in let t = s.ticks in let b = a.bound in omega (arith, c, t, b, owes, owed_before, less));
     }
 

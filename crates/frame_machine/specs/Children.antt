@@ -54,3 +54,20 @@ part_at t k = get_or (parts_of t) k t
 abbrev pub node_at : Tree → List ℕ → Tree
 node_at t [] = t
 node_at t (k ∷ path) = node_at (child_at t k) path
+
+-- the commands of a script, the pieces of a quoted operand or an index, and the words that a node
+-- evaluates first
+abbrev pub commands_of : Tree → List Tree
+commands_of (script ts) = all ts
+commands_of t = []
+
+abbrev pub pieces_of : Tree → List Tree
+pieces_of (word ts) = all ts
+pieces_of (element name ts) = all ts
+pieces_of t = []
+
+abbrev pub words_of : Tree → List Tree
+words_of (command v ts) = all ts
+words_of (each ts body) = all ts
+words_of (switch front ts bodies) = all ts
+words_of t = []

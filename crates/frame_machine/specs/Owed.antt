@@ -1,6 +1,6 @@
 -- How many moves a machine owes for what it has begun: each move ticks once, and each operator, pure
 -- command and host command in it once more.
-use Rattle.std.specs.Prelude.{◌≡◌, ℕ, ◌+◌, List, ◌∷◌, Bool, true, false, sum_by, if◌then◌else◌}
+use Rattle.std.specs.Prelude.{◌≡◌, ℕ, ◌+◌, List, [], ◌∷◌, Bool, true, false, sum_by, if◌then◌else◌}
 use Rattle.std.specs.Prelude.{⊤}
 use Rattle.tcl_compile.specs.Procedures.{Procedure}
 use Rattle.tcl_compile.specs.Tree.{Tree, Trees, no_trees, and_tree}
@@ -27,7 +27,9 @@ mode_owed (mode.Back code) = if is_caught code then 2 else 0
 mode_owed (mode.Asked call) = 2
 mode_owed mode.Over = 0
 
+-- The end of the root is told in a move of its own where a reply is that end.
 abbrev pub owed_by : List Frame → Mode → ℕ
+owed_by [] (mode.Back code) = 2
 owed_by fs m = sum_by weight fs + mode_owed m
 
 abbrev pub owed : Standing → ℕ
@@ -41,8 +43,10 @@ is_empty (and_tree t ts) = false
 abbrev pub is_flat : Tree → Bool
 is_flat (tree.plain text) = true
 is_flat (tree.variable name) = true
+is_flat (tree.element name ts) = is_empty ts
 is_flat (tree.word ts) = is_empty ts
 is_flat (tree.script ts) = is_empty ts
+is_flat (tree.command v ts) = is_empty ts
 is_flat tree.next_body = true
 is_flat t = false
 

@@ -32,6 +32,9 @@ pub record Place (H : Type 0) : Type 0 where
   pub vars : Scopes
   pub host : H
 
+abbrev pub place : {H : Type 0} → Standing → Scopes → H → Place H
+place machine vars host = record { machine = machine; vars = vars; host = host }
+
 -- the mode of what a step says
 abbrev pub TurnIs : Turn → Standing → Type 0
 TurnIs turn.More m = ⊤

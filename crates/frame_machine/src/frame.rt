@@ -1,5 +1,6 @@
 // What goes on above the node that runs.
 
+use crate::values::Values;
 use px_bytes::{Text, Texts};
 use rule_model::Code;
 use rule_steps::Row;
@@ -28,7 +29,7 @@ pub enum Frame {
     Words {
         word: usize,
         part: usize,
-        values: Texts,
+        values: Values,
         text: Text,
     },
     /// A quoted operand or an index, in its part of this number: the pieces so far.

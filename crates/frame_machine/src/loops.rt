@@ -1,0 +1,254 @@
+// The moves of a loop.
+
+ghost use Rattle.std.specs.Prelude.{IfOk, OnOk, ◌+◌, ◌≡◌};
+ghost use Rattle.tcl_compile.specs.TreeView.{node_view};
+ghost use Rattle.frame_machine.specs.LoopParts.{parts_view};
+ghost use Rattle.frame_machine.specs.Loops.{above, loop_move, next_move, next_told, start_told};
+ghost use Rattle.frame_machine.specs.Loops.{test_move, test_told, turn_move, turn_told};
+ghost use Rattle.frame_machine.specs.Reads.{known_by};
+
+use crate::frame::Frame;
+use crate::leafs::{is_leaf, leaf_code};
+use crate::next::Next;
+use crate::prices::alone;
+use crate::quick::quick;
+use crate::reads::Reads;
+use px_bytes::{M, Memory, Raise, Steps, TclFault, Text};
+use rule_model::Code;
+use rule_steps::{Goes, after_body, after_next, truth_of};
+use std::sync::ledger::Ledger;
+use tcl_compile::Node;
+
+/// What a loop consists of.
+#[derive(Clone, Copy)]
+pub(crate) struct Loop<'a> {
+    pub(crate) start: &'a Node,
+    pub(crate) test: &'a Node,
+    pub(crate) next: &'a Node,
+    pub(crate) body: &'a Node,
+}
+
+/// A child under a frame; one that has its end at once is done.
+pub(crate) fn above(reads: &Reads<'_>, node: &Node, frame: Frame) -> M<Next>
+    ensures { IfOk result (λ n. n ≡ above (known_by reads.now) (node_view node.now) frame) }
+{
+    if !is_leaf(node) {
+        return Ok(Next::child(frame));
+    }
+    let code = leaf_code(reads.alloc, reads.statics, reads.vars, node)?;
+    Ok(Next::back(frame, code))
+}
+
+/// A loop begins: what starts it, and where that is empty, its test.
+pub(crate) fn begin_loop<L: Ledger, K: Ledger>(
+    reads: &Reads<'_>,
+    parts: &Loop<'_>,
+    budget: &mut u32,
+    steps: &mut Steps<L>,
+    paid: &mut Steps<K>,
+) -> M<Next>
+    ensures next { let m = loop_move (known_by reads.now) (parts_view parts.now) budget.old in
+        IfOk result (λ n. n ≡ m.move.next) }
+    ensures budget { let m = loop_move (known_by reads.now) (parts_view parts.now) budget.old in
+        OnOk result (budget.new ≡ m.budget) }
+    ensures cost { let m = loop_move (known_by reads.now) (parts_view parts.now) budget.old in
+        OnOk result (paid.new ≡ paid.old + m.move.cost) }
+    ensures ticks { let m = loop_move (known_by reads.now) (parts_view parts.now) budget.old in
+        OnOk result (steps.new ≡ steps.old + m.move.ticks) }
+{
+    paid.tick();
+    if !is_leaf(parts.start) {
+        return Ok(Next::child(Frame::Start));
+    }
+    let code = leaf_code(reads.alloc, reads.statics, reads.vars, parts.start)?;
+    go_start(reads, parts, code, budget, steps, paid)
+}
+
+/// A loop goes on behind what starts it.
+pub(crate) fn go_start<L: Ledger, K: Ledger>(
+    reads: &Reads<'_>,
+    parts: &Loop<'_>,
+    code: Code,
+    budget: &mut u32,
+    steps: &mut Steps<L>,
+    paid: &mut Steps<K>,
+) -> M<Next>
+    ensures next { let m = start_told (known_by reads.now) (parts_view parts.now) budget.old code in
+        IfOk result (λ n. n ≡ m.move.next) }
+    ensures budget { let m = start_told (known_by reads.now) (parts_view parts.now) budget.old code in
+        OnOk result (budget.new ≡ m.budget) }
+    ensures cost { let m = start_told (known_by reads.now) (parts_view parts.now) budget.old code in
+        OnOk result (paid.new ≡ paid.old + m.move.cost) }
+    ensures ticks { let m = start_told (known_by reads.now) (parts_view parts.now) budget.old code in
+        OnOk result (steps.new ≡ steps.old + m.move.ticks) }
+{
+    match code {
+        Code::Value(_) => {
+            let left = *budget;
+            test(reads, parts, left, budget, steps, paid)
+        }
+        code => Ok(Next::stop(code)),
+    }
+}
+
+// A loop's test begins, with so many turns left.
+fn test<L: Ledger, K: Ledger>(
+    reads: &Reads<'_>,
+    parts: &Loop<'_>,
+    left: u32,
+    budget: &mut u32,
+    steps: &mut Steps<L>,
+    paid: &mut Steps<K>,
+) -> M<Next>
+    ensures next { let m = test_move (known_by reads.now) (parts_view parts.now) left budget.old in
+        IfOk result (λ n. n ≡ m.move.next) }
+    ensures budget { let m = test_move (known_by reads.now) (parts_view parts.now) left budget.old in
+        OnOk result (budget.new ≡ m.budget) }
+    ensures cost { let m = test_move (known_by reads.now) (parts_view parts.now) left budget.old in
+        OnOk result (paid.new ≡ paid.old + m.move.cost) }
+    ensures ticks { let m = test_move (known_by reads.now) (parts_view parts.now) left budget.old in
+        OnOk result (steps.new ≡ steps.old + m.move.ticks) }
+{
+    paid.add(alone(parts.test));
+    match quick(reads, parts.test, steps, paid)? {
+        Some(code) => go_test(reads, parts.body, left, code, budget, steps, paid),
+        None => Ok(Next::child(Frame::Test { left })),
+    }
+}
+
+/// A loop goes on behind its test, with so many turns left.
+pub(crate) fn go_test<L: Ledger, K: Ledger>(
+    reads: &Reads<'_>,
+    body: &Node,
+    left: u32,
+    code: Code,
+    budget: &mut u32,
+    steps: &mut Steps<L>,
+    paid: &mut Steps<K>,
+) -> M<Next>
+    ensures next { let m = test_told (known_by reads.now) (node_view body.now) left budget.old code in
+        IfOk result (λ n. n ≡ m.move.next) }
+    ensures budget { let m = test_told (known_by reads.now) (node_view body.now) left budget.old code in
+        OnOk result (budget.new ≡ m.budget) }
+    ensures cost { let m = test_told (known_by reads.now) (node_view body.now) left budget.old code in
+        OnOk result (paid.new ≡ paid.old + m.move.cost) }
+    ensures ticks { let m = test_told (known_by reads.now) (node_view body.now) left budget.old code in
+        OnOk result (steps.new ≡ steps.old + m.move.ticks) }
+{
+    match code {
+        Code::Value(value) => match truth_of(reads.alloc, value.as_bytes()) {
+            Ok(holds) => turn(reads, body, left, holds, budget, steps, paid),
+            Err(Raise::Fault(fault)) => Ok(Next::stop(Code::Raised(fault))),
+            Err(Raise::Memory) => Err(Memory),
+        },
+        code => Ok(Next::stop(code)),
+    }
+}
+
+// A turn begins where the condition holds, for a unit of the budget.
+fn turn<L: Ledger, K: Ledger>(
+    reads: &Reads<'_>,
+    body: &Node,
+    left: u32,
+    holds: bool,
+    budget: &mut u32,
+    steps: &mut Steps<L>,
+    paid: &mut Steps<K>,
+) -> M<Next>
+    ensures next { let m = turn_move (known_by reads.now) (node_view body.now) left budget.old holds in
+        IfOk result (λ n. n ≡ m.move.next) }
+    ensures budget { let m = turn_move (known_by reads.now) (node_view body.now) left budget.old holds in
+        OnOk result (budget.new ≡ m.budget) }
+    ensures cost { let m = turn_move (known_by reads.now) (node_view body.now) left budget.old holds in
+        OnOk result (paid.new ≡ paid.old + m.move.cost) }
+    ensures ticks { let m = turn_move (known_by reads.now) (node_view body.now) left budget.old holds in
+        OnOk result (steps.new ≡ steps.old + m.move.ticks) }
+{
+    if !holds {
+        return Ok(Next::stop(Code::Value(Text::empty(reads.alloc))));
+    }
+    if left == 0 || *budget == 0 {
+        let fault = TclFault::budget_spent(reads.alloc)?;
+        return Ok(Next::stop(Code::Raised(fault)));
+    }
+    *budget -= 1;
+    paid.tick();
+    above(reads, body, Frame::Turn { left: left - 1 })
+}
+
+/// A loop goes on behind its body, with so many turns left.
+pub(crate) fn go_turn<L: Ledger, K: Ledger>(
+    reads: &Reads<'_>,
+    parts: &Loop<'_>,
+    left: u32,
+    code: Code,
+    budget: &mut u32,
+    steps: &mut Steps<L>,
+    paid: &mut Steps<K>,
+) -> M<Next>
+    ensures next { let m = turn_told (known_by reads.now) (parts_view parts.now) left budget.old code in
+        IfOk result (λ n. n ≡ m.move.next) }
+    ensures budget { let m = turn_told (known_by reads.now) (parts_view parts.now) left budget.old code in
+        OnOk result (budget.new ≡ m.budget) }
+    ensures cost { let m = turn_told (known_by reads.now) (parts_view parts.now) left budget.old code in
+        OnOk result (paid.new ≡ paid.old + m.move.cost) }
+    ensures ticks { let m = turn_told (known_by reads.now) (parts_view parts.now) left budget.old code in
+        OnOk result (steps.new ≡ steps.old + m.move.ticks) }
+{
+    match after_body(&code) {
+        Goes::On => next(reads, parts, left, budget, steps, paid),
+        Goes::Over => Ok(Next::stop(Code::Value(Text::empty(reads.alloc)))),
+        Goes::Ends => Ok(Next::stop(code)),
+    }
+}
+
+// What comes after a turn begins; where it is empty, the test.
+fn next<L: Ledger, K: Ledger>(
+    reads: &Reads<'_>,
+    parts: &Loop<'_>,
+    left: u32,
+    budget: &mut u32,
+    steps: &mut Steps<L>,
+    paid: &mut Steps<K>,
+) -> M<Next>
+    ensures next { let m = next_move (known_by reads.now) (parts_view parts.now) left budget.old in
+        IfOk result (λ n. n ≡ m.move.next) }
+    ensures budget { let m = next_move (known_by reads.now) (parts_view parts.now) left budget.old in
+        OnOk result (budget.new ≡ m.budget) }
+    ensures cost { let m = next_move (known_by reads.now) (parts_view parts.now) left budget.old in
+        OnOk result (paid.new ≡ paid.old + m.move.cost) }
+    ensures ticks { let m = next_move (known_by reads.now) (parts_view parts.now) left budget.old in
+        OnOk result (steps.new ≡ steps.old + m.move.ticks) }
+{
+    if !is_leaf(parts.next) {
+        return Ok(Next::child(Frame::Next { left }));
+    }
+    let code = leaf_code(reads.alloc, reads.statics, reads.vars, parts.next)?;
+    go_next(reads, parts, left, code, budget, steps, paid)
+}
+
+/// A loop goes on behind what comes after a turn, with so many turns left.
+pub(crate) fn go_next<L: Ledger, K: Ledger>(
+    reads: &Reads<'_>,
+    parts: &Loop<'_>,
+    left: u32,
+    code: Code,
+    budget: &mut u32,
+    steps: &mut Steps<L>,
+    paid: &mut Steps<K>,
+) -> M<Next>
+    ensures next { let m = next_told (known_by reads.now) (parts_view parts.now) left budget.old code in
+        IfOk result (λ n. n ≡ m.move.next) }
+    ensures budget { let m = next_told (known_by reads.now) (parts_view parts.now) left budget.old code in
+        OnOk result (budget.new ≡ m.budget) }
+    ensures cost { let m = next_told (known_by reads.now) (parts_view parts.now) left budget.old code in
+        OnOk result (paid.new ≡ paid.old + m.move.cost) }
+    ensures ticks { let m = next_told (known_by reads.now) (parts_view parts.now) left budget.old code in
+        OnOk result (steps.new ≡ steps.old + m.move.ticks) }
+{
+    match after_next(&code) {
+        Goes::On => test(reads, parts, left, budget, steps, paid),
+        Goes::Over => Ok(Next::stop(Code::Value(Text::empty(reads.alloc)))),
+        Goes::Ends => Ok(Next::stop(code)),
+    }
+}

@@ -1,0 +1,34 @@
+// Expressions that have their end at once.
+
+ghost use Rattle.std.specs.Prelude.{IfOk, OnOk, ◌+◌, ◌≡◌};
+ghost use Rattle.tcl_compile.specs.TreeView.{node_view};
+ghost use Rattle.frame_machine.specs.Quick.{quick};
+ghost use Rattle.frame_machine.specs.Reads.{known_by};
+
+use crate::leafs::{is_leaf, leaf_code};
+use crate::reads::Reads;
+use px_bytes::{M, Steps};
+use rule_model::Code;
+use std::sync::ledger::Ledger;
+use tcl_compile::Node;
+
+/// The code that an expression ends with, where it does so at once.
+pub(crate) fn quick<L: Ledger, K: Ledger>(
+    reads: &Reads<'_>,
+    node: &Node,
+    steps: &mut Steps<L>,
+    paid: &mut Steps<K>,
+) -> M<Option<Code>>
+    ensures value { let q = quick (known_by reads.now) (node_view node.now) in
+        IfOk result (λ code. code ≡ q.value) }
+    ensures cost { let q = quick (known_by reads.now) (node_view node.now) in
+        OnOk result (paid.new ≡ paid.old + q.cost) }
+    ensures ticks { let q = quick (known_by reads.now) (node_view node.now) in
+        OnOk result (steps.new ≡ steps.old + q.ticks) }
+{
+    if !is_leaf(node) {
+        return Ok(None);
+    }
+    let code = leaf_code(reads.alloc, reads.statics, reads.vars, node)?;
+    Ok(Some(code))
+}

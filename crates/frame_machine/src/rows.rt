@@ -1,0 +1,232 @@
+// The moves of a row of operators.
+
+ghost use Rattle.std.specs.Prelude.{IfOk, OnOk, drop, ◌+◌, ◌≡◌};
+ghost use Rattle.tcl_compile.specs.TreeView.{node_view, operands_view};
+ghost use Rattle.frame_machine.specs.Reads.{known_by};
+ghost use Rattle.frame_machine.specs.Rows.{joined_to, left_told, most_operators, rest_move};
+ghost use Rattle.frame_machine.specs.Rows.{right_joined, right_told, row_from, row_move};
+
+use crate::frame::Frame;
+use crate::leafs::{is_leaf, leaf_code};
+use crate::next::Next;
+use crate::reads::Reads;
+use px_bytes::{M, Memory, Raise, Steps, Text};
+use rule_model::Code;
+use rule_steps::{decide, joint_text};
+use std::sync::ledger::Ledger;
+use tcl_compile::Node;
+use tcl_expr::Joint;
+
+/// As many operators as one move may apply.
+const MOST_OPERATORS: usize = 4;
+
+/// How far a move came along a row.
+#[derive(Drop)]
+pub(crate) enum Rowed {
+    /// What the row ends with.
+    Done(Code),
+    /// The right operand of this number runs first.
+    Child { at: usize, joint: Joint, left: Text },
+    /// The value before the operator of this number, which waits for the next move.
+    Stays { at: usize, left: Text },
+}
+
+/// What comes of one operator.
+#[derive(Drop)]
+pub(crate) enum Joined {
+    /// The value with its right operand.
+    Goes(Text),
+    /// The move comes no farther.
+    Ends(Rowed),
+}
+
+/// A row begins.
+pub(crate) fn begin_row<L: Ledger, K: Ledger>(
+    reads: &Reads<'_>,
+    first: &Node,
+    rest: &[(Joint, Node)],
+    steps: &mut Steps<L>,
+    paid: &mut Steps<K>,
+) -> M<Next>
+    ensures next { let m = row_move (known_by reads.now) (node_view first.now) (operands_view rest.now) in
+        IfOk result (λ n. n ≡ m.next) }
+    ensures cost { let m = row_move (known_by reads.now) (node_view first.now) (operands_view rest.now) in
+        OnOk result (paid.new ≡ paid.old + m.cost) }
+    ensures ticks { let m = row_move (known_by reads.now) (node_view first.now) (operands_view rest.now) in
+        OnOk result (steps.new ≡ steps.old + m.ticks) }
+{
+    paid.tick();
+    if !is_leaf(first) {
+        return Ok(Next::child(Frame::Left { at: 0 }));
+    }
+    let code = leaf_code(reads.alloc, reads.statics, reads.vars, first)?;
+    go_left(reads, rest, 0, code, steps, paid)
+}
+
+/// A row goes on behind the operand up to which it has a value.
+pub(crate) fn go_left<L: Ledger, K: Ledger>(
+    reads: &Reads<'_>,
+    joints: &[(Joint, Node)],
+    at: usize,
+    code: Code,
+    steps: &mut Steps<L>,
+    paid: &mut Steps<K>,
+) -> M<Next>
+    ensures next { let m = left_told (known_by reads.now) at (operands_view joints.now) code in
+        IfOk result (λ n. n ≡ m.next) }
+    ensures cost { let m = left_told (known_by reads.now) at (operands_view joints.now) code in
+        OnOk result (paid.new ≡ paid.old + m.cost) }
+    ensures ticks { let m = left_told (known_by reads.now) at (operands_view joints.now) code in
+        OnOk result (steps.new ≡ steps.old + m.ticks) }
+{
+    match code {
+        Code::Value(left) => rest_of(reads, joints, at, left, steps, paid),
+        code => Ok(Next::stop(code)),
+    }
+}
+
+/// A row goes on behind a right operand.
+pub(crate) fn go_right<L: Ledger, K: Ledger>(
+    reads: &Reads<'_>,
+    joints: &[(Joint, Node)],
+    at: usize,
+    joint: Joint,
+    left: &Text,
+    code: Code,
+    steps: &mut Steps<L>,
+    paid: &mut Steps<K>,
+) -> M<Next>
+    ensures next { let m = right_told (known_by reads.now) at (operands_view joints.now) joint left.now code in
+        IfOk result (λ n. n ≡ m.next) }
+    ensures cost { let m = right_told (known_by reads.now) at (operands_view joints.now) joint left.now code in
+        OnOk result (paid.new ≡ paid.old + m.cost) }
+    ensures ticks { let m = right_told (known_by reads.now) at (operands_view joints.now) joint left.now code in
+        OnOk result (steps.new ≡ steps.old + m.ticks) }
+{
+    match code {
+        Code::Value(right) => {
+            match joint_text(reads.alloc, joint, left.as_bytes(), right.as_bytes(), steps) {
+                Ok(left) => rest_of(reads, joints, at, left, steps, paid),
+                Err(Raise::Fault(fault)) => Ok(Next::stop(Code::Raised(fault))),
+                Err(Raise::Memory) => Err(Memory),
+            }
+        }
+        code => Ok(Next::stop(code)),
+    }
+}
+
+// The row from its value before the operator of this number on.
+fn rest_of<L: Ledger, K: Ledger>(
+    reads: &Reads<'_>,
+    joints: &[(Joint, Node)],
+    at: usize,
+    left: Text,
+    steps: &mut Steps<L>,
+    paid: &mut Steps<K>,
+) -> M<Next>
+    ensures next { let m = rest_move (known_by reads.now) at (operands_view joints.now) left in
+        IfOk result (λ n. n ≡ m.next) }
+    ensures cost { let m = rest_move (known_by reads.now) at (operands_view joints.now) left in
+        OnOk result (paid.new ≡ paid.old + m.cost) }
+    ensures ticks { let m = rest_move (known_by reads.now) at (operands_view joints.now) left in
+        OnOk result (steps.new ≡ steps.old + m.ticks) }
+{
+    match row_from(reads, joints, at, left, steps, paid)? {
+        Rowed::Done(code) => Ok(Next::stop(code)),
+        Rowed::Child { at, joint, left } => Ok(Next::child(Frame::Right { at, joint, left })),
+        Rowed::Stays { at, left } => Ok(Next::back(Frame::Left { at }, Code::Value(left))),
+    }
+}
+
+/// As far along a row as one move may go, from its value before the operator of this number.
+pub(crate) fn row_from<L: Ledger, K: Ledger>(
+    reads: &Reads<'_>,
+    joints: &[(Joint, Node)],
+    first: usize,
+    left: Text,
+    steps: &mut Steps<L>,
+    paid: &mut Steps<K>,
+) -> M<Rowed>
+    ensures value { let all = drop first (operands_view joints.now) in
+        let c = row_from (known_by reads.now) most_operators first all left in
+        IfOk result (λ r. r ≡ c.value) }
+    ensures cost { let all = drop first (operands_view joints.now) in
+        let c = row_from (known_by reads.now) most_operators first all left in
+        OnOk result (paid.new ≡ paid.old + c.cost) }
+    ensures ticks { let all = drop first (operands_view joints.now) in
+        let c = row_from (known_by reads.now) most_operators first all left in
+        OnOk result (steps.new ≡ steps.old + c.ticks) }
+{
+    let mut left = left;
+    for at in first..joints.len() {
+        if at - first == MOST_OPERATORS {
+            return Ok(Rowed::Stays { at, left });
+        }
+        let (joint, operand) = &joints[at];
+        match join(reads, at + 1, *joint, operand, left, steps, paid)? {
+            Joined::Goes(value) => left = value,
+            Joined::Ends(rowed) => return Ok(rowed),
+        }
+    }
+    Ok(Rowed::Done(Code::Value(left)))
+}
+
+// One operator, and its right operand, which has this number.
+fn join<L: Ledger, K: Ledger>(
+    reads: &Reads<'_>,
+    at: usize,
+    joint: Joint,
+    operand: &Node,
+    left: Text,
+    steps: &mut Steps<L>,
+    paid: &mut Steps<K>,
+) -> M<Joined>
+    ensures value { let c = joined_to (known_by reads.now) at joint (node_view operand.now) left in
+        IfOk result (λ j. j ≡ c.value) }
+    ensures cost { let c = joined_to (known_by reads.now) at joint (node_view operand.now) left in
+        OnOk result (paid.new ≡ paid.old + c.cost) }
+    ensures ticks { let c = joined_to (known_by reads.now) at joint (node_view operand.now) left in
+        OnOk result (steps.new ≡ steps.old + c.ticks) }
+{
+    paid.tick();
+    match decide(reads.alloc, joint, left.as_bytes()) {
+        Ok(None) => {
+            paid.tick();
+            join_right(reads, at, joint, operand, left, steps, paid)
+        }
+        Ok(Some(value)) => Ok(Joined::Ends(Rowed::Done(Code::Value(value)))),
+        Err(Raise::Fault(fault)) => Ok(Joined::Ends(Rowed::Done(Code::Raised(fault)))),
+        Err(Raise::Memory) => Err(Memory),
+    }
+}
+
+fn join_right<L: Ledger, K: Ledger>(
+    reads: &Reads<'_>,
+    at: usize,
+    joint: Joint,
+    operand: &Node,
+    left: Text,
+    steps: &mut Steps<L>,
+    paid: &mut Steps<K>,
+) -> M<Joined>
+    ensures value { let c = right_joined (known_by reads.now) at joint (node_view operand.now) left in
+        IfOk result (λ j. j ≡ c.value) }
+    ensures cost { let c = right_joined (known_by reads.now) at joint (node_view operand.now) left in
+        OnOk result (paid.new ≡ paid.old + c.cost) }
+    ensures ticks { let c = right_joined (known_by reads.now) at joint (node_view operand.now) left in
+        OnOk result (steps.new ≡ steps.old + c.ticks) }
+{
+    if !is_leaf(operand) {
+        return Ok(Joined::Ends(Rowed::Child { at, joint, left }));
+    }
+    match leaf_code(reads.alloc, reads.statics, reads.vars, operand)? {
+        Code::Value(right) => {
+            match joint_text(reads.alloc, joint, left.as_bytes(), right.as_bytes(), steps) {
+                Ok(value) => Ok(Joined::Goes(value)),
+                Err(Raise::Fault(fault)) => Ok(Joined::Ends(Rowed::Done(Code::Raised(fault)))),
+                Err(Raise::Memory) => Err(Memory),
+            }
+        }
+        code => Ok(Joined::Ends(Rowed::Done(code))),
+    }
+}
