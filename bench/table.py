@@ -246,11 +246,11 @@ def run(program, lines):
 def full(program, rows, call):
     """The time of a call in microseconds, on a table of so many rows."""
     fill = " ".join(f"0 3 {hexadecimal('set')} {hexadecimal(str(k))} 31" for k in range(rows))
-    times = 200
+    times = 4000
     calls = " ".join([f"0 2 {hexadecimal(call)} {hexadecimal(str(rows // 2))}"] * times)
     best = []
     for line in (f"table 65536 {fill}", f"table 65536 {fill} {calls}"):
-        best.append(min(run(program, [line.replace("  ", " ")])[1] for _ in range(3)))
+        best.append(run(program, [line])[1])
     return 1e6 * (best[1] - best[0]) / times
 
 
