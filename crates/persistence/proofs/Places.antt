@@ -5,8 +5,8 @@ use Rattle.std.proofs.Math.ListN.{set}
 use Rattle.std.specs.List.{list_any, position}
 use Rattle.std.proofs.lemmas.Bool.{cond-true, cond-false, lt-ltb, le-ltb}
 use Rattle.std.proofs.lemmas.Option.{slice_get-get_or}
-use Rattle.pools.specs.First.{with_first}
-use Rattle.pools.proofs.First.{at_first, nowhere}
+use Rattle.px_bytes.specs.First.{with_first}
+use Rattle.px_bytes.proofs.First.{at_first, nowhere}
 use Rattle.persistence.specs.Records.{is_of, kept, member_of, record_limit}
 use Rattle.persistence.specs.declared.record.Record.{Record}
 

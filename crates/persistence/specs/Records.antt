@@ -3,7 +3,7 @@
 use Rattle.std.specs.Prelude.{ℕ, ◌+◌, ◌*◌, ◌==◌, Bool, ◌&&◌, List, [], ◌∷◌, ◌++◌, length, Option}
 use Rattle.std.specs.Prelude.{filter, find, option_map, nat_lt, if◌then◌else◌}
 use Rattle.std.specs.List.{list_any}
-use Rattle.pools.specs.First.{with_first}
+use Rattle.px_bytes.specs.First.{with_first}
 use Rattle.px_bytes.specs.declared.addr.Addr.{Addr}
 use Rattle.persistence.specs.declared.record.Record.{Record}
 

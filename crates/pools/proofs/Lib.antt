@@ -1,4 +1,3 @@
-pub mod First
 mod Hits
 mod Kept
 mod Marks

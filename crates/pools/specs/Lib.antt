@@ -1,4 +1,3 @@
-pub mod First
 pub mod Laws
 pub mod Pools
 pub mod Selection

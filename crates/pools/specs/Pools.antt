@@ -3,7 +3,7 @@ use Rattle.std.specs.Prelude.{◌≡◌, ℕ, ◌≤◌, Bool, true, ◌&&◌, �
 use Rattle.std.specs.Prelude.{count_by, nat_le, Option, option_map, slice_get}
 use Rattle.std.specs.List.{list_all, list_any}
 use Rattle.px_bytes.specs.declared.addr.Addr.{Addr}
-use Rattle.pools.specs.First.{with_first}
+use Rattle.px_bytes.specs.First.{with_first}
 use Rattle.pools.specs.declared.member.Marked.{Marked}
 use Rattle.pools.specs.declared.member.Member.{Member}
 use Rattle.pools.specs.declared.member.Method.{Method}

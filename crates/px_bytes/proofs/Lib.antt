@@ -2,6 +2,7 @@ pub mod ByteSets
 pub mod Addresses
 pub mod Decimals
 pub mod Examples
+pub mod First
 pub mod Globs
 pub mod GlobTests
 pub mod Handed

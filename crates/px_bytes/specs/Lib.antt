@@ -3,6 +3,7 @@ pub mod Address
 pub mod Decimal
 pub mod Escapes
 pub mod FaultText
+pub mod First
 pub mod Gives
 pub mod Glob
 pub mod GlobRun

@@ -1,5 +1,5 @@
 -- What holds of rows and calls.
-use Rattle.std.specs.Prelude.{◌≡◌, ℕ, ◌+◌, ◌*◌, ◌^◌, ◌≤◌, ◌<◌, pos, Bool, true, false, List, []}
+use Rattle.std.specs.Prelude.{◌≡◌, ℕ, ◌+◌, ◌*◌, ◌≤◌, ◌<◌, ℤ, pos, ◌+ℤ◌, Bool, true, false, List, []}
 use Rattle.std.specs.Prelude.{◌∷◌, length, Option, Some, None, Result, Ok, Err, nat_lt}
 use Rattle.std.specs.Prelude.{sum_by, if◌then◌else◌}
 use Rattle.std.specs.Cmp.Lexicographic.{slice_cmp}
@@ -10,7 +10,7 @@ use Rattle.std.specs.Str.{bytes_eq}
 use Rattle.px_bytes.specs.Gives.{with_value}
 use Rattle.px_bytes.specs.Whole.{whole}
 use Rattle.px_bytes.specs.declared.fault.TclFault.{TclFault}
-use Rattle.session_table.specs.Answers.{kept, touched}
+use Rattle.session_table.specs.Answers.{is_in_range, kept, touched}
 use Rattle.session_table.specs.Rows.{is_live, is_of}
 use Rattle.session_table.specs.Tables.{TableState, after, keys_in, live_served}
 use Rattle.session_table.specs.declared.request.Act.TheVariants.{Incr}
@@ -79,12 +79,12 @@ counted touches (moment ∷ moments) row =
     with_value (kept touches (Incr false (pos 1)) moment row)
     (λ k. counted touches moments k.1)
 
--- a counter that is incremented n times has its start and n
+-- a counter that is incremented n times has its start and n, where that is in range
 abbrev pub CountersCount : Type 0
-CountersCount = (touches : Bool) (moments : List ℕ) (row : Row) (start : ℕ)
-    → whole row.text ≡ Some (pos start) → start + length moments < 2 ^ 63
+CountersCount = (touches : Bool) (moments : List ℕ) (row : Row) (start : ℤ)
+    → whole row.text ≡ Some start → is_in_range (start +ℤ pos (length moments)) ≡ true
     → (last : Row) × (counted touches moments row ≡ Ok last)
-    × (whole last.text ≡ Some (pos (start + length moments)))
+    × (whole last.text ≡ Some (start +ℤ pos (length moments)))
 
 -- a fault changes nothing
 abbrev pub FaultsChangeNothing : Type 0

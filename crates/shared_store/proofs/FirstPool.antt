@@ -4,7 +4,7 @@ use Rattle.std.proofs.Common.{sym, ap, ◌∙◌, option_map}
 use Rattle.std.proofs.Math.ListN.{set}
 use Rattle.std.specs.List.{position}
 use Rattle.std.proofs.lemmas.Option.{slice_get-get_or}
-use Rattle.pools.proofs.First.{at_first, nowhere}
+use Rattle.px_bytes.proofs.First.{at_first, nowhere}
 use Rattle.pools.specs.Pools.{PoolState}
 use Rattle.shared_store.specs.Store.{has_name, pool_of, with_pool}
 use Rattle.shared_store.specs.declared.named.NamedPool.{NamedPool}

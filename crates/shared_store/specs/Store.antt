@@ -6,7 +6,7 @@ use Rattle.std.specs.Str.{bytes_eq}
 use Rattle.px_bytes.specs.declared.addr.Addr.{Addr}
 use Rattle.persistence.specs.Records.{live}
 use Rattle.persistence.specs.declared.record.Record.{Record}
-use Rattle.pools.specs.First.{with_first}
+use Rattle.px_bytes.specs.First.{with_first}
 use Rattle.pools.specs.Pools.{PoolState, has_addr, with_mark}
 use Rattle.session_table.specs.Tables.{TableState, expired, new_table}
 use Rattle.shared_store.specs.declared.named.NamedPool.{NamedPool}

@@ -2,7 +2,7 @@ use Rattle.std.proofs.Common.{sym, ap, subst, ◌∙◌}
 use Rattle.pools.specs.Pools.{AreMembers, PoolState, has_addr, with_mark}
 use Rattle.pools.specs.declared.member.Marked.{Marked}
 use Rattle.std.specs.List.{list_any, position}
-use Rattle.pools.proofs.First.{at_first, nowhere}
+use Rattle.px_bytes.proofs.First.{at_first, nowhere}
 use Rattle.pools.proofs.Kept.{members_marked}
 use Rattle.pools.proofs.pool.Pool.mark.Goals as goal
 

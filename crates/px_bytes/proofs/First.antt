@@ -9,7 +9,7 @@ use Rattle.std.proofs.lemmas.List.Folds.{find_at}
 use Rattle.std.proofs.lemmas.List.Sums.{prefix_len-le-length}
 use Rattle.std.proofs.lemmas.Option.{slice_get_past}
 use Rattle.px_bytes.proofs.Positions.{at_position, no_position}
-use Rattle.pools.specs.First.{with_first}
+use Rattle.px_bytes.specs.First.{with_first}
 
 module _ {X : Type 0} (test : X → Bool) where
   abbrev first : List X → ℕ
