@@ -2,8 +2,8 @@
 use Rattle.std.proofs.Common.{◌≡◌, refl}
 use Rattle.std.specs.Prelude.{Result, Ok, Err}
 use Rattle.std.specs.Result.{IsErr, IsErrAnd}
-use Rattle.rule_loader.specs.declared.rule_fault.RuleFault.{RuleFault}
-use Rattle.rule_loader.specs.declared.rule_fault.RuleFault.TheVariants as rule
+use Rattle.interim_rules.specs.declared.rule_fault.RuleFault.{RuleFault}
+use Rattle.interim_rules.specs.declared.rule_fault.RuleFault.TheVariants as rule
 use Rattle.proxy.specs.Config.Fault.{of_rule}
 use Rattle.proxy.specs.declared.config.fault.ConfigFault.{ConfigFault}
 use Rattle.proxy.specs.declared.config.fault.ConfigFault.TheVariants.{NotBuilt}

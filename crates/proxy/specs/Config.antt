@@ -4,7 +4,7 @@ use Rattle.std.specs.Prelude.{nat_le, Some, IsUtf8}
 use Rattle.std.specs.List.{AllPass}
 use Rattle.px_bytes.specs.Address.{addr_text, IsAddr}
 use Rattle.px_bytes.specs.declared.addr.Addr.{Addr}
-use Rattle.rule_loader.specs.RuleText.{rule_body}
+use Rattle.interim_rules.specs.RuleText.{rule_body}
 use Rattle.tcl_compile.specs.TreeView.{node_view}
 use Rattle.tcl_compile.specs.declared.node.Node.{Node}
 use Rattle.toml.specs.Parse.{parse_document}

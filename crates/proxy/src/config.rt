@@ -11,9 +11,9 @@ mod table;
 
 use crate::config::document::{Settings, read_settings};
 pub use fault::ConfigFault;
+use interim_rules::read_rule;
 use proxy_core::{Config, Rule, Virtual};
 use px_bytes::{Addr, M, Seq, Text, read_addr};
-use rule_loader::read_rule;
 use std::alloc::Global;
 use tcl_compile::{Node, Procs};
 

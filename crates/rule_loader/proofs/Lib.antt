@@ -1,2 +1,7 @@
+pub mod Faults
+pub mod Loading
 pub mod Names
-pub mod Rows
+pub mod NameSets
+pub mod Order
+pub mod ParameterLists
+pub mod Rules

@@ -1,90 +1,76 @@
--- Names of host commands.
-use Rattle.std.proofs.Common.{◌≡◌, ◌≤◌, ℕ, List, [], ◌∷◌, length, Bool, true, false, ◌||◌, Option, Some, None, IsTrue, ◌↔◌, refl, sym, ap, ◌∙◌, find, cond, arith}
-use Rattle.std.specs.Prelude.{not}
-use Rattle.std.specs.Option.{is_some, option_and_then}
-use Rattle.std.specs.Result.{result_ok}
-use Rattle.std.specs.Str.{bytes_eq}
-use Rattle.std.proofs.lemmas.Bool.{false≢true}
-use Rattle.std.proofs.lemmas.List.Sums.{AllPass-from_list_all, list_all-from_AllPass}
-use Rattle.std.proofs.lemmas.Slice.Eq.{bytes_eq-Decides}
+-- Names of events and commands.
+use Rattle.std.proofs.Common.{◌≡◌, ℕ, zero, suc, ◌<◌, Bool, true, false, ◌||◌, List, [], ◌∷◌, length, get_or, Option, Some, None, Contains, IsTrue, ◌↔◌, refl, sym, ap, ap₂, subst, ◌∙◌, find, arith, eq-eqb}
+use Rattle.std.specs.List.{list_any}
+use Rattle.std.proofs.lemmas.Bool.{eqb-true}
+use Rattle.std.proofs.lemmas.List.Elements.{Contains-append_right}
 use Rattle.event_order.proofs.ByName.{command_by_name}
-use Rattle.event_order.specs.Command.{IsHostCommand, command_row, every_command}
-use Rattle.event_order.specs.declared.command.HostCommand.{HostCommand}
-use Rattle.px_bytes.specs.Limit.{is_short}
-use Rattle.rule_loader.specs.HostCommands.{NamesBuilt, built_name, is_built, is_host_name, may_all_stand, may_stand, names_in}
-use Rattle.rule_loader.specs.HostCommands.{only_text}
-use Rattle.rule_loader.specs.RuleText.{body_tree, built_tree, rule_body, script_body, script_tree}
-use Rattle.tcl_compile.specs.Compiled.{compiled_body}
-use Rattle.tcl_compile.specs.Tree.{Tree, trees_of}
-use Rattle.tcl_compile.specs.TreeView.{nodes_view}
-use Rattle.tcl_compile.specs.declared.node.Node.{Node}
-use Rattle.tcl_words.specs.Reading.{reading}
+use Rattle.event_order.specs.Event.{every_event}
+use Rattle.event_order.specs.declared.event.EventName.{EventName}
+use Rattle.event_order.specs.declared.event.EventName.TheVariants.{RuleInit, ClientAccepted, ClientData, ClientClosed, ServerConnected, ServerData, ServerClosed, LbSelected, LbFailed, HttpRequest, HttpRequestData, HttpResponse, HttpResponseData}
+use Rattle.rule_loader.specs.CommandNames.{host_named, is_tcl, kind_is_tcl}
+use Rattle.rule_loader.specs.Events.{event_place, is_event}
+use Rattle.tcl_commands.specs.Kind.{KindIs, is_pure, is_control}
+use Rattle.tcl_commands.specs.declared.kind.Kind.{Kind}
+use Rattle.tcl_commands.specs.declared.kind.Kind.TheVariants.{Pure, Control, Host, Unknown}
 
--- a word of several parts tells no name
-pub several_parts : (parts : List Node) → 2 ≤ length parts → may_all_stand (only_text (trees_of (nodes_view parts))) ≡ true
-several_parts [] h = absurd (omega arith)
-several_parts (p ∷ []) h = absurd (omega arith)
-several_parts (p ∷ q ∷ parts) h = refl
+-- two that are the same of everything are the same
+pub both_named : {X : Type 0} (a b : Option X) (P : X → Type 0) → ((x : X) → (a ≡ Some x) ↔ P x) → ((x : X) → (b ≡ Some x) ↔ P x) → a ≡ b
+both_named None None P f g = refl
+both_named None (Some y) P f g = (f y).1 ((g y).0 refl)
+both_named (Some x) None P f g = sym ((g x).1 ((f x).0 refl))
+both_named (Some x) (Some y) P f g = sym ((g x).1 ((f x).0 refl))
 
--- a host command's name, as a test
-
-something : (found : Option HostCommand) (name : List ℕ)
-    → ((c : HostCommand) → (found ≡ Some c) ↔ (name ≡ (command_row c).name)) → is_some found ≡ true → IsHostCommand name
-something None name each h = grind arith
-something (Some c) name each h = (c, (each c).0 refl)
-
-host_named : (name : List ℕ) → IsTrue (is_host_name name) ↔ IsHostCommand name
-unfolding is_host_name
-host_named name = (
-  something (find (λ c. bytes_eq (command_row c).name name) every_command) name (command_by_name name),
-  λ host. ap is_some ((command_by_name name host.0).1 host.1),
-)
-
-same_truth : (a b : Bool) (P : Type 0) → IsTrue a ↔ P → IsTrue b ↔ P → a ≡ b
+pub same_truth : (a b : Bool) (P : Type 0) → IsTrue a ↔ P → IsTrue b ↔ P → a ≡ b
 same_truth true true P one other = refl
 same_truth true false P one other = sym (other.1 (one.0 refl))
 same_truth false true P one other = one.1 (other.0 refl)
 same_truth false false P one other = refl
 
-pub host_test : (name : List ℕ) (r : Bool) → IsTrue r ↔ IsHostCommand name → r ≡ is_host_name name
-host_test name r is = same_truth r (is_host_name name) (IsHostCommand name) is (host_named name)
+or_right : (a b : Bool) → b ≡ true → (a || b) ≡ true
+or_right true b h = refl
+or_right false b h = h
 
--- what may stand, name by name
+-- ---- events
 
-only_if : (a b : Bool) (P Q : Type 0) → IsTrue a ↔ Q → IsTrue b ↔ P → IsTrue (a || not b) ↔ (P → Q)
-only_if true b P Q one other = (λ h p. one.0 refl, λ f. refl)
-only_if false true P Q one other = (λ h. absurd (false≢true h), λ f. one.1 (f (other.0 refl)))
-only_if false false P Q one other = (λ h p. absurd (false≢true (other.1 p)), λ f. refl)
+at_place : (e : EventName) → get_or every_event (event_place e) RuleInit ≡ e
+at_place RuleInit = refl
+at_place ClientAccepted = refl
+at_place ClientData = refl
+at_place ClientClosed = refl
+at_place ServerConnected = refl
+at_place ServerData = refl
+at_place ServerClosed = refl
+at_place LbSelected = refl
+at_place LbFailed = refl
+at_place HttpRequest = refl
+at_place HttpRequestData = refl
+at_place HttpResponse = refl
+at_place HttpResponseData = refl
 
-stands_if : (name : List ℕ) → IsTrue (may_stand name) ↔ (IsHostCommand name → name ≡ built_name)
-stands_if name =
-    only_if (bytes_eq name built_name) (is_host_name name) (IsHostCommand name) (name ≡ built_name)
-    (bytes_eq-Decides name built_name) (host_named name)
+pub same_event : (a b : EventName) → is_event a b ≡ true → a ≡ b
+same_event a b h =
+    sym (at_place a) ∙ ap (λ k. get_or every_event k RuleInit) (eqb-true (event_place a) (event_place b) h) ∙ at_place b
 
-pub built_if : (t : Tree) → IsTrue (is_built t) ↔ NamesBuilt t
-built_if t = (
-  λ h k d there. (stands_if _).0 (AllPass-from_list_all may_stand (names_in t) h k d there),
-  λ each. list_all-from_AllPass may_stand (names_in t) (λ k d there. (stands_if _).1 (each k d there)),
-)
+contains_at : (e : EventName) (es : List EventName) (k : ℕ) → k < length es → get_or es k e ≡ e → list_any (is_event e) es ≡ true
+contains_at e [] k below is = absurd (omega arith)
+contains_at e (x ∷ es) zero below is = ap (λ y. is_event e y || list_any (is_event e) es) is ∙ ap (λ b. b || list_any (is_event e) es) (eq-eqb (event_place e) (event_place e) refl)
+contains_at e (x ∷ es) (suc k) below is = or_right (is_event e x) (list_any (is_event e) es) (contains_at e es k (omega arith) is)
 
--- the tree of a rule's body
+contains_if : (e : EventName) (es : List EventName) → list_any (is_event e) es ≡ true → Contains es e
+contains_if e [] h = cc
+contains_if e (x ∷ es) h =
+    elim (is_event e x) as (λ b. is_event e x ≡ b → (b || list_any (is_event e) es) ≡ true → Contains (x ∷ es) e) [
+      | true ↦ λ same any. subst (λ y. Contains (y ∷ es) e) (same_event e x same) (0, omega arith, refl)
+      | false ↦ λ other any. Contains-append_right (x ∷ []) es e (contains_if e es any)
+    ] refl h
 
-behind : {X : Type 0} (next : X → Option Tree) → ((x : X) (t : Tree) → next x ≡ Some t → IsTrue (is_built t))
-    → (found : Option X) (t : Tree) → option_and_then next found ≡ Some t → IsTrue (is_built t)
-behind next each None t e = cc
-behind next each (Some x) t e = each x t e
+pub contains_test : (e : EventName) (es : List EventName) → IsTrue (list_any (is_event e) es) ↔ Contains es e
+contains_test e es = (contains_if e es, λ there. contains_at e es there.0 there.1 there.2)
 
-when_built : (b : Bool) (u t : Tree) → b ≡ is_built u → cond b (Some u) None ≡ Some t → IsTrue (is_built t)
-when_built true u t is e = let same : u ≡ t = cc in ap is_built (sym same) ∙ sym is
-when_built false u t is e = cc
+-- ---- commands of Tcl
 
-in_time : (b : Bool) (o : Option Tree) (t : Tree) → cond b o None ≡ Some t → o ≡ Some t
-in_time true o t e = e
-in_time false o t e = cc
-
-pub rule_named : (text : List ℕ) (t : Tree) → rule_body text ≡ Some t → NamesBuilt t
-unfolding rule_body
-rule_named text t e =
-    (built_if t).0 (behind script_tree
-    (λ commands. behind body_tree (λ w. behind built_tree (λ u v. when_built (is_built u) u v refl) (result_ok (compiled_body w))) (script_body commands))
-    (result_ok (reading text)) t (in_time (is_short text) (option_and_then script_tree (result_ok (reading text))) t e))
+pub tcl_named : (name : List ℕ) (k : Kind) → KindIs name k → host_named name ≡ None → kind_is_tcl k ≡ is_tcl name
+tcl_named name Pure h none = sym (ap (λ b. b || is_control name) h)
+tcl_named name Control h none = sym (or_right (is_pure name) (is_control name) h)
+tcl_named name Host h none = let some = (command_by_name name h.0).1 h.1 in cc
+tcl_named name Unknown h none = sym (ap₂ (λ a b. a || b) h.0 h.1)

@@ -1,3 +1,12 @@
-pub mod HostCommands
-pub mod RuleOutcome
-pub mod RuleText
+pub mod CommandNames
+pub mod Events
+pub mod Faults
+pub mod FormView
+pub mod Forms
+pub mod Handlers
+pub mod Laws
+pub mod Loading
+pub mod Names
+pub mod Order
+pub mod Outcome
+pub mod Parameters

@@ -1,11 +1,23 @@
-//! The text of a rule, in the form that can be run today.
+//! Rules: the handlers and procedures that a text is, or what is wrong with it and where.
 #![tactic(auto)]
 
+mod bodies;
+mod event_word;
+mod forms;
 mod handler;
-mod host_commands;
-mod rule_fault;
-mod rule_text;
+mod judge;
+mod laws;
+mod load_fault;
+mod loader;
+mod name_set;
+mod parameters;
+mod priority;
+mod rule;
+mod told;
 
-pub use host_commands::is_built;
-pub use rule_fault::RuleFault;
-pub use rule_text::read_rule;
+pub use bodies::Bodies;
+pub use handler::{Handler, Handlers};
+pub use laws::{handlers_run_in_order, least_is_told};
+pub use load_fault::{LoadFault, LoadKind, RuleFault};
+pub use loader::load_rule;
+pub use rule::Rule;

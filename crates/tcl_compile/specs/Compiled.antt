@@ -1,5 +1,5 @@
 -- Bodies and conditions, which are read from their bytes in the source, and whole scripts.
-use Rattle.std.specs.Prelude.{ℕ, zero, suc, ◌-◌, List, false, Option, Some, None, Result, Ok, Err}
+use Rattle.std.specs.Prelude.{ℕ, zero, suc, ◌-◌, List, [], false, Option, Some, None, Result, Ok, Err}
 use Rattle.tcl_compile.specs.Pieces.{all_parts, all_commands}
 use Rattle.tcl_expr.specs.Expression.{Expression}
 use Rattle.tcl_expr.specs.ExpressionReading.{expression_within}
@@ -115,7 +115,7 @@ abbrev pub all_levels : ℕ
 all_levels = 101
 
 abbrev pub beginning : Findings
-beginning = record { flaw = None }
+beginning = record { flaw = None; names = [] }
 
 abbrev pub unless : {A : Type 0} → Option Flaw → A → Result A Flaw
 unless None a = Ok a
@@ -131,6 +131,10 @@ compiled commands = judged (script_at (level all_levels) 0 (all_commands command
 -- the same of a word that is a body in the script of its text
 unfoldable pub compiled_body : Word → Result Tree Flaw
 compiled_body w = judged ((level all_levels).body 0 w beginning)
+
+-- the tree of such a word, and what was found in it
+unfoldable pub examined_body : Word → Made Tree
+examined_body w = (level all_levels).body 0 w beginning
 
 -- the tree of an expression that is a text of its own, in which a hundred constructs may be open at
 -- a place, or its flaw

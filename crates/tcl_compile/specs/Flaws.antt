@@ -56,7 +56,7 @@ least None f = Some f
 least (Some e) f = if comes_first f e then Some f else Some e
 
 unfoldable pub noted : Flaw → Findings → Findings
-noted f s = record { flaw = least s.flaw f }
+noted f s = record { flaw = least s.flaw f; names = s.names }
 
 -- nesting passes a hundred
 abbrev pub too_deep : Flaw → Bool

@@ -1,12 +1,16 @@
 // Whole scripts.
 
+ghost use Rattle.std.specs.Prelude.{◌≡◌, IfOk};
 ghost use Rattle.tcl_words.specs.View.{script_view, word_view};
 ghost use Rattle.tcl_compile.specs.Compiled.{compiled, compiled_body, compiled_expression};
+ghost use Rattle.tcl_compile.specs.Compiled.{examined_body};
 ghost use Rattle.tcl_compile.specs.Outcome.{Gives};
+ghost use Rattle.tcl_compile.specs.TreeView.{node_view};
 
 use crate::compile_fault::CompileFault;
 use crate::findings::Findings;
 use crate::node::Node;
+use px_bytes::M;
 use std::alloc::Global;
 use tcl_words::{LIMIT, Script, Word};
 
@@ -17,7 +21,7 @@ use tcl_words::{LIMIT, Script, Word};
 pub fn compile(alloc: Global, script: &Script) -> Result<Node, CompileFault>
     ensures { Gives result (compiled (script_view script.now)) }
 {
-    let mut findings = Findings { flaw: None };
+    let mut findings = Findings::new(alloc);
     let node = findings.script(alloc, 0, &script.commands, LIMIT + 1)?;
     match findings.flaw {
         None => Ok(node),
@@ -29,12 +33,22 @@ pub fn compile(alloc: Global, script: &Script) -> Result<Node, CompileFault>
 pub fn compile_body(alloc: Global, word: &Word) -> Result<Node, CompileFault>
     ensures { Gives result (compiled_body (word_view word.now)) }
 {
-    let mut findings = Findings { flaw: None };
+    let mut findings = Findings::new(alloc);
     let node = findings.body(alloc, 0, word, LIMIT + 1)?;
     match findings.flaw {
         None => Ok(node),
         Some(flaw) => Err(CompileFault::Flaw(flaw)),
     }
+}
+
+/// The tree of a word that is a body in the script of its text, and what was found in it. Where it
+/// has a flaw, what the flaw is about is left out of the tree, and no names are found there.
+pub fn examine_body(alloc: Global, word: &Word) -> M<(Node, Findings)>
+    ensures { IfOk result (λ r. examined_body (word_view word.now) ≡ (node_view r.0, r.1)) }
+{
+    let mut findings = Findings::new(alloc);
+    let node = findings.body(alloc, 0, word, LIMIT + 1)?;
+    Ok((node, findings))
 }
 
 /// The tree of an expression that is a text of its own, made while a script runs, or its flaw with
@@ -46,7 +60,7 @@ pub fn compile_body(alloc: Global, word: &Word) -> Result<Node, CompileFault>
 pub fn compile_expression(alloc: Global, text: &[u8]) -> Result<Node, CompileFault>
     ensures { Gives result (compiled_expression text.now) }
 {
-    let mut findings = Findings { flaw: None };
+    let mut findings = Findings::new(alloc);
     let node = findings.expression_text(alloc, 0, text, LIMIT, LIMIT + 1)?;
     match findings.flaw {
         None => Ok(node),

@@ -1,9 +1,12 @@
 // The flaw to be told.
 
 ghost use Rattle.std.specs.Prelude.{◌≡◌};
+ghost use Rattle.tcl_compile.specs.Compiled.{beginning};
 ghost use Rattle.tcl_compile.specs.Flaws.{comes_first, noted, order_of, place_of, too_deep};
 
 use crate::compile_fault::Flaw;
+use px_bytes::{Seq, Text};
+use std::alloc::Global;
 use tcl_expr::Misread;
 use tcl_words::Fault;
 
@@ -50,13 +53,32 @@ pub fn is_too_deep(flaw: Flaw) -> bool
     )
 }
 
-/// The flaw to be told of what was looked at so far.
-#[derive(Clone, Copy)]
-pub(crate) struct Findings {
+/// A name of a command as it stands in the source, and the place of the command's first byte.
+#[derive(Drop, Debug)]
+pub struct CommandName {
+    pub place: usize,
+    pub name: Text,
+}
+
+/// The flaw to be told of what was looked at so far, and the literal names of the commands in it
+/// that are none of Tcl's own commands on variables, control or expressions.
+#[derive(Drop, Debug)]
+pub struct Findings {
     pub flaw: Option<Flaw>,
+    pub names: Seq<CommandName>,
 }
 
 impl Findings {
+    /// Nothing found yet.
+    pub(crate) fn new(alloc: Global) -> Findings
+        ensures { result ≡ beginning }
+    {
+        Findings {
+            flaw: None,
+            names: Seq::new(alloc),
+        }
+    }
+
     /// Keeps the flaw, if none comes before it.
     #[tactic(auto, unfolding(crate::specs::Flaws::noted))]
     pub(crate) fn note(&mut self, flaw: Flaw)

@@ -29,8 +29,8 @@ mod words;
 
 pub use binding::bound_values;
 pub use compile_fault::{CompileFault, Flaw};
-pub use compiler::{compile, compile_body, compile_expression};
-pub use findings::is_too_deep;
+pub use compiler::{compile, compile_body, compile_expression, examine_body};
+pub use findings::{CommandName, Findings, is_too_deep};
 pub use node::{Node, Verb};
 pub use procs::{Parameter, Proc, Procs};
 pub use whole_result::{expression_result, result_alone};

@@ -1,19 +1,20 @@
 // What is noted of words and openers, and what stands for a tree that isn't made.
 
-ghost use Rattle.std.specs.Prelude.{◌≡◌};
+ghost use Rattle.std.specs.Prelude.{◌≡◌, OnOk, map};
 ghost use Rattle.tcl_words.specs.View.{word_view};
 ghost use Rattle.tcl_compile.specs.Compiled.{with_fault};
 ghost use Rattle.tcl_compile.specs.Controls.{next_at};
 ghost use Rattle.tcl_compile.specs.Flaws.{noted, place_in};
 ghost use Rattle.tcl_compile.specs.Making.{flawed, nothing, one_too_many};
 ghost use Rattle.tcl_compile.specs.TreeView.{node_view};
-ghost use Rattle.tcl_compile.specs.Words.{word_place, wrong_number};
+ghost use Rattle.tcl_compile.specs.Words.{is_named, named_at, with_first, word_place, wrong_number};
 ghost use Rattle.tcl_compile.specs.declared.compile_fault.Flaw.TheVariants.{Arity, BadBody};
 
 use crate::compile_fault::Flaw;
-use crate::findings::Findings;
-use crate::node::Node;
+use crate::findings::{CommandName, Findings};
+use crate::node::{Node, Verb};
 use crate::places::{moved_fault, place_in};
+use px_bytes::M;
 use std::alloc::Global;
 use tcl_words::{Fault, Word};
 
@@ -24,7 +25,37 @@ pub(crate) fn nothing(alloc: Global) -> Node
     Node::Script(Vec::new(alloc))
 }
 
+/// Whether the first word names a command that isn't one of Tcl's own.
+fn is_named(verb: Verb) -> bool
+    ensures { result ≡ is_named verb }
+{
+    matches!(verb, Verb::Named)
+}
+
 impl Findings {
+    /// Notes the first word as the name of a command at the place, where nothing is substituted in
+    /// it.
+    fn note_first(&mut self, place: usize, words: &[Word]) -> M<()>
+        ensures { OnOk result (self.new
+            ≡ with_first place (map word_view words.now) self.old) }
+    {
+        if let Some(Word { raw: Some(raw), .. }) = words.first() {
+            let name = raw.copy()?;
+            self.names.push(CommandName { place, name })?;
+        }
+        Ok(())
+    }
+
+    /// Notes the name of a command at the place that evaluates these words.
+    pub(crate) fn note_name(&mut self, base: usize, at: usize, verb: Verb, words: &[Word]) -> M<()>
+        ensures { OnOk result (self.new ≡ named_at base at verb (map word_view words.now) self.old) }
+    {
+        if is_named(verb) {
+            return self.note_first(place_in(base, at), words);
+        }
+        Ok(())
+    }
+
     /// Notes an opener at a place of the source that is one too many.
     pub(crate) fn note_deep(&mut self, place: usize)
         ensures { self.new ≡ noted (one_too_many place) self.old }

@@ -137,6 +137,7 @@ impl Findings {
         if !fits(verb, words) {
             return Ok(self.wrong_number(alloc, base, at));
         }
+        self.note_name(base, at, verb, words)?;
         let nodes = self.words(alloc, base, words, levels)?;
         Ok(Node::Command(verb, nodes))
     }

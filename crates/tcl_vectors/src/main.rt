@@ -12,6 +12,7 @@ mod lists;
 mod numbers;
 mod operators;
 mod question;
+mod rules;
 mod script;
 #[cfg(test)]
 mod tests;
@@ -42,6 +43,9 @@ fn main(rt: HostRuntime) -> io::Result<()> {
 }
 
 fn answer_line(alloc: Global, line: &str) -> M<Text> {
+    if let Some(answer) = rules::answer(alloc, line)? {
+        return Ok(answer);
+    }
     let Some(question) = read_question(alloc, line)? else {
         return Text::new(alloc, UNKNOWN);
     };

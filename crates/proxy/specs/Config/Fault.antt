@@ -1,6 +1,6 @@
 -- Refusals that are handed on.
-use Rattle.rule_loader.specs.declared.rule_fault.RuleFault.{RuleFault}
-use Rattle.rule_loader.specs.declared.rule_fault.RuleFault.TheVariants as rule
+use Rattle.interim_rules.specs.declared.rule_fault.RuleFault.{RuleFault}
+use Rattle.interim_rules.specs.declared.rule_fault.RuleFault.TheVariants as rule
 use Rattle.proxy.specs.declared.config.fault.ConfigFault.{ConfigFault}
 use Rattle.proxy.specs.declared.config.fault.ConfigFault.TheVariants.{NotBuilt, Memory}
 

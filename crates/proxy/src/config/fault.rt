@@ -2,8 +2,8 @@
 
 ghost use Rattle.std.specs.Prelude.{◌≡◌};
 
+use interim_rules::RuleFault;
 use px_bytes::Memory;
-use rule_loader::RuleFault;
 
 /// Why no configuration was given: the document isn't one that is built today, or memory was
 /// refused.

@@ -1,8 +1,8 @@
 use Rattle.std.proofs.Common.{◌≡◌, ap, subst, sym, ◌∙◌, Some, None, Option}
 use Rattle.std.specs.Prelude.{Result, Err}
-use Rattle.rule_loader.specs.RuleOutcome.{Gives}
-use Rattle.rule_loader.specs.RuleText.{rule_body}
-use Rattle.rule_loader.specs.declared.rule_fault.RuleFault.TheVariants as rule
+use Rattle.interim_rules.specs.RuleOutcome.{Gives}
+use Rattle.interim_rules.specs.RuleText.{rule_body}
+use Rattle.interim_rules.specs.declared.rule_fault.RuleFault.TheVariants as rule
 use Rattle.tcl_compile.specs.TreeView.{node_view}
 use Rattle.proxy.specs.Config.Fault.{of_rule}
 use Rattle.proxy.proofs.ConfigRefusals.{handed_on, rule_refused}

@@ -1,0 +1,90 @@
+-- Names of host commands.
+use Rattle.std.proofs.Common.{◌≡◌, ◌≤◌, ℕ, List, [], ◌∷◌, length, Bool, true, false, ◌||◌, Option, Some, None, IsTrue, ◌↔◌, refl, sym, ap, ◌∙◌, find, cond, arith}
+use Rattle.std.specs.Prelude.{not}
+use Rattle.std.specs.Option.{is_some, option_and_then}
+use Rattle.std.specs.Result.{result_ok}
+use Rattle.std.specs.Str.{bytes_eq}
+use Rattle.std.proofs.lemmas.Bool.{false≢true}
+use Rattle.std.proofs.lemmas.List.Sums.{AllPass-from_list_all, list_all-from_AllPass}
+use Rattle.std.proofs.lemmas.Slice.Eq.{bytes_eq-Decides}
+use Rattle.event_order.proofs.ByName.{command_by_name}
+use Rattle.event_order.specs.Command.{IsHostCommand, command_row, every_command}
+use Rattle.event_order.specs.declared.command.HostCommand.{HostCommand}
+use Rattle.px_bytes.specs.Limit.{is_short}
+use Rattle.interim_rules.specs.HostCommands.{NamesBuilt, built_name, is_built, is_host_name, may_all_stand, may_stand, names_in}
+use Rattle.interim_rules.specs.HostCommands.{only_text}
+use Rattle.interim_rules.specs.RuleText.{body_tree, built_tree, rule_body, script_body, script_tree}
+use Rattle.tcl_compile.specs.Compiled.{compiled_body}
+use Rattle.tcl_compile.specs.Tree.{Tree, trees_of}
+use Rattle.tcl_compile.specs.TreeView.{nodes_view}
+use Rattle.tcl_compile.specs.declared.node.Node.{Node}
+use Rattle.tcl_words.specs.Reading.{reading}
+
+-- a word of several parts tells no name
+pub several_parts : (parts : List Node) → 2 ≤ length parts → may_all_stand (only_text (trees_of (nodes_view parts))) ≡ true
+several_parts [] h = absurd (omega arith)
+several_parts (p ∷ []) h = absurd (omega arith)
+several_parts (p ∷ q ∷ parts) h = refl
+
+-- a host command's name, as a test
+
+something : (found : Option HostCommand) (name : List ℕ)
+    → ((c : HostCommand) → (found ≡ Some c) ↔ (name ≡ (command_row c).name)) → is_some found ≡ true → IsHostCommand name
+something None name each h = grind arith
+something (Some c) name each h = (c, (each c).0 refl)
+
+host_named : (name : List ℕ) → IsTrue (is_host_name name) ↔ IsHostCommand name
+unfolding is_host_name
+host_named name = (
+  something (find (λ c. bytes_eq (command_row c).name name) every_command) name (command_by_name name),
+  λ host. ap is_some ((command_by_name name host.0).1 host.1),
+)
+
+same_truth : (a b : Bool) (P : Type 0) → IsTrue a ↔ P → IsTrue b ↔ P → a ≡ b
+same_truth true true P one other = refl
+same_truth true false P one other = sym (other.1 (one.0 refl))
+same_truth false true P one other = one.1 (other.0 refl)
+same_truth false false P one other = refl
+
+pub host_test : (name : List ℕ) (r : Bool) → IsTrue r ↔ IsHostCommand name → r ≡ is_host_name name
+host_test name r is = same_truth r (is_host_name name) (IsHostCommand name) is (host_named name)
+
+-- what may stand, name by name
+
+only_if : (a b : Bool) (P Q : Type 0) → IsTrue a ↔ Q → IsTrue b ↔ P → IsTrue (a || not b) ↔ (P → Q)
+only_if true b P Q one other = (λ h p. one.0 refl, λ f. refl)
+only_if false true P Q one other = (λ h. absurd (false≢true h), λ f. one.1 (f (other.0 refl)))
+only_if false false P Q one other = (λ h p. absurd (false≢true (other.1 p)), λ f. refl)
+
+stands_if : (name : List ℕ) → IsTrue (may_stand name) ↔ (IsHostCommand name → name ≡ built_name)
+stands_if name =
+    only_if (bytes_eq name built_name) (is_host_name name) (IsHostCommand name) (name ≡ built_name)
+    (bytes_eq-Decides name built_name) (host_named name)
+
+pub built_if : (t : Tree) → IsTrue (is_built t) ↔ NamesBuilt t
+built_if t = (
+  λ h k d there. (stands_if _).0 (AllPass-from_list_all may_stand (names_in t) h k d there),
+  λ each. list_all-from_AllPass may_stand (names_in t) (λ k d there. (stands_if _).1 (each k d there)),
+)
+
+-- the tree of a rule's body
+
+behind : {X : Type 0} (next : X → Option Tree) → ((x : X) (t : Tree) → next x ≡ Some t → IsTrue (is_built t))
+    → (found : Option X) (t : Tree) → option_and_then next found ≡ Some t → IsTrue (is_built t)
+behind next each None t e = cc
+behind next each (Some x) t e = each x t e
+
+when_built : (b : Bool) (u t : Tree) → b ≡ is_built u → cond b (Some u) None ≡ Some t → IsTrue (is_built t)
+when_built true u t is e = let same : u ≡ t = cc in ap is_built (sym same) ∙ sym is
+when_built false u t is e = cc
+
+in_time : (b : Bool) (o : Option Tree) (t : Tree) → cond b o None ≡ Some t → o ≡ Some t
+in_time true o t e = e
+in_time false o t e = cc
+
+pub rule_named : (text : List ℕ) (t : Tree) → rule_body text ≡ Some t → NamesBuilt t
+unfolding rule_body
+rule_named text t e =
+    (built_if t).0 (behind script_tree
+    (λ commands. behind body_tree (λ w. behind built_tree (λ u v. when_built (is_built u) u v refl) (result_ok (compiled_body w))) (script_body commands))
+    (result_ok (reading text)) t (in_time (is_short text) (option_and_then script_tree (result_ok (reading text))) t e))

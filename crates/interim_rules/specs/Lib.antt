@@ -1,0 +1,3 @@
+pub mod HostCommands
+pub mod RuleOutcome
+pub mod RuleText
