@@ -24,7 +24,7 @@ use Rattle.rule_model.specs.Commands.{Bound, called, code_left, deeper, entered,
 use Rattle.rule_model.specs.Commands.{too_deep}
 use Rattle.rule_model.specs.Evaluator.{eval, inner}
 use Rattle.rule_model.specs.Outcome.{Act, Outcome, State, Ends, Waits, Meaning, changed, heard_code, then_code}
-use Rattle.rule_model.specs.Outcome.{then_value}
+use Rattle.rule_model.specs.Outcome.{then_value, unvalued}
 use Rattle.rule_model.specs.Setting.{Setting}
 use Rattle.rule_model.specs.declared.code.Code.{Code}
 use Rattle.rule_model.specs.declared.code.Code.TheVariants.{Value, Raised, Return, Break, Continue}
@@ -51,34 +51,15 @@ none_more (suc n) h = absurd (h (omega arith))
 pub one_more : (n m : ℕ) → (1 ≤ n) × (m ≡ n - 1) → n ≡ suc m
 one_more n m h = omega (arith, h.0, h.1)
 
+left_by : (c : Code) → heard_code false (code_left c) ≡ heard_code false (code_left (unvalued c))
+left_by (Value v) = refl
+left_by other = refl
+
 -- the same code, heard or not, leaves a call as the same
-left_same : (w : Bool) (c d : Code) → heard_code w c ≡ heard_code w d → heard_code w (code_left c) ≡ heard_code w (code_left d)
+left_same : (w : Bool) (c d : Code) → heard_code w c ≡ heard_code w d
+    → heard_code w (code_left c) ≡ heard_code w (code_left d)
 left_same true c d h = ap code_left h
-left_same false (Value u) (Value v) h = refl
-left_same false (Value u) (Raised f) h = cc
-left_same false (Value u) (Return v) h = cc
-left_same false (Value u) Break h = cc
-left_same false (Value u) Continue h = cc
-left_same false (Raised f) (Value v) h = cc
-left_same false (Raised f) (Raised e) h = cc
-left_same false (Raised f) (Return v) h = cc
-left_same false (Raised f) Break h = cc
-left_same false (Raised f) Continue h = cc
-left_same false (Return u) (Value v) h = cc
-left_same false (Return u) (Raised f) h = cc
-left_same false (Return u) (Return v) h = refl
-left_same false (Return u) Break h = cc
-left_same false (Return u) Continue h = cc
-left_same false Break (Value v) h = cc
-left_same false Break (Raised f) h = cc
-left_same false Break (Return v) h = cc
-left_same false Break Break h = refl
-left_same false Break Continue h = cc
-left_same false Continue (Value v) h = cc
-left_same false Continue (Raised f) h = cc
-left_same false Continue (Return v) h = cc
-left_same false Continue Break h = cc
-left_same false Continue Continue h = refl
+left_same false c d h = left_by c ∙ ap (λ x. heard_code false (code_left x)) h ∙ sym (left_by d)
 
 module _ {H : Type 0} (g : Setting H) where
   abbrev pub inside : (e n : ℕ) → Bound → Meaning H

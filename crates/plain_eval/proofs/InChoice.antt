@@ -29,23 +29,8 @@ abbrev step_of : Node-F Node → Tree
 step_of f = node_step (map-Node Node Tree node_view f)
 
 next_by : (f : Node-F Node) → is_next (step_of f) ≡ is_next_in f
-next_by (Node-F.Plain t) = refl
-next_by (Node-F.Variable t) = refl
-next_by (Node-F.Element t ns) = refl
-next_by (Node-F.Word ns) = refl
-next_by (Node-F.Script ns) = refl
-next_by (Node-F.Command v ns) = refl
-next_by (Node-F.Expr e) = refl
-next_by (Node-F.If vs last) = refl
-next_by (Node-F.Loop a b c d) = refl
-next_by (Node-F.Foreach ws b) = refl
-next_by (Node-F.Switch k ws bs) = refl
-next_by (Node-F.Catch b) = refl
-next_by (Node-F.CatchIn b n) = refl
 next_by Node-F.NextBody = refl
-next_by (Node-F.Prefixed ops e) = refl
-next_by (Node-F.Row t os) = refl
-next_by (Node-F.Choice vs last) = refl
+next_by other = refl
 
 is_next_view : (n : Node) → is_next (node_view n) ≡ is_next_in (out-Node n)
 is_next_view n = ap is_next (fold_out-Node Tree node_step n) ∙ next_by (out-Node n)

@@ -39,33 +39,24 @@ by_goes goes.Ends go code st = Ends code st
 
 going_on : (g : Goes) → going g ≡ Ok true → g ≡ goes.On
 going_on goes.On h = refl
-going_on goes.Over h = cc
-going_on goes.Ends h = cc
+going_on other h = cc
 
 going_over : (g : Goes) → going g ≡ Ok false → g ≡ goes.Over
-going_over goes.On h = cc
 going_over goes.Over h = refl
-going_over goes.Ends h = cc
+going_over other h = cc
 
 going_ends : (g : Goes) (h : Halted) → going g ≡ Err h → g ≡ goes.Ends
-going_ends goes.On h is = cc
-going_ends goes.Over h is = cc
 going_ends goes.Ends h is = refl
+going_ends other h is = cc
 
 module _ {H : Type 0} where
   body_by : (go : State H → Outcome H) (c : Code) (st : State H) → after_body go c st ≡ by_goes (body_goes c) go c st
   body_by go (Value v) st = refl
-  body_by go (Raised f) st = refl
-  body_by go (Return v) st = refl
-  body_by go Break st = refl
-  body_by go Continue st = refl
+  body_by go other st = refl
 
   next_by : (go : State H → Outcome H) (c : Code) (st : State H) → after_next go c st ≡ by_goes (next_goes c) go c st
   next_by go (Value v) st = refl
-  next_by go (Raised f) st = refl
-  next_by go (Return v) st = refl
-  next_by go Break st = refl
-  next_by go Continue st = refl
+  next_by go other st = refl
 
   -- a body that isn't heard, and what the loop does after its end
   module _ (after : Go H) (of : Code → Goes) (by : (go : State H → Outcome H) (c : Code) (st : State H) → after go c st ≡ by_goes (of c) go c st)

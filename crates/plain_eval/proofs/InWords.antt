@@ -49,22 +49,7 @@ module _ {H : Type 0} (g : Setting H) (i : Inner H) where
   parts_by : (p : Tree → ℕ) (f : Node-F Node) (n : Node) (P : List (Meaning H) → Type 0) → node_view n ≡ step_of f
       → ((q : Tree → ℕ) → P (evals g i q 0 (trees_of (nodes_view (parts_in f n))))) → P (parts g i p (node_view n) (eval g i (node_view n)))
   parts_by p (Node-F.Word ns) n P q h = word_parts p ns.items n P q h
-  parts_by p (Node-F.Plain t) n P q h = rw q (rw q at (h p))
-  parts_by p (Node-F.Variable t) n P q h = rw q (rw q at (h p))
-  parts_by p (Node-F.Element t ns) n P q h = rw q (rw q at (h p))
-  parts_by p (Node-F.Script ns) n P q h = rw q (rw q at (h p))
-  parts_by p (Node-F.Command v ns) n P q h = rw q (rw q at (h p))
-  parts_by p (Node-F.Expr e) n P q h = rw q (rw q at (h p))
-  parts_by p (Node-F.If vs last) n P q h = rw q (rw q at (h p))
-  parts_by p (Node-F.Loop a b c d) n P q h = rw q (rw q at (h p))
-  parts_by p (Node-F.Foreach ws b) n P q h = rw q (rw q at (h p))
-  parts_by p (Node-F.Switch k ws bs) n P q h = rw q (rw q at (h p))
-  parts_by p (Node-F.Catch b) n P q h = rw q (rw q at (h p))
-  parts_by p (Node-F.CatchIn b m) n P q h = rw q (rw q at (h p))
-  parts_by p Node-F.NextBody n P q h = rw q (rw q at (h p))
-  parts_by p (Node-F.Prefixed ops e) n P q h = rw q (rw q at (h p))
-  parts_by p (Node-F.Row t os) n P q h = rw q (rw q at (h p))
-  parts_by p (Node-F.Choice vs last) n P q h = rw q (rw q at (h p))
+  parts_by p other n P q h = rw q (rw q at (h p))
 
   -- the pieces of these parts from a place on, and words from a place on
   abbrev pub pieces_left : (Tree → ℕ) → List Node → ℕ → List ℕ → Meaning H
@@ -228,12 +213,9 @@ module _ {H : Type 0} (g : Setting H) (i : Inner H) where
 
   limit_by : (e out : End) (o : Outcome H) (path : List ℕ) (mid : Stand H) → EndsAs true o e mid → Limited e out → EndsAs true (then_value o (after_piece (in_word told []) [] path)) out mid
   limit_by (end.Done (Value v)) out o path mid m lim = heard_goes o (after_piece (in_word told []) [] path) (end.Done (Value v)) tt mid true out mid refl m (λ c a. long_by (nat_lt text_limit (length v)) v out mid c a lim)
-  limit_by (end.Done (Raised f)) out o path mid m lim = rw lim (value_stops true true o (after_piece (in_word told []) [] path) (end.Done (Raised f)) (record {}) mid refl m)
-  limit_by (end.Done (Return v)) out o path mid m lim = rw lim (value_stops true true o (after_piece (in_word told []) [] path) (end.Done (Return v)) (record {}) mid refl m)
-  limit_by (end.Done Break) out o path mid m lim = rw lim (value_stops true true o (after_piece (in_word told []) [] path) (end.Done Break) (record {}) mid refl m)
-  limit_by (end.Done Continue) out o path mid m lim = rw lim (value_stops true true o (after_piece (in_word told []) [] path) (end.Done Continue) (record {}) mid refl m)
-  limit_by (end.Waits call) out o path mid m lim = rw lim (value_stops true true o (after_piece (in_word told []) [] path) (end.Waits call) (record {}) mid refl m)
   limit_by end.Memory out o path mid m lim = rw lim tt
+  limit_by e out o path mid m lim =
+      rw lim (value_stops true true o (after_piece (in_word told []) [] path) e (record {}) mid refl m)
 
   alone_at : (ns : List Node) (n : Node) → length ns ≡ 1 → n ≡ get_or ns 0 n → ns ≡ n ∷ []
   alone_at ns n one is =
@@ -260,11 +242,7 @@ module _ {H : Type 0} where
       → then_value o (after_piece (in_word finish ms) text path) ≡ then_value (then_value o (after_piece (in_word told ms) text path)) (λ v t. finish v path t)
   pieces_by (Ends (Value v) st) finish ms text path h =
       piece_by (nat_lt text_limit (length (text ++ v))) too_long st (in_word finish ms (text ++ v) path st) (in_word told ms (text ++ v) path st) (λ v t. finish v path t) (h (text ++ v) st)
-  pieces_by (Ends (Raised f) st) finish ms text path h = refl
-  pieces_by (Ends (Return v) st) finish ms text path h = refl
-  pieces_by (Ends Break st) finish ms text path h = refl
-  pieces_by (Ends Continue st) finish ms text path h = refl
-  pieces_by (Waits p call st) finish ms text path h = refl
+  pieces_by other finish ms text path h = refl
 
   told_then : (finish : List ℕ → Meaning H) (ms : List (Meaning H)) (text path : List ℕ) (st : State H) → in_word finish ms text path st ≡ then_value (in_word told ms text path st) (λ v t. finish v path t)
   told_then finish [] text path st = refl

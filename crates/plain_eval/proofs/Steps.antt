@@ -23,27 +23,16 @@ use Rattle.plain_eval.specs.declared.run.Halted.{Halted}
 -- an end that is a value
 pub is_value : (e : End) (u : Unit {0}) → Ok u ≡ ended e → e ≡ end.Done (Value (value_in e))
 is_value (end.Done (Value v)) u h = refl
-is_value (end.Done (Raised f)) u h = cc
-is_value (end.Done (Return v)) u h = cc
-is_value (end.Done Break) u h = cc
-is_value (end.Done Continue) u h = cc
-is_value (end.Waits call) u h = cc
-is_value end.Memory u h = cc
+is_value other u h = cc
 
 -- what stops stays
 stop_heard : (d : Code) (h : Halted) → Err h ≡ ended (end.Done d) → unvalued d ≡ d
 stop_heard (Value v) h is = cc
-stop_heard (Raised f) h is = refl
-stop_heard (Return v) h is = refl
-stop_heard Break h is = refl
-stop_heard Continue h is = refl
+stop_heard other h is = refl
 
 unvalued_stop : (c d : Code) (h : Halted) → Err h ≡ ended (end.Done d) → unvalued c ≡ d → c ≡ d
 unvalued_stop (Value v) d h is e = let f : ended (end.Done d) ≡ Ok tt = ap (λ x. ended (end.Done x)) (sym e) in cc
-unvalued_stop (Raised f) d h is e = e
-unvalued_stop (Return v) d h is e = e
-unvalued_stop Break d h is e = e
-unvalued_stop Continue d h is e = e
+unvalued_stop other d h is e = e
 
 stop_same : (x : Bool) (c d : Code) (h : Halted) → Err h ≡ ended (end.Done d) → heard_code x c ≡ heard_code x d → c ≡ d
 stop_same true c d h is e = e
@@ -51,14 +40,8 @@ stop_same false c d h is e = unvalued_stop c d h is (e ∙ stop_heard d h is)
 
 value_same : (x : Bool) (c : Code) (v : List ℕ) (P : Type 0) → heard_code x c ≡ heard_code x (Value v) → ((u : List ℕ) → c ≡ Value u → heard_code x (Value u) ≡ heard_code x (Value v) → P) → P
 value_same x (Value u) v P e k = k u refl e
-value_same true (Raised f) v P e k = cc
-value_same true (Return f) v P e k = cc
-value_same true Break v P e k = cc
-value_same true Continue v P e k = cc
-value_same false (Raised f) v P e k = cc
-value_same false (Return f) v P e k = cc
-value_same false Break v P e k = cc
-value_same false Continue v P e k = cc
+value_same true other v P e k = cc
+value_same false other v P e k = cc
 
 -- a fault that was noted
 pub fault_is : (wanted : TclFault) (f : Result TclFault Memory) → IfOk f (λ x. x ≡ wanted) → Is (Raised wanted) (fault_end f)
@@ -84,10 +67,7 @@ gives_is (Err raise.Memory) wanted h = tt
 module _ {H : Type 0} where
   stop_passes : (d : Code) (h : Halted) (go : List ℕ → State H → Outcome H) (st : State H) → Err h ≡ ended (end.Done d) → with_value go d st ≡ Ends d st
   stop_passes (Value v) h go st is = cc
-  stop_passes (Raised f) h go st is = refl
-  stop_passes (Return v) h go st is = refl
-  stop_passes Break h go st is = refl
-  stop_passes Continue h go st is = refl
+  stop_passes other h go st is = refl
 
   -- the outcome's own end serves, wanted or not
   pub at_stand : (w : Bool) (d : Code) (s : Stand H) (cost : ℕ) (acts : List Act) → EndsAs w (Ends d (from s cost acts)) (end.Done d) s
@@ -129,10 +109,7 @@ module _ {H : Type 0} where
   -- one that isn't heard, where what follows doesn't look at its value
   unheard : (go : Code → State H → Outcome H) → ((v : List ℕ) (st : State H) → go (Value v) st ≡ go (Value []) st) → (c : Code) (st : State H) → go c st ≡ go (unvalued c) st
   unheard go deaf (Value v) st = deaf v st
-  unheard go deaf (Raised f) st = refl
-  unheard go deaf (Return v) st = refl
-  unheard go deaf Break st = refl
-  unheard go deaf Continue st = refl
+  unheard go deaf other st = refl
 
   pub code_goes_unheard : (o : Outcome H) (go : Code → State H → Outcome H) (d : Code) (mid : Stand H) (w : Bool) (e : End) (last : Stand H) → ((v : List ℕ) (st : State H) → go (Value v) st ≡ go (Value []) st)
       → EndsAs false o (end.Done d) mid → ((cost : ℕ) (acts : List Act) → EndsAs w (go d (from mid cost acts)) e last) → EndsAs w (then_code o go) e last
