@@ -29,7 +29,7 @@ use Rattle.proxy_core.specs.Holds.{Serves, BeforeBodies, Holds, GoesOnWith, Stop
 use Rattle.proxy_core.specs.Live.{fresh_conn, after_taking, is_over as conn_over}
 use Rattle.proxy_core.specs.Moves.{Rests, is_drained_at, came, MovesBy, MovesRing, MovesFront, MovesCome, MovesFailed, MovesOn, RunsOn, RunsOut, RunsFailed, ran}
 use Rattle.proxy_core.specs.Past.{Past, heard, ended_in, without_all, with_accepted, last_after, Shared, shared, shared_after}
-use Rattle.proxy_core.specs.Queue.{is_empty}
+use Rattle.seg_buffer.specs.Bytes.{is_empty}
 use Rattle.proxy_core.specs.Ready.{numbers, is_in, place_of, without, with_ready}
 use Rattle.proxy_core.specs.Refusal.{known, refusal_rows, refused}
 use Rattle.proxy_core.specs.Refusals.{virtual_place, live_at}

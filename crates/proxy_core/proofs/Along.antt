@@ -20,7 +20,7 @@ use Rattle.proxy_core.specs.Bodies.{BodiesEnd, bodies_end}
 use Rattle.proxy_core.specs.Changes.{sent_at, finish_notes, closing_if_empty, RunsBodies, RunsIdle, ConnRuns}
 use Rattle.proxy_core.specs.Changes as changes
 use Rattle.proxy_core.specs.Holds.{Serves, BeforeBodies, Holds, GoesOnWith, StopsWithout, RunsAlong}
-use Rattle.proxy_core.specs.Queue.{is_empty}
+use Rattle.seg_buffer.specs.Bytes.{is_empty}
 use Rattle.proxy_core.specs.RunsItems.{is_over, is_drained, closing_if, Passes, RunsItems}
 use Rattle.proxy_core.specs.Setup.{rules_of, handler_of, handlers_in}
 use Rattle.proxy_core.specs.declared.config.Config.{Config}

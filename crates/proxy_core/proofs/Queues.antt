@@ -4,7 +4,7 @@ use Rattle.std.proofs.Common.{Some, nat_eq, length, drop, refl, sym, ap, ◌∙�
 use Rattle.std.proofs.lemmas.Bool.Decides.{nat_tests}
 use Rattle.proxy_core.specs.declared.live.Conn.{Conn}
 use Rattle.proxy_core.specs.declared.live.Live.{Live}
-use Rattle.proxy_core.specs.Queue.{is_empty}
+use Rattle.seg_buffer.specs.Bytes.{is_empty}
 use Rattle.proxy_core.specs.Live.{is_over, after_taking}
 
 same_test : (n m : ℕ) → nat_eq (suc n) (suc m) ≡ nat_eq n m

@@ -10,7 +10,7 @@ use Rattle.connection_model.specs.declared.note.Cause.TheVariants.{Memory, Unsel
 use Rattle.connection_model.specs.declared.note.Note.{Note}
 use Rattle.connection_model.specs.declared.note.Note.TheVariants.{Log, Finish}
 use Rattle.proxy_core.specs.Live.{fresh_conn, after_taking, is_over}
-use Rattle.proxy_core.specs.Queue.{is_empty}
+use Rattle.seg_buffer.specs.Bytes.{is_empty}
 use Rattle.proxy_core.specs.Bodies.{BodiesEnd, AllRan, Uncaught, AtCall, bodies_end}
 use Rattle.tcl_vars.specs.Scopes.{Scopes, Level}
 use Rattle.proxy_core.specs.declared.config.Config.{Config}

@@ -1,6 +1,5 @@
 pub mod Responder
 pub mod Bodies
-pub mod Queue
 pub mod Live
 pub mod Ready
 pub mod Start

@@ -3,7 +3,7 @@ use Rattle.std.specs.Prelude.{ℕ, [], Bool, false, ◌&&◌, Option, Some, None
 use Rattle.px_bytes.specs.declared.addr.Addr.{Addr}
 use Rattle.tcl_vars.specs.Scopes.{no_scopes}
 use Rattle.proxy_core.specs.declared.live.Conn.{Conn}
-use Rattle.proxy_core.specs.Queue.{is_empty}
+use Rattle.seg_buffer.specs.Bytes.{is_empty}
 
 abbrev pub fresh_conn : ℕ → Addr → Conn
 fresh_conn vs from = record { vs = vs; from = from; vars = no_scopes; finished = false; queue = [] }

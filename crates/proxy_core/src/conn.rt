@@ -1,7 +1,7 @@
 // What a Run does to one connection.
 
 ghost use Rattle.std.specs.Prelude.{◌≡◌, ◌≤◌, ◌+◌, ◌++◌, List, OnOk, OnErr, option_map};
-ghost use Rattle.proxy_core.specs.Queue.{is_empty};
+ghost use Rattle.seg_buffer.specs.Bytes.{is_empty};
 ghost use Rattle.proxy_core.specs.Changes.{ConnRuns, LiveRuns, RunsBodies, closing_if_empty};
 ghost use Rattle.proxy_core.specs.Holds.{RunsAlong};
 ghost use Rattle.proxy_core.specs.Setup.{rules_of};

@@ -9,7 +9,6 @@ mod core_state;
 mod event;
 mod laws;
 mod live;
-mod out_queue;
 mod queries;
 mod responder;
 mod ring;

@@ -3,8 +3,8 @@
 ghost use Rattle.std.specs.Prelude.{◌≡◌, ◌≤◌, [], IfOk};
 ghost use Rattle.proxy_core.specs.Live.{pending_in, after_taking, is_over};
 
-use crate::out_queue::OutQueue;
 use px_bytes::{Addr, M};
+use seg_buffer::Held;
 use std::alloc::Global;
 use tcl_vars::Vars;
 
@@ -19,7 +19,7 @@ pub struct Conn {
     /// Its end was noted: no body that may send starts any more.
     pub finished: bool,
     /// The bytes that its client is to take.
-    pub queue: OutQueue,
+    pub queue: Held,
 }
 
 /// A connection without its Ended note. Where no memory was found for it, there is no connection
@@ -42,7 +42,7 @@ impl Conn {
             from,
             vars: Vars::new(alloc),
             finished: false,
-            queue: OutQueue::new(alloc),
+            queue: Held::new(alloc),
         })
     }
 }
@@ -75,7 +75,7 @@ impl Live {
         ensures { self.new ≡ record self.old { conn = after_taking n self.old.conn } }
     {
         if let Some(conn) = &mut self.conn {
-            conn.queue.take_front(n);
+            conn.queue.drop_front(n);
         }
     }
 }

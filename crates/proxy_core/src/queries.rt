@@ -80,7 +80,7 @@ impl Live {
         ensures { result.now ≡ queue_on side self.now.conn }
     {
         match (side, &self.conn) {
-            (Side::Client, Some(conn)) => conn.queue.as_slice(),
+            (Side::Client, Some(conn)) => conn.queue.front(),
             _ => &[],
         }
     }

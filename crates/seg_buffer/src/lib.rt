@@ -1,0 +1,6 @@
+//! Bytes that were read and not used yet.
+#![tactic(auto)]
+
+mod held;
+
+pub use held::Held;
