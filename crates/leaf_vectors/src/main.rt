@@ -2,13 +2,16 @@
 //! of the lines.
 #![tactic(auto)]
 
+mod fields;
 mod groups;
+mod heads;
 mod pool_calls;
 mod pool_words;
 mod read;
 mod record_calls;
 mod store;
 mod table_calls;
+mod units;
 mod write;
 
 use px_bytes::{M, Text};
@@ -45,6 +48,18 @@ fn answer(alloc: Global, words: &[&str]) -> M<Option<Text>> {
         ["table", question @ ..] => table_calls::answer(alloc, question),
         ["check_words", question @ ..] => table_calls::check_answer(alloc, question),
         ["records", question @ ..] => record_calls::answer(alloc, question),
+        ["fields", question @ ..] => fields::answer(alloc, question),
+        ["cookies", question @ ..] => fields::cookies_answer(alloc, question),
+        ["print_bigip", question @ ..] => fields::print_answer(alloc, question),
+        ["read_bigip", question @ ..] => fields::read_answer(alloc, question),
+        [
+            call @ ("request" | "response" | "write_request" | "write_response"),
+            question @ ..,
+        ] => heads::answer(alloc, call, question),
+        [
+            call @ ("next_unit" | "units" | "request_body" | "response_body"),
+            question @ ..,
+        ] => units::answer(alloc, call, question),
         [call, question @ ..] => groups::answer(alloc, call, question),
         [] => Ok(None),
     }

@@ -25,7 +25,7 @@ pub fn answer(alloc: Global, words: &[&str]) -> M<Option<Text>> {
     let Some(mut out) = calls_answer(alloc, &mut table, calls)? else {
         return Ok(None);
     };
-    let live = format!(in alloc; "live={}", table.rows().len())?;
+    let live = format!(in alloc; "live={}", table.live())?;
     spaced(&mut out, &Text::from_vec(live.into_bytes()))?;
     Ok(Some(out))
 }

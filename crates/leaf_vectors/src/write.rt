@@ -38,6 +38,18 @@ pub fn hexadecimal(alloc: Global, text: &Text) -> M<Option<Text>> {
     Ok(Some(Text::from_vec(length.into_bytes())))
 }
 
+/// Bytes in hexadecimal, `-` for none, or their number behind `#` where there are many.
+pub fn word(alloc: Global, bytes: &[u8]) -> M<Text> {
+    if bytes.is_empty() {
+        return Text::new(alloc, b"-");
+    }
+    if bytes.len() <= WRITTEN {
+        return print_hex(alloc, bytes);
+    }
+    let length = format!(in alloc; "#{}", bytes.len())?;
+    Ok(Text::from_vec(length.into_bytes()))
+}
+
 /// A further answer behind others, with one blank between.
 pub fn spaced(out: &mut Text, answer: &Text) -> M<()> {
     if out.len() > 0 {

@@ -1,0 +1,5 @@
+mod HexDigits
+mod Numbers
+mod Sizes
+mod Snocs
+mod Trailers

@@ -1,0 +1,4 @@
+pub mod Bodies
+pub mod ChunkLines
+pub mod States
+pub mod Units

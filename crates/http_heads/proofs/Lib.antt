@@ -1,0 +1,8 @@
+mod FilterFields
+mod FoundHeads
+mod LastFields
+mod OneHead
+mod ReadBack
+mod ReadFields
+mod Targets
+mod Trims

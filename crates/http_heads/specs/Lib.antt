@@ -1,0 +1,5 @@
+pub mod Fields
+pub mod Heads
+pub mod Laws
+pub mod Lines
+pub mod Written

@@ -1,0 +1,21 @@
+//! Heads of HTTP/1 messages: read, edited and written.
+#![tactic(auto)]
+
+mod edits;
+mod fault;
+mod field;
+mod fields;
+mod laws;
+mod line;
+mod request;
+mod response;
+mod spans;
+mod written;
+
+pub use fault::{HeadFault, HttpFault};
+pub use field::Field;
+pub use fields::Fields;
+pub use laws::{request_is_one, response_is_one};
+pub use line::{Method, Reason, Status, Target, Version};
+pub use request::{RequestHead, read_request, write_request};
+pub use response::{ResponseHead, read_response, write_response};

@@ -1,0 +1,78 @@
+// The head of a request.
+
+ghost use Rattle.std.specs.Prelude.{◌≡◌, ◌≤◌, IfOk, Ok, length};
+ghost use Rattle.httparse.specs.Spans.{IsRequestOf, IsRequestWithin};
+ghost use Rattle.http_heads.specs.Heads.{GivesRequest};
+ghost use Rattle.http_heads.specs.Written.{written_request};
+
+use crate::fault::{HeadFault, HttpFault};
+use crate::fields::Fields;
+use crate::line::{Method, Target, Version, version_of};
+use crate::spans::fields_at;
+use crate::written::{put_section, put_version};
+use httparse::Status;
+use httparse::spans::{EMPTY_HEADER_SPAN, HeaderSpan, RequestSpans, parse_request};
+use px_bytes::{M, Text};
+use std::alloc::Global;
+
+/// The head of a request: RFC 9112, 3 and 5.
+#[derive(Drop, Debug)]
+pub struct RequestHead {
+    pub method: Method,
+    pub target: Target,
+    pub version: Version,
+    pub fields: Fields,
+}
+
+// The head at the spans.
+fn request_at(
+    alloc: Global,
+    head: &[u8],
+    found: &RequestSpans,
+    headers: &[HeaderSpan],
+) -> M<RequestHead>
+    requires within { IsRequestWithin head.now headers.now found.now }
+    requires is_head { IsRequestOf head.now headers.now found.now }
+    requires whole { found.now.len ≡ length head.now }
+    requires few { length headers.now ≤ 100 }
+    ensures { IfOk result (λ r. GivesRequest (Ok r) head.now) }
+{
+    let method = Text::new(alloc, found.method.of(head))?;
+    let target = Text::new(alloc, found.path.of(head))?;
+    let fields = fields_at(alloc, head, &headers[..found.headers])?;
+    Ok(RequestHead {
+        method: Method::new(method),
+        target: Target::read(target),
+        version: version_of(found.version),
+        fields,
+    })
+}
+
+/// Reads bytes that are the whole head of a request, with at most 100 fields.
+pub fn read_request(alloc: Global, head: &[u8]) -> Result<RequestHead, HeadFault>
+    ensures { GivesRequest result head.now }
+{
+    let mut headers = [EMPTY_HEADER_SPAN; 100];
+    if let Ok(Status::Complete(found)) = parse_request(head, &mut headers) {
+        if found.len == head.len() {
+            return Ok(request_at(alloc, head, &found, &headers)?);
+        }
+    }
+    Err(HeadFault::Fault(HttpFault::BadHead))
+}
+
+/// The head as it is written, each line ended by CRLF. It is read back as the same head.
+pub fn write_request(alloc: Global, head: &RequestHead) -> M<Text>
+    ensures text { IfOk result (λ t. t ≡ written_request head.now) }
+    ensures reads_back { IfOk result (λ t. GivesRequest (Ok head.now) t) }
+{
+    let mut out = Vec::new(alloc);
+    out.extend_from_slice(head.method.as_bytes())?;
+    out.extend_from_slice(b" ")?;
+    out.extend_from_slice(head.target.as_bytes())?;
+    out.extend_from_slice(b" ")?;
+    put_version(&mut out, head.version)?;
+    out.extend_from_slice(b"\r\n")?;
+    put_section(&mut out, head.fields.as_slice())?;
+    Ok(Text::from_vec(out))
+}

@@ -1,0 +1,76 @@
+// The head of a response.
+
+ghost use Rattle.std.specs.Prelude.{◌≡◌, ◌≤◌, IfOk, Ok, length};
+ghost use Rattle.httparse.specs.Spans.{IsResponseOf, IsResponseWithin};
+ghost use Rattle.http_heads.specs.Heads.{GivesResponse};
+ghost use Rattle.http_heads.specs.Written.{written_response};
+
+use crate::fault::{HeadFault, HttpFault};
+use crate::fields::Fields;
+use crate::line::{Reason, Status, Version, version_of};
+use crate::spans::fields_at;
+use crate::written::{put_section, put_status, put_version};
+use httparse::spans::{EMPTY_HEADER_SPAN, HeaderSpan, ResponseSpans, parse_response};
+use px_bytes::{M, Text};
+use std::alloc::Global;
+
+/// The head of a response: RFC 9112, 4 and 5.
+#[derive(Drop, Debug)]
+pub struct ResponseHead {
+    pub version: Version,
+    pub status: Status,
+    pub reason: Reason,
+    pub fields: Fields,
+}
+
+// The head at the spans.
+fn response_at(
+    alloc: Global,
+    head: &[u8],
+    found: &ResponseSpans,
+    headers: &[HeaderSpan],
+) -> M<ResponseHead>
+    requires within { IsResponseWithin head.now headers.now found.now }
+    requires is_head { IsResponseOf head.now headers.now found.now }
+    requires whole { found.now.len ≡ length head.now }
+    requires few { length headers.now ≤ 100 }
+    ensures { IfOk result (λ r. GivesResponse (Ok r) head.now) }
+{
+    let reason = Text::new(alloc, found.reason.of(head))?;
+    let fields = fields_at(alloc, head, &headers[..found.headers])?;
+    Ok(ResponseHead {
+        version: version_of(found.version),
+        status: Status::new(found.code),
+        reason: Reason::new(reason),
+        fields,
+    })
+}
+
+/// Reads bytes that are the whole head of a response, with at most 100 fields.
+pub fn read_response(alloc: Global, head: &[u8]) -> Result<ResponseHead, HeadFault>
+    ensures { GivesResponse result head.now }
+{
+    let mut headers = [EMPTY_HEADER_SPAN; 100];
+    if let Ok(httparse::Status::Complete(found)) = parse_response(head, &mut headers) {
+        if found.len == head.len() {
+            return Ok(response_at(alloc, head, &found, &headers)?);
+        }
+    }
+    Err(HeadFault::Fault(HttpFault::BadHead))
+}
+
+/// The head as it is written, each line ended by CRLF. It is read back as the same head.
+pub fn write_response(alloc: Global, head: &ResponseHead) -> M<Text>
+    ensures text { IfOk result (λ t. t ≡ written_response head.now) }
+    ensures reads_back { IfOk result (λ t. GivesResponse (Ok head.now) t) }
+{
+    let mut out = Vec::new(alloc);
+    put_version(&mut out, head.version)?;
+    out.extend_from_slice(b" ")?;
+    put_status(&mut out, &head.status)?;
+    out.extend_from_slice(b" ")?;
+    out.extend_from_slice(head.reason.as_bytes())?;
+    out.extend_from_slice(b"\r\n")?;
+    put_section(&mut out, head.fields.as_slice())?;
+    Ok(Text::from_vec(out))
+}
