@@ -12,7 +12,8 @@ none_here [] (suc at) e = refl
 none_here (v ∷ vs) zero e = absurd (cc e)
 none_here (v ∷ vs) (suc at) e = none_here vs at e
 
-pub pair_here : (vs : List (Node × Node)) (at : ℕ) (v : Node × Node) → Some v ≡ slice_get vs at → drop at (values_view vs) ≡ (node_view v.0, node_view v.1) ∷ drop (at + 1) (values_view vs)
+pub pair_here : (vs : List (Node × Node)) (at : ℕ) (v : Node × Node) → Some v ≡ slice_get vs at
+    → drop at (values_view vs) ≡ (node_view v.0, node_view v.1) ∷ drop (at + 1) (values_view vs)
 pair_here [] zero v e = absurd (cc e)
 pair_here [] (suc at) v e = absurd (cc e)
 pair_here (x ∷ vs) zero v e = let h : v ≡ x = cc e in rw h refl
@@ -20,8 +21,12 @@ pair_here (x ∷ vs) (suc at) v e =
     let n : suc at + 1 ≡ suc (at + 1) = omega arith in
     rw n (pair_here vs at v e)
 
-pub told_true : (k : Known) (c : Choices) (at : ℕ) (vs : List (Node × Node)) (v : Node × Node) → Some v ≡ slice_get vs at → told_by k c at (drop at (values_view vs)) true ≡ value_move k c (node_view v.1) (at + at + 1)
+pub told_true : (k : Known) (c : Choices) (at : ℕ) (vs : List (Node × Node)) (v : Node × Node)
+    → Some v ≡ slice_get vs at → told_by k c at (drop at (values_view vs)) true
+    ≡ value_move k c (node_view v.1) (at + at + 1)
 told_true k c at vs v e = rw (pair_here vs at v e) refl
 
-pub told_false : (k : Known) (c : Choices) (at : ℕ) (vs : List (Node × Node)) (v : Node × Node) → Some v ≡ slice_get vs at → told_by k c at (drop at (values_view vs)) false ≡ condition_move k c (at + 1) (drop (at + 1) (values_view vs))
+pub told_false : (k : Known) (c : Choices) (at : ℕ) (vs : List (Node × Node)) (v : Node × Node)
+    → Some v ≡ slice_get vs at → told_by k c at (drop at (values_view vs)) false
+    ≡ condition_move k c (at + 1) (drop (at + 1) (values_view vs))
 told_false k c at vs v e = rw (pair_here vs at v e) refl

@@ -12,45 +12,28 @@ use Rattle.frame_machine.proofs.NodeViews.{all_trees, step_of, viewed}
 
 module _ (statics : Option Level) (vars : Scopes) where
   words_by : (f : Node-F Node) → first_words_in statics vars f ≡ first_words statics vars (step_of f)
-  words_by (Node-F.Command v ns) = ap (λ ts. words_from statics vars ts 0 []) (sym (all_trees (nodes_view ns.items)))
-  words_by (Node-F.Foreach ns b) = ap (λ ts. words_from statics vars ts 0 (codes "foreach" ∷ [])) (sym (all_trees (nodes_view ns.items)))
-  words_by (Node-F.Switch k ns bs) = ap (λ ts. words_from statics vars ts 0 (codes "switch" ∷ [])) (sym (all_trees (nodes_view ns.items)))
-  words_by (Node-F.CatchIn b n) = refl
-  words_by (Node-F.Plain t) = refl
-  words_by (Node-F.Variable n) = refl
-  words_by (Node-F.Element n ns) = refl
-  words_by (Node-F.Word ns) = refl
-  words_by (Node-F.Script ns) = refl
-  words_by (Node-F.Expr e) = refl
-  words_by (Node-F.If vs last) = refl
-  words_by (Node-F.Loop s t n b) = refl
-  words_by (Node-F.Catch b) = refl
-  words_by Node-F.NextBody = refl
-  words_by (Node-F.Prefixed ops e) = refl
-  words_by (Node-F.Row first rest) = refl
-  words_by (Node-F.Choice vs last) = refl
+  words_by (Node-F.Command v ns) =
+      ap (λ ts. words_from statics vars ts 0 []) (sym (all_trees (nodes_view ns.items)))
+  words_by (Node-F.Foreach ns b) =
+      ap (λ ts. words_from statics vars ts 0 (codes "foreach" ∷ [])) (sym (all_trees (nodes_view ns.items)))
+  words_by (Node-F.Switch k ns bs) =
+      ap (λ ts. words_from statics vars ts 0 (codes "switch" ∷ [])) (sym (all_trees (nodes_view ns.items)))
+  words_by other = refl
 
-  pub words_view : (n : Node) → first_words_in statics vars (out-Node n) ≡ first_words statics vars (node_view n)
+  pub words_view : (n : Node) → first_words_in statics vars (out-Node n)
+      ≡ first_words statics vars (node_view n)
   words_view n = words_by (out-Node n) ∙ ap (λ t. first_words statics vars t) (sym (viewed n))
 
   cost_by : (f : Node-F Node) → first_cost_in statics vars f ≡ first_cost statics vars (step_of f)
-  cost_by (Node-F.Command v ns) = ap (λ ts. words_cost 1 statics vars ts []) (sym (all_trees (nodes_view ns.items)))
-  cost_by (Node-F.Foreach ns b) = ap (λ ts. 1 + words_cost 1 statics vars ts (codes "foreach" ∷ [])) (sym (all_trees (nodes_view ns.items)))
-  cost_by (Node-F.Switch k ns bs) = ap (λ ts. 1 + words_cost 0 statics vars ts (codes "switch" ∷ [])) (sym (all_trees (nodes_view ns.items)))
-  cost_by (Node-F.CatchIn b n) = refl
-  cost_by (Node-F.Plain t) = refl
-  cost_by (Node-F.Variable n) = refl
-  cost_by (Node-F.Element n ns) = refl
-  cost_by (Node-F.Word ns) = refl
-  cost_by (Node-F.Script ns) = refl
-  cost_by (Node-F.Expr e) = refl
-  cost_by (Node-F.If vs last) = refl
-  cost_by (Node-F.Loop s t n b) = refl
-  cost_by (Node-F.Catch b) = refl
-  cost_by Node-F.NextBody = refl
-  cost_by (Node-F.Prefixed ops e) = refl
-  cost_by (Node-F.Row first rest) = refl
-  cost_by (Node-F.Choice vs last) = refl
+  cost_by (Node-F.Command v ns) =
+      ap (λ ts. words_cost 1 statics vars ts []) (sym (all_trees (nodes_view ns.items)))
+  cost_by (Node-F.Foreach ns b) =
+      ap (λ ts. 1 + words_cost 1 statics vars ts (codes "foreach" ∷ []))
+      (sym (all_trees (nodes_view ns.items)))
+  cost_by (Node-F.Switch k ns bs) =
+      ap (λ ts. 1 + words_cost 0 statics vars ts (codes "switch" ∷ []))
+      (sym (all_trees (nodes_view ns.items)))
+  cost_by other = refl
 
   pub cost_view : (n : Node) → first_cost_in statics vars (out-Node n) ≡ first_cost statics vars (node_view n)
   cost_view n = cost_by (out-Node n) ∙ ap (λ t. first_cost statics vars t) (sym (viewed n))

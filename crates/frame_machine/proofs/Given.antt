@@ -10,10 +10,12 @@ use Rattle.rule_model.specs.Outcome.{code_of}
 use Rattle.rule_model.specs.declared.code.Code.{Code}
 use Rattle.rule_steps.specs.Own.{coded}
 
-given_code : (r : Result (List ℕ) Raise) (wanted : Result (List ℕ) TclFault) → Gives r wanted → IfOk (coded r) (λ c. c ≡ code_of wanted)
+given_code : (r : Result (List ℕ) Raise) (wanted : Result (List ℕ) TclFault) → Gives r wanted
+    → IfOk (coded r) (λ c. c ≡ code_of wanted)
 given_code (Ok v) wanted h = ap code_of (sym h)
 given_code (Err (Fault f)) wanted h = ap code_of (sym h)
 given_code (Err Memory) wanted h = tt
 
-pub coded_is : (given : Result (List ℕ) Raise) (wanted : Result (List ℕ) TclFault) (r : Result Code memory.Memory) → r ≡ coded given → Gives given wanted → IfOk r (λ c. c ≡ code_of wanted)
+pub coded_is : (given : Result (List ℕ) Raise) (wanted : Result (List ℕ) TclFault)
+    (r : Result Code memory.Memory) → r ≡ coded given → Gives given wanted → IfOk r (λ c. c ≡ code_of wanted)
 coded_is given wanted r e h = rw e (given_code given wanted h)

@@ -29,7 +29,8 @@ then_told (Ends Continue st) = refl
 then_told (Waits p call st) = refl
 
 -- a value that nothing takes needs not be heard
-pub then_unheard : {H : Type 0} (o : Outcome H) (go : State H → Outcome H) → then_value (heard false o) (λ v s. go s) ≡ then_value o (λ v s. go s)
+pub then_unheard : {H : Type 0} (o : Outcome H) (go : State H → Outcome H)
+    → then_value (heard false o) (λ v s. go s) ≡ then_value o (λ v s. go s)
 then_unheard (Ends (Value v) st) go = refl
 then_unheard (Ends (Raised f) st) go = refl
 then_unheard (Ends (Return v) st) go = refl

@@ -214,7 +214,7 @@ module _ {H : Type 0} where
       Comes g r w t (λ path st. by_truth x text (tests g (inner_of g r) c at v more path) st) vars budget (still budget vars (holds_by (known g.statics vars) c at v.1 text (if_truth x text)))
   holds_is c p at v more text (Some true) e h f = comes_as (λ path host more cost acts. refl) (value_is c v.1 (at + at + 1) e (p.pairs at v more h).value)
   holds_is {g = g} {r = r} {t = t} {vars = vars} {budget = budget} c p at v more text (Some false) e h f =
-      comes_at (back_under (frame.Condition at) (Value text)) (λ path host replies cost acts.
+      comes_at (back_under (frame.Condition at (at + at)) (Value text)) (λ path host replies cost acts.
       rw (← f) (sym (waits g (inner_of g r) t c p at v more h path false (state vars host replies budget cost acts))))
   holds_is c p at v more text None e h f = comes_at (stop (Raised (not_truth text))) (λ path host more cost acts. refl)
 
@@ -229,7 +229,7 @@ module _ {H : Type 0} where
   condition_cases c p at v more n ticks (Some Continue) e h none = comes_paid {m' = λ path st. Ends Continue st} n ticks (λ path host replies cost acts. refl) (comes_at (stop Continue) (λ path host replies cost acts. refl))
   condition_cases {g = g} {r = r} {t = t} c p at v more n ticks None e h none =
       comes_paid {m' = λ path st. then_truth (eval g (inner_of g r) v.0 (path ++ (at + at) ∷ []) st) (tests g (inner_of g r) c at v more path)} n ticks (λ path host replies cost acts. rw (none refl, add-zero) refl)
-      (comes_at (child_under (frame.Condition at)) (λ path host replies cost acts.
+      (comes_at (child_under (frame.Condition at (at + at))) (λ path host replies cost acts.
       rw (heard_true, (p.pairs at v more h).condition, conditions_from g (inner_of g r) t c p at, h, p.price, p.last) refl))
 
   -- the condition of a number with those behind it, or else the last
@@ -259,13 +259,13 @@ module _ {H : Type 0} where
   truth_cases c p at text None e = comes_at (stop (Raised (not_truth text))) (λ path host replies cost acts. refl)
 
   -- behind a condition
-  pub condition_goes : {g : Setting H} {r : Room} {w : Bool} {t : Tree} {vars : Scopes} {budget : ℕ} (at : ℕ) (code : Code) →
-      Comes g r w t (goes_on g r t (frame.Condition at) code) vars budget (still budget vars (condition_told (known g.statics vars) (choices_of w t) at code))
-  condition_goes {g = g} {r = r} {w = w} {t = t} at (Value v) = truth_cases (choices_of w t) (picks g (inner_of g r) t w) at v (truth v) (wanted_is w t)
-  condition_goes at (Raised f) = comes_at _ (λ path host more cost acts. refl)
-  condition_goes at (Return v) = comes_at _ (λ path host more cost acts. refl)
-  condition_goes at Break = comes_at _ (λ path host more cost acts. refl)
-  condition_goes at Continue = comes_at _ (λ path host more cost acts. refl)
+  pub condition_goes : {g : Setting H} {r : Room} {w : Bool} {t : Tree} {vars : Scopes} {budget : ℕ} (at place : ℕ) (code : Code) →
+      Comes g r w t (goes_on g r t (frame.Condition at place) code) vars budget (still budget vars (condition_told (known g.statics vars) (choices_of w t) at code))
+  condition_goes {g = g} {r = r} {w = w} {t = t} at place (Value v) = truth_cases (choices_of w t) (picks g (inner_of g r) t w) at v (truth v) (wanted_is w t)
+  condition_goes at place (Raised f) = comes_at _ (λ path host more cost acts. refl)
+  condition_goes at place (Return v) = comes_at _ (λ path host more cost acts. refl)
+  condition_goes at place Break = comes_at _ (λ path host more cost acts. refl)
+  condition_goes at place Continue = comes_at _ (λ path host more cost acts. refl)
 
   -- `if` and `?:` begin
   pub if_begins : {g : Setting H} {r : Room} {w : Bool} {vars : Scopes} {budget : ℕ} (vs : Values) (last : Tree) →
@@ -308,7 +308,7 @@ condition_by_owes k c at v (Some (Raised f)) p heavy = bounded_less (omega arith
 condition_by_owes k c at v (Some (Return u)) p heavy = bounded_less (omega arith) (stop_bounded (Return u))
 condition_by_owes k c at v (Some Break) p heavy = bounded_less (omega arith) (stop_bounded Break)
 condition_by_owes k c at v (Some Continue) p heavy = bounded_less (omega arith) (stop_bounded Continue)
-condition_by_owes k c at v None p heavy = bounded_less (omega arith) (child_bounded (frame.Condition at) refl (ap is_flat p.condition ∙ heavy refl))
+condition_by_owes k c at v None p heavy = bounded_less (omega arith) (child_bounded (frame.Condition at (at + at)) refl (ap is_flat p.condition ∙ heavy refl))
 
 no_placed : (t : Tree) (w : Bool) → choices_of w t ≡ choices [] None false w → Placed t (choices_of w t)
 no_placed t w e = rw e (record { pairs = λ at v more h. absurd (no_pair at v more h); ends = λ u h. absurd (cc h) })
@@ -349,7 +349,7 @@ whole_owes {procedures = procedures} {t = t} k c at v n ticks (Some code) few p 
     let one = some code refl in
     record { owes = let h = b.owes in omega (arith, h, few, one); ready = b.ready }
 whole_owes k c at v n ticks None few p heavy some =
-    bounded_after (alone v.0) 0 (omega arith) (bounded_after n ticks (omega (arith, few)) (child_bounded (frame.Condition at) refl (ap is_flat p.condition ∙ heavy refl)))
+    bounded_after (alone v.0) 0 (omega arith) (bounded_after n ticks (omega (arith, few)) (child_bounded (frame.Condition at (at + at)) refl (ap is_flat p.condition ∙ heavy refl)))
 
 costs_owe : {procedures : List Procedure} {t : Tree} (k : Known) (c : Choices) (at : ℕ) (v : Tree × Tree) (b : Bool) → Pair (children t) at t v.0 v.1 →
     Bounded procedures t 2 (move_after (condition_cost b v.0) 0 (move_after (quick k v.0).cost (quick k v.0).ticks (condition_by k c at v.1 (quick k v.0).value)))

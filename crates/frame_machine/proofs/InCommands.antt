@@ -22,7 +22,8 @@ effects_did : (es : List Effect) → effects_in (map Did es) ≡ es
 effects_did [] = refl
 effects_did (e ∷ es) = ap (λ l. e ∷ l) (effects_did es)
 
-pub answers_value : {H : Type 0} (step : HostStep H) (after : H) (v : List ℕ) (made : List Effect → Type 0) → DidStep step (answer.Value v) after made → Answers step after (done.Ends (Value v)) made
+pub answers_value : {H : Type 0} (step : HostStep H) (after : H) (v : List ℕ) (made : List Effect → Type 0)
+    → DidStep step (answer.Value v) after made → Answers step after (done.Ends (Value v)) made
 answers_value (Gives w h es) after v made d = record {
   acts = map Did es;
   same = λ p vars k more budget cost before. rw (d.0, d.1) refl;
@@ -31,7 +32,8 @@ answers_value (Gives w h es) after v made d = record {
 answers_value (Faults w h es) after v made d = absurd d
 answers_value (Asks call h) after v made d = absurd d
 
-pub answers_fault : {H : Type 0} (step : HostStep H) (after : H) (f : TclFault) (made : List Effect → Type 0) → DidStep step (answer.Fault f) after made → Answers step after (done.Ends (Raised f)) made
+pub answers_fault : {H : Type 0} (step : HostStep H) (after : H) (f : TclFault) (made : List Effect → Type 0)
+    → DidStep step (answer.Fault f) after made → Answers step after (done.Ends (Raised f)) made
 answers_fault (Gives w h es) after f made d = absurd d
 answers_fault (Faults e h es) after f made d = record {
   acts = map Did es;
@@ -40,7 +42,9 @@ answers_fault (Faults e h es) after f made d = record {
 }
 answers_fault (Asks call h) after f made d = absurd d
 
-pub answers_ask : {H : Type 0} (step : HostStep H) (after : H) (call : List (List ℕ)) (made : List Effect → Type 0) → DidStep step (answer.Ask call) after made → Answers step after (done.Asks call) made
+pub answers_ask : {H : Type 0} (step : HostStep H) (after : H) (call : List (List ℕ))
+    (made : List Effect → Type 0) → DidStep step (answer.Ask call) after made
+    → Answers step after (done.Asks call) made
 answers_ask (Gives w h es) after call made d = absurd d
 answers_ask (Faults e h es) after call made d = absurd d
 answers_ask (Asks asked h) after call made d = record {
@@ -50,54 +54,58 @@ answers_ask (Asks asked h) after call made d = record {
 }
 
 module _ {H : Type 0} (g : Setting H) (i : Inner H) where
-  host_named : (ws : List (List ℕ)) (path : List ℕ) (st : State H) → is_pure_call ws ≡ false → named_command g ws path st ≡ answered (g.table st.host ws) path st
+  host_named : (ws : List (List ℕ)) (path : List ℕ) (st : State H) → is_pure_call ws ≡ false
+      → named_command g ws path st ≡ answered (g.table st.host ws) path st
   host_named [] path st is = cc
   host_named (name ∷ ws) path st is = rw is refl
 
   -- one of the host
-  host_by : (v : Verb) (ws : List (List ℕ)) (path : List ℕ) (st : State H) → (v ≡ verb.Call → ⊥) → (v ≡ verb.ExprOfWords → ⊥) → is_own v ws ≡ false → command g i v ws path st ≡ answered (g.table st.host ws) path st
+  host_by : (v : Verb) (ws : List (List ℕ)) (path : List ℕ) (st : State H) → (v ≡ verb.Call → ⊥)
+      → (v ≡ verb.ExprOfWords → ⊥) → is_own v ws ≡ false
+      → command g i v ws path st ≡ answered (g.table st.host ws) path st
   host_by verb.Named ws path st a b is = host_named ws path st is
   host_by verb.Computed ws path st a b is = host_named ws path st is
   host_by verb.Call ws path st a b is = absurd (a refl)
   host_by verb.ExprOfWords ws path st a b is = absurd (b refl)
   host_by other ws path st a b is = cc
 
-  own_named : (ws : List (List ℕ)) (path : List ℕ) (st : State H) → is_pure_call ws ≡ true → named_command g ws path st ≡ Ends (named_code ws) st
+  own_named : (ws : List (List ℕ)) (path : List ℕ) (st : State H) → is_pure_call ws ≡ true
+      → named_command g ws path st ≡ Ends (named_code ws) st
   own_named [] path st is = refl
   own_named (name ∷ ws) path st is = rw is refl
 
   -- one of the language
-  own_by : (v : Verb) (ws : List (List ℕ)) (path : List ℕ) (st : State H) → is_own v ws ≡ true → command g i v ws path st ≡ Ends (own_done g.statics v ws st.vars).code (record st { vars = (own_done g.statics v ws st.vars).vars })
+  own_by : (v : Verb) (ws : List (List ℕ)) (path : List ℕ) (st : State H) → is_own v ws ≡ true
+      → command g i v ws path st ≡ Ends (own_done g.statics v ws st.vars).code
+      (record st { vars = (own_done g.statics v ws st.vars).vars })
   own_by verb.Named ws path st is = own_named ws path st is
   own_by verb.Computed ws path st is = own_named ws path st is
-  own_by verb.Set ws path st is = refl
-  own_by verb.Unset ws path st is = refl
-  own_by verb.Incr ws path st is = refl
-  own_by verb.Append ws path st is = refl
-  own_by verb.Lappend ws path st is = refl
-  own_by verb.Array ws path st is = refl
-  own_by verb.Info ws path st is = refl
-  own_by verb.Return ws path st is = refl
-  own_by verb.Break ws path st is = refl
-  own_by verb.Continue ws path st is = refl
-  own_by verb.Error ws path st is = refl
   own_by verb.Call ws path st is = absurd (cc is)
   own_by verb.ExprOfWords ws path st is = absurd (cc is)
+  own_by other ws path st is = refl
 
-pub finished_host : {H : Type 0} (g : Setting H) (w : Bool) (v : Verb) (ws : List (List ℕ)) (vars : Scopes) (h after : H) (d : Done) (made : List Effect → Type 0) → (v ≡ verb.Call → ⊥) → (v ≡ verb.ExprOfWords → ⊥) → is_own v ws ≡ false
+pub finished_host : {H : Type 0} (g : Setting H) (w : Bool) (v : Verb) (ws : List (List ℕ)) (vars : Scopes)
+    (h after : H) (d : Done) (made : List Effect → Type 0) → (v ≡ verb.Call → ⊥) → (v ≡ verb.ExprOfWords → ⊥)
+    → is_own v ws ≡ false
     → Answers (g.table h ws) after d made → Finished g w v ws vars vars h after d made
 finished_host g w v ws vars h after d made a b is ans = record {
   acts = ans.acts;
-  same = λ i p more budget cost before. ap (heard w) (host_by g i v ws p (state vars h more budget cost before) a b is ∙ ans.same p vars h more budget cost before);
+  same = λ i p more budget cost before. ap (heard w)
+      (host_by g i v ws p (state vars h more budget cost before) a b is
+      ∙ ans.same p vars h more budget cost before);
   by = ans.by;
 }
 
-pub finished_own : {H : Type 0} (g : Setting H) (w : Bool) (v : Verb) (ws : List (List ℕ)) (vars vars' : Scopes) (h : H) (c : Code) (made : List Effect → Type 0) → is_own v ws ≡ true
-    → heard_code w c ≡ heard_code w (own_done g.statics v ws vars).code → vars' ≡ (own_done g.statics v ws vars).vars → made [] → Finished g w v ws vars vars' h h (done.Ends c) made
+pub finished_own : {H : Type 0} (g : Setting H) (w : Bool) (v : Verb) (ws : List (List ℕ))
+    (vars vars' : Scopes) (h : H) (c : Code) (made : List Effect → Type 0) → is_own v ws ≡ true
+    → heard_code w c ≡ heard_code w (own_done g.statics v ws vars).code
+    → vars' ≡ (own_done g.statics v ws vars).vars → made []
+    → Finished g w v ws vars vars' h h (done.Ends c) made
 finished_own g w v ws vars vars' h c made is e f m = record {
   acts = [];
   same = λ i p more budget cost before.
       ap (heard w) (own_by g i v ws p (state vars h more budget cost before) is)
-      ∙ rw (append-nil, f) (ap (λ x. Ends x (state (own_done g.statics v ws vars).vars h more budget cost before)) (sym e));
+      ∙ rw (append-nil, f) (ap (λ x. Ends x
+      (state (own_done g.statics v ws vars).vars h more budget cost before)) (sym e));
   by = m;
 }

@@ -103,6 +103,10 @@ abbrev pub IsWords : Frame → Type 0
 IsWords (frame.Words k j done text) = Unit {0}
 IsWords f = ⊥
 
+pub not_words : (f : Frame) → ((k j : ℕ) (done : List (List ℕ)) (text : List ℕ) → f ≡ frame.Words k j done text → ⊥) → IsWords f → ⊥
+not_words (frame.Words k j done text) h e = h k j done text refl
+not_words f h e = e
+
 pub still_goes_on : {H : Type 0} (g : Setting H) (r : Room) (w : Bool) (t : Tree) (f : Frame) (c : Code) (vars : Scopes) (budget : ℕ) → (IsWords f → ⊥)
     → Comes g r w t (goes_on g r t f c) vars budget (still_goes g.statics vars t f c w budget)
 still_goes_on g r w t (frame.Script at v) c vars budget h = script_goes_on g r t at v w c vars budget
@@ -111,7 +115,7 @@ still_goes_on g r w t (frame.Pieces j text) c vars budget h = pieces_goes_on g r
 still_goes_on g r w t (frame.Operand left) c vars budget h = operand_goes left c
 still_goes_on g r w t (frame.Left at) c vars budget h = left_goes at c
 still_goes_on g r w t (frame.Right at joint left) c vars budget h = right_goes at joint left c
-still_goes_on g r w t (frame.Condition at) c vars budget h = condition_goes at c
+still_goes_on g r w t (frame.Condition at place) c vars budget h = condition_goes at place c
 still_goes_on g r w t (frame.Body place v) c vars budget h = comes_at (stop c) (λ path host more cost acts. refl)
 still_goes_on g r w t frame.Start c vars budget h = start_goes_is budget c
 still_goes_on g r w t (frame.Test left) c vars budget h = test_goes left budget c
@@ -132,7 +136,7 @@ still_goes_owes procedures statics vars t (frame.Pieces j text) c w budget h = (
 still_goes_owes procedures statics vars t (frame.Operand left) c w budget h = by_bound procedures t (operand_goes_owes left c)
 still_goes_owes procedures statics vars t (frame.Left at) c w budget h = by_bound procedures t (left_goes_owes (known statics vars) at c)
 still_goes_owes procedures statics vars t (frame.Right at joint left) c w budget h = let b = right_goes_owes {procedures = procedures} {t = t} (known statics vars) at joint left c in (let o = b.owes in omega (arith, o), b.ready)
-still_goes_owes procedures statics vars t (frame.Condition at) c w budget h = by_bound procedures t (condition_goes_owes (known statics vars) w at c)
+still_goes_owes procedures statics vars t (frame.Condition at place) c w budget h = by_bound procedures t (condition_goes_owes (known statics vars) w at c)
 still_goes_owes procedures statics vars t (frame.Body place v) c w budget h = by_bound procedures t (pass_bounded c)
 still_goes_owes procedures statics vars t frame.Start c w budget h = by_bound procedures t (start_goes_owes (known statics vars) budget c)
 still_goes_owes procedures statics vars t (frame.Test left) c w budget h = by_bound procedures t (test_goes_owes (known statics vars) left budget c)

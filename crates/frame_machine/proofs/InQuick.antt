@@ -13,13 +13,16 @@ use Rattle.frame_machine.specs.Reads.{Known, known}
 use Rattle.frame_machine.proofs.LeafViews.{leaf_eval}
 
 module _ {H : Type 0} where
-  quick_by : (g : Setting H) (i : Inner H) (t : Tree) (path : List ℕ) (st : State H) (b : Bool) → is_flat t ≡ b →
-      eval g i t path st ≡ quick_or (quick (known g.statics st.vars) t).value (quick (known g.statics st.vars) t).cost (eval g i t) path st
+  quick_by : (g : Setting H) (i : Inner H) (t : Tree) (path : List ℕ) (st : State H) (b : Bool)
+      → is_flat t ≡ b →
+      eval g i t path st ≡ quick_or (quick (known g.statics st.vars) t).value
+      (quick (known g.statics st.vars) t).cost (eval g i t) path st
   quick_by g i t path st true e = rw (e, add-zero) (leaf_eval g i t path st e)
   quick_by g i t path st false e = rw e refl
 
   pub quick_is : (g : Setting H) (i : Inner H) (t : Tree) (path : List ℕ) (st : State H) →
-      eval g i t path st ≡ quick_or (quick (known g.statics st.vars) t).value (quick (known g.statics st.vars) t).cost (eval g i t) path st
+      eval g i t path st ≡ quick_or (quick (known g.statics st.vars) t).value
+      (quick (known g.statics st.vars) t).cost (eval g i t) path st
   quick_is g i t path st = quick_by g i t path st (is_flat t) refl
 
 -- where there is no code nothing is paid, and there is something to do
@@ -38,28 +41,17 @@ pub quick_ticks : (k : Known) (t : Tree) → (quick k t).ticks ≤ (quick k t).c
 quick_ticks k t = omega arith
 
 flat_alone : (t : Tree) → is_flat t ≡ true → alone t ≡ 1
-flat_alone (tree.plain text) e = refl
-flat_alone (tree.variable name) e = refl
-flat_alone (tree.element name ts) e = refl
-flat_alone (tree.word ts) e = refl
-flat_alone (tree.script ts) e = refl
-flat_alone (tree.command v ts) e = refl
-flat_alone (tree.expr t) e = refl
-flat_alone (tree.branches vs last) e = refl
-flat_alone (tree.loop s x n b) e = refl
-flat_alone (tree.each ts b) e = refl
-flat_alone (tree.switch k ts bs) e = refl
-flat_alone (tree.catch b) e = refl
-flat_alone (tree.catch_in b n) e = refl
-flat_alone tree.next_body e = refl
 flat_alone (tree.choice vs last) e = absurd (cc e)
 flat_alone (tree.prefixed ops t) e = absurd (cc e)
 flat_alone (tree.row t os) e = absurd (cc e)
+flat_alone other e = refl
 
-some_by : (k : Known) (t : Tree) (code : Code) (b : Bool) → is_flat t ≡ b → (quick k t).value ≡ Some code → 1 ≤ alone t + (quick k t).cost
+some_by : (k : Known) (t : Tree) (code : Code) (b : Bool) → is_flat t ≡ b → (quick k t).value ≡ Some code
+    → 1 ≤ alone t + (quick k t).cost
 some_by k t code true e h = let a = flat_alone t e in omega (arith, a)
 some_by k t code false e h = absurd (cc (rw e at h))
 
 -- an expression costs something
-pub quick_some : (k : Known) (t : Tree) (code : Code) → (quick k t).value ≡ Some code → 1 ≤ alone t + (quick k t).cost
+pub quick_some : (k : Known) (t : Tree) (code : Code) → (quick k t).value ≡ Some code
+    → 1 ≤ alone t + (quick k t).cost
 quick_some k t code h = some_by k t code (is_flat t) refl h

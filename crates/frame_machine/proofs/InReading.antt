@@ -72,7 +72,7 @@ module _ {H : Type 0} where
   framed u (Some (frame.Operand left)) m h e = absurd h
   framed u (Some (frame.Left at)) m h e = absurd h
   framed u (Some (frame.Right at joint left)) m h e = absurd h
-  framed u (Some (frame.Condition at)) m h e = absurd h
+  framed u (Some (frame.Condition at place)) m h e = absurd h
   framed u (Some (frame.Body place wanted)) m h e = absurd h
   framed u (Some frame.Start) m h e = absurd h
   framed u (Some (frame.Test left)) m h e = absurd h
@@ -128,7 +128,7 @@ frame_owes u r (Some (frame.Pieces part text)) m heavy h e = absurd h
 frame_owes u r (Some (frame.Operand left)) m heavy h e = absurd h
 frame_owes u r (Some (frame.Left at)) m heavy h e = absurd h
 frame_owes u r (Some (frame.Right at joint left)) m heavy h e = absurd h
-frame_owes u r (Some (frame.Condition at)) m heavy h e = absurd h
+frame_owes u r (Some (frame.Condition at place)) m heavy h e = absurd h
 frame_owes u r (Some (frame.Body place wanted)) m heavy h e = absurd h
 frame_owes u r (Some frame.Start) m heavy h e = absurd h
 frame_owes u r (Some (frame.Test left)) m heavy h e = absurd h

@@ -38,24 +38,10 @@ counted n ns ts l e = l ∙ sym (length-map ns node_view) ∙ ap length e
 no_zero : (n : ℕ) → nat_eq (suc n) 0 ≡ false
 no_zero n = grind (arith, nat_tests)
 
-command_child : (t : Tree) (at : ℕ) → at < length (commands_of t) → get_or (commands_of t) at t ≡ child_at t at
+command_child : (t : Tree) (at : ℕ) → at < length (commands_of t)
+    → get_or (commands_of t) at t ≡ child_at t at
 command_child (tree.script ts) at h = refl
-command_child (tree.plain text) at h = absurd (omega (arith, h))
-command_child (tree.variable name) at h = absurd (omega (arith, h))
-command_child (tree.element name ts) at h = absurd (omega (arith, h))
-command_child (tree.word ts) at h = absurd (omega (arith, h))
-command_child (tree.command v ts) at h = absurd (omega (arith, h))
-command_child (tree.expr t) at h = absurd (omega (arith, h))
-command_child (tree.branches vs last) at h = absurd (omega (arith, h))
-command_child (tree.choice vs last) at h = absurd (omega (arith, h))
-command_child (tree.loop s t n b) at h = absurd (omega (arith, h))
-command_child (tree.each ts b) at h = absurd (omega (arith, h))
-command_child (tree.switch k ts bs) at h = absurd (omega (arith, h))
-command_child (tree.catch b) at h = absurd (omega (arith, h))
-command_child (tree.catch_in b n) at h = absurd (omega (arith, h))
-command_child tree.next_body at h = absurd (omega (arith, h))
-command_child (tree.prefixed ops t) at h = absurd (omega (arith, h))
-command_child (tree.row t os) at h = absurd (omega (arith, h))
+command_child other at h = absurd (omega (arith, h))
 
 module _ {H : Type 0} (g : Setting H) (r : Room) where
   abbrev i : Inner H
@@ -63,37 +49,27 @@ module _ {H : Type 0} (g : Setting H) (r : Room) where
 
   commands_row : (t : Tree) → commands_in g i t ≡ each g i free 0 (commands_of t)
   commands_row (tree.script ts) = evals_each g i free 0 ts
-  commands_row (tree.plain text) = refl
-  commands_row (tree.variable name) = refl
-  commands_row (tree.element name ts) = refl
-  commands_row (tree.word ts) = refl
-  commands_row (tree.command v ts) = refl
-  commands_row (tree.expr t) = refl
-  commands_row (tree.branches vs last) = refl
-  commands_row (tree.choice vs last) = refl
-  commands_row (tree.loop s t n b) = refl
-  commands_row (tree.each ts b) = refl
-  commands_row (tree.switch k ts bs) = refl
-  commands_row (tree.catch b) = refl
-  commands_row (tree.catch_in b n) = refl
-  commands_row tree.next_body = refl
-  commands_row (tree.prefixed ops t) = refl
-  commands_row (tree.row t os) = refl
+  commands_row other = refl
 
-  commands_left : (t : Tree) (at : ℕ) → drop at (commands_in g i t) ≡ each g i free at (drop at (commands_of t))
+  commands_left : (t : Tree) (at : ℕ)
+      → drop at (commands_in g i t) ≡ each g i free at (drop at (commands_of t))
   commands_left t at = ap (λ l. drop at l) (commands_row t) ∙ drop_each g i free at (commands_of t)
 
   none_left : (t : Tree) (at : ℕ) → length (commands_of t) ≤ at → drop at (commands_in g i t) ≡ []
   none_left t at h = commands_left t at ∙ ap (λ l. each g i free at l) (drop_all at (commands_of t) h)
 
-  some_left : (t : Tree) (at : ℕ) → at < length (commands_of t) → drop at (commands_in g i t) ≡ child free at (child_at t at) (eval g i (child_at t at)) ∷ drop (at + 1) (commands_in g i t)
+  some_left : (t : Tree) (at : ℕ) → at < length (commands_of t)
+      → drop at (commands_in g i t) ≡ child free at (child_at t at) (eval g i (child_at t at)) ∷ drop (at + 1)
+      (commands_in g i t)
   some_left t at h =
       commands_left t at ∙ ap (λ l. each g i free at l) (drop_more (commands_of t) at t h)
       ∙ rw (command_child t at h, commands_left t (at + 1)) refl
 
   -- the value of a command is heard where it is the last, and the script's is
-  command_heard : (t : Tree) (at : ℕ) (p : List ℕ) (w b : Bool) (o : Outcome H) → at < length (commands_of t) → nat_eq (at + 1) (length (commands_of t)) ≡ b
-      → heard w (then_value o (λ v s. commands (drop (at + 1) (commands_in g i t)) v p s)) ≡ heard w (then_value (heard (w && b) o) (λ v s. commands (drop (at + 1) (commands_in g i t)) v p s))
+  command_heard : (t : Tree) (at : ℕ) (p : List ℕ) (w b : Bool) (o : Outcome H) → at < length (commands_of t)
+      → nat_eq (at + 1) (length (commands_of t)) ≡ b
+      → heard w (then_value o (λ v s. commands (drop (at + 1) (commands_in g i t)) v p s))
+      ≡ heard w (then_value (heard (w && b) o) (λ v s. commands (drop (at + 1) (commands_in g i t)) v p s))
   command_heard t at p true true o h e =
       let over : length (commands_of t) ≤ at + 1 = grind (arith, nat_tests) in
       rw (none_left t (at + 1) over, then_told o, then_told (heard true o)) (sym (heard_twice true o))
@@ -107,58 +83,90 @@ module _ {H : Type 0} (g : Setting H) (r : Room) where
       let more : at + 1 < length (commands_of t) = grind (arith, nat_tests) in
       rw (some_left t (at + 1) more) (ap (heard false) (sym (then_unheard o _)))
 
-  child_stands : (t : Tree) (at : ℕ) (p : List ℕ) (w b : Bool) (vars : Scopes) (h : H) (more : List Reply) (budget cost : ℕ) (acts : List Act) → is_flat (child_at t at) ≡ b
-      → apply g i t p (frame.Script at w) (heard w (eval g i (child_at t at) (p ++ at ∷ []) (state vars h more budget cost acts)))
-      ≡ stands g r t (child_next g.statics vars (child_at t at) (frame.Script at w)) p (state vars h more budget cost acts)
-  child_stands t at p w true vars h more budget cost acts e = rw (e, leaf_eval g i (child_at t at) (p ++ at ∷ []) (state vars h more budget cost acts) e) refl
+  child_stands : (t : Tree) (at : ℕ) (p : List ℕ) (w b : Bool) (vars : Scopes) (h : H) (more : List Reply)
+      (budget cost : ℕ) (acts : List Act) → is_flat (child_at t at) ≡ b
+      → apply g i t p (frame.Script at w)
+      (heard w (eval g i (child_at t at) (p ++ at ∷ []) (state vars h more budget cost acts)))
+      ≡ stands g r t (child_next g.statics vars (child_at t at) (frame.Script at w)) p
+      (state vars h more budget cost acts)
+  child_stands t at p w true vars h more budget cost acts e =
+      rw (e, leaf_eval g i (child_at t at) (p ++ at ∷ []) (state vars h more budget cost acts) e) refl
   child_stands t at p w false vars h more budget cost acts e = rw e refl
 
   abbrev From : Tree → ℕ → Bool → ℕ → Type 0
-  From t at w budget = (last p : List ℕ) (vars : Scopes) (h : H) (more : List Reply) (cost : ℕ) (acts : List Act)
+  From t at w budget = (last p : List ℕ) (vars : Scopes) (h : H) (more : List Reply) (cost : ℕ)
+      (acts : List Act)
       → heard w (commands (drop at (commands_in g i t)) last p (state vars h more budget cost acts))
-      ≡ heard w (stands g r t (script_from g.statics vars t at last w budget).move.next p (state vars h more (script_from g.statics vars t at last w budget).budget (cost + (script_from g.statics vars t at last w budget).move.cost) acts))
+      ≡ heard w (stands g r t (script_from g.statics vars t at last w budget).move.next p
+      (state vars h more (script_from g.statics vars t at last w budget).budget
+      (cost + (script_from g.statics vars t at last w budget).move.cost) acts))
 
-  from_paid : (t : Tree) (at : ℕ) (w : Bool) (budget : ℕ) → nat_le (length (commands_of t)) at ≡ false → nat_eq budget 0 ≡ false → From t at w budget
+  from_paid : (t : Tree) (at : ℕ) (w : Bool) (budget : ℕ) → nat_le (length (commands_of t)) at ≡ false
+      → nat_eq budget 0 ≡ false → From t at w budget
   from_paid t at w budget e z last p vars h more cost acts =
       let there : at < length (commands_of t) = grind (arith, nat_tests) in
       let st = state vars h more (budget - 1) (cost + 1) acts in
       let b = nat_eq (at + 1) (length (commands_of t)) in
       rw (e, z, some_left t at there, z, add-zero)
       (command_heard t at p w b (eval g i (child_at t at) (p ++ at ∷ []) st) there refl
-      ∙ ap (heard w) (child_stands t at p (w && b) (is_flat (child_at t at)) vars h more (budget - 1) (cost + 1) acts refl))
+      ∙ ap (heard w) (child_stands t at p (w && b) (is_flat (child_at t at)) vars h more (budget - 1)
+      (cost + 1) acts refl))
 
-  from_unpaid : (t : Tree) (at : ℕ) (w : Bool) (budget : ℕ) → nat_le (length (commands_of t)) at ≡ false → nat_eq budget 0 ≡ true → From t at w budget
+  from_unpaid : (t : Tree) (at : ℕ) (w : Bool) (budget : ℕ) → nat_le (length (commands_of t)) at ≡ false
+      → nat_eq budget 0 ≡ true → From t at w budget
   from_unpaid t at w budget e z last p vars h more cost acts =
       let there : at < length (commands_of t) = grind (arith, nat_tests) in
       rw (e, z, some_left t at there, z, add-zero) refl
 
-  from_over : (t : Tree) (at : ℕ) (w : Bool) (budget : ℕ) → nat_le (length (commands_of t)) at ≡ true → From t at w budget
+  from_over : (t : Tree) (at : ℕ) (w : Bool) (budget : ℕ) → nat_le (length (commands_of t)) at ≡ true
+      → From t at w budget
   from_over t at w budget e last p vars h more cost acts =
       let over : length (commands_of t) ≤ at = grind (arith, nat_tests) in
       rw (e, none_left t at over, add-zero) refl
 
-  from_by : (t : Tree) (at : ℕ) (w : Bool) (budget : ℕ) (a b : Bool) → nat_le (length (commands_of t)) at ≡ a → nat_eq budget 0 ≡ b → From t at w budget
+  from_by : (t : Tree) (at : ℕ) (w : Bool) (budget : ℕ) (a b : Bool) → nat_le (length (commands_of t)) at ≡ a
+      → nat_eq budget 0 ≡ b → From t at w budget
   from_by t at w budget true b e z = from_over t at w budget e
   from_by t at w budget false true e z = from_unpaid t at w budget e z
   from_by t at w budget false false e z = from_paid t at w budget e z
 
-  pub script_comes : (t : Tree) (at : ℕ) (last : List ℕ) (w : Bool) (vars : Scopes) (budget : ℕ) → Comes g r w t (λ p st. commands (drop at (commands_in g i t)) last p st) vars budget (spent vars (script_from g.statics vars t at last w budget))
+  pub script_comes : (t : Tree) (at : ℕ) (last : List ℕ) (w : Bool) (vars : Scopes) (budget : ℕ)
+      → Comes g r w t (λ p st. commands (drop at (commands_in g i t)) last p st) vars budget
+      (spent vars (script_from g.statics vars t at last w budget))
   script_comes t at last w vars budget = record {
-    same = λ p h more cost acts. from_by t at w budget (nat_le (length (commands_of t)) at) (nat_eq budget 0) refl refl last p vars h more cost acts;
+    same = λ p h more cost acts. from_by t at w budget (nat_le (length (commands_of t)) at) (nat_eq budget 0)
+        refl refl last p vars h more cost acts;
   }
 
-  pub script_begins : (ts : Trees) (w : Bool) (vars : Scopes) (budget : ℕ) → Comes g r w (tree.script ts) (eval g i (tree.script ts)) vars budget (spent vars (script_from g.statics vars (tree.script ts) 0 [] w budget))
-  script_begins ts w vars budget = record { same = λ p h more cost acts. (script_comes (tree.script ts) 0 [] w vars budget).same p h more cost acts }
+  pub script_begins : (ts : Trees) (w : Bool) (vars : Scopes) (budget : ℕ)
+      → Comes g r w (tree.script ts) (eval g i (tree.script ts)) vars budget
+      (spent vars (script_from g.statics vars (tree.script ts) 0 [] w budget))
+  script_begins ts w vars budget =
+      record {
+        same = λ p h more cost acts. (script_comes (tree.script ts) 0 [] w vars budget).same p h more
+            cost acts;
+      }
 
-  stops : (t : Tree) (f : Frame) (c : Code) (w : Bool) (vars : Scopes) (budget : ℕ) → ((p : List ℕ) (st : State H) → goes_on g r t f c p st ≡ Ends c st) → Comes g r w t (goes_on g r t f c) vars budget (spent vars (spends budget (stop c)))
-  stops t f c w vars budget e = record { same = λ p h more cost acts. rw (e p (state vars h more budget cost acts), add-zero) refl }
+  stops : (t : Tree) (f : Frame) (c : Code) (w : Bool) (vars : Scopes) (budget : ℕ)
+      → ((p : List ℕ) (st : State H) → goes_on g r t f c p st ≡ Ends c st)
+      → Comes g r w t (goes_on g r t f c) vars budget (spent vars (spends budget (stop c)))
+  stops t f c w vars budget e = record
+      { same = λ p h more cost acts. rw (e p (state vars h more budget cost acts), add-zero) refl }
 
-  pub script_goes_on : (t : Tree) (at : ℕ) (v w : Bool) (c : Code) (vars : Scopes) (budget : ℕ) → Comes g r w t (goes_on g r t (frame.Script at v) c) vars budget (spent vars (script_goes g.statics vars t at w budget c))
-  script_goes_on t at v w (Value x) vars budget = record { same = λ p h more cost acts. (script_comes t (at + 1) x w vars budget).same p h more cost acts }
-  script_goes_on t at v w (Raised f) vars budget = stops t (frame.Script at v) (Raised f) w vars budget (λ p st. refl)
-  script_goes_on t at v w (Return x) vars budget = stops t (frame.Script at v) (Return x) w vars budget (λ p st. refl)
+  pub script_goes_on : (t : Tree) (at : ℕ) (v w : Bool) (c : Code) (vars : Scopes) (budget : ℕ)
+      → Comes g r w t (goes_on g r t (frame.Script at v) c) vars budget
+      (spent vars (script_goes g.statics vars t at w budget c))
+  script_goes_on t at v w (Value x) vars budget =
+      record {
+        same = λ p h more cost acts. (script_comes t (at + 1) x w vars budget).same p h more cost acts;
+      }
+  script_goes_on t at v w (Raised f) vars budget =
+      stops t (frame.Script at v) (Raised f) w vars budget (λ p st. refl)
+  script_goes_on t at v w (Return x) vars budget =
+      stops t (frame.Script at v) (Return x) w vars budget (λ p st. refl)
   script_goes_on t at v w Break vars budget = stops t (frame.Script at v) Break w vars budget (λ p st. refl)
-  script_goes_on t at v w Continue vars budget = stops t (frame.Script at v) Continue w vars budget (λ p st. refl)
+  script_goes_on t at v w Continue vars budget =
+      stops t (frame.Script at v) Continue w vars budget (λ p st. refl)
 
 -- what a script owes, and that a child that begins has something to do
 two : (b : Bool) → cond b 2 0 ≤ 2
@@ -168,23 +176,35 @@ two false = omega arith
 pub back_owes : (c : Code) → mode_owed (mode.Back c) ≤ 2
 back_owes c = two (is_caught c)
 
-child_owes : (statics : Option Level) (vars : Scopes) (c : Tree) (at : ℕ) (w b : Bool) → is_flat c ≡ b → due (child_next statics vars c (frame.Script at w)) ≤ 3
-child_owes statics vars c at w true e = let k = back_owes (leaf_code statics vars c) in rw e (omega (arith, k))
+child_owes : (statics : Option Level) (vars : Scopes) (c : Tree) (at : ℕ) (w b : Bool) → is_flat c ≡ b
+    → due (child_next statics vars c (frame.Script at w)) ≤ 3
+child_owes statics vars c at w true e = let k = back_owes (leaf_code statics vars c) in
+    rw e (omega (arith, k))
 child_owes statics vars c at w false e = rw e (omega arith)
 
-child_ready : (statics : Option Level) (vars : Scopes) (procedures : List Procedure) (t : Tree) (at : ℕ) (w b : Bool) → is_flat (child_at t at) ≡ b → Ready procedures t (child_next statics vars (child_at t at) (frame.Script at w))
+child_ready : (statics : Option Level) (vars : Scopes) (procedures : List Procedure) (t : Tree) (at : ℕ)
+    (w b : Bool) → is_flat (child_at t at) ≡ b
+    → Ready procedures t (child_next statics vars (child_at t at) (frame.Script at w))
 child_ready statics vars procedures t at w true e = rw e tt
 child_ready statics vars procedures t at w false e = rw e e
 
-module _ (statics : Option Level) (vars : Scopes) (t : Tree) (at : ℕ) (last : List ℕ) (w : Bool) (budget : ℕ) where
+module _ (statics : Option Level) (vars : Scopes) (t : Tree) (at : ℕ) (last : List ℕ) (w : Bool)
+    (budget : ℕ) where
   abbrev s : Spend
   s = script_from statics vars t at last w budget
 
-  owes_by : (a b : Bool) → nat_le (length (commands_of t)) at ≡ a → nat_eq budget 0 ≡ b → (due s.move.next ≤ 2 + 3 * s.move.cost) × (at < length (commands_of t) → due s.move.next ≤ 3 * s.move.cost)
-  owes_by true b e z = rw e (omega arith, λ h. absurd (let over : length (commands_of t) ≤ at = grind (arith, nat_tests) in omega (arith, h, over)))
+  owes_by : (a b : Bool) → nat_le (length (commands_of t)) at ≡ a → nat_eq budget 0 ≡ b
+      → (due s.move.next ≤ 2 + 3 * s.move.cost)
+      × (at < length (commands_of t) → due s.move.next ≤ 3 * s.move.cost)
+  owes_by true b e z = rw e (
+    omega arith,
+    λ h. absurd
+        (let over : length (commands_of t) ≤ at = grind (arith, nat_tests) in omega (arith, h, over)),
+  )
   owes_by false true e z = rw (e, z) (omega arith, λ h. omega arith)
   owes_by false false e z =
-      let k = child_owes statics vars (child_at t at) at (w && nat_eq (at + 1) (length (commands_of t))) (is_flat (child_at t at)) refl in
+      let k = child_owes statics vars (child_at t at) at (w && nat_eq (at + 1) (length (commands_of t)))
+      (is_flat (child_at t at)) refl in
       rw (e, z) (omega (arith, k), λ h. omega (arith, k))
 
   pub script_owes : due s.move.next ≤ 2 + 3 * s.move.cost
@@ -201,10 +221,14 @@ module _ (statics : Option Level) (vars : Scopes) (t : Tree) (at : ℕ) (last : 
   pub script_ticks : s.move.ticks ≡ 0
   script_ticks = ticks_by (nat_le (length (commands_of t)) at) (nat_eq budget 0) refl refl
 
-  ready_by : (procedures : List Procedure) (a b : Bool) → nat_le (length (commands_of t)) at ≡ a → nat_eq budget 0 ≡ b → Ready procedures t s.move.next
+  ready_by : (procedures : List Procedure) (a b : Bool) → nat_le (length (commands_of t)) at ≡ a
+      → nat_eq budget 0 ≡ b → Ready procedures t s.move.next
   ready_by procedures true b e z = rw e tt
   ready_by procedures false true e z = rw (e, z) tt
-  ready_by procedures false false e z = rw (e, z) (child_ready statics vars procedures t at (w && nat_eq (at + 1) (length (commands_of t))) (is_flat (child_at t at)) refl)
+  ready_by procedures false false e z =
+      rw (e, z) (child_ready statics vars procedures t at (w && nat_eq (at + 1) (length (commands_of t)))
+      (is_flat (child_at t at)) refl)
 
   pub script_ready : (procedures : List Procedure) → Ready procedures t s.move.next
-  script_ready procedures = ready_by procedures (nat_le (length (commands_of t)) at) (nat_eq budget 0) refl refl
+  script_ready procedures = ready_by procedures (nat_le (length (commands_of t)) at) (nat_eq budget 0) refl
+      refl

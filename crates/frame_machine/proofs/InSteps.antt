@@ -85,15 +85,15 @@ module _ {H : Type 0} (g : Setting H) where
   told_same t m (x ∷ fs) (mode.Asked call) vars h more cost acts e f = stands_same t m (x ∷ fs) (mode.Asked call) vars h more cost acts e f
   told_same t m (x ∷ fs) mode.Over vars h more cost acts e f = stands_same t m (x ∷ fs) mode.Over vars h more cost acts e f
 
-told_is : (m : Standing) (fs : List Frame) (md : Mode) → m.mode ≡ told_mode fs md → TurnIs (told_turn fs md) m
-told_is m [] (mode.Back c) f = f
-told_is m [] mode.Begin f = tt
-told_is m [] (mode.Asked call) f = f
-told_is m [] mode.Over f = tt
-told_is m (x ∷ fs) mode.Begin f = tt
-told_is m (x ∷ fs) (mode.Back c) f = tt
-told_is m (x ∷ fs) (mode.Asked call) f = f
-told_is m (x ∷ fs) mode.Over f = tt
+told_is : (m : Standing) (fs : List Frame) (md : Mode) → (md ≡ mode.Over → ⊥) → m.mode ≡ told_mode fs md → TurnIs (told_turn fs md) m
+told_is m [] (mode.Back c) h f = f
+told_is m [] mode.Begin h f = rw f tt
+told_is m [] (mode.Asked call) h f = f
+told_is m [] mode.Over h f = absurd (h refl)
+told_is m (x ∷ fs) mode.Begin h f = rw f tt
+told_is m (x ∷ fs) (mode.Back c) h f = rw f tt
+told_is m (x ∷ fs) (mode.Asked call) h f = f
+told_is m (x ∷ fs) mode.Over h f = absurd (h refl)
 
 -- what is owed once the end is told
 told_owes : (fs : List Frame) (md : Mode) → owed_by fs (told_mode fs md) ≤ sum_by weight fs + mode_owed md
@@ -108,16 +108,16 @@ told_owes (x ∷ fs) mode.Over = omega arith
 
 -- the turn that is told, with what it comes to
 pub went : {H : Type 0} (g : Setting H) (t : Tree) (old new : Standing) (fs : List Frame) (md : Mode) (said : Turn) (vars vars' : Scopes) (h h' : H) (a b s s' : ℕ) (made : List Effect → Type 0) → a ≡ 0
-    → new.frames.items ≡ fs → new.mode ≡ told_mode fs md → said ≡ told_turn fs md
+    → (md ≡ mode.Over → ⊥) → new.frames.items ≡ fs → new.mode ≡ told_mode fs md → said ≡ told_turn fs md
     → StepsTo g t old.frames.items old.mode fs md (now vars h old.budget a) (now vars' h' new.budget b) made
     → (Heavy g.procedures t old.frames.items old.mode → Heavy g.procedures t new.frames.items new.mode)
     → (Heavy g.procedures t old.frames.items old.mode → s' + owed new + 3 * a ≤ s + owed old + 3 * b) → s ≤ s'
     → Went g t (record { machine = old; vars = vars; host = h }) (record { machine = new; vars = vars'; host = h' }) said made (s' - s)
-went g t old new fs md said vars vars' h h' a b s s' made z e f n q heavy paid grows = record {
+went g t old new fs md said vars vars' h h' a b s s' made z goes e f n q heavy paid grows = record {
   spent = b;
   acts = q.acts;
   same = λ more cost before. rw n (rw (z, add-zero) at (q.same more cost before) ∙ told_same g t new fs md vars' h' more (cost + b) (before ++ q.acts) e f);
-  turn_is = rw n (told_is new fs md f);
+  turn_is = rw n (told_is new fs md goes f);
   by = q.by;
   stays_heavy = heavy;
   paid = λ w. let k = paid w in omega (arith, k, z, grows);
@@ -176,7 +176,7 @@ caught_heard false Break = refl
 caught_heard false Continue = refl
 
 pub back_owes : (fs all fs' : List Frame) (top : Frame) (c : Code) (next : Next) (s s1 s2 a b : ℕ) → all ≡ fs ++ top ∷ [] → fs' ≡ fs ++ list_of next.frame → s1 ≡ s + 1
-    → s2 + 1 + due next + 3 * a ≤ s1 + weight top + mode_owed (mode.Back (heard_code (wants top) c)) + 3 * b
+    → s2 + 1 + due next + 3 * a ≤ s1 + (weight top + mode_owed (mode.Back (heard_code (wants top) c))) + 3 * b
     → s2 + owed_by fs' (told_mode fs' next.mode) + 3 * a ≤ s + owed_by all (mode.Back c) + 3 * b
 back_owes fs all fs' top c next s s1 s2 a b d e f h =
     let l = stood fs fs' next e in
@@ -216,3 +216,13 @@ heavy_by ps t fs fs' o mode.Over e q = light ps t fs' mode.Over (λ e. cc e)
 
 pub heavy_next : (ps : List Procedure) (t : Tree) (fs fs' : List Frame) (next : Next) → fs' ≡ fs ++ list_of next.frame → Ready ps (tree_above ps t fs) next → Heavy ps t fs' (told_mode fs' next.mode)
 heavy_next ps t fs fs' next e q = heavy_by ps t fs fs' next.frame next.mode e q
+
+goes_by : (ps : List Procedure) (t : Tree) (o : Option Frame) (m : Mode) → ReadyBy ps t o m → m ≡ mode.Over → ⊥
+goes_by ps t o mode.Begin q e = cc e
+goes_by ps t o (mode.Back c) q e = cc e
+goes_by ps t o (mode.Asked call) q e = cc e
+goes_by ps t (Some f) mode.Over q e = q
+goes_by ps t None mode.Over q e = q
+
+pub next_goes : (ps : List Procedure) (t : Tree) (next : Next) → Ready ps t next → next.mode ≡ mode.Over → ⊥
+next_goes ps t next q e = goes_by ps t next.frame next.mode q e

@@ -30,7 +30,8 @@ use Rattle.frame_machine.proofs.InStills.{Bounded, back_bounded, bounded_less, b
 
 -- the turns of a tree whose body is the child of this number
 abbrev pub turns_at : Option Level → Tree → (place : ℕ) → Vec Row Global → Turns
-turns_at statics t place rows = record { statics = statics; place = place; body = child_at t place; rows = rows }
+turns_at statics t place rows =
+    record { statics = statics; place = place; body = child_at t place; rows = rows }
 
 positive : (n : ℕ) → nat_eq (suc n) 0 ≡ false
 positive n = search rules
@@ -40,73 +41,118 @@ pred n = omega arith
 
 module _ {H : Type 0} where
   abbrev loop_from : Setting H → Room → Tree → (place : ℕ) → Vec Row Global → (left number : ℕ) → Meaning H
-  loop_from g r t place rows left number = row_loop g.statics (rows_view rows) (body_in g (inner_of g r) t place) left number
+  loop_from g r t place rows left number =
+      row_loop g.statics (rows_view rows) (body_in g (inner_of g r) t place) left number
 
-  body_above : (g : Setting H) (r : Room) (t : Tree) (place : ℕ) (rows : Vec Row Global) (number left : ℕ) (path : List ℕ) (st : State H) (b : Bool) → is_flat (child_at t place) ≡ b →
-      under g r t (frame.Each place rows number left) path st ≡ stands g r t (above (known g.statics st.vars) (child_at t place) (frame.Each place rows number left)) path st
-  body_above g r t place rows number left path st true e = rw e (under_flat g r t (frame.Each place rows number left) path st e)
-  body_above g r t place rows number left path st false e = rw e (under_child g r t (frame.Each place rows number left) path st refl)
+  body_above : (g : Setting H) (r : Room) (t : Tree) (place : ℕ) (rows : Vec Row Global) (number left : ℕ)
+      (path : List ℕ) (st : State H) (b : Bool) → is_flat (child_at t place) ≡ b →
+      under g r t (frame.Each place rows number left) path st
+      ≡ stands g r t (above (known g.statics st.vars) (child_at t place) (frame.Each place rows number left))
+      path st
+  body_above g r t place rows number left path st true e =
+      rw e (under_flat g r t (frame.Each place rows number left) path st e)
+  body_above g r t place rows number left path st false e =
+      rw e (under_child g r t (frame.Each place rows number left) path st refl)
 
-  body_is : {g : Setting H} {r : Room} {w : Bool} {t : Tree} {vars : Scopes} {budget : ℕ} (place : ℕ) (rows : Vec Row Global) (number left : ℕ) →
-      Comes g r w t (λ path st. then_code (body_in g (inner_of g r) t place path st) (after_body (loop_from g r t place rows left number path))) vars budget
-      (changes budget vars (above (known g.statics vars) (child_at t place) (frame.Each place rows number left)))
+  body_is : {g : Setting H} {r : Room} {w : Bool} {t : Tree} {vars : Scopes} {budget : ℕ} (place : ℕ)
+      (rows : Vec Row Global) (number left : ℕ) →
+      Comes g r w t (λ path st. then_code (body_in g (inner_of g r) t place path st)
+      (after_body (loop_from g r t place rows left number path))) vars budget
+      (changes budget vars (above (known g.statics vars) (child_at t place)
+      (frame.Each place rows number left)))
   body_is {g = g} {r = r} {t = t} {vars = vars} {budget = budget} place rows number left =
-      comes_at (above (known g.statics vars) (child_at t place) (frame.Each place rows number left)) (λ path host more cost acts.
+      comes_at (above (known g.statics vars) (child_at t place) (frame.Each place rows number left))
+      (λ path host more cost acts.
       let st = state vars host more budget cost acts in
-      rw (add-zero cost) (sym (body_unheard (eval g (inner_of g r) (child_at t place) (path ++ place ∷ []) st) (loop_from g r t place rows left number path))
+      rw (add-zero cost) (sym (body_unheard (eval g (inner_of g r) (child_at t place) (path ++ place ∷ []) st)
+      (loop_from g r t place rows left number path))
       ∙ body_above g r t place rows number left path st (is_flat (child_at t place)) refl))
 
-  assigned_is : {g : Setting H} {r : Room} {w : Bool} {t : Tree} {vars : Scopes} {budget : ℕ} (place : ℕ) (rows : Vec Row Global) (number n : ℕ) (x : Result (List ℕ) TclFault) (after : Scopes) →
-      Comes g r w t (λ path st. then_value (Ends (code_of x) (record st { vars = after })) (λ v s. then_code (body_in g (inner_of g r) t place path s) (after_body (loop_from g r t place rows n (number + 1) path)))) vars budget
+  assigned_is : {g : Setting H} {r : Room} {w : Bool} {t : Tree} {vars : Scopes} {budget : ℕ} (place : ℕ)
+      (rows : Vec Row Global) (number n : ℕ) (x : Result (List ℕ) TclFault) (after : Scopes) →
+      Comes g r w t (λ path st. then_value (Ends (code_of x) (record st { vars = after }))
+      (λ v s. then_code (body_in g (inner_of g r) t place path s)
+      (after_body (loop_from g r t place rows n (number + 1) path)))) vars budget
       (assigned_by (turns_at g.statics t place rows) number (suc n) budget x after)
-  assigned_is place rows number n (Ok v) after = rw (pred n) (comes_set after (λ path host more cost acts. refl) (body_is place rows (number + 1) n))
-  assigned_is place rows number n (Err f) after = comes_set {m' = λ path st. Ends (Raised f) st} after (λ path host more cost acts. refl) (comes_at (stop (Raised f)) (λ path host more cost acts. refl))
+  assigned_is place rows number n (Ok v) after =
+      rw (pred n) (comes_set after (λ path host more cost acts. refl) (body_is place rows (number + 1) n))
+  assigned_is place rows number n (Err f) after =
+      comes_set {m' = λ path st. Ends (Raised f) st} after (λ path host more cost acts. refl)
+      (comes_at (stop (Raised f)) (λ path host more cost acts. refl))
 
   -- the turn of a number, where so many are left
-  pub turn_is : {g : Setting H} {r : Room} {w : Bool} {t : Tree} {vars : Scopes} (place : ℕ) (rows : Vec Row Global) (number left budget : ℕ) →
-      Comes g r w t (loop_from g r t place rows left number) vars budget (each_move (turns_at g.statics t place rows) number left budget vars)
+  pub turn_is : {g : Setting H} {r : Room} {w : Bool} {t : Tree} {vars : Scopes} (place : ℕ)
+      (rows : Vec Row Global) (number left budget : ℕ) →
+      Comes g r w t (loop_from g r t place rows left number) vars budget
+      (each_move (turns_at g.statics t place rows) number left budget vars)
   turn_is place rows number zero budget = comes_at (stop (Value [])) (λ path host more cost acts. refl)
-  turn_is place rows number (suc n) zero = rw (positive n) (comes_at (stop (Raised budget_spent)) (λ path host more cost acts. refl))
+  turn_is place rows number (suc n) zero =
+      rw (positive n) (comes_at (stop (Raised budget_spent)) (λ path host more cost acts. refl))
   turn_is {g = g} {r = r} {t = t} {vars = vars} place rows number (suc n) (suc b) =
       let c = turn_assigned g.statics number (rows_view rows) vars in
-      rw (positive n, positive b, pred b) (comes_from vars b 1 0 (λ path host more cost acts. rw (positive b, pred b) refl) (assigned_is place rows number n c.value c.vars))
+      rw (positive n, positive b, pred b)
+      (comes_from vars b 1 0 (λ path host more cost acts. rw (positive b, pred b) refl)
+      (assigned_is place rows number n c.value c.vars))
 
   -- behind the body
-  pub each_goes : {g : Setting H} {r : Room} {w : Bool} {t : Tree} {vars : Scopes} (place : ℕ) (rows : Vec Row Global) (number left budget : ℕ) (code : Code) →
-      Comes g r w t (goes_on g r t (frame.Each place rows number left) code) vars budget (each_told (turns_at g.statics t place rows) number left budget code vars)
-  each_goes place rows number left budget (Value v) = comes_as (λ path host more cost acts. refl) (turn_is place rows number left budget)
-  each_goes place rows number left budget (Raised f) = comes_at (stop (Raised f)) (λ path host more cost acts. refl)
-  each_goes place rows number left budget (Return v) = comes_at (stop (Return v)) (λ path host more cost acts. refl)
-  each_goes place rows number left budget Break = comes_at (stop (Value [])) (λ path host more cost acts. refl)
-  each_goes place rows number left budget Continue = comes_as (λ path host more cost acts. refl) (turn_is place rows number left budget)
+  pub each_goes : {g : Setting H} {r : Room} {w : Bool} {t : Tree} {vars : Scopes} (place : ℕ)
+      (rows : Vec Row Global) (number left budget : ℕ) (code : Code) →
+      Comes g r w t (goes_on g r t (frame.Each place rows number left) code) vars budget
+      (each_told (turns_at g.statics t place rows) number left budget code vars)
+  each_goes place rows number left budget (Value v) =
+      comes_as (λ path host more cost acts. refl) (turn_is place rows number left budget)
+  each_goes place rows number left budget (Raised f) =
+      comes_at (stop (Raised f)) (λ path host more cost acts. refl)
+  each_goes place rows number left budget (Return v) =
+      comes_at (stop (Return v)) (λ path host more cost acts. refl)
+  each_goes place rows number left budget Break =
+      comes_at (stop (Value [])) (λ path host more cost acts. refl)
+  each_goes place rows number left budget Continue =
+      comes_as (λ path host more cost acts. refl) (turn_is place rows number left budget)
 
 -- what they owe
-body_owes : {procedures : List Procedure} {t : Tree} (k : Known) (place : ℕ) (rows : Vec Row Global) (number left : ℕ) (b : Bool) → is_flat (child_at t place) ≡ b →
+body_owes : {procedures : List Procedure} {t : Tree} (k : Known) (place : ℕ) (rows : Vec Row Global)
+    (number left : ℕ) (b : Bool) → is_flat (child_at t place) ≡ b →
     Bounded procedures t 3 (moves (above k (child_at t place) (frame.Each place rows number left)))
-body_owes {t = t} k place rows number left true e = rw e (back_bounded (frame.Each place rows number left) (leaf_code k.statics k.vars (child_at t place)) refl)
-body_owes k place rows number left false e = rw e (bounded_less (omega arith) (child_bounded (frame.Each place rows number left) refl e))
+body_owes {t = t} k place rows number left true e =
+    rw e (back_bounded (frame.Each place rows number left) (leaf_code k.statics k.vars (child_at t place))
+    refl)
+body_owes k place rows number left false e =
+    rw e (bounded_less (omega arith) (child_bounded (frame.Each place rows number left) refl e))
 
-assigned_owes : {procedures : List Procedure} {t : Tree} (statics : Option Level) (place : ℕ) (rows : Vec Row Global) (number left budget : ℕ) (x : Result (List ℕ) TclFault) (after : Scopes) →
+assigned_owes : {procedures : List Procedure} {t : Tree} (statics : Option Level) (place : ℕ)
+    (rows : Vec Row Global) (number left budget : ℕ) (x : Result (List ℕ) TclFault) (after : Scopes) →
     Bounded procedures t 3 (assigned_by (turns_at statics t place rows) number left budget x after).move
-assigned_owes {t = t} statics place rows number left budget (Ok v) after = body_owes (known statics after) place rows (number + 1) (left - 1) (is_flat (child_at t place)) refl
-assigned_owes statics place rows number left budget (Err f) after = bounded_less (omega arith) (stop_bounded (Raised f))
+assigned_owes {t = t} statics place rows number left budget (Ok v) after =
+    body_owes (known statics after) place rows (number + 1) (left - 1) (is_flat (child_at t place)) refl
+assigned_owes statics place rows number left budget (Err f) after =
+    bounded_less (omega arith) (stop_bounded (Raised f))
 
-turn_case : {procedures : List Procedure} {t : Tree} (budget : ℕ) (vars : Scopes) (c : Change) (a b : Bool) → Bounded procedures t 3 c.move →
-    Bounded procedures t 2 (cond a (changes budget vars (stop (Value []))) (cond b (changes budget vars (stop (Raised budget_spent))) (change_after 1 0 c))).move
+turn_case : {procedures : List Procedure} {t : Tree} (budget : ℕ) (vars : Scopes) (c : Change) (a b : Bool)
+    → Bounded procedures t 3 c.move →
+    Bounded procedures t 2 (cond a (changes budget vars (stop (Value [])))
+    (cond b (changes budget vars (stop (Raised budget_spent))) (change_after 1 0 c))).move
 turn_case budget vars c true b h = stop_bounded (Value [])
 turn_case budget vars c false true h = stop_bounded (Raised budget_spent)
 turn_case budget vars c false false h = bounded_less (omega arith) (bounded_name 1 (omega arith) h)
 
-pub turn_owes : {procedures : List Procedure} {t : Tree} (statics : Option Level) (place : ℕ) (rows : Vec Row Global) (number left budget : ℕ) (vars : Scopes) →
+pub turn_owes : {procedures : List Procedure} {t : Tree} (statics : Option Level) (place : ℕ)
+    (rows : Vec Row Global) (number left budget : ℕ) (vars : Scopes) →
     Bounded procedures t 2 (each_move (turns_at statics t place rows) number left budget vars).move
 turn_owes {t = t} statics place rows number left budget vars =
     let c = turn_assigned statics number (rows_view rows) vars in
-    turn_case budget vars (assigned_move (turns_at statics t place rows) number left (budget - 1) c) (nat_eq left 0) (nat_eq budget 0) (assigned_owes statics place rows number left (budget - 1) c.value c.vars)
+    turn_case budget vars (assigned_move (turns_at statics t place rows) number left (budget - 1) c)
+    (nat_eq left 0) (nat_eq budget 0)
+    (assigned_owes statics place rows number left (budget - 1) c.value c.vars)
 
-pub each_goes_owes : {procedures : List Procedure} {t : Tree} (statics : Option Level) (place : ℕ) (rows : Vec Row Global) (number left budget : ℕ) (code : Code) (vars : Scopes) →
-    Bounded procedures t (mode_owed (mode.Back code)) (each_told (turns_at statics t place rows) number left budget code vars).move
-each_goes_owes statics place rows number left budget (Value v) vars = turn_owes statics place rows number left budget vars
+pub each_goes_owes : {procedures : List Procedure} {t : Tree} (statics : Option Level) (place : ℕ)
+    (rows : Vec Row Global) (number left budget : ℕ) (code : Code) (vars : Scopes) →
+    Bounded procedures t (mode_owed (mode.Back code))
+    (each_told (turns_at statics t place rows) number left budget code vars).move
+each_goes_owes statics place rows number left budget (Value v) vars =
+    turn_owes statics place rows number left budget vars
 each_goes_owes statics place rows number left budget (Raised f) vars = pass_bounded (Raised f)
 each_goes_owes statics place rows number left budget (Return v) vars = pass_bounded (Return v)
 each_goes_owes statics place rows number left budget Break vars = stop_bounded (Value [])
-each_goes_owes statics place rows number left budget Continue vars = turn_owes statics place rows number left budget vars
+each_goes_owes statics place rows number left budget Continue vars =
+    turn_owes statics place rows number left budget vars

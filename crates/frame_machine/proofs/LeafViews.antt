@@ -19,28 +19,17 @@ none_in [] = refl
 none_in (n ∷ ns) = refl
 
 is_leaf_by : (f : Node-F Node) → is_leaf_in f ≡ is_flat (step_of f)
-is_leaf_by (Node-F.Plain t) = refl
-is_leaf_by (Node-F.Variable n) = refl
 is_leaf_by (Node-F.Element n ns) = none_in ns.items
 is_leaf_by (Node-F.Word ns) = none_in ns.items
 is_leaf_by (Node-F.Script ns) = none_in ns.items
 is_leaf_by (Node-F.Command v ns) = none_in ns.items
-is_leaf_by (Node-F.Expr e) = refl
-is_leaf_by (Node-F.If vs last) = refl
-is_leaf_by (Node-F.Loop s t n b) = refl
-is_leaf_by (Node-F.Foreach ws b) = refl
-is_leaf_by (Node-F.Switch k ws bs) = refl
-is_leaf_by (Node-F.Catch b) = refl
-is_leaf_by (Node-F.CatchIn b n) = refl
-is_leaf_by Node-F.NextBody = refl
-is_leaf_by (Node-F.Prefixed ops e) = refl
-is_leaf_by (Node-F.Row first rest) = refl
-is_leaf_by (Node-F.Choice vs last) = refl
+is_leaf_by other = refl
 
 pub is_leaf_view : (n : Node) → is_leaf_in (out-Node n) ≡ is_flat (node_view n)
 is_leaf_view n = is_leaf_by (out-Node n) ∙ ap is_flat (sym (viewed n))
 
-leaf_by : (statics : Option Level) (vars : Scopes) (f : Node-F Node) → leaf_in statics vars f ≡ leaf_code statics vars (step_of f)
+leaf_by : (statics : Option Level) (vars : Scopes) (f : Node-F Node)
+    → leaf_in statics vars f ≡ leaf_code statics vars (step_of f)
 leaf_by statics vars (Node-F.Plain t) = refl
 leaf_by statics vars (Node-F.Variable n) = refl
 leaf_by statics vars (Node-F.Element n ns) = refl
@@ -59,11 +48,14 @@ leaf_by statics vars (Node-F.Prefixed ops e) = refl
 leaf_by statics vars (Node-F.Row first rest) = refl
 leaf_by statics vars (Node-F.Choice vs last) = refl
 
-pub leaf_view : (statics : Option Level) (vars : Scopes) (n : Node) → leaf_in statics vars (out-Node n) ≡ leaf_code statics vars (node_view n)
-leaf_view statics vars n = leaf_by statics vars (out-Node n) ∙ ap (λ t. leaf_code statics vars t) (sym (viewed n))
+pub leaf_view : (statics : Option Level) (vars : Scopes) (n : Node)
+    → leaf_in statics vars (out-Node n) ≡ leaf_code statics vars (node_view n)
+leaf_view statics vars n = leaf_by statics vars (out-Node n)
+    ∙ ap (λ t. leaf_code statics vars t) (sym (viewed n))
 
 -- it comes to that code, and pays nothing
-pub leaf_eval : {H : Type 0} (g : Setting H) (i : Inner H) (t : Tree) (p : List ℕ) (st : State H) → is_flat t ≡ true → eval g i t p st ≡ Ends (leaf_code g.statics st.vars t) st
+pub leaf_eval : {H : Type 0} (g : Setting H) (i : Inner H) (t : Tree) (p : List ℕ) (st : State H)
+    → is_flat t ≡ true → eval g i t p st ≡ Ends (leaf_code g.statics st.vars t) st
 leaf_eval g i (tree.plain text) p st e = refl
 leaf_eval g i (tree.variable name) p st e = refl
 leaf_eval g i (tree.element name no_trees) p st e = refl

@@ -1,4 +1,5 @@
 mod BranchSteps
+mod EndMeans
 mod FirstViews
 mod Given
 mod Heard
@@ -7,6 +8,7 @@ mod InBranches
 mod InCalls
 mod InCatches
 mod InCommands
+mod InEnds
 mod InKinds
 mod InLoops
 mod InMoves

@@ -77,17 +77,3 @@ row_past first rest zero d z b = absurd (z refl)
 row_past first rest (suc n) d z b =
     let l : length rest ≤ n = not_below n (length rest) (b ∙ ap (λ m. nat_lt m (length rest)) (pred n)) in
     sym (get_or_past (map (λ r. r.1) rest) n d (rw (length-map rest (λ r. r.1)) l))
-
--- how many there are
-pub count_switch : (xs ys : List Node) → length xs + length ys ≡ length (xs ++ ys)
-count_switch xs ys = sym (length-append xs ys)
-
-pub count_each : (xs : List Node) (y : Node) → length xs + 1 ≡ length (xs ++ y ∷ [])
-count_each xs y = sym (length-append xs (y ∷ []))
-
-pub count_row : (first : Node) (rest : List (Joint × Node)) → length rest + 1 ≡ length (first ∷ map (λ r. r.1) rest)
-count_row first rest = let l = length-map rest (λ r. r.1) in omega (arith, l)
-
-pub count_both : (vs : List (Node × Node)) (last : Node) → 2 * length vs + 1 ≡ length (both_nodes vs ++ last ∷ [])
-count_both [] last = omega arith
-count_both (v ∷ vs) last = let k = count_both vs last in omega (arith, k)

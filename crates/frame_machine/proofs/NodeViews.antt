@@ -60,14 +60,6 @@ children_view n = children_by (out-Node n) ∙ ap children (sym (viewed n))
 pub child_view : (n : Node) (k : ℕ) → node_view (get_or (children_in (out-Node n)) k n) ≡ child_at (node_view n) k
 child_view n k = sym (get_or-map node_view (children_in (out-Node n)) k n) ∙ ap (λ l. get_or l k (node_view n)) (children_view n)
 
-pub past_view : (n : Node) (half : ℕ) → length (children_in (out-Node n)) ≤ half → node_view n ≡ child_at (node_view n) (half + half)
-past_view n half h =
-    let l : length (children_in (out-Node n)) ≤ half + half = omega (arith, h) in
-    ap node_view (sym (get_or_past (children_in (out-Node n)) (half + half) n l)) ∙ child_view n (half + half)
-
-pub past_double : (n : Node) (half : ℕ) → length (children_in (out-Node n)) ≤ half + half → node_view n ≡ child_at (node_view n) (half + half)
-past_double n half l = ap node_view (sym (get_or_past (children_in (out-Node n)) (half + half) n l)) ∙ child_view n (half + half)
-
 commands_by : (f : Node-F Node) → nodes_view (commands_in f) ≡ commands_of (step_of f)
 commands_by (Node-F.Script ns) = sym (all_trees (nodes_view ns.items))
 commands_by (Node-F.Plain text) = refl

@@ -42,45 +42,18 @@ pub operators_view : (n : Node) → operators_in (out-Node n) ≡ operators_of (
 operators_view n = operators_by (out-Node n) ∙ ap operators_of (sym (viewed n))
 
 joints_by : (f : Node-F Node) → operands_view (joints_in f) ≡ row_of (step_of f)
-joints_by (Node-F.Plain t) = refl
-joints_by (Node-F.Variable n) = refl
-joints_by (Node-F.Element n ns) = refl
-joints_by (Node-F.Word ns) = refl
-joints_by (Node-F.Script ns) = refl
-joints_by (Node-F.Command v ns) = refl
-joints_by (Node-F.Expr e) = refl
-joints_by (Node-F.If vs last) = refl
-joints_by (Node-F.Loop s t n b) = refl
-joints_by (Node-F.Foreach ws b) = refl
-joints_by (Node-F.Switch k ws bs) = refl
-joints_by (Node-F.Catch b) = refl
-joints_by (Node-F.CatchIn b n) = refl
-joints_by Node-F.NextBody = refl
-joints_by (Node-F.Prefixed ops e) = refl
 joints_by (Node-F.Row first rest) = sym (listed_of (operands_view rest.items))
-joints_by (Node-F.Choice vs last) = refl
+joints_by other = refl
 
 pub joints_view : (n : Node) → operands_view (joints_in (out-Node n)) ≡ row_of (node_view n)
 joints_view n = joints_by (out-Node n) ∙ ap row_of (sym (viewed n))
 
 choices_by : (w : Bool) (f : Node-F Node) → choices_in w f ≡ choices_of w (step_of f)
-choices_by w (Node-F.Plain t) = refl
-choices_by w (Node-F.Variable n) = refl
-choices_by w (Node-F.Element n ns) = refl
-choices_by w (Node-F.Word ns) = refl
-choices_by w (Node-F.Script ns) = refl
-choices_by w (Node-F.Command v ns) = refl
-choices_by w (Node-F.Expr e) = refl
-choices_by w (Node-F.If vs last) = ap (λ l. choices l (Some (node_view last.value)) false w) (sym (paired_of (values_view vs.items)))
-choices_by w (Node-F.Loop s t n b) = refl
-choices_by w (Node-F.Foreach ws b) = refl
-choices_by w (Node-F.Switch k ws bs) = refl
-choices_by w (Node-F.Catch b) = refl
-choices_by w (Node-F.CatchIn b n) = refl
-choices_by w Node-F.NextBody = refl
-choices_by w (Node-F.Prefixed ops e) = refl
-choices_by w (Node-F.Row first rest) = refl
-choices_by w (Node-F.Choice vs last) = ap (λ l. choices l (Some (node_view last.value)) true w) (sym (paired_of (values_view vs.items)))
+choices_by w (Node-F.If vs last) =
+    ap (λ l. choices l (Some (node_view last.value)) false w) (sym (paired_of (values_view vs.items)))
+choices_by w (Node-F.Choice vs last) =
+    ap (λ l. choices l (Some (node_view last.value)) true w) (sym (paired_of (values_view vs.items)))
+choices_by w other = refl
 
 pub choices_view_is : (w : Bool) (n : Node) → choices_in w (out-Node n) ≡ choices_of w (node_view n)
 choices_view_is w n = choices_by w (out-Node n) ∙ ap (λ t. choices_of w t) (sym (viewed n))

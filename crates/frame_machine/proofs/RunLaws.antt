@@ -28,7 +28,7 @@ frame_waits g i t p (frame.Pieces part text) path call st = refl
 frame_waits g i t p (frame.Operand left) path call st = refl
 frame_waits g i t p (frame.Left at) path call st = refl
 frame_waits g i t p (frame.Right at joint left) path call st = refl
-frame_waits g i t p (frame.Condition at) path call st = refl
+frame_waits g i t p (frame.Condition at place) path call st = refl
 frame_waits g i t p (frame.Body place wanted) path call st = refl
 frame_waits g i t p frame.Start path call st = refl
 frame_waits g i t p (frame.Test left) path call st = refl
@@ -92,7 +92,7 @@ at_start g tree budget vars host r s =
           ∙ ap (λ a. comes_to g tree m vars host more r.cost a) (sym s.acts)
           ∙ ap (λ v. comes_to g tree m v host more r.cost r.acts) (sym s.vars_are)
           ∙ ap (λ h. comes_to g tree m r.place.vars h more r.cost r.acts) (sym s.host_is)));
-      turn_is = subst Q (sym s.said) tt;
+      turn_is = subst Q (sym s.said) (rw s.mode_is tt);
       heavy = subst P (sym s.frames) tt;
       bound =
           (let o : owed m ≡ 1 = ap (λ fs. owed_by fs m.mode) s.frames ∙ ap (λ md. owed_by [] md) s.mode_is in
@@ -130,7 +130,7 @@ replied g tree budget vars host reply old new a s =
       stands_for = λ more. rw (s.said, s.replies, s.cost, s.acts, k.machine, k.vars, k.host)
           (ap (λ rs. evaluate g tree vars host rs budget) (append_assoc old.replies (reply ∷ []) more)
           ∙ before (reply ∷ more) ∙ asks_in g tree M old.place.vars old.place.host s.call reply more old.cost old.acts k.asked);
-      turn_is = rw s.said tt;
+      turn_is = rw (s.said, k.machine) tt;
       heavy = rw k.machine (light g.procedures tree M.frames.items (reply_code reply));
       bound =
           (let owes : owed new.place.machine ≡ owed_by M.frames.items (mode.Back (reply_code reply)) = ap owed k.machine in

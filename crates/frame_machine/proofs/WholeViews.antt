@@ -7,7 +7,8 @@ use Rattle.tcl_vars.specs.Scopes.{Level, Scopes}
 use Rattle.frame_machine.specs.WordMoves.{whole_code, whole_in}
 use Rattle.frame_machine.proofs.NodeViews.{step_of, viewed}
 
-whole_by : (statics : Option Level) (vars : Scopes) (text : List ℕ) (f : Node-F Node) → whole_in statics vars f text ≡ whole_code statics vars (step_of f) text
+whole_by : (statics : Option Level) (vars : Scopes) (text : List ℕ) (f : Node-F Node)
+    → whole_in statics vars f text ≡ whole_code statics vars (step_of f) text
 whole_by statics vars text (Node-F.Plain t) = refl
 whole_by statics vars text (Node-F.Variable n) = refl
 whole_by statics vars text (Node-F.Element n ns) = refl
@@ -26,5 +27,7 @@ whole_by statics vars text (Node-F.Prefixed ops e) = refl
 whole_by statics vars text (Node-F.Row first rest) = refl
 whole_by statics vars text (Node-F.Choice vs last) = refl
 
-pub whole_view : (statics : Option Level) (vars : Scopes) (n : Node) (text : List ℕ) → whole_in statics vars (out-Node n) text ≡ whole_code statics vars (node_view n) text
-whole_view statics vars n text = whole_by statics vars text (out-Node n) ∙ ap (λ t. whole_code statics vars t text) (sym (viewed n))
+pub whole_view : (statics : Option Level) (vars : Scopes) (n : Node) (text : List ℕ)
+    → whole_in statics vars (out-Node n) text ≡ whole_code statics vars (node_view n) text
+whole_view statics vars n text = whole_by statics vars text (out-Node n)
+    ∙ ap (λ t. whole_code statics vars t text) (sym (viewed n))

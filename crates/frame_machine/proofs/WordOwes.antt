@@ -9,7 +9,7 @@ use Rattle.tcl_compile.specs.declared.node.Verb.TheVariants as verb
 use Rattle.tcl_vars.specs.Scopes.{Level, Scopes}
 use Rattle.rule_model.specs.Setting.{Setting, Inner}
 use Rattle.rule_model.specs.declared.code.Code.{Code}
-use Rattle.rule_model.specs.declared.code.Code.TheVariants.{Value, Raised, Return, Break, Continue}
+use Rattle.rule_model.specs.declared.code.Code.TheVariants.{Value, Raised}
 use Rattle.frame_machine.specs.Children.{all, child_at, parts_of, words_of}
 use Rattle.frame_machine.specs.FirstWords.{first_cost, first_words, has_words}
 use Rattle.frame_machine.specs.Gathered.{WordsReady}
@@ -30,66 +30,85 @@ PieceReady d whole (piece.Ends c) = Unit {0}
 PieceReady d whole (piece.Child j text) = is_flat (get_or whole j d) ≡ false
 
 module _ (level : Option Level) (vars : Scopes) where
-  ready_within : (d : Tree) (whole ts : List Tree) (k : ℕ) (b : Bool) (text : List ℕ) → PieceReady d whole (pieces_from level vars ts k text) → PieceReady d whole (cond b (piece.Ends (Raised too_long)) (pieces_from level vars ts k text))
+  ready_within : (d : Tree) (whole ts : List Tree) (k : ℕ) (b : Bool) (text : List ℕ)
+      → PieceReady d whole (pieces_from level vars ts k text)
+      → PieceReady d whole (cond b (piece.Ends (Raised too_long)) (pieces_from level vars ts k text))
   ready_within d whole ts k true text h = tt
   ready_within d whole ts k false text h = h
 
-  ready_leaf : (d : Tree) (whole ts : List Tree) (k : ℕ) (c : Code) (text : List ℕ) → ((x : List ℕ) → PieceReady d whole (pieces_from level vars ts k x)) → PieceReady d whole (add_piece c text (λ all. pieces_from level vars ts k all) (λ e. piece.Ends e))
-  ready_leaf d whole ts k (Value v) text h = ready_within d whole ts k (nat_lt text_limit (length (text ++ v))) (text ++ v) (h (text ++ v))
-  ready_leaf d whole ts k (Raised f) text h = tt
-  ready_leaf d whole ts k (Return v) text h = tt
-  ready_leaf d whole ts k Break text h = tt
-  ready_leaf d whole ts k Continue text h = tt
+  ready_leaf : (d : Tree) (whole ts : List Tree) (k : ℕ) (c : Code) (text : List ℕ)
+      → ((x : List ℕ) → PieceReady d whole (pieces_from level vars ts k x))
+      → PieceReady d whole (add_piece c text (λ all. pieces_from level vars ts k all) (λ e. piece.Ends e))
+  ready_leaf d whole ts k (Value v) text h =
+      ready_within d whole ts k (nat_lt text_limit (length (text ++ v))) (text ++ v) (h (text ++ v))
+  ready_leaf d whole ts k other text h = tt
 
-  ready_part : (d : Tree) (whole : List Tree) (t : Tree) (ts : List Tree) (k : ℕ) (text : List ℕ) (b : Bool) → is_flat t ≡ b → t ∷ ts ≡ drop k whole → ((x : List ℕ) → PieceReady d whole (pieces_from level vars ts (k + 1) x)) → PieceReady d whole (pieces_from level vars (t ∷ ts) k text)
-  ready_part d whole t ts k text true f e h = rw f (ready_leaf d whole ts (k + 1) (leaf_code level vars t) text h)
+  ready_part : (d : Tree) (whole : List Tree) (t : Tree) (ts : List Tree) (k : ℕ) (text : List ℕ) (b : Bool)
+      → is_flat t ≡ b → t ∷ ts ≡ drop k whole
+      → ((x : List ℕ) → PieceReady d whole (pieces_from level vars ts (k + 1) x))
+      → PieceReady d whole (pieces_from level vars (t ∷ ts) k text)
+  ready_part d whole t ts k text true f e h =
+      rw f (ready_leaf d whole ts (k + 1) (leaf_code level vars t) text h)
   ready_part d whole t ts k text false f e h = rw f (rw (head_at whole k t d ts e) f)
 
-  pub pieces_ready : (d : Tree) (whole ts : List Tree) (k : ℕ) → ts ≡ drop k whole → (text : List ℕ) → PieceReady d whole (pieces_from level vars ts k text)
+  pub pieces_ready : (d : Tree) (whole ts : List Tree) (k : ℕ) → ts ≡ drop k whole → (text : List ℕ)
+      → PieceReady d whole (pieces_from level vars ts k text)
   pieces_ready d whole [] k e text = tt
-  pieces_ready d whole (t ∷ ts) k e text = ready_part d whole t ts k text (is_flat t) refl e (pieces_ready d whole ts (k + 1) (tail_at whole k t ts e))
+  pieces_ready d whole (t ∷ ts) k e text =
+      ready_part d whole t ts k text (is_flat t) refl e
+      (pieces_ready d whole ts (k + 1) (tail_at whole k t ts e))
 
   module _ {H : Type 0} (g : Setting H) (i : Inner H) where
-    ready_all : (t : Tree) (us : List Tree) (k : ℕ) (b : Bool) (done : List (List ℕ)) → WordsReady t (words_from level vars us k done) → WordsReady t (cond b (gathered.Ends (Raised too_long)) (words_from level vars us k done))
+    ready_all : (t : Tree) (us : List Tree) (k : ℕ) (b : Bool) (done : List (List ℕ))
+        → WordsReady t (words_from level vars us k done)
+        → WordsReady t (cond b (gathered.Ends (Raised too_long)) (words_from level vars us k done))
     ready_all t us k true done h = tt
     ready_all t us k false done h = h
 
-    ready_word : (t u : Tree) (us : List Tree) (k : ℕ) (x : Piece) (done : List (List ℕ)) → child_at t k ≡ u → PieceReady u (parts_of u) x → ((all : List (List ℕ)) → WordsReady t (words_from level vars us (k + 1) all))
-        → WordsReady t (with_word x (λ text. add_word done text (λ all. words_from level vars us (k + 1) all) (λ c. gathered.Ends c)) (λ c. gathered.Ends c) (λ part text. gathered.Child k part done text))
-    ready_word t u us k (piece.Whole text) done c q h = ready_all t us (k + 1) (nat_lt text_limit (sum_by length (done ++ text ∷ []))) (done ++ text ∷ []) (h (done ++ text ∷ []))
+    ready_word : (t u : Tree) (us : List Tree) (k : ℕ) (x : Piece) (done : List (List ℕ)) → child_at t k ≡ u
+        → PieceReady u (parts_of u) x →
+        ((all : List (List ℕ)) → WordsReady t (words_from level vars us (k + 1) all))
+        → WordsReady t (with_word x (λ text. add_word done text (λ all. words_from level vars us (k + 1) all)
+        (λ c. gathered.Ends c)) (λ c. gathered.Ends c) (λ part text. gathered.Child k part done text))
+    ready_word t u us k (piece.Whole text) done c q h =
+        ready_all t us (k + 1) (nat_lt text_limit (sum_by length (done ++ text ∷ []))) (done ++ text ∷ [])
+        (h (done ++ text ∷ []))
     ready_word t u us k (piece.Ends e) done c q h = tt
     ready_word t u us k (piece.Child j text) done c q h = rw c q
 
-    pub words_ready : (t : Tree) (us : List Tree) (k : ℕ) → WordsAt g i t k us → (done : List (List ℕ)) → WordsReady t (words_from level vars us k done)
+    pub words_ready : (t : Tree) (us : List Tree) (k : ℕ) → WordsAt g i t k us → (done : List (List ℕ))
+        → WordsReady t (words_from level vars us k done)
     words_ready t [] k e done = tt
-    words_ready t (u ∷ us) k (c, e, rest) done = ready_word t u us k (pieces_from level vars (parts_of u) 0 []) done c (pieces_ready u (parts_of u) (parts_of u) 0 refl []) (words_ready t us (k + 1) rest)
+    words_ready t (u ∷ us) k (c, e, rest) done =
+        ready_word t u us k (pieces_from level vars (parts_of u) 0 []) done c
+        (pieces_ready u (parts_of u) (parts_of u) 0 refl []) (words_ready t us (k + 1) rest)
 
     pub first_ready : (t : Tree) → WordsReady t (first_words level vars t)
-    first_ready (tree.command v ts) = words_ready (tree.command v ts) (all ts) 0 (words_at g i (tree.command v ts) 0 (all ts) refl) []
-    first_ready (tree.each ts b) = words_ready (tree.each ts b) (all ts) 0 (words_at g i (tree.each ts b) 0 (all ts) refl) (codes "foreach" ∷ [])
-    first_ready (tree.switch k ts bs) = words_ready (tree.switch k ts bs) (all ts) 0 (words_at g i (tree.switch k ts bs) 0 (all ts) refl) (codes "switch" ∷ [])
-    first_ready (tree.catch_in b n) = words_ready (tree.catch_in b n) (n ∷ []) 1 (refl, refl, tt) (codes "catch" ∷ [])
-    first_ready (tree.plain text) = tt
-    first_ready (tree.variable name) = tt
-    first_ready (tree.element name ts) = tt
-    first_ready (tree.word ts) = tt
-    first_ready (tree.script ts) = tt
-    first_ready (tree.expr t) = tt
-    first_ready (tree.branches vs last) = tt
-    first_ready (tree.choice vs last) = tt
-    first_ready (tree.loop s t n b) = tt
-    first_ready (tree.catch b) = tt
-    first_ready tree.next_body = tt
-    first_ready (tree.prefixed ops t) = tt
-    first_ready (tree.row t os) = tt
+    first_ready (tree.command v ts) =
+        words_ready (tree.command v ts) (all ts) 0 (words_at g i (tree.command v ts) 0 (all ts) refl) []
+    first_ready (tree.each ts b) =
+        words_ready (tree.each ts b) (all ts) 0 (words_at g i (tree.each ts b) 0 (all ts) refl)
+        (codes "foreach" ∷ [])
+    first_ready (tree.switch k ts bs) =
+        words_ready (tree.switch k ts bs) (all ts) 0 (words_at g i (tree.switch k ts bs) 0 (all ts) refl)
+        (codes "switch" ∷ [])
+    first_ready (tree.catch_in b n) =
+        words_ready (tree.catch_in b n) (n ∷ []) 1 (refl, refl, tt) (codes "catch" ∷ [])
+    first_ready other = tt
 
-    ready_behind : (t : Tree) (k j : ℕ) (b : Bool) (text : List ℕ) → let u = child_at t k in PieceReady u (parts_of u) (cond b (piece.Ends (Raised too_long)) (pieces_from level vars (drop (j + 1) (parts_of u)) (j + 1) text))
-    ready_behind t k j b text = let u = child_at t k in ready_within u (parts_of u) (drop (j + 1) (parts_of u)) (j + 1) b text (pieces_ready u (parts_of u) (drop (j + 1) (parts_of u)) (j + 1) refl text)
+    ready_behind : (t : Tree) (k j : ℕ) (b : Bool) (text : List ℕ) → let u = child_at t k in
+        PieceReady u (parts_of u) (cond b (piece.Ends (Raised too_long))
+        (pieces_from level vars (drop (j + 1) (parts_of u)) (j + 1) text))
+    ready_behind t k j b text = let u = child_at t k in
+        ready_within u (parts_of u) (drop (j + 1) (parts_of u)) (j + 1) b text
+        (pieces_ready u (parts_of u) (drop (j + 1) (parts_of u)) (j + 1) refl text)
 
-    pub behind_ready : (t : Tree) (k j : ℕ) (done : List (List ℕ)) (text v : List ℕ) → WordsReady t (word_behind level vars t k j done text v)
+    pub behind_ready : (t : Tree) (k j : ℕ) (done : List (List ℕ)) (text v : List ℕ)
+        → WordsReady t (word_behind level vars t k j done text v)
     behind_ready t k j done text v =
         let us = drop (k + 1) (words_of t) in
-        ready_word t (child_at t k) us k (pieces_behind level vars (parts_of (child_at t k)) j text v) done refl (ready_behind t k j (nat_lt text_limit (length (text ++ v))) (text ++ v))
+        ready_word t (child_at t k) us k (pieces_behind level vars (parts_of (child_at t k)) j text v) done
+        refl (ready_behind t k j (nat_lt text_limit (length (text ++ v))) (text ++ v))
         (words_ready t us (k + 1) (words_at g i t (k + 1) us refl))
 
   -- a word costs one at least, where no word is free
@@ -116,7 +135,8 @@ module _ (level : Option Level) (vars : Scopes) where
   word_some (tree.prefixed ops t) = part_some 1 (tree.prefixed ops t) [] (omega arith)
   word_some (tree.row t os) = part_some 1 (tree.row t os) [] (omega arith)
 
-  some_words : (ts : Trees) → is_flat (tree.command verb.Named ts) ≡ false → 1 ≤ words_cost 1 level vars (all ts) []
+  some_words : (ts : Trees) → is_flat (tree.command verb.Named ts) ≡ false
+      → 1 ≤ words_cost 1 level vars (all ts) []
   some_words no_trees e = absurd (cc e)
   some_words (and_tree t ts) e = let k = word_some t in omega (arith, k)
 
@@ -126,16 +146,4 @@ module _ (level : Option Level) (vars : Scopes) where
   first_some (tree.each ts b) q e = omega arith
   first_some (tree.switch k ts bs) q e = omega arith
   first_some (tree.catch_in b n) q e = omega arith
-  first_some (tree.plain text) q e = absurd (cc q)
-  first_some (tree.variable name) q e = absurd (cc q)
-  first_some (tree.element name ts) q e = absurd (cc q)
-  first_some (tree.word ts) q e = absurd (cc q)
-  first_some (tree.script ts) q e = absurd (cc q)
-  first_some (tree.expr t) q e = absurd (cc q)
-  first_some (tree.branches vs last) q e = absurd (cc q)
-  first_some (tree.choice vs last) q e = absurd (cc q)
-  first_some (tree.loop s t n b) q e = absurd (cc q)
-  first_some (tree.catch b) q e = absurd (cc q)
-  first_some tree.next_body q e = absurd (cc q)
-  first_some (tree.prefixed ops t) q e = absurd (cc q)
-  first_some (tree.row t os) q e = absurd (cc q)
+  first_some other q e = absurd (cc q)

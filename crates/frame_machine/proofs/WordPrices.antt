@@ -30,28 +30,14 @@ unit_by (Node-F.Choice vs last) = refl
 pub word_unit_view : (n : Node) → word_unit_in (out-Node n) ≡ word_unit (node_view n)
 word_unit_view n = unit_by (out-Node n) ∙ ap word_unit (sym (viewed n))
 
-price_here : (unit : ℕ) (ns : List Node) → price_of unit ns ≡ part_price unit (tree.word (trees_of (nodes_view ns)))
+price_here : (unit : ℕ) (ns : List Node)
+    → price_of unit ns ≡ part_price unit (tree.word (trees_of (nodes_view ns)))
 price_here unit [] = refl
 price_here unit (n ∷ ns) = refl
 
 price_by : (unit : ℕ) (f : Node-F Node) → part_price_in unit f ≡ part_price unit (step_of f)
 price_by unit (Node-F.Word ns) = price_here unit ns.items
-price_by unit (Node-F.Plain text) = refl
-price_by unit (Node-F.Variable name) = refl
-price_by unit (Node-F.Element name ns) = refl
-price_by unit (Node-F.Script ns) = refl
-price_by unit (Node-F.Command v ns) = refl
-price_by unit (Node-F.Expr e) = refl
-price_by unit (Node-F.If vs last) = refl
-price_by unit (Node-F.Loop s t n b) = refl
-price_by unit (Node-F.Foreach ws b) = refl
-price_by unit (Node-F.Switch k ws bs) = refl
-price_by unit (Node-F.Catch b) = refl
-price_by unit (Node-F.CatchIn b n) = refl
-price_by unit Node-F.NextBody = refl
-price_by unit (Node-F.Prefixed ops e) = refl
-price_by unit (Node-F.Row first rest) = refl
-price_by unit (Node-F.Choice vs last) = refl
+price_by unit other = refl
 
 pub part_price_view : (unit : ℕ) (n : Node) → part_price_in unit (out-Node n) ≡ part_price unit (node_view n)
 part_price_view unit n = price_by unit (out-Node n) ∙ ap (λ t. part_price unit t) (sym (viewed n))

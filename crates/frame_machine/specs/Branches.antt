@@ -69,13 +69,13 @@ last_move k c = last_by k c c.last
 abbrev pub holds_by : Known → Choices → (at : ℕ) → (value : Tree) → List ℕ
     → Result Bool TclFault → Move
 holds_by k c at value v (Ok true) = value_move k c value (at + at + 1)
-holds_by k c at value v (Ok false) = moves (back_under (frame.Condition at) (Value v))
+holds_by k c at value v (Ok false) = moves (back_under (frame.Condition at (at + at)) (Value v))
 holds_by k c at value v (Err f) = moves (stop (Raised f))
 
 abbrev pub condition_by : Known → Choices → (at : ℕ) → (value : Tree) → Option Code → Move
 condition_by k c at value (Some (Value v)) = holds_by k c at value v (truth_read v)
 condition_by k c at value (Some code) = moves (stop code)
-condition_by k c at value None = moves (child_under (frame.Condition at))
+condition_by k c at value None = moves (child_under (frame.Condition at (at + at)))
 
 abbrev pub asked_move : Known → Choices → (at : ℕ) → (condition value : Tree) → Move
 asked_move k c at condition value =

@@ -47,7 +47,7 @@ places (frame.Pieces part text) = part ∷ []
 places (frame.Operand left) = 0 ∷ []
 places (frame.Left at) = at ∷ []
 places (frame.Right at joint left) = at ∷ []
-places (frame.Condition at) = (at + at) ∷ []
+places (frame.Condition at place) = place ∷ []
 places (frame.Body place wanted) = place ∷ []
 places frame.Start = 0 ∷ []
 places (frame.Test left) = 1 ∷ []
@@ -190,7 +190,7 @@ apply g i t p (frame.Left at) o =
     then_value o (λ v s. operands (drop at (joints_in g i t)) v p s)
 apply g i t p (frame.Right at joint left) o =
     then_value o (joined_value (operands (drop at (joints_in g i t))) joint left p)
-apply g i t p (frame.Condition at) o =
+apply g i t p (frame.Condition at place) o =
     then_truth o
     (after_condition (condition_price t) (drop at (conditions_in g i t)) (last_in g i t) p)
 apply g i t p (frame.Body place wanted) o = o

@@ -7,6 +7,7 @@ pub mod Children
 pub mod ChoiceParts
 pub mod Commands
 pub mod Counted
+pub mod Ends
 pub mod FirstWords
 pub mod Frames
 pub mod Gathered
@@ -31,6 +32,7 @@ pub mod Scripts
 pub mod Steps
 pub mod StillMoves
 pub mod Stills
+pub mod Stops
 pub mod Switches
 pub mod TurnParts
 pub mod Turns

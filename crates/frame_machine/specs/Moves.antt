@@ -76,10 +76,11 @@ frame_owed (Some f) = weight f
 abbrev pub due : Next → ℕ
 due next = frame_owed next.frame + mode_owed next.mode
 
--- a child that begins has something to do
+-- a child that begins has something to do, and no move leaves the body over
 abbrev pub ReadyBy : List Procedure → Tree → Option Frame → Mode → Type 0
 ReadyBy procedures t (Some f) mode.Begin = is_flat (inside procedures t f) ≡ false
 ReadyBy procedures t None mode.Begin = ⊥
+ReadyBy procedures t frame mode.Over = ⊥
 ReadyBy procedures t frame m = ⊤
 
 abbrev pub Ready : List Procedure → Tree → Next → Type 0

@@ -15,17 +15,6 @@ use Rattle.frame_machine.specs.declared.frame.Standing.{Standing}
 use Rattle.frame_machine.specs.declared.turn.Turn.{Turn}
 use Rattle.frame_machine.specs.declared.turn.Turn.TheVariants as turn
 
--- a machine that has more to do, and one that waits for a reply
-abbrev pub IsRunning : Mode → Type 0
-IsRunning mode.Begin = Unit {0}
-IsRunning (mode.Back code) = Unit {0}
-IsRunning (mode.Asked call) = ⊥
-IsRunning mode.Over = ⊥
-
-abbrev pub IsAsked : Mode → Type 0
-IsAsked (mode.Asked call) = Unit {0}
-IsAsked m = ⊥
-
 -- the end of the root is told in the move that makes it
 abbrev pub told_turn : List Frame → Mode → Turn
 told_turn [] (mode.Back code) = turn.Done code
@@ -50,5 +39,6 @@ pub record Stood {H : Type 0} (g : Setting H) (tree : Tree) (old new : Standing)
     (before after : Now H) (made : List Effect → Type 0) : Type 0 where
   pub mode_before : Mode
   pub steps : StepsTo g tree old.frames.items old.mode new.frames.items mode_before before after made
+  pub goes : mode_before ≡ mode.Over → ⊥
   pub mode_is : new.mode ≡ told_mode new.frames.items mode_before
   pub told : said ≡ told_turn new.frames.items mode_before

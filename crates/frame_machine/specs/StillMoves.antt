@@ -59,7 +59,7 @@ reading_goes k t (frame.Left at) code wanted budget =
     keeps budget (left_told k at (row_of t) code)
 reading_goes k t (frame.Right at joint left) code wanted budget =
     keeps budget (right_told k at (row_of t) joint left code)
-reading_goes k t (frame.Condition at) code wanted budget =
+reading_goes k t (frame.Condition at place) code wanted budget =
     keeps budget (condition_told k (choices_of wanted t) at code)
 reading_goes k t frame.Start code wanted budget = start_told k (parts_of t) budget code
 reading_goes k t (frame.Test left) code wanted budget =

@@ -6,6 +6,7 @@ use Rattle.tcl_compile.specs.Tree.{Tree}
 use Rattle.tcl_vars.specs.Scopes.{Scopes}
 use Rattle.rule_model.specs.Outcome.{Act, state, Meaning, heard}
 use Rattle.rule_model.specs.Setting.{Setting}
+use Rattle.frame_machine.specs.Counted.{Counted, Counts}
 use Rattle.frame_machine.specs.Moves.{stands}
 use Rattle.frame_machine.specs.declared.frame.Room.{Room}
 use Rattle.frame_machine.specs.declared.next.Next.{Next}
@@ -71,6 +72,46 @@ spent vars s = record { move = s.move; budget = s.budget; vars = vars }
 
 abbrev pub written : ℕ → Write → Change
 written budget w = record { move = w.move; budget = budget; vars = w.vars }
+
+-- where a move leads, with what is paid and ticked
+abbrev pub counted : Move → Counted Next
+counted m = record { value = m.next; cost = m.cost; ticks = m.ticks }
+
+-- a move leads here, and the counters of cost and of ticks go from the first to the last
+abbrev pub Pays : Move → (paid ticked : ℕ) → Next → (paid' ticked' : ℕ) → Type 0
+Pays m paid ticked next paid' ticked' =
+    Counts (counted m) paid ticked next paid' ticked'
+
+-- the same with the budget that is left
+pub record Spends (s : Spend) (paid ticked : ℕ) (next : Next) (budget paid' ticked' : ℕ)
+    : Type 0 where
+  pub pays : Pays s.move paid ticked next paid' ticked'
+  pub budget_is : budget ≡ s.budget
+
+-- the variables, the budget, and the counters of cost and of ticks
+pub record Tally : Type 0 where
+  pub vars : Scopes
+  pub budget : ℕ
+  pub paid : ℕ
+  pub ticked : ℕ
+
+abbrev pub tally : Scopes → (budget paid ticked : ℕ) → Tally
+tally vars budget paid ticked =
+    record { vars = vars; budget = budget; paid = paid; ticked = ticked }
+
+-- a move of this change leads from the one to the other
+pub record Leads (c : Change) (old : Tally) (next : Next) (new : Tally) : Type 0 where
+  pub next_is : next ≡ c.move.next
+  pub vars_are : new.vars ≡ c.vars
+  pub budget_is : new.budget ≡ c.budget
+  pub paid_is : new.paid ≡ old.paid + c.move.cost
+  pub ticked_is : new.ticked ≡ old.ticked + c.move.ticks
+
+-- a move of some such change does
+pub record Makes (Is : Change → Type 0) (old : Tally) (next : Next) (new : Tally) : Type 0 where
+  pub change : Change
+  pub is : Is change
+  pub leads : Leads change old next new
 
 -- goes on with a value; a fault goes to the other
 abbrev pub on_result : {A X : Type 0} → Result A TclFault → (A → X) → (TclFault → X) → X

@@ -1,5 +1,5 @@
 -- What a step of a machine promises.
-use Rattle.std.specs.Prelude.{◌≡◌, ⊤, ℕ, ◌+◌, ◌*◌, ◌≤◌, List, [], ◌∷◌, ◌++◌}
+use Rattle.std.specs.Prelude.{◌≡◌, ℕ, ◌+◌, ◌*◌, ◌≤◌, List, [], ◌∷◌, ◌++◌}
 use Rattle.px_bytes.specs.declared.fault.Reply.{Reply}
 use Rattle.tcl_compile.specs.Tree.{Tree}
 use Rattle.tcl_vars.specs.Scopes.{Scopes}
@@ -8,6 +8,7 @@ use Rattle.rule_model.specs.Outcome.{Act, Did, Called, state, Outcome, Ends, rep
 use Rattle.rule_model.specs.Setting.{Setting}
 use Rattle.frame_machine.specs.Frames.{comes_to}
 use Rattle.frame_machine.specs.Owed.{owed, Heavy}
+use Rattle.frame_machine.specs.declared.frame.Mode.{Mode}
 use Rattle.frame_machine.specs.declared.frame.Mode.TheVariants as mode
 use Rattle.frame_machine.specs.declared.frame.Standing.{Standing}
 use Rattle.frame_machine.specs.declared.turn.Turn.{Turn}
@@ -35,9 +36,20 @@ pub record Place (H : Type 0) : Type 0 where
 abbrev pub place : {H : Type 0} → Standing → Scopes → H → Place H
 place machine vars host = record { machine = machine; vars = vars; host = host }
 
+-- a machine that has more to do, and one that waits for a reply
+abbrev pub IsRunning : Mode → Type 0
+IsRunning mode.Begin = Unit {0}
+IsRunning (mode.Back code) = Unit {0}
+IsRunning (mode.Asked call) = ⊥
+IsRunning mode.Over = ⊥
+
+abbrev pub IsAsked : Mode → Type 0
+IsAsked (mode.Asked call) = Unit {0}
+IsAsked m = ⊥
+
 -- the mode of what a step says
 abbrev pub TurnIs : Turn → Standing → Type 0
-TurnIs turn.More m = ⊤
+TurnIs turn.More m = IsRunning m.mode
 TurnIs (turn.Asks call) m = m.mode ≡ mode.Asked call
 TurnIs (turn.Done code) m = m.mode ≡ mode.Over
 

@@ -161,7 +161,10 @@ fn ask<L: Ledger, K: Ledger>(
     match quick(reads, &pair.0, steps, paid)? {
         Some(Code::Value(text)) => holds(reads, choices, at, &pair.1, text, steps, paid),
         Some(code) => Ok(Next::stop(code)),
-        None => Ok(Next::child(Frame::Condition { at })),
+        None => {
+            let place = at + at;
+            Ok(Next::child(Frame::Condition { at, place }))
+        }
     }
 }
 
@@ -195,7 +198,10 @@ fn holds<L: Ledger, K: Ledger>(
 {
     match truth_of(reads.alloc, text.as_bytes()) {
         Ok(true) => value(reads, choices, body, at + at + 1, paid),
-        Ok(false) => Ok(Next::back(Frame::Condition { at }, Code::Value(text))),
+        Ok(false) => {
+            let place = at + at;
+            Ok(Next::back(Frame::Condition { at, place }, Code::Value(text)))
+        }
         Err(Raise::Fault(fault)) => Ok(Next::stop(Code::Raised(fault))),
         Err(Raise::Memory) => Err(Memory),
     }

@@ -54,9 +54,11 @@ fn place_in(procs: &Procs, words: &Texts) -> usize
 
 // The variables of a procedure with these values, and its body.
 fn enter_call(caller: &Caller<'_>, place: usize, call: &Call<'_>, vars: &mut Vars) -> M<Next>
-    ensures next { let c = bound_move (caller_view caller.now) place (call_view call.now) vars.old in
+    ensures next { let b = call_view call.now in
+        let c = bound_move (caller_view caller.now) place b vars.old in
         IfOk result (λ n. n ≡ c.move.next) }
-    ensures vars { let c = bound_move (caller_view caller.now) place (call_view call.now) vars.old in
+    ensures vars { let b = call_view call.now in
+        let c = bound_move (caller_view caller.now) place b vars.old in
         OnOk result (vars.new ≡ c.vars) }
 {
     vars.enter_proc()?;

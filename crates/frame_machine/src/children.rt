@@ -109,48 +109,6 @@ pub(crate) fn child_at(node: &Node, place: usize) -> &Node
     child_here(node, place)
 }
 
-#[tactic(auto, using(crate::proofs::NodePlaces::count_both))]
-fn count_values(values: &[(Node, Node)], last: &Node) -> usize
-    ensures { result ≡ length (both_nodes values.now ++ last.now ∷ []) }
-{
-    let _ = last;
-    2 * values.len() + 1
-}
-
-// How many children a node has.
-#[tactic(auto, using(crate::proofs::NodePlaces::count_switch, crate::proofs::NodePlaces::count_row, crate::proofs::NodePlaces::count_each))]
-fn count_here(node: &Node) -> usize
-    ensures { result ≡ length (children_in (out-Node node.now)) }
-{
-    match node {
-        Node::Plain(_) | Node::Variable(_) | Node::NextBody => 0,
-        Node::Element(_, nodes) => nodes.len(),
-        Node::Word(nodes) | Node::Script(nodes) => nodes.len(),
-        Node::Command(_, nodes) => nodes.len(),
-        Node::Expr(_) | Node::Catch(_) | Node::Prefixed(_, _) => 1,
-        Node::If(values, last) | Node::Choice(values, last) => count_values(values, last),
-        Node::Loop { .. } => 4,
-        Node::Foreach { words, .. } => words.len() + 1,
-        Node::Switch { words, bodies, .. } => words.len() + bodies.len(),
-        Node::CatchIn { .. } => 2,
-        Node::Row(_, rest) => rest.len() + 1,
-    }
-}
-
-/// The child of twice this number.
-#[tactic(auto, using(crate::proofs::NodeViews::past_view))]
-pub(crate) fn double_child(node: &Node, half: usize) -> &Node
-    ensures { node_view result.now ≡ child_at (node_view node.now) (half + half) }
-{
-    if half >= count_here(node) {
-        return node;
-    }
-    match half.checked_mul(2) {
-        Some(place) => child_at(node, place),
-        None => node,
-    }
-}
-
 /// The part of a word, of this number.
 #[tactic(auto, using(crate::proofs::NodeViews::part_view))]
 pub(crate) fn part_at(word: &Node, part: usize) -> &Node

@@ -52,9 +52,10 @@ pub enum Frame {
         joint: Joint,
         left: Text,
     },
-    /// `if` or `?:`, in its condition of this number.
+    /// `if` or `?:`, in its condition of this number, the child of that number.
     Condition {
         at: usize,
+        place: usize,
     },
     /// A node whose end is that of its child of this number.
     Body {

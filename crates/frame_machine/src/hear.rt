@@ -28,7 +28,8 @@ pub(crate) fn copied(alloc: Global, texts: &Texts) -> M<Texts>
     copies(alloc, texts.as_slice())
 }
 
-fn copies(alloc: Global, texts: &[Text]) -> M<Texts>
+/// A copy of these.
+pub(crate) fn copies(alloc: Global, texts: &[Text]) -> M<Texts>
     ensures { IfOk result (λ all. all ≡ map (λ t. t) texts.now) }
 {
     let mut all = Texts::new(alloc);

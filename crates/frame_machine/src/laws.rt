@@ -2,8 +2,8 @@
 
 ghost use Rattle.frame_machine.specs.Runs.{MachineEqualsEvaluator, TicksAreBounded};
 
-/// In any slicing into steps, a body asks exactly where the evaluator waits, and is done exactly where
-/// it ends.
+/// In any slicing into steps, a body asks exactly where the evaluator waits, and is done exactly
+/// where it ends.
 pub fn machine_equals_evaluator<H>()
     ensures { MachineEqualsEvaluator H }
 {}

@@ -1,14 +1,18 @@
 //! A rule's body by steps: frames that stop inside a command and go on with a reply.
 #![tactic(auto)]
 
+mod begin;
 mod branches;
 mod calls;
 mod catches;
 mod children;
 mod commands;
 mod context;
+mod ends;
 mod first_words;
 mod frame;
+mod gathered;
+mod go_on;
 mod hear;
 mod host;
 mod laws;
@@ -26,7 +30,9 @@ mod reading;
 mod reads;
 mod rows;
 mod scripts;
+mod step;
 mod stills;
+mod stops;
 mod switches;
 mod turn;
 mod turns;

@@ -1,11 +1,12 @@
 // The moves of a loop.
 
-ghost use Rattle.std.specs.Prelude.{IfOk, OnOk, ◌+◌, ◌≡◌};
+ghost use Rattle.std.specs.Prelude.{IfOk, ◌≡◌};
 ghost use Rattle.tcl_compile.specs.TreeView.{node_view};
 ghost use Rattle.frame_machine.specs.LoopParts.{parts_view};
 ghost use Rattle.frame_machine.specs.Loops.{above, loop_move, next_move, next_told, start_told};
 ghost use Rattle.frame_machine.specs.Loops.{test_move, test_told, turn_move, turn_told};
 ghost use Rattle.frame_machine.specs.Reads.{known_by};
+ghost use Rattle.frame_machine.specs.Stills.{Spends};
 
 use crate::frame::Frame;
 use crate::leafs::{is_leaf, leaf_code};
@@ -47,14 +48,8 @@ pub(crate) fn begin_loop<L: Ledger, K: Ledger>(
     steps: &mut Steps<L>,
     paid: &mut Steps<K>,
 ) -> M<Next>
-    ensures next { let m = loop_move (known_by reads.now) (parts_view parts.now) budget.old in
-        IfOk result (λ n. n ≡ m.move.next) }
-    ensures budget { let m = loop_move (known_by reads.now) (parts_view parts.now) budget.old in
-        OnOk result (budget.new ≡ m.budget) }
-    ensures cost { let m = loop_move (known_by reads.now) (parts_view parts.now) budget.old in
-        OnOk result (paid.new ≡ paid.old + m.move.cost) }
-    ensures ticks { let m = loop_move (known_by reads.now) (parts_view parts.now) budget.old in
-        OnOk result (steps.new ≡ steps.old + m.move.ticks) }
+    ensures { let m = loop_move (known_by reads.now) (parts_view parts.now) budget.old in
+        IfOk result (λ n. Spends m paid.old steps.old n budget.new paid.new steps.new) }
 {
     paid.tick();
     if !is_leaf(parts.start) {
@@ -73,14 +68,8 @@ pub(crate) fn go_start<L: Ledger, K: Ledger>(
     steps: &mut Steps<L>,
     paid: &mut Steps<K>,
 ) -> M<Next>
-    ensures next { let m = start_told (known_by reads.now) (parts_view parts.now) budget.old code in
-        IfOk result (λ n. n ≡ m.move.next) }
-    ensures budget { let m = start_told (known_by reads.now) (parts_view parts.now) budget.old code in
-        OnOk result (budget.new ≡ m.budget) }
-    ensures cost { let m = start_told (known_by reads.now) (parts_view parts.now) budget.old code in
-        OnOk result (paid.new ≡ paid.old + m.move.cost) }
-    ensures ticks { let m = start_told (known_by reads.now) (parts_view parts.now) budget.old code in
-        OnOk result (steps.new ≡ steps.old + m.move.ticks) }
+    ensures { let m = start_told (known_by reads.now) (parts_view parts.now) budget.old code in
+        IfOk result (λ n. Spends m paid.old steps.old n budget.new paid.new steps.new) }
 {
     match code {
         Code::Value(_) => {
@@ -100,14 +89,8 @@ fn test<L: Ledger, K: Ledger>(
     steps: &mut Steps<L>,
     paid: &mut Steps<K>,
 ) -> M<Next>
-    ensures next { let m = test_move (known_by reads.now) (parts_view parts.now) left budget.old in
-        IfOk result (λ n. n ≡ m.move.next) }
-    ensures budget { let m = test_move (known_by reads.now) (parts_view parts.now) left budget.old in
-        OnOk result (budget.new ≡ m.budget) }
-    ensures cost { let m = test_move (known_by reads.now) (parts_view parts.now) left budget.old in
-        OnOk result (paid.new ≡ paid.old + m.move.cost) }
-    ensures ticks { let m = test_move (known_by reads.now) (parts_view parts.now) left budget.old in
-        OnOk result (steps.new ≡ steps.old + m.move.ticks) }
+    ensures { let m = test_move (known_by reads.now) (parts_view parts.now) left budget.old in
+        IfOk result (λ n. Spends m paid.old steps.old n budget.new paid.new steps.new) }
 {
     paid.add(alone(parts.test));
     match quick(reads, parts.test, steps, paid)? {
@@ -126,14 +109,8 @@ pub(crate) fn go_test<L: Ledger, K: Ledger>(
     steps: &mut Steps<L>,
     paid: &mut Steps<K>,
 ) -> M<Next>
-    ensures next { let m = test_told (known_by reads.now) (node_view body.now) left budget.old code in
-        IfOk result (λ n. n ≡ m.move.next) }
-    ensures budget { let m = test_told (known_by reads.now) (node_view body.now) left budget.old code in
-        OnOk result (budget.new ≡ m.budget) }
-    ensures cost { let m = test_told (known_by reads.now) (node_view body.now) left budget.old code in
-        OnOk result (paid.new ≡ paid.old + m.move.cost) }
-    ensures ticks { let m = test_told (known_by reads.now) (node_view body.now) left budget.old code in
-        OnOk result (steps.new ≡ steps.old + m.move.ticks) }
+    ensures { let m = test_told (known_by reads.now) (node_view body.now) left budget.old code in
+        IfOk result (λ n. Spends m paid.old steps.old n budget.new paid.new steps.new) }
 {
     match code {
         Code::Value(value) => match truth_of(reads.alloc, value.as_bytes()) {
@@ -155,14 +132,8 @@ fn turn<L: Ledger, K: Ledger>(
     steps: &mut Steps<L>,
     paid: &mut Steps<K>,
 ) -> M<Next>
-    ensures next { let m = turn_move (known_by reads.now) (node_view body.now) left budget.old holds in
-        IfOk result (λ n. n ≡ m.move.next) }
-    ensures budget { let m = turn_move (known_by reads.now) (node_view body.now) left budget.old holds in
-        OnOk result (budget.new ≡ m.budget) }
-    ensures cost { let m = turn_move (known_by reads.now) (node_view body.now) left budget.old holds in
-        OnOk result (paid.new ≡ paid.old + m.move.cost) }
-    ensures ticks { let m = turn_move (known_by reads.now) (node_view body.now) left budget.old holds in
-        OnOk result (steps.new ≡ steps.old + m.move.ticks) }
+    ensures { let m = turn_move (known_by reads.now) (node_view body.now) left budget.old holds in
+        IfOk result (λ n. Spends m paid.old steps.old n budget.new paid.new steps.new) }
 {
     if !holds {
         return Ok(Next::stop(Code::Value(Text::empty(reads.alloc))));
@@ -186,14 +157,8 @@ pub(crate) fn go_turn<L: Ledger, K: Ledger>(
     steps: &mut Steps<L>,
     paid: &mut Steps<K>,
 ) -> M<Next>
-    ensures next { let m = turn_told (known_by reads.now) (parts_view parts.now) left budget.old code in
-        IfOk result (λ n. n ≡ m.move.next) }
-    ensures budget { let m = turn_told (known_by reads.now) (parts_view parts.now) left budget.old code in
-        OnOk result (budget.new ≡ m.budget) }
-    ensures cost { let m = turn_told (known_by reads.now) (parts_view parts.now) left budget.old code in
-        OnOk result (paid.new ≡ paid.old + m.move.cost) }
-    ensures ticks { let m = turn_told (known_by reads.now) (parts_view parts.now) left budget.old code in
-        OnOk result (steps.new ≡ steps.old + m.move.ticks) }
+    ensures { let m = turn_told (known_by reads.now) (parts_view parts.now) left budget.old code in
+        IfOk result (λ n. Spends m paid.old steps.old n budget.new paid.new steps.new) }
 {
     match after_body(&code) {
         Goes::On => next(reads, parts, left, budget, steps, paid),
@@ -211,14 +176,8 @@ fn next<L: Ledger, K: Ledger>(
     steps: &mut Steps<L>,
     paid: &mut Steps<K>,
 ) -> M<Next>
-    ensures next { let m = next_move (known_by reads.now) (parts_view parts.now) left budget.old in
-        IfOk result (λ n. n ≡ m.move.next) }
-    ensures budget { let m = next_move (known_by reads.now) (parts_view parts.now) left budget.old in
-        OnOk result (budget.new ≡ m.budget) }
-    ensures cost { let m = next_move (known_by reads.now) (parts_view parts.now) left budget.old in
-        OnOk result (paid.new ≡ paid.old + m.move.cost) }
-    ensures ticks { let m = next_move (known_by reads.now) (parts_view parts.now) left budget.old in
-        OnOk result (steps.new ≡ steps.old + m.move.ticks) }
+    ensures { let m = next_move (known_by reads.now) (parts_view parts.now) left budget.old in
+        IfOk result (λ n. Spends m paid.old steps.old n budget.new paid.new steps.new) }
 {
     if !is_leaf(parts.next) {
         return Ok(Next::child(Frame::Next { left }));
@@ -237,14 +196,8 @@ pub(crate) fn go_next<L: Ledger, K: Ledger>(
     steps: &mut Steps<L>,
     paid: &mut Steps<K>,
 ) -> M<Next>
-    ensures next { let m = next_told (known_by reads.now) (parts_view parts.now) left budget.old code in
-        IfOk result (λ n. n ≡ m.move.next) }
-    ensures budget { let m = next_told (known_by reads.now) (parts_view parts.now) left budget.old code in
-        OnOk result (budget.new ≡ m.budget) }
-    ensures cost { let m = next_told (known_by reads.now) (parts_view parts.now) left budget.old code in
-        OnOk result (paid.new ≡ paid.old + m.move.cost) }
-    ensures ticks { let m = next_told (known_by reads.now) (parts_view parts.now) left budget.old code in
-        OnOk result (steps.new ≡ steps.old + m.move.ticks) }
+    ensures { let m = next_told (known_by reads.now) (parts_view parts.now) left budget.old code in
+        IfOk result (λ n. Spends m paid.old steps.old n budget.new paid.new steps.new) }
 {
     match after_next(&code) {
         Goes::On => test(reads, parts, left, budget, steps, paid),

@@ -1,14 +1,12 @@
 // A body by steps.
 
-ghost use Rattle.std.specs.Prelude.{IfOk, OnOk, [], ◌++◌, ◌≡◌};
+ghost use Rattle.std.specs.Prelude.{OnOk, [], length, ◌≡◌};
 ghost use Rattle.rule_model.specs.Outcome.{reply_code};
-ghost use Rattle.frame_machine.specs.Moves.{list_of};
-ghost use Rattle.frame_machine.specs.Steps.{IsAsked, told_mode, told_turn};
+ghost use Rattle.frame_machine.specs.Frames.{path_of};
+ghost use Rattle.frame_machine.specs.Went.{IsAsked};
 
 use crate::frame::{Mode, Standing};
-use crate::hear::copied;
-use crate::next::Next;
-use crate::turn::Turn;
+use crate::stops;
 use px_bytes::{M, Reply};
 use rule_steps::code_of_reply;
 use std::alloc::Global;
@@ -56,48 +54,18 @@ impl Machine {
         Ok(())
     }
 
-    /// Stands where a move leads, and tells what it comes to.
-    fn stand(&mut self, alloc: Global, next: Next) -> M<Turn>
-        ensures frames { OnOk result
-            (self.new.at.frames.items ≡ self.old.at.frames.items ++ list_of next.frame) }
-        ensures mode { OnOk result
-            (self.new.at.mode ≡ told_mode self.new.at.frames.items next.mode) }
-        ensures budget { self.new.at.budget ≡ self.old.at.budget }
-        ensures told { IfOk result
-            (λ turn. turn ≡ told_turn self.new.at.frames.items next.mode) }
+    /// How many numbers the path has to the node on which the body stands.
+    pub fn depth(&self) -> usize
+        ensures { result ≡ length (path_of self.now.at.frames.items) }
     {
-        let Next { frame, mode } = next;
-        if let Some(frame) = frame {
-            self.at.frames.push(frame)?;
-        }
-        self.tell(alloc, mode)
+        stops::depth(self.at.frames.as_slice())
     }
 
-    /// Tells what a mode comes to, and stands in it.
-    fn tell(&mut self, alloc: Global, mode: Mode) -> M<Turn>
-        ensures same { OnOk result (self.new.at.frames ≡ self.old.at.frames) }
-        ensures mode { OnOk result (self.new.at.mode ≡ told_mode self.old.at.frames.items mode) }
-        ensures budget { self.new.at.budget ≡ self.old.at.budget }
-        ensures told { IfOk result (λ turn. turn ≡ told_turn self.old.at.frames.items mode) }
+    /// Writes that path, from the body on; where a call waits it is the place of its command.
+    pub fn stopped_at(&self, out: &mut [usize])
+        requires { length out.old ≡ length (path_of self.now.at.frames.items) }
+        ensures { out.new ≡ path_of self.now.at.frames.items }
     {
-        match mode {
-            Mode::Back(code) => {
-                if self.at.frames.is_empty() {
-                    self.at.mode = Mode::Over;
-                    return Ok(Turn::Done(code));
-                }
-                self.at.mode = Mode::Back(code);
-                Ok(Turn::More)
-            }
-            Mode::Asked(call) => {
-                let told = copied(alloc, &call)?;
-                self.at.mode = Mode::Asked(call);
-                Ok(Turn::Asks(told))
-            }
-            mode => {
-                self.at.mode = mode;
-                Ok(Turn::More)
-            }
-        }
+        stops::fill(self.at.frames.as_slice(), out);
     }
 }

@@ -14,8 +14,8 @@ use std::sync::ledger::Ledger;
 use tcl_compile::Node;
 use tcl_vars::Vars;
 
-/// What is known of a word: its text, the code that ends it, or the part that has to run first, with
-/// the text before it.
+/// What is known of a word: its text, the code that ends it, or the part that has to run first,
+/// with the text before it.
 #[derive(Drop)]
 pub(crate) enum Piece {
     Whole(Text),

@@ -7,7 +7,7 @@ ghost use Rattle.tcl_compile.specs.TreeView.{node_view};
 ghost use Rattle.frame_machine.specs.Frames.{body_of, inside, room_above, room_in, tree_above, wants};
 ghost use Rattle.frame_machine.specs.Places.{wants_above};
 
-use crate::children::{child_at, double_child, part_at};
+use crate::children::{child_at, part_at};
 use crate::frame::{Frame, Room};
 use tcl_compile::{Node, Procs};
 
@@ -33,7 +33,7 @@ fn child<'a>(procs: &'a Procs, none: &'a Node, node: &'a Node, frame: &'a Frame)
         Frame::Pieces { part, .. } => child_at(node, *part),
         Frame::Left { at } => child_at(node, *at),
         Frame::Right { at, .. } => child_at(node, *at),
-        Frame::Condition { at } => double_child(node, *at),
+        Frame::Condition { place, .. } => child_at(node, *place),
         Frame::Body { place, .. } => child_at(node, *place),
         Frame::Each { place, .. } => child_at(node, *place),
         Frame::Test { .. } => child_at(node, 1),

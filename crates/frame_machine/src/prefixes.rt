@@ -1,10 +1,11 @@
 // The moves of operators before an operand, and of `expr`.
 
-ghost use Rattle.std.specs.Prelude.{IfOk, Ok, OnOk, take, ◌+◌, ◌≡◌};
+ghost use Rattle.std.specs.Prelude.{IfOk, Ok, take, ◌≡◌};
 ghost use Rattle.tcl_compile.specs.TreeView.{node_view};
 ghost use Rattle.frame_machine.specs.Prefixes.{applied_move, expr_move, operand_told};
 ghost use Rattle.frame_machine.specs.Prefixes.{operators_move, prefixed_move, whole_next};
 ghost use Rattle.frame_machine.specs.Reads.{known_by};
+ghost use Rattle.frame_machine.specs.Stills.{Pays};
 
 use crate::frame::Frame;
 use crate::leafs::{is_leaf, leaf_code};
@@ -27,12 +28,8 @@ pub(crate) fn begin_prefixed<L: Ledger, K: Ledger>(
     steps: &mut Steps<L>,
     paid: &mut Steps<K>,
 ) -> M<Next>
-    ensures next { let m = prefixed_move (known_by reads.now) ops.now (node_view operand.now) in
-        IfOk result (λ n. n ≡ m.next) }
-    ensures cost { let m = prefixed_move (known_by reads.now) ops.now (node_view operand.now) in
-        OnOk result (paid.new ≡ paid.old + m.cost) }
-    ensures ticks { let m = prefixed_move (known_by reads.now) ops.now (node_view operand.now) in
-        OnOk result (steps.new ≡ steps.old + m.ticks) }
+    ensures { let m = prefixed_move (known_by reads.now) ops.now (node_view operand.now) in
+        IfOk result (λ n. Pays m paid.old steps.old n paid.new steps.new) }
 {
     paid.tick();
     if !is_leaf(operand) {
@@ -51,11 +48,8 @@ pub(crate) fn go_operand<L: Ledger, K: Ledger>(
     steps: &mut Steps<L>,
     paid: &mut Steps<K>,
 ) -> M<Next>
-    ensures next { let m = operand_told ops.now left code in IfOk result (λ n. n ≡ m.next) }
-    ensures cost { let m = operand_told ops.now left code in
-        OnOk result (paid.new ≡ paid.old + m.cost) }
-    ensures ticks { let m = operand_told ops.now left code in
-        OnOk result (steps.new ≡ steps.old + m.ticks) }
+    ensures { let m = operand_told ops.now left code in
+        IfOk result (λ n. Pays m paid.old steps.old n paid.new steps.new) }
 {
     match code {
         Code::Value(value) => apply(alloc, first_of(ops, left), value, steps, paid),
@@ -81,11 +75,8 @@ fn apply<L: Ledger, K: Ledger>(
     steps: &mut Steps<L>,
     paid: &mut Steps<K>,
 ) -> M<Next>
-    ensures next { let m = operators_move ops.now value in IfOk result (λ n. n ≡ m.next) }
-    ensures cost { let m = operators_move ops.now value in
-        OnOk result (paid.new ≡ paid.old + m.cost) }
-    ensures ticks { let m = operators_move ops.now value in
-        OnOk result (steps.new ≡ steps.old + m.ticks) }
+    ensures { let m = operators_move ops.now value in
+        IfOk result (λ n. Pays m paid.old steps.old n paid.new steps.new) }
 {
     let left = ops.len();
     let Some(op) = ops.get(left.saturating_sub(1)) else {
@@ -122,12 +113,8 @@ pub(crate) fn begin_expr<L: Ledger, K: Ledger>(
     steps: &mut Steps<L>,
     paid: &mut Steps<K>,
 ) -> M<Next>
-    ensures next { let m = expr_move (known_by reads.now) (node_view expression.now) in
-        IfOk result (λ n. n ≡ m.next) }
-    ensures cost { let m = expr_move (known_by reads.now) (node_view expression.now) in
-        OnOk result (paid.new ≡ paid.old + m.cost) }
-    ensures ticks { let m = expr_move (known_by reads.now) (node_view expression.now) in
-        OnOk result (steps.new ≡ steps.old + m.ticks) }
+    ensures { let m = expr_move (known_by reads.now) (node_view expression.now) in
+        IfOk result (λ n. Pays m paid.old steps.old n paid.new steps.new) }
 {
     paid.tick();
     paid.add(alone(expression));

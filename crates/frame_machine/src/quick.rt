@@ -1,7 +1,8 @@
 // Expressions that have their end at once.
 
-ghost use Rattle.std.specs.Prelude.{IfOk, OnOk, ◌+◌, ◌≡◌};
+ghost use Rattle.std.specs.Prelude.{IfOk};
 ghost use Rattle.tcl_compile.specs.TreeView.{node_view};
+ghost use Rattle.frame_machine.specs.Counted.{Counts};
 ghost use Rattle.frame_machine.specs.Quick.{quick};
 ghost use Rattle.frame_machine.specs.Reads.{known_by};
 
@@ -19,12 +20,8 @@ pub(crate) fn quick<L: Ledger, K: Ledger>(
     steps: &mut Steps<L>,
     paid: &mut Steps<K>,
 ) -> M<Option<Code>>
-    ensures value { let q = quick (known_by reads.now) (node_view node.now) in
-        IfOk result (λ code. code ≡ q.value) }
-    ensures cost { let q = quick (known_by reads.now) (node_view node.now) in
-        OnOk result (paid.new ≡ paid.old + q.cost) }
-    ensures ticks { let q = quick (known_by reads.now) (node_view node.now) in
-        OnOk result (steps.new ≡ steps.old + q.ticks) }
+    ensures { let q = quick (known_by reads.now) (node_view node.now) in
+        IfOk result (λ code. Counts q paid.old steps.old code paid.new steps.new) }
 {
     if !is_leaf(node) {
         return Ok(None);

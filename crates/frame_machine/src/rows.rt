@@ -1,10 +1,12 @@
 // The moves of a row of operators.
 
-ghost use Rattle.std.specs.Prelude.{IfOk, OnOk, drop, ◌+◌, ◌≡◌};
+ghost use Rattle.std.specs.Prelude.{IfOk, drop};
 ghost use Rattle.tcl_compile.specs.TreeView.{node_view, operands_view};
+ghost use Rattle.frame_machine.specs.Counted.{Counts};
 ghost use Rattle.frame_machine.specs.Reads.{known_by};
 ghost use Rattle.frame_machine.specs.Rows.{joined_to, left_told, most_operators, rest_move};
 ghost use Rattle.frame_machine.specs.Rows.{right_joined, right_told, row_from, row_move};
+ghost use Rattle.frame_machine.specs.Stills.{Pays};
 
 use crate::frame::Frame;
 use crate::leafs::{is_leaf, leaf_code};
@@ -48,12 +50,9 @@ pub(crate) fn begin_row<L: Ledger, K: Ledger>(
     steps: &mut Steps<L>,
     paid: &mut Steps<K>,
 ) -> M<Next>
-    ensures next { let m = row_move (known_by reads.now) (node_view first.now) (operands_view rest.now) in
-        IfOk result (λ n. n ≡ m.next) }
-    ensures cost { let m = row_move (known_by reads.now) (node_view first.now) (operands_view rest.now) in
-        OnOk result (paid.new ≡ paid.old + m.cost) }
-    ensures ticks { let m = row_move (known_by reads.now) (node_view first.now) (operands_view rest.now) in
-        OnOk result (steps.new ≡ steps.old + m.ticks) }
+    ensures { let operands = operands_view rest.now in
+        let m = row_move (known_by reads.now) (node_view first.now) operands in
+        IfOk result (λ n. Pays m paid.old steps.old n paid.new steps.new) }
 {
     paid.tick();
     if !is_leaf(first) {
@@ -72,12 +71,8 @@ pub(crate) fn go_left<L: Ledger, K: Ledger>(
     steps: &mut Steps<L>,
     paid: &mut Steps<K>,
 ) -> M<Next>
-    ensures next { let m = left_told (known_by reads.now) at (operands_view joints.now) code in
-        IfOk result (λ n. n ≡ m.next) }
-    ensures cost { let m = left_told (known_by reads.now) at (operands_view joints.now) code in
-        OnOk result (paid.new ≡ paid.old + m.cost) }
-    ensures ticks { let m = left_told (known_by reads.now) at (operands_view joints.now) code in
-        OnOk result (steps.new ≡ steps.old + m.ticks) }
+    ensures { let m = left_told (known_by reads.now) at (operands_view joints.now) code in
+        IfOk result (λ n. Pays m paid.old steps.old n paid.new steps.new) }
 {
     match code {
         Code::Value(left) => rest_of(reads, joints, at, left, steps, paid),
@@ -96,12 +91,9 @@ pub(crate) fn go_right<L: Ledger, K: Ledger>(
     steps: &mut Steps<L>,
     paid: &mut Steps<K>,
 ) -> M<Next>
-    ensures next { let m = right_told (known_by reads.now) at (operands_view joints.now) joint left.now code in
-        IfOk result (λ n. n ≡ m.next) }
-    ensures cost { let m = right_told (known_by reads.now) at (operands_view joints.now) joint left.now code in
-        OnOk result (paid.new ≡ paid.old + m.cost) }
-    ensures ticks { let m = right_told (known_by reads.now) at (operands_view joints.now) joint left.now code in
-        OnOk result (steps.new ≡ steps.old + m.ticks) }
+    ensures { let operands = operands_view joints.now in
+        let m = right_told (known_by reads.now) at operands joint left.now code in
+        IfOk result (λ n. Pays m paid.old steps.old n paid.new steps.new) }
 {
     match code {
         Code::Value(right) => {
@@ -124,12 +116,8 @@ fn rest_of<L: Ledger, K: Ledger>(
     steps: &mut Steps<L>,
     paid: &mut Steps<K>,
 ) -> M<Next>
-    ensures next { let m = rest_move (known_by reads.now) at (operands_view joints.now) left in
-        IfOk result (λ n. n ≡ m.next) }
-    ensures cost { let m = rest_move (known_by reads.now) at (operands_view joints.now) left in
-        OnOk result (paid.new ≡ paid.old + m.cost) }
-    ensures ticks { let m = rest_move (known_by reads.now) at (operands_view joints.now) left in
-        OnOk result (steps.new ≡ steps.old + m.ticks) }
+    ensures { let m = rest_move (known_by reads.now) at (operands_view joints.now) left in
+        IfOk result (λ n. Pays m paid.old steps.old n paid.new steps.new) }
 {
     match row_from(reads, joints, at, left, steps, paid)? {
         Rowed::Done(code) => Ok(Next::stop(code)),
@@ -147,15 +135,9 @@ pub(crate) fn row_from<L: Ledger, K: Ledger>(
     steps: &mut Steps<L>,
     paid: &mut Steps<K>,
 ) -> M<Rowed>
-    ensures value { let all = drop first (operands_view joints.now) in
+    ensures { let all = drop first (operands_view joints.now) in
         let c = row_from (known_by reads.now) most_operators first all left in
-        IfOk result (λ r. r ≡ c.value) }
-    ensures cost { let all = drop first (operands_view joints.now) in
-        let c = row_from (known_by reads.now) most_operators first all left in
-        OnOk result (paid.new ≡ paid.old + c.cost) }
-    ensures ticks { let all = drop first (operands_view joints.now) in
-        let c = row_from (known_by reads.now) most_operators first all left in
-        OnOk result (steps.new ≡ steps.old + c.ticks) }
+        IfOk result (λ r. Counts c paid.old steps.old r paid.new steps.new) }
 {
     let mut left = left;
     for at in first..joints.len() {
@@ -181,12 +163,8 @@ fn join<L: Ledger, K: Ledger>(
     steps: &mut Steps<L>,
     paid: &mut Steps<K>,
 ) -> M<Joined>
-    ensures value { let c = joined_to (known_by reads.now) at joint (node_view operand.now) left in
-        IfOk result (λ j. j ≡ c.value) }
-    ensures cost { let c = joined_to (known_by reads.now) at joint (node_view operand.now) left in
-        OnOk result (paid.new ≡ paid.old + c.cost) }
-    ensures ticks { let c = joined_to (known_by reads.now) at joint (node_view operand.now) left in
-        OnOk result (steps.new ≡ steps.old + c.ticks) }
+    ensures { let c = joined_to (known_by reads.now) at joint (node_view operand.now) left in
+        IfOk result (λ j. Counts c paid.old steps.old j paid.new steps.new) }
 {
     paid.tick();
     match decide(reads.alloc, joint, left.as_bytes()) {
@@ -209,12 +187,8 @@ fn join_right<L: Ledger, K: Ledger>(
     steps: &mut Steps<L>,
     paid: &mut Steps<K>,
 ) -> M<Joined>
-    ensures value { let c = right_joined (known_by reads.now) at joint (node_view operand.now) left in
-        IfOk result (λ j. j ≡ c.value) }
-    ensures cost { let c = right_joined (known_by reads.now) at joint (node_view operand.now) left in
-        OnOk result (paid.new ≡ paid.old + c.cost) }
-    ensures ticks { let c = right_joined (known_by reads.now) at joint (node_view operand.now) left in
-        OnOk result (steps.new ≡ steps.old + c.ticks) }
+    ensures { let c = right_joined (known_by reads.now) at joint (node_view operand.now) left in
+        IfOk result (λ j. Counts c paid.old steps.old j paid.new steps.new) }
 {
     if !is_leaf(operand) {
         return Ok(Joined::Ends(Rowed::Child { at, joint, left }));

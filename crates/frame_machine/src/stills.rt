@@ -175,7 +175,7 @@ fn go_reading<L: Ledger, K: Ledger>(
         Frame::Right { at, joint, left } => {
             go_right(reads, joints_of(node), at, joint, &left, code, steps, paid)
         }
-        Frame::Condition { at } => {
+        Frame::Condition { at, .. } => {
             go_condition(reads, &choices_of(node, wanted), at, code, steps, paid)
         }
         Frame::Start => go_start(reads, &loop_of(node), code, budget, steps, paid),

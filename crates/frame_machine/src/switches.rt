@@ -16,8 +16,8 @@ use rule_model::Code;
 use rule_steps::hit_of;
 use tcl_compile::Node;
 
-/// The body that a `switch` chooses by the values of its words, of which so many are options and the
-/// text. The bodies stand behind the words' nodes.
+/// The body that a `switch` chooses by the values of its words, of which so many are options and
+/// the text. The bodies stand behind the words' nodes.
 pub(crate) fn choose(
     reads: &Reads<'_>,
     front: usize,
@@ -26,7 +26,9 @@ pub(crate) fn choose(
     before: &[Node],
     wanted: bool,
 ) -> M<Next>
-    ensures { let next = switch_next (known_by reads.now) (length before.now) front (nodes_view bodies.now) wanted words.now in
+    ensures { let k = known_by reads.now in
+        let all = nodes_view bodies.now in
+        let next = switch_next k (length before.now) front all wanted words.now in
         IfOk result (λ n. n ≡ next) }
 {
     match hit_of(reads.alloc, front, words) {

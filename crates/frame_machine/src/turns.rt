@@ -1,6 +1,7 @@
 // The moves of `foreach`.
 
-ghost use Rattle.std.specs.Prelude.{IfOk, OnOk, ◌+◌, ◌<◌, ◌≡◌};
+ghost use Rattle.std.specs.Prelude.{IfOk, ◌<◌, ◌≡◌};
+ghost use Rattle.frame_machine.specs.Stills.{Leads, tally};
 ghost use Rattle.frame_machine.specs.TurnParts.{turns_view};
 ghost use Rattle.frame_machine.specs.Turns.{body_next, each_move, each_told};
 
@@ -41,14 +42,11 @@ pub(crate) fn each_turn<K: Ledger>(
     budget: &mut u32,
     paid: &mut Steps<K>,
 ) -> M<Next>
-    ensures next { let c = each_move (turns_view turns.now rows) count.number count.left budget.old vars.old in
-        IfOk result (λ n. n ≡ c.move.next) }
-    ensures vars { let c = each_move (turns_view turns.now rows) count.number count.left budget.old vars.old in
-        OnOk result (vars.new ≡ c.vars) }
-    ensures budget { let c = each_move (turns_view turns.now rows) count.number count.left budget.old vars.old in
-        OnOk result (budget.new ≡ c.budget) }
-    ensures cost { let c = each_move (turns_view turns.now rows) count.number count.left budget.old vars.old in
-        OnOk result (paid.new ≡ paid.old + c.move.cost) }
+    ensures { let t = turns_view turns.now rows in
+        let c = each_move t count.number count.left budget.old vars.old in
+        let old = tally vars.old budget.old paid.old 0 in
+        let new = tally vars.new budget.new paid.new 0 in
+        IfOk result (λ n. Leads c old n new) }
 {
     if count.left == 0 {
         return Ok(Next::stop(Code::Value(Text::empty(turns.alloc))));
@@ -99,14 +97,11 @@ pub(crate) fn go_each<K: Ledger>(
     budget: &mut u32,
     paid: &mut Steps<K>,
 ) -> M<Next>
-    ensures next { let c = each_told (turns_view turns.now rows) count.number count.left budget.old code vars.old in
-        IfOk result (λ n. n ≡ c.move.next) }
-    ensures vars { let c = each_told (turns_view turns.now rows) count.number count.left budget.old code vars.old in
-        OnOk result (vars.new ≡ c.vars) }
-    ensures budget { let c = each_told (turns_view turns.now rows) count.number count.left budget.old code vars.old in
-        OnOk result (budget.new ≡ c.budget) }
-    ensures cost { let c = each_told (turns_view turns.now rows) count.number count.left budget.old code vars.old in
-        OnOk result (paid.new ≡ paid.old + c.move.cost) }
+    ensures { let t = turns_view turns.now rows in
+        let c = each_told t count.number count.left budget.old code vars.old in
+        let old = tally vars.old budget.old paid.old 0 in
+        let new = tally vars.new budget.new paid.new 0 in
+        IfOk result (λ n. Leads c old n new) }
 {
     match after_body(&code) {
         Goes::On => each_turn(turns, rows, count, vars, budget, paid),

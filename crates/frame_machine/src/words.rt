@@ -18,8 +18,8 @@ use std::sync::ledger::Ledger;
 use tcl_compile::Node;
 use tcl_vars::Vars;
 
-/// What is known of words: all of them, the code that ends them, or the part that has to run first, with the words
-/// and the text before it.
+/// What is known of words: all of them, the code that ends them, or the part that has to run first,
+/// with the words and the text before it.
 #[derive(Drop)]
 pub(crate) enum Gathered {
     All(Values),

@@ -6,5 +6,8 @@ use Rattle.frame_machine.proofs.commands.by_words.Goals as goal
 
 pub returns-clause-did : goal.returns-clause-did
 returns-clause-did g c =
-    let own : is_own c.args.verb c.args.words.now ≡ true = (let e = c.is_own.ensures in let t = c.if-not-is_own.false in cc) in
-    finished_own (setting_of g.H.Host.table c.args.context.now) c.args.wanted c.args.verb c.args.words.now c.args.vars.now _ _ c.in_ok-code.code _ own c.in_ok-code.ensures.code c.in_ok-code.ensures.vars (g.met.H.Host.made_none _)
+    let own : is_own c.args.verb c.args.words.now ≡ true =
+    (let e = c.is_own.ensures in let t = c.if-not-is_own.false in cc) in
+    finished_own (setting_of g.H.Host.table c.args.context.now) c.args.wanted c.args.verb c.args.words.now
+    c.args.vars.now _ _ c.in_ok-code.code _ own c.in_ok-code.ensures.code c.in_ok-code.ensures.vars
+    (g.met.H.Host.made_none _)

@@ -1,0 +1,77 @@
+use Rattle.std.proofs.Common.{◌≡◌, refl, ◌+◌, ◌*◌, ◌≤◌, ◌∙◌, ap, sym, arith, true, false}
+use Rattle.std.specs.Prelude.{option_map}
+use Rattle.tcl_compile.specs.Procedures.{procs_view}
+use Rattle.tcl_compile.specs.TreeView.{node_view}
+use Rattle.frame_machine.specs.FirstWords.{has_words}
+use Rattle.frame_machine.specs.Frames.{inner_of}
+use Rattle.frame_machine.specs.Given.{setting_of}
+use Rattle.frame_machine.specs.Owed.{is_flat}
+use Rattle.frame_machine.specs.Reads.{known}
+use Rattle.frame_machine.specs.StillMoves.{still_begin}
+use Rattle.frame_machine.specs.Stills.{spent}
+use Rattle.frame_machine.proofs.InBegins.{first_moved, flat_moved}
+use Rattle.frame_machine.proofs.InKinds.{still_begins, still_begins_owes}
+use Rattle.frame_machine.proofs.InMoves.{comes_moved}
+use Rattle.frame_machine.proofs.WordOwes.{first_ready, first_some}
+use Rattle.frame_machine.proofs.begin.begin.Goals as goal
+
+pub returns-then-is_leaf-clause-did : goal.returns-then-is_leaf-clause-did
+returns-then-is_leaf-clause-did g c =
+    let G = setting_of g.H.Host.table c.args.context.now in
+    let t = node_view c.args.node.now in
+    let flat : is_flat t ≡ true = sym c.is_leaf.ensures ∙ c.if-is_leaf.true in
+    rw (c.stop.ensures, c.in_ok-code.ensures) (flat_moved G c.args.room c.args.wanted t c.args.vars.now _ _ _ _ flat (g.met.H.Host.made_none _))
+
+pub returns-then-has_words-clause-did : goal.returns-then-has_words-clause-did
+returns-then-has_words-clause-did g c =
+    let G = setting_of g.H.Host.table c.args.context.now in
+    let t = node_view c.args.node.now in
+    let q : has_words t ≡ true = sym c.has_words.ensures ∙ c.if-has_words.true in
+    first_moved G c.args.room c.args.wanted t c.args.vars.now _ _ _ _ _ _ _ q c.in_ok-words.ensures.cost (rw c.in_ok-words.ensures.words at c.in_ok-gone.ensures.did)
+
+pub returns-then-has_words-clause-ready : goal.returns-then-has_words-clause-ready
+returns-then-has_words-clause-ready g c =
+    let G = setting_of g.H.Host.table c.args.context.now in
+    let t = node_view c.args.node.now in
+    let level = option_map (λ v. v.now.statics) c.args.context.now.statics in
+    c.in_ok-gone.ensures.ready (rw c.in_ok-words.ensures.words (first_ready level c.args.vars.now G (inner_of G c.args.room) t))
+
+pub returns-then-has_words-clause-owed : goal.returns-then-has_words-clause-owed
+returns-then-has_words-clause-owed g c = λ f.
+    let t = node_view c.args.node.now in
+    let level = option_map (λ v. v.now.statics) c.args.context.now.statics in
+    let q : has_words t ≡ true = sym c.has_words.ensures ∙ c.if-has_words.true in
+    let one = first_some level c.args.vars.now t q f in
+    let k = c.in_ok-words.ensures.cost in
+    let o = c.in_ok-gone.ensures.owed in
+    omega (arith, one, k, o)
+
+pub returns-clause-did : goal.returns-clause-did
+returns-clause-did g c =
+    let G = setting_of g.H.Host.table c.args.context.now in
+    let t = node_view c.args.node.now in
+    let f : is_flat t ≡ false = sym c.is_leaf.ensures ∙ c.if-is_leaf.false in
+    let h : has_words t ≡ false = sym c.has_words.ensures ∙ c.if-has_words.false in
+    let n = c.in_ok-began.ensures in
+    comes_moved G c.args.room c.args.wanted t _ c.args.vars.now _ _ c.args.budget.now _ _ _
+    (spent c.args.vars.now (still_begin (known G.statics c.args.vars.now) t c.args.wanted c.args.budget.now)) _ _
+    (still_begins G c.args.room c.args.wanted t c.args.vars.now c.args.budget.now f h) n.next refl n.budget n.cost (g.met.H.Host.made_none _)
+
+pub returns-clause-ready : goal.returns-clause-ready
+returns-clause-ready g c =
+    let t = node_view c.args.node.now in
+    let level = option_map (λ v. v.now.statics) c.args.context.now.statics in
+    let f : is_flat t ≡ false = sym c.is_leaf.ensures ∙ c.if-is_leaf.false in
+    let h : has_words t ≡ false = sym c.has_words.ensures ∙ c.if-has_words.false in
+    rw c.in_ok-began.ensures.next ((still_begins_owes (procs_view c.args.context.now.procs.now) (known level c.args.vars.now) t c.args.wanted c.args.budget.now f h).ready)
+
+pub returns-clause-owed : goal.returns-clause-owed
+returns-clause-owed g c = λ e.
+    let t = node_view c.args.node.now in
+    let level = option_map (λ v. v.now.statics) c.args.context.now.statics in
+    let f : is_flat t ≡ false = sym c.is_leaf.ensures ∙ c.if-is_leaf.false in
+    let h : has_words t ≡ false = sym c.has_words.ensures ∙ c.if-has_words.false in
+    let o = (still_begins_owes (procs_view c.args.context.now.procs.now) (known level c.args.vars.now) t c.args.wanted c.args.budget.now f h).owes in
+    let k = c.in_ok-began.ensures.cost in
+    let s = c.in_ok-began.ensures.ticks in
+    rw c.in_ok-began.ensures.next (omega (arith, o, k, s))

@@ -1,0 +1,204 @@
+// One step of a body.
+
+ghost use Rattle.std.specs.Prelude.{IfOk, List, OnOk, option_map, ◌+◌, ◌-◌, ◌*◌, ◌++◌, ◌<◌, ◌≡◌, ◌≤◌};
+ghost use Rattle.tcl_compile.specs.Procedures.{procs_view};
+ghost use Rattle.tcl_compile.specs.TreeView.{node_view};
+ghost use Rattle.rule_model.specs.Host.{Effect};
+ghost use Rattle.frame_machine.specs.Given.{setting, setting_of};
+ghost use Rattle.frame_machine.specs.Moves.{list_of, now};
+ghost use Rattle.frame_machine.specs.Owed.{Heavy, owed};
+ghost use Rattle.frame_machine.specs.Steps.{Stood, told_mode, told_turn};
+ghost use Rattle.frame_machine.specs.Went.{IsRunning, Went, place};
+
+use crate::begin::begin;
+use crate::context::Context;
+use crate::frame::{Mode, Room};
+use crate::go_on::go_on;
+use crate::hear::{copied, hear};
+use crate::host::Host;
+use crate::machine::Machine;
+use crate::next::Next;
+use crate::place::{locate, wants};
+use crate::turn::Turn;
+use px_bytes::{M, Steps};
+use std::alloc::Global;
+use std::marker::Brand;
+use std::mem;
+use std::sync::ledger::{Blank, Ledger};
+use tcl_compile::{Node, Procs};
+use tcl_vars::Vars;
+
+/// The most calls, and the most expressions that are read when they run, inside one another.
+const FULL_ROOM: Room = Room {
+    calls: 100,
+    expressions: 100,
+};
+
+impl Machine {
+    /// Stands where a move leads, and tells what it comes to.
+    fn stand(&mut self, alloc: Global, next: Next) -> M<Turn>
+        ensures frames { OnOk result
+            (self.new.at.frames.items ≡ self.old.at.frames.items ++ list_of next.frame) }
+        ensures mode { OnOk result
+            (self.new.at.mode ≡ told_mode self.new.at.frames.items next.mode) }
+        ensures budget { self.new.at.budget ≡ self.old.at.budget }
+        ensures told { IfOk result
+            (λ turn. turn ≡ told_turn self.new.at.frames.items next.mode) }
+    {
+        let Next { frame, mode } = next;
+        if let Some(frame) = frame {
+            self.at.frames.push(frame)?;
+        }
+        self.tell(alloc, mode)
+    }
+
+    /// Tells what a mode comes to, and stands in it.
+    fn tell(&mut self, alloc: Global, mode: Mode) -> M<Turn>
+        ensures same { OnOk result (self.new.at.frames ≡ self.old.at.frames) }
+        ensures mode { OnOk result (self.new.at.mode ≡ told_mode self.old.at.frames.items mode) }
+        ensures budget { self.new.at.budget ≡ self.old.at.budget }
+        ensures told { IfOk result (λ turn. turn ≡ told_turn self.old.at.frames.items mode) }
+    {
+        match mode {
+            Mode::Back(code) => {
+                if self.at.frames.is_empty() {
+                    self.at.mode = Mode::Over;
+                    return Ok(Turn::Done(code));
+                }
+                self.at.mode = Mode::Back(code);
+                Ok(Turn::More)
+            }
+            Mode::Asked(call) => {
+                let told = copied(alloc, &call)?;
+                self.at.mode = Mode::Asked(call);
+                Ok(Turn::Asks(told))
+            }
+            mode => {
+                self.at.mode = mode;
+                Ok(Turn::More)
+            }
+        }
+    }
+
+    /// One move, with what it costs.
+    fn step_with<H: Host, L: Ledger, K: Ledger>(
+        &mut self,
+        context: &Context<'_, H::Env>,
+        tree: &Node,
+        vars: &mut Vars,
+        host: &mut H,
+        steps: &mut Steps<L>,
+        paid: &mut Steps<K>,
+    ) -> M<Turn>
+        requires { IsRunning self.old.at.mode }
+        ensures did { let g = setting_of H.table context.now in
+            let t = node_view tree.now in
+            let old = now vars.old (H.seen host.old) self.old.at.budget paid.old in
+            let new = now vars.new (H.seen host.new) self.new.at.budget paid.new in
+            let made : List Effect → Type 0 = λ es. H.made host.old es host.new in
+            IfOk result (λ turn. Stood g t self.old.at self.new.at turn old new made) }
+        ensures heavy { let procedures = procs_view context.now.procs.now in
+            let t = node_view tree.now in
+            OnOk result (Heavy procedures t self.old.at.frames.items self.old.at.mode
+            → Heavy procedures t self.new.at.frames.items self.new.at.mode) }
+        ensures owed { let procedures = procs_view context.now.procs.now in
+            let t = node_view tree.now in
+            let most = steps.old + owed self.old.at + 3 * paid.new in
+            OnOk result (Heavy procedures t self.old.at.frames.items self.old.at.mode
+            → steps.new + owed self.new.at + 3 * paid.old ≤ most) }
+        ensures ticks { OnOk result (steps.old < steps.new) }
+    {
+        steps.tick();
+        let none = Node::NextBody;
+        match mem::replace(&mut self.at.mode, Mode::Over) {
+            Mode::Begin => {
+                let frames = self.at.frames.as_slice();
+                let place = locate(context.procs, &none, tree, FULL_ROOM, frames);
+                let (node, room, wanted) = (place.node, place.room, place.wanted);
+                let budget = &mut self.at.budget;
+                let next = begin(context, node, room, wanted, vars, host, budget, steps, paid)?;
+                let turn = self.stand(context.alloc, next)?;
+                Ok(turn)
+            }
+            Mode::Back(code) => match self.at.frames.pop() {
+                None => Ok(Turn::Done(code)),
+                Some(frame) => {
+                    let code = hear(context.alloc, wants(&frame), code);
+                    let frames = self.at.frames.as_slice();
+                    let place = locate(context.procs, &none, tree, FULL_ROOM, frames);
+                    let (node, room, wanted) = (place.node, place.room, place.wanted);
+                    let budget = &mut self.at.budget;
+                    let next = go_on(
+                        context, node, room, frame, code, wanted, vars, host, budget, steps, paid,
+                    )?;
+                    let turn = self.stand(context.alloc, next)?;
+                    Ok(turn)
+                }
+            },
+            Mode::Asked(_) | Mode::Over => Ok(Turn::More),
+        }
+    }
+
+    /// The same, with a counter of its own for the cost.
+    fn step_counted<H: Host, L: Ledger, K: Ledger>(
+        &mut self,
+        context: &Context<'_, H::Env>,
+        tree: &Node,
+        vars: &mut Vars,
+        host: &mut H,
+        steps: &mut Steps<L>,
+        blank: Blank,
+    ) -> M<Turn>
+        requires name { blank.name ≡ K.name }
+        requires parts { blank.parts ≡ K.parts }
+        requires some { 0 < blank.parts }
+        requires running { IsRunning self.old.at.mode }
+        ensures went { let g = setting_of H.table context.now in
+            let t = node_view tree.now in
+            let old = place self.old.at vars.old (H.seen host.old) in
+            let new = place self.new.at vars.new (H.seen host.new) in
+            let made : List Effect → Type 0 = λ es. H.made host.old es host.new in
+            let ticks = steps.new - steps.old in
+            IfOk result (λ turn. Went g t old new turn made ticks) }
+        ensures ticks { OnOk result (steps.old < steps.new) }
+    {
+        let mut paid = Steps::<K>::new(blank);
+        let turn = self.step_with(context, tree, vars, host, steps, &mut paid)?;
+        Ok(turn)
+    }
+
+    /// One move of a body: what it comes to stays the same, whatever replies are still to come.
+    /// `statics` are the static variables where they are only read; with `None` they are those of
+    /// `vars`. Out of memory, neither the machine nor `vars` nor `host` is to be used further.
+    pub fn step<H: Host, L: Ledger>(
+        &mut self,
+        alloc: Global,
+        tree: &Node,
+        procs: &Procs,
+        statics: Option<&Vars>,
+        vars: &mut Vars,
+        host: &mut H,
+        env: &H::Env,
+        steps: &mut Steps<L>,
+    ) -> M<Turn>
+        requires { IsRunning self.old.at.mode }
+        ensures went { let level = option_map (λ v. v.now.statics) statics.entry in
+            let g = setting level (H.table env.now) (procs_view procs.now) in
+            let t = node_view tree.now in
+            let old = place self.old.at vars.old (H.seen host.old) in
+            let new = place self.new.at vars.new (H.seen host.new) in
+            let made : List Effect → Type 0 = λ es. H.made host.old es host.new in
+            let ticks = steps.new - steps.old in
+            IfOk result (λ turn. Went g t old new turn made ticks) }
+        ensures ticks { OnOk result (steps.old < steps.new) }
+    {
+        let context = Context {
+            alloc,
+            statics,
+            env,
+            procs,
+        };
+        let blank = Blank::new(1);
+        self.step_counted::<H, L, Brand>(&context, tree, vars, host, steps, blank)
+    }
+}
