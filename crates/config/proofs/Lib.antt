@@ -1,0 +1,11 @@
+mod Addresses
+mod Documents
+mod FirstTold
+mod Firsts
+mod Found
+mod Items
+mod MisplacedWords
+mod OneReading
+mod Readings
+mod RulesInTurn
+mod WorkedRows

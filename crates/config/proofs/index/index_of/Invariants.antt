@@ -1,0 +1,12 @@
+use Rattle.std.proofs.Common.{◌≡◌, ℕ, List, drop, option_map}
+use Rattle.std.specs.Option.{option_or}
+use Rattle.toml.specs.View.{items_view}
+use Rattle.config.specs.Texts.{first_from, place_of}
+use Rattle.config.proofs.index.index_of.Given as goal
+
+abbrev pub invariant-loop-value : goal.invariant-loop-value
+invariant-loop-value l =
+    let key = option_map (λ k. k.now) l.key in
+    (l.at ≡ l.value-index)
+    × ((asked : List ℕ) → first_from 0 key (items_view l.values.items) asked
+    ≡ option_or (place_of l.index asked) (first_from l.at key (items_view (drop l.value-index l.values.items)) asked))

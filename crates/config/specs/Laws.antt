@@ -1,0 +1,39 @@
+-- What holds of the fault that is told, and of the configurations that a document is.
+use Rattle.std.specs.Prelude.{◌≡◌, ℕ, ◌<◌, ◌≤◌, List, [], ◌∷◌, ◌++◌, Option, IsSome, Contains}
+use Rattle.std.specs.Prelude.{MatchOption, map}
+use Rattle.toml.specs.Data.{Members}
+use Rattle.config.specs.Faults.{number_of, told_of}
+use Rattle.config.specs.Outcomes.{Configures}
+use Rattle.config.specs.declared.fault.Fault.{Fault}
+use Rattle.config.specs.declared.reader.Config.{Config}
+use Rattle.config.specs.declared.rule_text.LoadedRule.{LoadedRule}
+
+abbrev pub number : Fault → ℕ
+number f = number_of f.kind
+
+-- one of them: those before it have greater numbers, and those behind it none that is smaller
+pub record IsFirst (faults : List Fault) (f : Fault) : Type 0 where
+  pub front : List Fault
+  pub back : List Fault
+  pub one : faults ≡ front ++ f ∷ back
+  pub before : (g : Fault) → Contains front g → number f < number g
+  pub behind : (g : Fault) → Contains back g → number f ≤ number g
+
+-- nothing is told only where nothing is wrong
+abbrev pub FirstIsTold : Type 0
+FirstIsTold = (faults : List Fault) → MatchOption (told_of faults) (faults ≡ []) (IsFirst faults)
+
+-- a rule as it is seen: its name and its text
+abbrev pub named_text : LoadedRule → List ℕ × List ℕ
+named_text r = (r.rule.name, r.text)
+
+-- they say the same, and have the same rules
+pub record AreSame (C D : Config) : Type 0 where
+  pub settings : C.settings ≡ D.settings
+  pub rules : map named_text C.rules ≡ map named_text D.rules
+
+-- where the files tell what they hold, a document is one configuration only
+abbrev pub OneConfiguration : Type 0
+OneConfiguration = (told : List ℕ → Option (List ℕ)) (top : Members) (C D : Config)
+    → ((file : List ℕ) → IsSome (told file))
+    → Configures told top C → Configures told top D → AreSame C D

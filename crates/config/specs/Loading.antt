@@ -1,0 +1,106 @@
+-- The rules of a document: each has its text in the document or in a file, and its text is loaded.
+use Rattle.std.specs.Prelude.{◌≡◌, ◌⊎◌, ℕ, ◌+◌, true, false, List, [], ◌∷◌, ◌++◌, codes}
+use Rattle.std.specs.Prelude.{decimal, Option, Some, None, IfSome, Ok, Err, ⊤, unwrap_or}
+use Rattle.px_outside.specs.Outside.{Rose}
+use Rattle.rule_loader.specs.Faults.{number_of}
+use Rattle.rule_loader.specs.Loading.{rule_of}
+use Rattle.rule_loader.specs.Outcome.{Gives}
+use Rattle.rule_loader.specs.declared.load_fault.RuleFault.{RuleFault}
+use Rattle.toml.specs.Data.{Data, Items, no_items, item}
+use Rattle.config.specs.EventWords.{misplaced_in}
+use Rattle.config.specs.Faults.{fault_at}
+use Rattle.config.specs.Keys.{name_key, rule_file, rule_text}
+use Rattle.config.specs.Texts.{text_in}
+use Rattle.config.specs.declared.fault.ConfigFault.{ConfigFault}
+use Rattle.config.specs.declared.fault.ConfigFault.TheVariants as refused
+use Rattle.config.specs.declared.fault.Fault.{Fault}
+use Rattle.config.specs.declared.fault.FaultKind.TheVariants.{ReadFault, Rule}
+use Rattle.config.specs.declared.rule_text.LoadedRule.{LoadedRule}
+
+-- what is said of a fault; out of memory says nothing
+abbrev pub OfFault : (Fault → Type 0) → ConfigFault → Type 0
+OfFault P (refused.Fault f) = P f
+OfFault P refused.Memory = ⊤
+
+-- ---- files
+
+-- these are the bytes of a file, where the files tell what they hold
+abbrev pub IsContents : (List ℕ → Option (List ℕ)) → List ℕ → List ℕ → Type 0
+IsContents told name bytes = IfSome (told name) (λ held. bytes ≡ held)
+
+-- a file can't be read, which the files' count of faults tells
+pub record CantRead (before now : ℕ) (name : List ℕ) (f : Fault) : Type 0 where
+  pub rose : Rose before now
+  pub fault : f ≡ fault_at ReadFault name
+
+-- ---- a rule
+
+-- the text at a key of an item, empty where there is none
+abbrev pub item_text : List ℕ → Data → List ℕ
+item_text key d = unwrap_or (text_in (Some key) d) []
+
+abbrev pub rule_name : Data → List ℕ
+rule_name d = item_text name_key.name d
+
+abbrev pub file_name : Data → List ℕ
+file_name d = item_text rule_file.name d
+
+abbrev pub HasText : (List ℕ → Option (List ℕ)) → Option (List ℕ) → List ℕ → List ℕ → Type 0
+HasText told (Some held) file bytes = bytes ≡ held
+HasText told None file bytes = IsContents told file bytes
+
+-- its text: that of the document, or that of its file
+abbrev pub IsRuleText : (List ℕ → Option (List ℕ)) → Data → List ℕ → Type 0
+IsRuleText told d bytes = HasText told (text_in (Some rule_text.name) d) (file_name d) bytes
+
+-- as `rule[0] load 3 at 5`: the rule's place, and the number and the place of what is wrong
+abbrev pub rule_place : ℕ → ℕ → ℕ → List ℕ
+rule_place at number place =
+    codes "rule[" ++ (decimal at
+    ++ (codes "] load " ++ (decimal number ++ (codes " at " ++ decimal place))))
+
+-- the text can't be loaded
+pub record CantLoad (at : ℕ) (name bytes : List ℕ) (f : Fault) : Type 0 where
+  pub why : RuleFault
+  pub refused : rule_of name bytes ≡ Err why
+  pub fault : f ≡ fault_at Rule (rule_place at (number_of why.kind) why.place)
+
+-- the rule is that of its name and of this text
+pub record IsRuleOf (name bytes : List ℕ) (r : LoadedRule) : Type 0 where
+  pub text : r.text ≡ bytes
+  pub rule : Gives (Ok r.rule) (rule_of name bytes)
+  pub of_http : r.events.of_http ≡ misplaced_in false bytes
+  pub of_bytes : r.events.of_bytes ≡ misplaced_in true bytes
+
+-- the item is this rule
+pub record IsLoaded (told : List ℕ → Option (List ℕ)) (d : Data) (r : LoadedRule) : Type 0 where
+  pub bytes : List ℕ
+  pub contents : IsRuleText told d bytes
+  pub rule : IsRuleOf (rule_name d) bytes r
+
+-- the item's text can't be loaded
+pub record TextFault (told : List ℕ → Option (List ℕ)) (at : ℕ) (d : Data) (f : Fault)
+    : Type 0 where
+  pub bytes : List ℕ
+  pub contents : IsRuleText told d bytes
+  pub refused : CantLoad at (rule_name d) bytes f
+
+-- the item's file can't be read, or its text can't be loaded
+abbrev pub IsRuleFault : (List ℕ → Option (List ℕ)) → (before now : ℕ) → ℕ → Data → Fault → Type 0
+IsRuleFault told before now at d f = CantRead before now (file_name d) f ⊎ TextFault told at d f
+
+-- ---- all rules, in their order
+
+-- the items are these rules
+abbrev pub AreLoaded : (List ℕ → Option (List ℕ)) → Items → List LoadedRule → Type 0
+AreLoaded told no_items [] = ⊤
+AreLoaded told no_items (r ∷ rs) = ⊥
+AreLoaded told (item d ds) [] = ⊥
+AreLoaded told (item d ds) (r ∷ rs) = IsLoaded told d r × AreLoaded told ds rs
+
+-- so many are loaded, and the next one has this fault
+abbrev pub StopsAt : (List ℕ → Option (List ℕ)) → (before now : ℕ) → ℕ → Items → Fault → Type 0
+StopsAt told before now at no_items f = ⊥
+StopsAt told before now at (item d ds) f =
+    IsRuleFault told before now at d f
+    ⊎ ((r : LoadedRule) × IsLoaded told d r × StopsAt told before now (at + 1) ds f)

@@ -1,0 +1,58 @@
+// Configurations.
+
+use data_groups::{GroupKind, GroupRows};
+use pools::{Members, Method};
+use px_bytes::{Addr, Seq, Text, Texts};
+
+/// How a client's member is found again: it isn't, by the client's address, or by a cookie.
+#[derive(Clone, Copy, Debug, PartialEq, Eq)]
+pub enum Persist {
+    None,
+    SourceAddr,
+    Cookie,
+}
+
+/// A virtual server.
+#[derive(Drop)]
+pub struct Virtual {
+    pub name: Text,
+    pub listen: Addr,
+    pub http: bool,
+    /// The name of its default pool.
+    pub pool: Option<Text>,
+    pub persist: Persist,
+    /// In seconds.
+    pub persist_timeout: u32,
+    /// The names of its rules.
+    pub rules: Texts,
+}
+
+/// A pool.
+#[derive(Drop)]
+pub struct NamedPool {
+    pub name: Text,
+    pub method: Method,
+    pub members: Members,
+}
+
+/// A data group.
+#[derive(Drop)]
+pub struct NamedGroup {
+    pub name: Text,
+    pub kind: GroupKind,
+    pub rows: GroupRows,
+}
+
+/// What a document says, but for its rules, in the order of the document.
+#[derive(Drop)]
+pub struct Settings {
+    /// Units that each body may spend.
+    pub budget: u32,
+    /// Connections that may be live at once.
+    pub connections: u32,
+    /// Seconds without bytes after which a connection is cut.
+    pub idle: u32,
+    pub virtuals: Seq<Virtual>,
+    pub pools: Seq<NamedPool>,
+    pub groups: Seq<NamedGroup>,
+}

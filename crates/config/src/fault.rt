@@ -1,0 +1,71 @@
+// What is wrong with a configuration.
+
+ghost use Rattle.std.specs.Prelude.{◌≡◌};
+ghost use Rattle.config.specs.Faults.{number_of};
+
+use px_bytes::{Memory, Text};
+
+/// What is wrong with a configuration.
+#[derive(Clone, Copy, Debug, PartialEq, Eq)]
+pub enum FaultKind {
+    /// A file can't be read.
+    ReadFault,
+    /// The file is no TOML document.
+    NotToml,
+    /// A table has a key that isn't one of its keys.
+    UnknownKey,
+    /// A key that is required is missing, or a value is of another kind.
+    WrongKind,
+    /// A name, an address or a rule is there for the second time.
+    Twice,
+    /// A virtual server names a pool or a rule that isn't there.
+    NoSuch,
+    /// A number is out of its range, an array above its greatest length, or a text not of its form.
+    Range,
+    /// The text of a rule can't be loaded, or isn't for the virtual server that has it.
+    Rule,
+}
+
+impl FaultKind {
+    /// The number under which a report tells it.
+    pub fn number(self) -> u8
+        ensures { result ≡ number_of self }
+    {
+        match self {
+            FaultKind::ReadFault => 1,
+            FaultKind::NotToml => 2,
+            FaultKind::UnknownKey => 3,
+            FaultKind::WrongKind => 4,
+            FaultKind::Twice => 5,
+            FaultKind::NoSuch => 6,
+            FaultKind::Range => 7,
+            FaultKind::Rule => 8,
+        }
+    }
+}
+
+/// What is wrong, and the text of its place.
+#[derive(Drop, Debug)]
+pub struct Fault {
+    pub kind: FaultKind,
+    /// As `virtual[0].rules[1]`; the name of the file where it can't be read or is no TOML; and for
+    /// a rule `rule[0] load 3 at 5`, with the number and the place of what is wrong in its text.
+    pub place: Text,
+}
+
+/// Why no configuration was given: what is wrong with it, or out of memory.
+#[derive(Drop, Debug)]
+pub enum ConfigFault {
+    Fault(Fault),
+    Memory,
+}
+
+impl From<Memory> for ConfigFault {
+    ghost use Rattle.config.specs.declared.fault.ConfigFault.TheVariants.{Memory as OutOfMemory};
+
+    ghost from_gives = { λ _ e. e ≡ OutOfMemory };
+
+    fn from(_: Memory) -> Self {
+        ConfigFault::Memory
+    }
+}

@@ -1,0 +1,138 @@
+// The texts of rules, and the rules that they are.
+
+ghost use Rattle.std.specs.Prelude.{◌≡◌, ◌≤◌, IfOk, IfErr};
+ghost use Rattle.toml.specs.View.{view};
+ghost use Rattle.config.specs.Faults.{fault_at};
+ghost use Rattle.config.specs.Keys.{key_view};
+ghost use Rattle.config.specs.Loading.{CantLoad, CantRead, IsContents, IsLoaded, IsRuleFault};
+ghost use Rattle.config.specs.Loading.{IsRuleOf, IsRuleText, OfFault, file_name, item_text};
+ghost use Rattle.config.specs.Loading.{rule_name, rule_place};
+
+use crate::event_words::{EventPlaces, event_places};
+use crate::fault::{ConfigFault, Fault, FaultKind};
+use crate::index::text_in;
+use crate::key::Key;
+use crate::keys::{FILE, NAME, TEXT};
+use px_bytes::{M, Text};
+use px_outside::{Failed, Files};
+use rule_loader::{LoadFault, Rule, load_rule};
+use std::alloc::Global;
+use toml::Value;
+
+/// A rule with its text.
+#[derive(Drop)]
+pub struct LoadedRule {
+    pub text: Text,
+    pub rule: Rule,
+    /// Where its first events stand that not every virtual server has.
+    pub events: EventPlaces,
+}
+
+/// The bytes of a file.
+pub(crate) fn read_file<F: Files>(
+    alloc: Global,
+    files: &mut F,
+    name: &[u8],
+) -> Result<Text, ConfigFault>
+    ensures contents { IfOk result (IsContents (F.told files.old) name.now) }
+    ensures fault { IfErr result
+        (OfFault (CantRead (F.faults files.old) (F.faults files.new) name.now)) }
+    ensures same_files { F.told files.new ≡ F.told files.old }
+    ensures faults_never_fall { F.faults files.old ≤ F.faults files.new }
+{
+    match files.read(alloc, name) {
+        Ok(text) => Ok(text),
+        Err(Failed::Failed) => Err(file_fault(alloc, FaultKind::ReadFault, name)),
+        Err(Failed::Memory) => Err(ConfigFault::Memory),
+    }
+}
+
+/// A fault at a file.
+pub(crate) fn file_fault(alloc: Global, kind: FaultKind, name: &[u8]) -> ConfigFault
+    ensures { OfFault (λ f. f ≡ fault_at kind name.now) result }
+{
+    match Text::new(alloc, name) {
+        Ok(place) => ConfigFault::Fault(Fault { kind, place }),
+        Err(_) => ConfigFault::Memory,
+    }
+}
+
+// The text at a key of an item, or no bytes.
+fn item_text<'a>(key: &Key, value: &'a Value) -> &'a [u8]
+    ensures { result.now ≡ item_text (key_view key.now).name (view value.now) }
+{
+    match text_in(Some(key.name), value) {
+        Some(text) => text.as_bytes(),
+        None => b"",
+    }
+}
+
+// The text of a rule, which stands in the document or in a file.
+fn rule_text<F: Files>(alloc: Global, files: &mut F, value: &Value) -> Result<Text, ConfigFault>
+    ensures text { IfOk result (IsRuleText (F.told files.old) (view value.now)) }
+    ensures fault { IfErr result
+        (OfFault (CantRead (F.faults files.old) (F.faults files.new)
+        (file_name (view value.now)))) }
+    ensures same_files { F.told files.new ≡ F.told files.old }
+    ensures faults_never_fall { F.faults files.old ≤ F.faults files.new }
+{
+    match text_in(Some(TEXT.name), value) {
+        Some(text) => Ok(Text::new(alloc, text.as_bytes())?),
+        None => read_file(alloc, files, item_text(&FILE, value)),
+    }
+}
+
+// The text of the place of what is wrong with a rule's text.
+fn rule_place(alloc: Global, at: usize, number: u8, place: usize) -> M<Text>
+    ensures { IfOk result (λ t. t ≡ rule_place at number place) }
+{
+    let text = format!(in alloc; "rule[{at}] load {number} at {place}")?;
+    Ok(Text::from_vec(text.into_bytes()))
+}
+
+/// What is wrong with a rule's text.
+pub(crate) fn rule_fault(alloc: Global, at: usize, number: u8, place: usize) -> ConfigFault
+    ensures { OfFault (λ f. f ≡ fault_at FaultKind.Rule (rule_place at number place)) result }
+{
+    match rule_place(alloc, at, number, place) {
+        Ok(place) => ConfigFault::Fault(Fault {
+            kind: FaultKind::Rule,
+            place,
+        }),
+        Err(_) => ConfigFault::Memory,
+    }
+}
+
+// The rule of a text.
+fn loaded(alloc: Global, at: usize, value: &Value, text: Text) -> Result<LoadedRule, ConfigFault>
+    ensures loaded { IfOk result (IsRuleOf (rule_name (view value.now)) text) }
+    ensures fault { IfErr result (OfFault (CantLoad at (rule_name (view value.now)) text)) }
+{
+    match load_rule(alloc, item_text(&NAME, value), text.as_bytes()) {
+        Ok(rule) => {
+            let events = event_places(alloc, text.as_bytes())?;
+            Ok(LoadedRule { text, rule, events })
+        }
+        Err(LoadFault::Fault(fault)) => {
+            Err(rule_fault(alloc, at, fault.kind.number(), fault.place))
+        }
+        Err(LoadFault::Memory) => Err(ConfigFault::Memory),
+    }
+}
+
+/// The rule that an item of the rules is.
+pub(crate) fn rule_of<F: Files>(
+    alloc: Global,
+    files: &mut F,
+    at: usize,
+    value: &Value,
+) -> Result<LoadedRule, ConfigFault>
+    ensures loaded { IfOk result (IsLoaded (F.told files.old) (view value.now)) }
+    ensures fault { IfErr result (OfFault (IsRuleFault (F.told files.old) (F.faults files.old)
+        (F.faults files.new) at (view value.now))) }
+    ensures same_files { F.told files.new ≡ F.told files.old }
+    ensures faults_never_fall { F.faults files.old ≤ F.faults files.new }
+{
+    let text = rule_text(alloc, files, value)?;
+    loaded(alloc, at, value, text)
+}
