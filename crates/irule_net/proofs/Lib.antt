@@ -1,0 +1,4 @@
+pub mod Choices
+pub mod Found
+pub mod Holding
+pub mod Moves

@@ -1,0 +1,13 @@
+pub mod Answered
+pub mod Checks
+pub mod Classes
+pub mod Commands
+pub mod Effects
+pub mod FaultText
+pub mod Forms
+pub mod Groups
+pub mod Laws
+pub mod Requests
+pub mod State
+pub mod Steps
+pub mod Targets

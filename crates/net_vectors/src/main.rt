@@ -1,0 +1,47 @@
+//! Answers questions about network commands, one a line. `README.md` has the form of the lines.
+#![tactic(auto)]
+
+mod directive;
+mod place;
+mod scene;
+mod words;
+mod write;
+
+use px_bytes::{M, Text};
+use scene::Scene;
+use std::alloc::Global;
+use std::io::{self, BufRead, BufReader, BufWriter, ErrorKind, Write};
+
+fn main(rt: HostRuntime) -> io::Result<()> {
+    let alloc = rt.alloc();
+    let mut out = BufWriter::new(alloc, io::writer(&rt))?;
+    for line in BufReader::new(alloc, rt.reader())?.lines(alloc) {
+        let line = line?;
+        let Ok(answer) = answer_line(alloc, &line) else {
+            return Err(io::Error::from(ErrorKind::OutOfMemory));
+        };
+        out.write_all(answer.as_bytes())?;
+        out.write_all(b"\n")?;
+    }
+    out.flush()
+}
+
+// The answer to a line, which is `unknown` where the line asks nothing known.
+fn answer_line(alloc: Global, line: &str) -> M<Text> {
+    let words: Vec<&str> = line.split(' ').collect(alloc)?;
+    match answer(alloc, &words)? {
+        Some(answer) => Ok(answer),
+        None => Text::new(alloc, b"unknown"),
+    }
+}
+
+// An event, a kind of virtual server, and calls with `;` between.
+fn answer(alloc: Global, words: &[&str]) -> M<Option<Text>> {
+    let [event, kind, calls @ ..] = words else {
+        return Ok(None);
+    };
+    match Scene::new(alloc, event, kind)? {
+        Some(scene) => scene.answers(alloc, calls),
+        None => Ok(None),
+    }
+}
