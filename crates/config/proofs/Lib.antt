@@ -1,4 +1,3 @@
-mod Addresses
 mod Documents
 mod FirstTold
 mod Firsts

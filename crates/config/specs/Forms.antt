@@ -2,7 +2,7 @@
 use Rattle.std.specs.Prelude.{ℕ, Bool, true, ◌&&◌, ◌||◌, ◌==◌, List, length, is_some, nat_le}
 use Rattle.std.specs.Prelude.{nat_lt}
 use Rattle.std.specs.List.{list_all}
-use Rattle.config.specs.Address.{addr_of}
+use Rattle.tcl_encodings.specs.Addr.{addr_of}
 use Rattle.config.specs.declared.key.Form.{Form}
 use Rattle.config.specs.declared.key.Form.TheVariants.{Any, Name, Address}
 

@@ -1,4 +1,3 @@
-pub mod Address
 pub mod Documents
 pub mod EventWords
 pub mod Faults

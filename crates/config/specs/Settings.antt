@@ -10,7 +10,7 @@ use Rattle.pools.specs.declared.member.Method.TheVariants.{RoundRobin, Ratio}
 use Rattle.px_bytes.specs.declared.addr.Addr.{Addr}
 use Rattle.toml.specs.Data.{Data, Items, no_items, item, Members, as_integer, as_str, as_table}
 use Rattle.toml.specs.Data.{get_member}
-use Rattle.config.specs.Address.{addr_of}
+use Rattle.tcl_encodings.specs.Addr.{addr_of}
 use Rattle.config.specs.Documents.{items_at}
 use Rattle.config.specs.Groups.{group_kind, row_of}
 use Rattle.config.specs.Keys.{TableKey, KeyKind, whole, truth, text, one_of, array}

@@ -2,11 +2,10 @@
 
 ghost use Rattle.std.specs.Prelude.{◌≡◌};
 ghost use Rattle.std.specs.List.{list_all};
-ghost use Rattle.config.specs.Address.{addr_of};
 ghost use Rattle.config.specs.Forms.{has_form, is_name, is_name_byte};
 
 use crate::key::Form;
-use px_bytes::{Addr, read_addr};
+use tcl_encodings::addr_of;
 
 const NAME_LIMIT: usize = 64;
 
@@ -26,13 +25,6 @@ fn is_name(text: &[u8]) -> bool
     ensures { result ≡ is_name text.now }
 {
     !text.is_empty() && text.len() <= NAME_LIMIT && all_in_names(text)
-}
-
-/// The address with a port that a text is.
-pub(crate) fn addr_of(text: &[u8]) -> Option<Addr>
-    ensures { result ≡ addr_of text.now }
-{
-    read_addr(text)
 }
 
 pub(crate) fn has_form(form: Form, text: &[u8]) -> bool

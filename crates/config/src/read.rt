@@ -6,12 +6,12 @@ ghost use Rattle.toml.specs.View.{table_view};
 ghost use Rattle.config.specs.Keys.{key_view};
 ghost use Rattle.config.specs.Settings.{addr_at, given, whole_at};
 
-use crate::forms::addr_of;
 use crate::key::{Key, Kind};
 use crate::table::{text_at, value_at};
 use crate::value::in_range;
 use px_bytes::{Addr, M, Text};
 use std::alloc::Global;
+use tcl_encodings::addr_of;
 use toml::Table;
 
 fn integer_at(key: &Key, table: &Table) -> Option<i64>

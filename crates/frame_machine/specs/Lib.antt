@@ -1,4 +1,3 @@
-pub mod Answered
 pub mod Branches
 pub mod CallParts
 pub mod Calls

@@ -1,8 +1,8 @@
 // The commands of a host.
 
 ghost use Rattle.std.specs.Prelude.{ℕ, List, [], ◌++◌};
+ghost use Rattle.px_bytes.specs.Answered.{DidStep};
 ghost use Rattle.rule_model.specs.Host.{Effect, HostStep};
-ghost use Rattle.frame_machine.specs.Answered.{DidStep};
 
 use px_bytes::{HostAnswer, Texts};
 use std::alloc::Global;

@@ -1,29 +1,12 @@
--- A host's answer against what its definition gives.
-use Rattle.std.specs.Prelude.{◌≡◌, List, [], Result, Ok, Err}
-use Rattle.px_bytes.specs.Host.{Effect, HostStep, Gives, Faults, Asks}
+-- An answer that may be a fault or out of memory before it is the host's.
+use Rattle.std.specs.Prelude.{List, Result, Ok, Err}
+use Rattle.px_bytes.specs.Answered.{DidStep}
+use Rattle.px_bytes.specs.Host.{Effect, HostStep}
 use Rattle.px_bytes.specs.declared.fault.HostAnswer.{HostAnswer}
 use Rattle.px_bytes.specs.declared.fault.HostAnswer.TheVariants as answer
 use Rattle.px_bytes.specs.declared.fault.Raise.{Raise}
 use Rattle.px_bytes.specs.declared.fault.Raise.TheVariants.{Fault, Memory}
 
--- The answer, what is seen of the host after it, and the effects that were made are the
--- definition's. Only want of memory is free.
-abbrev pub DidStep : {H : Type 0} → HostStep H → HostAnswer → H → (List Effect → Type 0)
-    → Type 0
-DidStep (Gives v h effects) (answer.Value w) seen made = (w ≡ v) × (seen ≡ h) × made effects
-DidStep (Gives v h effects) (answer.Fault f) seen made = ⊥
-DidStep (Gives v h effects) (answer.Ask call) seen made = ⊥
-DidStep (Gives v h effects) answer.Memory seen made = Unit {0}
-DidStep (Faults f h effects) (answer.Value w) seen made = ⊥
-DidStep (Faults f h effects) (answer.Fault e) seen made = (e ≡ f) × (seen ≡ h) × made effects
-DidStep (Faults f h effects) (answer.Ask call) seen made = ⊥
-DidStep (Faults f h effects) answer.Memory seen made = Unit {0}
-DidStep (Asks call h) (answer.Value w) seen made = ⊥
-DidStep (Asks call h) (answer.Fault f) seen made = ⊥
-DidStep (Asks call h) (answer.Ask asked) seen made = (asked ≡ call) × (seen ≡ h) × made []
-DidStep (Asks call h) answer.Memory seen made = Unit {0}
-
--- The same of an answer that may be a fault or want of memory before it is the host's.
 abbrev pub CarriedOut : {H : Type 0} → HostStep H → Result HostAnswer Raise → H
     → (List Effect → Type 0) → Type 0
 CarriedOut step (Ok answer) seen made = DidStep step answer seen made

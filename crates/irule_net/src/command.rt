@@ -3,7 +3,8 @@
 ghost use Rattle.std.specs.Prelude.{◌≡◌, ◌++◌, Err};
 ghost use Rattle.px_bytes.specs.FaultText.{no_command};
 ghost use Rattle.px_bytes.specs.Gives.{Gives};
-ghost use Rattle.irule_net.specs.Answered.{CarriedOut, DidStep};
+ghost use Rattle.px_bytes.specs.Answered.{DidStep};
+ghost use Rattle.irule_net.specs.Answered.{CarriedOut};
 ghost use Rattle.irule_net.specs.Commands.{asked, asked_by, is_http, net_step};
 ghost use Rattle.irule_net.specs.State.{side_of};
 

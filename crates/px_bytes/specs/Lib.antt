@@ -1,5 +1,6 @@
 pub mod ByteSet
 pub mod Address
+pub mod Answered
 pub mod Decimal
 pub mod Escapes
 pub mod FaultText

@@ -1,2 +1,1 @@
-mod Addresses
 mod FirstPool

@@ -14,7 +14,7 @@ use Rattle.pools.specs.Selection.{after_selection, of_addr, selected}
 use Rattle.pools.specs.declared.member.Wanted.{Wanted}
 use Rattle.pools.specs.declared.member.Wanted.TheVariants.{Any, Wish, Only}
 use Rattle.session_table.specs.Tables as tables
-use Rattle.shared_store.specs.Addresses.{addr_of}
+use Rattle.tcl_encodings.specs.Addr.{addr_of}
 use Rattle.shared_store.specs.Store.{StoreState, at_moment, pool_of, with_pool_in}
 use Rattle.shared_store.specs.Sources.{source_in}
 use Rattle.shared_store.specs.declared.source.Source.{Source}

@@ -1,4 +1,3 @@
-pub mod Addresses
 pub mod Sources
 pub mod Calls
 pub mod Store

@@ -1,11 +1,11 @@
 // The words of calls.
 
 ghost use Rattle.std.specs.Prelude.{◌≡◌};
-ghost use Rattle.shared_store.specs.Addresses.{addr_of};
 ghost use Rattle.shared_store.specs.Calls.{call_of, wanted_by, wanted_of};
 
 use pools::Wanted;
-use px_bytes::{Addr, Text, read_addr};
+use px_bytes::{Addr, Text};
+use tcl_encodings::addr_of;
 
 /// Which shared call a list of words is.
 #[derive(Clone, Copy, Debug, PartialEq, Eq)]
@@ -57,11 +57,4 @@ fn wanted_by(word: &[u8], addr: Option<Addr>) -> Option<Wanted>
         return Some(Wanted::Only(addr));
     }
     None
-}
-
-// The address that a text is.
-fn addr_of(text: &[u8]) -> Option<Addr>
-    ensures { result ≡ addr_of text.now }
-{
-    read_addr(text)
 }

@@ -1,3 +1,4 @@
+mod Addrs
 pub mod Networks
 mod Pieces
 mod Rows

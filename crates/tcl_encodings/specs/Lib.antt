@@ -1,3 +1,4 @@
+pub mod Addr
 pub mod Addresses
 pub mod Base64Text
 pub mod Digest

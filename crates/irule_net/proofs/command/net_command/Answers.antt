@@ -1,7 +1,7 @@
 use Rattle.std.proofs.Common.{List}
 use Rattle.px_bytes.specs.Host.{Effect, HostStep, Gives, Faults, Asks}
 use Rattle.px_bytes.specs.declared.fault.HostAnswer.TheVariants as answer
-use Rattle.irule_net.specs.Answered.{DidStep}
+use Rattle.px_bytes.specs.Answered.{DidStep}
 use Rattle.irule_net.proofs.command.net_command.Goals as goal
 
 -- want of memory says nothing

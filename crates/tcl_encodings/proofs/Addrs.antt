@@ -16,7 +16,7 @@ use Rattle.px_bytes.proofs.Addresses.{colon_behind, ip_no_colon}
 use Rattle.px_bytes.proofs.Decimals.{own}
 use Rattle.tcl_encodings.specs.Addresses.{address_of}
 use Rattle.tcl_encodings.proofs.Networks.{address_is}
-use Rattle.shared_store.specs.Addresses.{addr_of, spells_addr, written_addr}
+use Rattle.tcl_encodings.specs.Addr.{addr_of, spells_addr, written_addr}
 
 -- what an address's text writes
 written_is : (text : List ℕ) (addr : Addr) → IsAddr addr → text ≡ addr_text addr → written_addr text ≡ addr

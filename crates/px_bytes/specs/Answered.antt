@@ -1,11 +1,11 @@
--- What a host's answer says of its table.
+-- A host's answer against what its definition gives.
 use Rattle.std.specs.Prelude.{◌≡◌, List, []}
+use Rattle.px_bytes.specs.Host.{Effect, HostStep, Gives, Faults, Asks}
 use Rattle.px_bytes.specs.declared.fault.HostAnswer.{HostAnswer}
 use Rattle.px_bytes.specs.declared.fault.HostAnswer.TheVariants as answer
-use Rattle.rule_model.specs.Host.{Effect, HostStep, Gives, Faults, Asks}
 
--- A host's answer is what its table says, and so is what is seen of it then; the effects were made.
--- Only out of memory is free.
+-- A host's answer is what its definition gives, and so is what is seen of it then; the effects were
+-- made. Only out of memory is free.
 abbrev pub DidStep : {H : Type 0} → HostStep H → HostAnswer → H → (List Effect → Type 0) → Type 0
 DidStep (Gives v h effects) (answer.Value w) seen made = (w ≡ v) × (seen ≡ h) × made effects
 DidStep (Gives v h effects) (answer.Fault f) seen made = ⊥
