@@ -1,0 +1,11 @@
+pub mod ByText
+pub mod Found
+pub mod Failing
+pub mod FirstWord
+pub mod ReadFields
+pub mod OneEvent
+pub mod Spacing
+pub mod Clean
+pub mod Addresses
+pub mod Written
+pub mod Rows

@@ -1,0 +1,5 @@
+pub mod Verb
+pub mod Form
+pub mod Reading
+pub mod Line
+pub mod Laws

@@ -1,0 +1,18 @@
+//! The lines of a schedule and of a journal: which event each spells, read exactly, and written so
+//! that it reads back.
+#![tactic(auto)]
+
+mod event;
+mod fields;
+mod laws;
+mod line;
+mod line_kind;
+mod verb;
+mod write;
+
+pub use event::Event;
+pub use laws::{one_event, written_is_read};
+pub use line::{LONGEST_LINE, line_event};
+pub use line_kind::LineKind;
+pub use verb::Verb;
+pub use write::write_event;
