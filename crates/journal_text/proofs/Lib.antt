@@ -8,4 +8,4 @@ pub mod Spacing
 pub mod Clean
 pub mod Addresses
 pub mod Written
-pub mod Rows
+mod Rows

@@ -1,9 +1,13 @@
--- Worked lines of a schedule.
-use Rattle.std.proofs.Common.{◌≡◌, [], ◌∷◌, true, refl, arith}
+-- Worked lines of a schedule and of a report.
+use Rattle.std.proofs.Common.{◌≡◌, ℕ, List, [], ◌∷◌, ◌++◌, true, refl, arith}
 use Rattle.std.specs.Prelude.{codes}
 use Rattle.std.specs.Fmt.{digits}
 use Rattle.journal_text.specs.Line.{SpellsEvent, event_line, words_of}
+use Rattle.journal_text.specs.Notes.{note_line, note_lines}
 use Rattle.journal_text.specs.declared.event.Event.TheVariants as event
+use Rattle.px_bytes.specs.declared.fault.FaultKind.TheVariants.{NoVariable}
+use Rattle.connection_model.specs.declared.note.Cause.TheVariants as cause
+use Rattle.connection_model.specs.declared.note.Note.TheVariants as note
 
 took : SpellsEvent (codes "client-took 1 4") (event.ClientTook 1 4)
 unfolding digits
@@ -28,3 +32,16 @@ accepted = refl
 
 two_blanks : words_of (codes "accept  1") ≡ codes "accept" ∷ [] ∷ codes "1" ∷ []
 two_blanks = refl
+
+ended : note_line (note.Ended 1 0) ≡ codes "> ended 1 0\n"
+unfolding digits
+ended = refl
+
+logged : note_line (note.Log 1 (codes "a\n")) ≡ codes "> log 1 a\\x0a\n"
+unfolding digits
+logged = refl
+
+finished : note_lines (note.Finish 1 (cause.Tcl NoVariable) ∷ note.CloseClient 1 ∷ note.Finish 2 cause.Unselected ∷ [])
+    ≡ codes "> finish 1 tcl 1\n" ++ codes "> close-client 1\n" ++ codes "> finish 2 unselected\n"
+unfolding digits
+finished = refl

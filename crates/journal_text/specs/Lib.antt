@@ -3,3 +3,4 @@ pub mod Form
 pub mod Reading
 pub mod Line
 pub mod Laws
+pub mod Notes

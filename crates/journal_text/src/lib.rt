@@ -1,5 +1,5 @@
 //! The lines of a schedule and of a journal: which event each spells, read exactly, and written so
-//! that it reads back.
+//! that it reads back; and the lines of notes.
 #![tactic(auto)]
 
 mod event;
@@ -7,6 +7,7 @@ mod fields;
 mod laws;
 mod line;
 mod line_kind;
+mod note;
 mod verb;
 mod write;
 
@@ -14,5 +15,6 @@ pub use event::Event;
 pub use laws::{one_event, written_is_read};
 pub use line::{LONGEST_LINE, line_event};
 pub use line_kind::LineKind;
+pub use note::{write_note, write_notes};
 pub use verb::Verb;
 pub use write::write_event;
