@@ -1,11 +1,11 @@
 -- Fields without some of them.
-use Rattle.std.proofs.Common.{◌≡◌, ℕ, ◌+◌, ◌≤◌, Bool, true, false, ◌&&◌, cond, List, [], ◌∷◌, length, refl, ap₂, arith, ◌∙◌}
+use Rattle.std.proofs.Common.{◌≡◌, ◌≤◌, Bool, true, false, ◌&&◌, cond, List, [], ◌∷◌, length, refl, ap₂, arith}
 use Rattle.std.specs.Prelude.{filter}
 use Rattle.std.specs.List.{list_all}
 use Rattle.std.proofs.lemmas.Bool.{and_parts}
 use Rattle.http_heads.specs.Fields.{AreFields, Pair, is_field}
 
-all_left : (test : Pair → Bool) (fs : List Pair) → list_all is_field fs ≡ true → list_all is_field (filter test fs) ≡ true
+pub all_left : (test : Pair → Bool) (fs : List Pair) → list_all is_field fs ≡ true → list_all is_field (filter test fs) ≡ true
 all_left test [] all = refl
 all_left test (f ∷ fs) all =
     let both = and_parts (is_field f) (list_all is_field fs) all in
@@ -15,7 +15,7 @@ all_left test (f ∷ fs) all =
       | false ↦ rest
     ]
 
-few_left : (test : Pair → Bool) (fs : List Pair) → length (filter test fs) ≤ length fs
+pub few_left : (test : Pair → Bool) (fs : List Pair) → length (filter test fs) ≤ length fs
 few_left test [] = omega arith
 few_left test (f ∷ fs) = elim (test f) as (λ t. length (cond t (f ∷ filter test fs) (filter test fs)) ≤ length (f ∷ fs)) [
   | true ↦ omega (arith, few_left test fs)

@@ -1,4 +1,5 @@
 mod FilterFields
+mod FirstFields
 mod FoundHeads
 mod LastFields
 mod OneHead

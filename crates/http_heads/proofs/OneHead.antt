@@ -1,16 +1,13 @@
 -- Bytes are at most one head.
-use Rattle.std.proofs.Common.{◌≡◌, ℕ, List, [], map, refl, sym, ap, ◌∙◌, arith, Ok}
+use Rattle.std.proofs.Common.{◌≡◌, [], map, refl, sym, ap, ◌∙◌, arith}
 use Rattle.httparse.specs.Grammar as grammar
 use Rattle.httparse.specs.Grammar.{reason_phrase, status_code}
 use Rattle.httparse.specs.Spans.{name_and_value}
 use Rattle.httparse.proofs.GrammarLemmas.{request_unique, response_unique}
-use Rattle.http_heads.specs.Heads.{GivesRequest, GivesResponse}
 use Rattle.http_heads.specs.Laws.{RequestIsOne, ResponseIsOne}
 use Rattle.http_heads.specs.Lines.{minor_of}
 use Rattle.http_heads.specs.declared.line.Version.{Version}
 use Rattle.http_heads.specs.declared.line.Version.TheVariants.{Http10, Http11}
-use Rattle.http_heads.specs.declared.request.RequestHead.{RequestHead}
-use Rattle.http_heads.specs.declared.response.ResponseHead.{ResponseHead}
 
 one_version : (a b : Version) → minor_of a ≡ minor_of b → a ≡ b
 one_version Http10 Http10 same = refl

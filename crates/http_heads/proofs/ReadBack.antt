@@ -1,10 +1,10 @@
 -- A head that was written is read back.
-use Rattle.std.proofs.Common.{◌≡◌, ℕ, ◌+◌, ◌/◌, ◌%◌, ◌<◌, ◌≤◌, Bool, true, ◌&&◌, List, [], ◌∷◌, ◌++◌, map, length, refl, sym, ap, ap₂, ◌∙◌, arith, Ok}
+use Rattle.std.proofs.Common.{◌≡◌, ℕ, ◌+◌, ◌/◌, ◌%◌, ◌<◌, ◌≤◌, true, ◌&&◌, refl, sym, ap₂, arith, Ok}
 use Rattle.std.specs.List.{list_all}
 use Rattle.std.specs.Char.{is_ascii_digit}
 use Rattle.std.proofs.lemmas.Bool.Decides.{nat_tests}
 use Rattle.std.proofs.lemmas.List.{append-nil, length-map}
-use Rattle.httparse.specs.Grammar.{is_token, is_value_byte, print_request, print_response, status_code}
+use Rattle.httparse.specs.Grammar.{is_token, is_value_byte, status_code}
 use Rattle.http_heads.specs.Fields.{AreFields}
 use Rattle.http_heads.specs.Heads.{GivesRequest, GivesResponse}
 use Rattle.http_heads.specs.Lines.{IsTarget, minor_of}

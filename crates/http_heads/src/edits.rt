@@ -92,7 +92,7 @@ impl Fields {
         taken
     }
 
-    fn drop_named(&mut self, name: &[u8])
+    pub(crate) fn drop_named(&mut self, name: &[u8])
         ensures { self.new ≡ without name.now self.old }
     {
         self.list.retain(|field| !is_named(name, field));

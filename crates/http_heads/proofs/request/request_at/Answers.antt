@@ -1,5 +1,5 @@
-use Rattle.std.proofs.Common.{◌∙◌, rules}
-use Rattle.http_heads.proofs.FoundHeads.{found_fields, found_method, found_request, found_target}
+use Rattle.std.proofs.Common.{◌∙◌}
+use Rattle.http_heads.proofs.FoundHeads.{found_fields, found_method}
 use Rattle.http_heads.proofs.request.request_at.Goals as goal
 
 pub fields_at-requires-clause-are_fields : goal.fields_at-requires-clause-are_fields

@@ -1,4 +1,4 @@
-use Rattle.std.proofs.Common.{◌≡◌, ap, not, filter, subst, sym, ◌∙◌, rules}
+use Rattle.std.proofs.Common.{◌≡◌, ap, not, subst, sym, ◌∙◌, rules}
 use Rattle.std.proofs.lemmas.Fn.{filter_same}
 use Rattle.http_heads.specs.Fields.{AreFields, is_named, without}
 use Rattle.http_heads.proofs.FilterFields.{fields_left}

@@ -1,4 +1,4 @@
-use Rattle.std.proofs.Common.{◌≡◌, ◌∙◌, ◌+◌, ◌<◌, ap, sym, subst, arith, take}
+use Rattle.std.proofs.Common.{◌∙◌, ◌+◌, ◌<◌, ap, sym, subst, arith, take}
 use Rattle.std.specs.Prelude.{IfSome}
 use Rattle.http_heads.specs.Fields.{last_place}
 use Rattle.http_heads.proofs.LastFields.{last_more, with_more, still_within}

@@ -1,4 +1,4 @@
-use Rattle.std.proofs.Common.{◌≡◌, ◌<◌, ◌∙◌, ap, false, length, sym, rules, subst, arith, set}
+use Rattle.std.proofs.Common.{◌≡◌, ◌<◌, ◌∙◌, false, length, sym, rules, subst, set}
 use Rattle.http_heads.specs.Fields.{AreFields, fit}
 use Rattle.http_heads.proofs.LastFields.{edit_refused, fields_set, set_back}
 use Rattle.http_heads.proofs.fields.Fields.put.Goals as goal
