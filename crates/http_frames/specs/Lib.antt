@@ -1,4 +1,5 @@
 pub mod Bodies
 pub mod ChunkLines
+pub mod Cuttings
 pub mod States
 pub mod Units

@@ -4,10 +4,12 @@
 mod body;
 mod chunk_line;
 mod last_chunk;
+mod laws;
 mod number;
 mod state;
 mod unit;
 
 pub use body::{request_body, response_body};
+pub use laws::{cuts_are_not_seen, cuts_are_read, each_is_read, not_yet_may_become};
 pub use state::{Body, BodyState, go_on, start};
 pub use unit::{Unit, next_unit};

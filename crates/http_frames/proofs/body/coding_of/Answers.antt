@@ -1,4 +1,4 @@
-use Rattle.std.proofs.Common.{codes, sym, ◌∙◌, arith}
+use Rattle.std.proofs.Common.{codes, ◌∙◌, arith}
 use Rattle.http_frames.specs.Bodies.{coding_of, coding_with}
 use Rattle.http_frames.proofs.Snocs.{coding_more, next}
 use Rattle.http_frames.proofs.body.coding_of.Goals as goal

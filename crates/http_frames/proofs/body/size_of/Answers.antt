@@ -1,4 +1,4 @@
-use Rattle.std.proofs.Common.{codes, sym, ◌∙◌, arith}
+use Rattle.std.proofs.Common.{codes, ◌∙◌, arith}
 use Rattle.http_frames.specs.Bodies.{size_of, size_with}
 use Rattle.http_frames.proofs.Snocs.{size_more, next}
 use Rattle.http_frames.proofs.body.size_of.Goals as goal

@@ -1,7 +1,6 @@
-use Rattle.std.proofs.Common.{◌≡◌, ◌≤◌, length, sym, subst, take, arith}
+use Rattle.std.proofs.Common.{sym, subst, take, arith}
 use Rattle.std.specs.Str.Parse.{AllDigits}
 use Rattle.std.proofs.lemmas.List.{length-take-le}
-use Rattle.http_frames.specs.ChunkLines.{digits_length}
 use Rattle.http_frames.proofs.HexDigits.{few_small, front_digits}
 use Rattle.http_frames.proofs.chunk_line.line_of.Goals as goal
 

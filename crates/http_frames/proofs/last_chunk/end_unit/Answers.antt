@@ -1,4 +1,4 @@
-use Rattle.std.proofs.Common.{◌≡◌, ℕ, ◌+◌, ◌-◌, ◌≤◌, List, None, ◌∙◌, ap, drop, take, length, length-drop, subst, sym, arith}
+use Rattle.std.proofs.Common.{◌≡◌, ℕ, ◌-◌, ◌≤◌, List, None, ◌∙◌, ap, drop, take, length, length-drop, subst, arith}
 use Rattle.std.proofs.lemmas.List.{take_all}
 use Rattle.memchr.specs.Find.{FindsNeedle}
 use Rattle.seg_buffer.specs.Bytes.{crlf2}

@@ -1,4 +1,4 @@
-use Rattle.std.proofs.Common.{◌≡◌, arith}
+use Rattle.std.proofs.Common.{arith}
 use Rattle.http_frames.proofs.Numbers.{digit_more}
 use Rattle.http_frames.proofs.number.number_of.Goals as goal
 
