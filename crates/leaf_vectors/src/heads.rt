@@ -3,13 +3,13 @@
 use crate::read::read_text;
 use crate::write::{decimal, plain, spaced, word};
 use http_heads::{
-    Fields, HeadFault, HttpFault, RequestHead, ResponseHead, read_request, read_response,
-    write_request, write_response,
+    Fields, HeadFault, HttpFault, RequestHead, ResponseHead, passed_request, passed_response,
+    read_request, read_response, write_request, write_response,
 };
 use px_bytes::{M, Memory, Text};
 use std::alloc::Global;
 
-/// What a head is, or what is written of it.
+/// What a head is, what is written of it, or the same of the head as it is sent on.
 pub fn answer(alloc: Global, call: &str, words: &[&str]) -> M<Option<Text>> {
     let [head] = words else {
         return Ok(None);
@@ -22,6 +22,8 @@ pub fn answer(alloc: Global, call: &str, words: &[&str]) -> M<Option<Text>> {
         "response" => response(alloc, &head),
         "write_request" => written_request(alloc, &head),
         "write_response" => written_response(alloc, &head),
+        "passed_request" => sent_request(alloc, &head),
+        "passed_response" => sent_response(alloc, &head),
         _ => Ok(None),
     }
 }
@@ -80,6 +82,30 @@ fn written_request(alloc: Global, head: &Text) -> M<Option<Text>> {
 fn written_response(alloc: Global, head: &Text) -> M<Option<Text>> {
     match read_response(alloc, head.as_bytes()) {
         Ok(head) => {
+            let text = write_response(alloc, &head)?;
+            Ok(Some(ok_answer(alloc, &text)?))
+        }
+        Err(fault) => fault_answer(alloc, fault),
+    }
+}
+
+fn sent_request(alloc: Global, head: &Text) -> M<Option<Text>> {
+    match read_request(alloc, head.as_bytes()) {
+        Ok(head) => {
+            let connection = head.fields.values(alloc, b"connection")?;
+            let head = passed_request(head, connection.as_slice());
+            let text = write_request(alloc, &head)?;
+            Ok(Some(ok_answer(alloc, &text)?))
+        }
+        Err(fault) => fault_answer(alloc, fault),
+    }
+}
+
+fn sent_response(alloc: Global, head: &Text) -> M<Option<Text>> {
+    match read_response(alloc, head.as_bytes()) {
+        Ok(head) => {
+            let connection = head.fields.values(alloc, b"connection")?;
+            let head = passed_response(head, connection.as_slice());
             let text = write_response(alloc, &head)?;
             Ok(Some(ok_answer(alloc, &text)?))
         }

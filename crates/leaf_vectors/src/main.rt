@@ -2,6 +2,7 @@
 //! of the lines.
 #![tactic(auto)]
 
+mod costs;
 mod fields;
 mod groups;
 mod heads;
@@ -48,12 +49,18 @@ fn answer(alloc: Global, words: &[&str]) -> M<Option<Text>> {
         ["table", question @ ..] => table_calls::answer(alloc, question),
         ["check_words", question @ ..] => table_calls::check_answer(alloc, question),
         ["records", question @ ..] => record_calls::answer(alloc, question),
+        ["cost", question @ ..] => costs::answer(alloc, question),
         ["fields", question @ ..] => fields::answer(alloc, question),
         ["cookies", question @ ..] => fields::cookies_answer(alloc, question),
         ["print_bigip", question @ ..] => fields::print_answer(alloc, question),
         ["read_bigip", question @ ..] => fields::read_answer(alloc, question),
         [
-            call @ ("request" | "response" | "write_request" | "write_response"),
+            call @ ("request"
+            | "response"
+            | "write_request"
+            | "write_response"
+            | "passed_request"
+            | "passed_response"),
             question @ ..,
         ] => heads::answer(alloc, call, question),
         [
