@@ -1,0 +1,206 @@
+-- An action is the next items of each state that the connection may stand for.
+use Rattle.std.proofs.Common.{◌≡◌, refl, sym, ap, subst, ◌∙◌, ℕ, zero, suc, List, [], ◌∷◌, ◌++◌, append-nil, map, drop, length, Bool, true, false, Option, Some, None, nat_lt}
+use Rattle.std.specs.Bool.{MatchBool}
+use Rattle.std.specs.Prelude.{slice_get}
+use Rattle.px_bytes.specs.declared.fault.FaultKind.{FaultKind}
+use Rattle.event_order.specs.declared.event.EventName.TheVariants.{LbFailed, ClientClosed}
+use Rattle.connection_model.specs.declared.note.Note.{Note}
+use Rattle.connection_model.specs.declared.note.Note.TheVariants as note
+use Rattle.connection_model.specs.Gates.{room_limit}
+use Rattle.connection_model.specs.Host.{HostState}
+use Rattle.connection_model.specs.Item.{Item, BeforeBodies, Opened, Resumed, Logged, Finished, cause_of, note_of}
+use Rattle.connection_model.specs.Places.{at as put, after_fault, closed, enter, entered, next_body}
+use Rattle.connection_model.specs.Setup.{Handler, Setup}
+use Rattle.connection_model.specs.State.{Gated, Running, Failing, InEvent, Finishing, Absent, link_of, TraceState, Next, Does}
+use Rattle.connection_model.specs.Trace.{next_item, GivesNoMore}
+use Rattle.conn.specs.Acts.{StartsBody, PassesGate, Chooses, Closes, BehindFault, BodyMovedBy, BodyMoved, ActedAt, Acted}
+use Rattle.conn.specs.Events.{event_of}
+use Rattle.conn.specs.Holds.{Around, Between, BodyGoesOn, GatedBefore, RunsFirst, Stands, Holds}
+use Rattle.conn.specs.Hosts.{seen_host}
+use Rattle.conn.specs.Setups.{handler_of, bodies_at, Serves}
+use Rattle.conn.specs.Stages.{reason_for, cause_for, entered_by, is_asking}
+use Rattle.conn.specs.declared.connection.Conn.{Conn}
+use Rattle.conn.specs.declared.events.At.{At}
+use Rattle.conn.specs.declared.events.At.TheVariants.{Accepted, Failed, Closed}
+use Rattle.conn.specs.declared.setup.Handler as code
+use Rattle.conn.specs.declared.setup.Setup as code_setup
+use Rattle.conn.specs.declared.stage.Finish.{Finish}
+use Rattle.conn.specs.declared.stage.Finish.TheVariants as finish
+use Rattle.conn.specs.declared.stage.Stage.{Stage}
+use Rattle.conn.specs.declared.stage.Stage.TheVariants as stage
+use Rattle.conn.specs.declared.turn.Act as step_act
+use Rattle.conn.specs.declared.turn.Act.TheVariants as done
+use Rattle.conn.proofs.Acting.{ActGave}
+use Rattle.conn.proofs.BodyMoves.{next_awake, next_host, body_gives}
+use Rattle.conn.proofs.Giving.{gave_none, OneItem, gave_one}
+use Rattle.conn.proofs.Places.{handlers_are, body_begins, next_stands, entered_stands}
+use Rattle.conn.proofs.Resting.{next_at, gate_is, choosing_item, over_next}
+
+-- one item, and then it goes on
+goes : (g : Setup) (a : Around) (l : TraceState) (c : ℕ) (old new : Conn) (i : Item) → Holds g a l old → OneItem g a l old new i → is_asking new.stage ≡ false → ActGave g a l c old new (note_of c i) done.Goes
+goes g a l c old new i h o awake = record { at = o.at; gave = gave_one g a l c old new i h o; stops = awake }
+
+-- nothing is given
+stays : (g : Setup) (a : Around) (l : TraceState) (c : ℕ) (old new : Conn) (a' : step_act.Act) → Holds g a l old → a' ≡ done.Rests → new ≡ old → GivesNoMore false l.sent a.took (next_item g l) → ActGave g a l c old new [] a'
+stays g a l c old new a' h rests same stops =
+    let P : Conn → Type 0 = λ x. ActGave g a l c old x [] a' in
+    let Q : step_act.Act → Type 0 = λ x. ActGave g a l c old old [] x in
+    subst P (sym same) (subst Q (sym rests) (record { at = l; gave = gave_none g a l c old h; stops = stops }))
+
+module _ (s : code_setup.Setup) (g : Setup) (serves : Serves s g) (a : Around) (l : TraceState) (c : ℕ) (old new : Conn) (h : Holds g a l old) where
+  gate_opens : (at : At) (hs : List Handler) → g.handlers (event_of at) ≡ hs → GatedBefore (event_of at) hs l.phase → Between l old → StartsBody s at 0 old new → nat_lt (length old.host.to_client) room_limit ≡ true → ActGave g a l c old new [] done.Goes
+  gate_opens at [] e k b starts room = absurd k
+  gate_opens at (x ∷ xs) e k b starts room =
+      let ev = event_of at in
+      let after : TraceState = record l { phase = InEvent ev (Running x xs 0) } in
+      let P : HostState → Type 0 = λ host. BodyGoesOn g ev x xs 0 (record l { phase = InEvent ev (Running x xs 0); host = host }) new in
+      let body : BodyGoesOn g ev x xs 0 after new = subst P (sym b.host) (body_begins s g serves ev x xs old new at 0 starts l b.vars b.replies) in
+      let R : List Handler → Type 0 = λ hs. RunsFirst g ev (drop 0 hs) 0 after new in
+      let S : Stage → Type 0 = λ st. Stands g st after new in
+      goes g a l c old new (Opened BeforeBodies) h (record {
+        at = after;
+        step = next_at g l (InEvent ev (Gated x xs)) h.no_cut k;
+        open_now = gate_is g a l old h ∙ room;
+        silent = refl;
+        stands = subst S (sym starts.there) (subst R (sym e) body, starts.fresh.runs);
+        sent = refl;
+        server = refl;
+        cut = refl;
+        queue = ap (λ x. x.to_client) starts.host;
+      }) (ap is_asking starts.there)
+
+  gate_shut : (at : At) (hs : List Handler) → GatedBefore (event_of at) hs l.phase → nat_lt (length old.host.to_client) room_limit ≡ false → GivesNoMore false l.sent a.took (next_item g l)
+  gate_shut at [] k room = absurd k
+  gate_shut at (x ∷ xs) k room =
+      let P : Next → Type 0 = λ o. GivesNoMore false l.sent a.took o in
+      subst P (sym (next_at g l (InEvent (event_of at) (Gated x xs)) h.no_cut k)) (gate_is g a l old h ∙ room)
+
+  gate : (at : At) (did : step_act.Act) → Stands g (stage.Gated at) l old → PassesGate s at old new did → ActGave g a l c old new [] did
+  gate at did st k = by_test (nat_lt (length old.host.to_client) room_limit) refl k
+    where
+      by_test : (b : Bool) → nat_lt (length old.host.to_client) room_limit ≡ b → MatchBool b ((did ≡ done.Goes) × StartsBody s at 0 old new) ((did ≡ done.Rests) × (new ≡ old)) → ActGave g a l c old new [] did
+      by_test true e (goes_on, starts) =
+          let P : step_act.Act → Type 0 = λ x. ActGave g a l c old new [] x in
+          subst P (sym goes_on) (gate_opens at (g.handlers (event_of at)) refl st.0 st.1 starts e)
+      by_test false e (rests, same) = stays g a l c old new did h rests same (gate_shut at (g.handlers (event_of at)) st.0 e)
+
+  none_here : (hs : List code.Handler) (n : ℕ) → slice_get hs n ≡ None → drop n (map handler_of hs) ≡ []
+  none_here [] zero e = refl
+  none_here [] (suc n) e = refl
+  none_here (x ∷ hs) zero e = absurd (cc)
+  none_here (x ∷ hs) (suc n) e = none_here hs n e
+
+  runs : (at : At) (number : ℕ) (did : step_act.Act) → old.stage ≡ stage.Running at number → Stands g (stage.Running at number) l old → BodyMoved s at number old new did → ActGave g a l c old new [] did
+  runs at number did is st k = by_handler (slice_get (bodies_at s at) number) refl k
+    where
+      by_handler : (v : Option code.Handler) → slice_get (bodies_at s at) number ≡ v → BodyMovedBy s v at number old new did → ActGave g a l c old new [] did
+      by_handler None e m =
+          let R : List Handler → Type 0 = λ hs. RunsFirst g (event_of at) hs 0 l old in
+          let none : drop number (g.handlers (event_of at)) ≡ [] = ap (drop number) (handlers_are s g serves at) ∙ none_here (bodies_at s at) number e in
+          absurd (subst R none st.0)
+      by_handler (Some b) e m = body_gives s g serves a l c old new at number b did e m is h
+
+  -- behind a fault
+  fault_stands : (at : At) (n : ℕ) (kind : FaultKind) → Between l old → BehindFault s at n kind old new
+      → Stands g new.stage (put (after_fault g (event_of at) l.finished Absent kind (drop n (g.handlers (event_of at))) (seen_host old.host)) l) new × (is_asking new.stage ≡ false) × (new.host ≡ old.host)
+  fault_stands Accepted n kind b k =
+      let P : Stage → Type 0 = λ st. Stands g st (record l { phase = Finishing (reason_for (finish.Fault kind)); host = seen_host old.host }) new in
+      (subst P (sym k.there) (refl, record { vars = b.vars ∙ sym k.vars; host = ap seen_host (sym k.host); replies = b.replies }), ap is_asking k.there, k.host)
+  fault_stands Failed n kind b k =
+      let P : Stage → Type 0 = λ st. Stands g st (record l { phase = Finishing (reason_for (finish.Fault kind)); host = seen_host old.host }) new in
+      (subst P (sym k.there) (refl, record { vars = b.vars ∙ sym k.vars; host = ap seen_host (sym k.host); replies = b.replies }), ap is_asking k.there, k.host)
+  fault_stands Closed n kind b k = (next_stands s g serves Closed n old new k l b.vars b.replies l.finished, next_awake s Closed n old new k, next_host s Closed n old new k)
+
+  logs : (at : At) (n : ℕ) (kind : FaultKind) (line : List ℕ) → Stands g (stage.Failing at n kind line) l old → BehindFault s at n kind old new → ActGave g a l c old new (note.Log c line ∷ []) done.Goes
+  logs at n kind line st k =
+      let ev = event_of at in
+      let bs = drop n (g.handlers ev) in
+      let f = fault_stands at n kind st.1 k in
+      goes g a l c old new (Logged line) h (record {
+        at = put (after_fault g ev l.finished Absent kind bs (seen_host old.host)) l;
+        step = next_at g l (InEvent ev (Failing kind line bs)) h.no_cut st.0
+            ∙ ap (λ host. Does (Logged line) (put (after_fault g ev l.finished (link_of l.server) kind bs host) l)) st.1.host
+            ∙ ap (λ k'. Does (Logged line) (put (after_fault g ev l.finished (link_of k') kind bs (seen_host old.host)) l)) h.no_server;
+        open_now = refl;
+        silent = refl;
+        stands = f.0;
+        sent = refl;
+        server = refl;
+        cut = refl;
+        queue = ap (λ x. x.to_client) f.2;
+      }) f.1
+
+  chooses : Stands g stage.Choosing l old → Chooses s old new → ActGave g a l c old new [] done.Goes
+  chooses st k =
+      let P : HostState → Type 0 = λ host. Stands g new.stage (put (entered g LbFailed Absent (g.handlers LbFailed) host) l) new in
+      goes g a l c old new Resumed h (record {
+        at = put (enter g LbFailed Absent (seen_host old.host)) l;
+        step = choosing_item g l old st.1 h.no_cut h.no_server st.0;
+        open_now = refl;
+        silent = refl;
+        stands = subst P (ap seen_host k.host) (entered_stands s g serves Failed new k.there l (st.1.vars ∙ sym k.vars) st.1.replies);
+        sent = refl;
+        server = refl;
+        cut = refl;
+        queue = ap (λ x. x.to_client) k.host;
+      }) (ap is_asking k.there ∙ entered_awake (bodies_at s Failed))
+    where
+      entered_awake : (hs : List code.Handler) → is_asking (entered_by Failed hs) ≡ false
+      entered_awake [] = refl
+      entered_awake (x ∷ hs) = refl
+
+  cause_is : (f : Finish) → cause_of (reason_for f) ≡ cause_for f
+  cause_is finish.Unselected = refl
+  cause_is (finish.Fault kind) = refl
+
+  finishes : (f : Finish) → Stands g (stage.Finishing f) l old → Closes s old new → ActGave g a l c old new (note.Finish c (cause_for f) ∷ []) done.Goes
+  finishes f st k =
+      let b = st.1 in
+      let l' : TraceState = record l { finished = true } in
+      let P : HostState → Type 0 = λ host. Stands g new.stage (put (next_body g ClientClosed true Absent (g.handlers ClientClosed) host) l') new in
+      let N : List Note → Type 0 = λ x. ActGave g a l c old new x done.Goes in
+      subst N (ap (λ x. note.Finish c x ∷ []) (cause_is f)) (goes g a l c old new (Finished (reason_for f)) h (record {
+        at = put (closed g Absent (seen_host old.host)) l';
+        step = next_at g l (Finishing (reason_for f)) h.no_cut st.0
+            ∙ ap (λ host. Does (Finished (reason_for f)) (put (closed g (link_of l.server) host) l')) b.host
+            ∙ ap (λ k'. Does (Finished (reason_for f)) (put (closed g (link_of k') (seen_host old.host)) l')) h.no_server;
+        open_now = refl;
+        silent = refl;
+        stands = subst P (ap seen_host k.host) (next_stands s g serves Closed 0 k.mid new k.begins l' (b.vars ∙ sym k.vars) b.replies true);
+        sent = refl;
+        server = refl;
+        cut = refl;
+        queue = ap (λ x. x.to_client) (next_host s Closed 0 k.mid new k.begins ∙ k.host);
+      }) (next_awake s Closed 0 k.mid new k.begins))
+
+  drains : (did : step_act.Act) → Stands g stage.Draining l old → did ≡ done.Rests → new ≡ old → ActGave g a l c old new [] did
+  drains did st rests same =
+      let P : Next → Type 0 = λ o. GivesNoMore false l.sent a.took o in
+      stays g a l c old new did h rests same (subst P (sym (over_next g a l old h st.0)) tt)
+
+-- what one action gave, with its notes
+pub record ActedWell (s : code_setup.Setup) (c : ℕ) (old new : Conn) (before after : List Note) (did : step_act.Act) : Type 0 where
+  pub group : List Note
+  pub notes : after ≡ before ++ group
+  pub along : (g : Setup) (a : Around) (l : TraceState) → Serves s g → Holds g a l old → is_asking old.stage ≡ false → ActGave g a l c old new group did
+
+pub acted_well : (s : code_setup.Setup) (c : ℕ) (old new : Conn) (before after : List Note) (did : step_act.Act) → Acted s c old new before after did → ActedWell s c old new before after did
+acted_well s c old new before after did k = by_stage old.stage refl k
+  where
+    here : (st : Stage) → old.stage ≡ st → (g : Setup) (a : Around) (l : TraceState) → Holds g a l old → Stands g st l old
+    here st is g a l h = let P : Stage → Type 0 = λ x. Stands g x l old in subst P is h.stage
+
+    none : after ≡ before → after ≡ before ++ []
+    none e = e ∙ sym (append-nil before)
+
+    as_goes : did ≡ done.Goes → (g : Setup) (a : Around) (l : TraceState) (group : List Note) → ActGave g a l c old new group done.Goes → ActGave g a l c old new group did
+    as_goes e g a l group x = let P : step_act.Act → Type 0 = λ d. ActGave g a l c old new group d in subst P (sym e) x
+
+    by_stage : (st : Stage) → old.stage ≡ st → ActedAt st s c old new before after did → ActedWell s c old new before after did
+    by_stage (stage.Gated at) is (k, notes) = record { group = []; notes = none notes; along = λ g a l serves h awake. gate s g serves a l c old new h at did (here (stage.Gated at) is g a l h) k }
+    by_stage (stage.Running at n) is (k, notes) = record { group = []; notes = none notes; along = λ g a l serves h awake. runs s g serves a l c old new h at n did is (here (stage.Running at n) is g a l h) k }
+    by_stage (stage.Asking at n) is (rests, same, notes) = record { group = []; notes = none notes; along = λ g a l serves h awake. absurd (let e = sym awake ∙ ap is_asking is in cc) }
+    by_stage (stage.Failing at n kind line) is (e, k, notes) = record { group = note.Log c line ∷ []; notes = notes; along = λ g a l serves h awake. as_goes e g a l (note.Log c line ∷ []) (logs s g serves a l c old new h at n kind line (here (stage.Failing at n kind line) is g a l h) k) }
+    by_stage stage.Choosing is (e, k, notes) = record { group = []; notes = none notes; along = λ g a l serves h awake. as_goes e g a l [] (chooses s g serves a l c old new h (here stage.Choosing is g a l h) k) }
+    by_stage (stage.Finishing f) is (e, k, notes) = record { group = note.Finish c (cause_for f) ∷ []; notes = notes; along = λ g a l serves h awake. as_goes e g a l (note.Finish c (cause_for f) ∷ []) (finishes s g serves a l c old new h f (here (stage.Finishing f) is g a l h) k) }
+    by_stage stage.Draining is (rests, same, notes) = record { group = []; notes = none notes; along = λ g a l serves h awake. drains s g serves a l c old new h did (here stage.Draining is g a l h) rests same }

@@ -1,0 +1,230 @@
+-- A body's step, and what it led to, are the next items of each state that the connection may stand
+-- for.
+use Rattle.std.proofs.Common.{◌≡◌, refl, sym, ap, subst, ◌∙◌, ℕ, ◌+◌, List, [], ◌∷◌, ◌++◌, None, Some, Option, true, false, length, map, drop, append_assoc, append-nil, arith, length-append}
+use Rattle.std.specs.Bool.{MatchBool}
+use Rattle.std.specs.Prelude.{slice_get, nat_lt}
+use Rattle.px_bytes.specs.declared.fault.Reply.{Reply}
+use Rattle.px_bytes.specs.declared.fault.TclFault.{TclFault}
+use Rattle.tcl_compile.specs.Procedures.{procs_view}
+use Rattle.tcl_compile.specs.TreeView.{node_view}
+use Rattle.tcl_vars.specs.Scopes.{Level}
+use Rattle.rule_model.specs.Evaluator.{evaluate}
+use Rattle.rule_model.specs.Host.{Effect}
+use Rattle.rule_model.specs.Laws.{state_after}
+use Rattle.rule_model.specs.Outcome.{Act, state, Outcome, Ends, Waits as Stops, uncaught_of}
+use Rattle.rule_model.specs.Outcome as act
+use Rattle.rule_model.specs.Setting as given
+use Rattle.rule_model.specs.declared.code.Code.{Code}
+use Rattle.event_order.specs.declared.event.EventName.{EventName}
+use Rattle.connection_model.specs.Bodies.{run_body, act_item}
+use Rattle.connection_model.specs.Gates.{Counts, sent_from}
+use Rattle.connection_model.specs.Host.{HostState, body_setting, respond_table}
+use Rattle.connection_model.specs.Item.{Ran}
+use Rattle.connection_model.specs.Places.{at as put, after_body, next_body}
+use Rattle.connection_model.specs.Setup.{Handler, Setup, uncaught_line}
+use Rattle.connection_model.specs.State.{Absent, Failing, InEvent, TraceState, link_of, Link, with_replies}
+use Rattle.connection_model.specs.Trace.{next_item, Unfolds}
+use Rattle.connection_model.proofs.BodyItems.{running, ended, body_waits}
+use Rattle.connection_model.proofs.Unfolding.{unfolds_on, unfolds_one}
+use Rattle.frame_machine.specs.Frames.{comes_to, path_of}
+use Rattle.frame_machine.specs.Given.{setting}
+use Rattle.frame_machine.specs.Went.{Went, place, comes_by, effects_in, TurnIs}
+use Rattle.frame_machine.specs.declared.turn.Turn.{Turn}
+use Rattle.frame_machine.specs.declared.turn.Turn.TheVariants as turn
+use Rattle.conn.specs.Acts.{GoesTo, StartsBody, NextBody, Ended, Turned, BodySteps}
+use Rattle.conn.specs.Bodies.{SaidIs}
+use Rattle.conn.specs.Events.{event_of}
+use Rattle.conn.specs.Holds.{Around, BodyGoesOn, RunsFirst, Stands, Holds}
+use Rattle.conn.specs.Hosts.{Made, seen_host}
+use Rattle.conn.specs.Setups.{handler_of, bodies_at, Serves}
+use Rattle.conn.specs.Stages.{after_stage, is_asking}
+use Rattle.conn.specs.declared.connection.Conn.{Conn}
+use Rattle.conn.specs.declared.events.At.{At}
+use Rattle.conn.specs.declared.events.At.TheVariants.{Accepted, Failed, Closed}
+use Rattle.conn.specs.declared.setup.Handler as code
+use Rattle.conn.specs.declared.setup.Setup as code_setup
+use Rattle.conn.specs.declared.stage.Stage.{Stage}
+use Rattle.conn.specs.declared.stage.Stage.TheVariants as stage
+use Rattle.conn.specs.declared.turn.Act as step_act
+use Rattle.conn.specs.declared.turn.Act.TheVariants as done
+use Rattle.conn.proofs.Acting.{ActGave, acts_gave}
+use Rattle.conn.proofs.ActItems.{no_tail, end_tail, called_is_none}
+use Rattle.conn.proofs.Asking.{asking_waits}
+use Rattle.conn.proofs.BodyActs.{acts_come, end_comes}
+use Rattle.conn.proofs.FramesKeep.{frames_keep}
+use Rattle.conn.proofs.Places.{handlers_are, first_left, next_stands}
+
+-- no call is open behind a body
+pub next_awake : (s : code_setup.Setup) (at : At) (n : ℕ) (mid new : Conn) → NextBody s at n mid new → is_asking new.stage ≡ false
+next_awake s at n mid new k = by_test (nat_lt n (length (bodies_at s at))) k
+  where
+    by_test : (b : _) → MatchBool b (StartsBody s at n mid new) (GoesTo (after_stage at) mid new) → is_asking new.stage ≡ false
+    by_test true c = ap is_asking c.there
+    by_test false c = ap is_asking c.there ∙ after_awake at
+      where
+        after_awake : (at : At) → is_asking (after_stage at) ≡ false
+        after_awake Accepted = refl
+        after_awake Failed = refl
+        after_awake Closed = refl
+
+pub next_host : (s : code_setup.Setup) (at : At) (n : ℕ) (mid new : Conn) → NextBody s at n mid new → new.host ≡ mid.host
+next_host s at n mid new k = by_test (nat_lt n (length (bodies_at s at))) k
+  where
+    by_test : (b : _) → MatchBool b (StartsBody s at n mid new) (GoesTo (after_stage at) mid new) → new.host ≡ mid.host
+    by_test true c = c.host
+    by_test false c = c.host
+
+-- a step of the body of which the state of the trace tells
+module _ (s : code_setup.Setup) (g : Setup) (serves : Serves s g) (a : Around) (l : TraceState) (c : ℕ) (old mid : Conn) (at : At) (number : ℕ) (h : code.Handler) (bs : List Handler)
+    (holds : Holds g a l old) (k : BodyGoesOn g (event_of at) (handler_of h) bs 0 l old) (said : Turn) (ticks : ℕ)
+    (w : Went (body_setting g (procs_view h.procs)) (node_view h.body) (place old.body.machine.at old.vars (seen_host old.host)) (place mid.body.machine.at mid.vars (seen_host mid.host)) said (λ es. Made old.host es mid.host) ticks) where
+  abbrev e : EventName
+  e = event_of at
+
+  abbrev b : Handler
+  b = handler_of h
+
+  abbrev S : given.Setting HostState
+  S = body_setting g b.procedures
+
+  abbrev acts : List Act
+  acts = k.acts ++ w.acts
+
+  same : (more : List Reply) → evaluate S b.body l.vars l.host (l.answers.replies ++ more) g.budget ≡ comes_by said S b.body mid.body.machine.at mid.vars (seen_host mid.host) more (k.cost + w.spent) acts
+  same more = k.same more ∙ w.same more k.cost k.acts
+
+  body_is : (o : Outcome HostState) → comes_by said S b.body mid.body.machine.at mid.vars (seen_host mid.host) [] (k.cost + w.spent) acts ≡ o → run_body g b l ≡ o
+  body_is o is = ap (λ rs. evaluate S b.body l.vars l.host rs g.budget) (sym (append-nil l.answers.replies)) ∙ same [] ∙ is
+
+  here : l ≡ running e b bs (length k.acts + 0) l.sent l
+  here = ap (λ p. record l { phase = p; sent = l.sent }) k.phase
+
+  abbrev sent_by : List Act → Counts
+  sent_by xs = sent_from l.sent (map (act_item 0) xs)
+
+  -- some of its acts come
+  come : (o : Outcome HostState) (xs rest : List Act) (m : ℕ) → run_body g b l ≡ o → (state_after o).acts ≡ k.acts ++ (xs ++ rest) → m ≡ length k.acts + length xs
+      → Unfolds g l (map (act_item 0) xs) (running e b bs m (sent_by xs) l)
+  come o xs rest m is all last =
+      let P : TraceState → Type 0 = λ x. Unfolds g x (map (act_item 0) xs) (running e b bs m (sent_by xs) l) in
+      subst P (sym here) (acts_come g e b bs l o holds.no_cut is k.acts xs rest (length k.acts + 0) m 0 l.sent holds.no_number all (omega arith) (omega (arith, last)))
+
+  with_tail : (xs : List Act) (at : TraceState) → Unfolds g l (map (act_item 0) xs) at → Unfolds g l (map (act_item 0) xs ++ []) at
+  with_tail xs at u = subst (λ x. Unfolds g l x at) (sym (append-nil (map (act_item 0) xs))) u
+
+  goes_on : said ≡ turn.More → mid.body.runs ≡ true → drop number (g.handlers e) ≡ b ∷ bs → mid.stage ≡ stage.Running at number → ActGave g a l c old mid [] done.Goes
+  goes_on more runs left there =
+      let o = comes_to S b.body mid.body.machine.at mid.vars (seen_host mid.host) [] (k.cost + w.spent) acts in
+      let Q : Turn → Type 0 = λ t. comes_by t S b.body mid.body.machine.at mid.vars (seen_host mid.host) [] (k.cost + w.spent) acts ≡ o in
+      let T : Turn → Type 0 = λ t. (rs : List Reply) → evaluate S b.body l.vars l.host (l.answers.replies ++ rs) g.budget ≡ comes_by t S b.body mid.body.machine.at mid.vars (seen_host mid.host) rs (k.cost + w.spent) acts in
+      let is = body_is o (subst Q (sym more) refl) in
+      let kept = (frames_keep S b.body mid.body.machine.at mid.vars (seen_host mid.host) [] (k.cost + w.spent) acts).acts in
+      let at' = running e b bs (length acts + 0) (sent_by w.acts) l in
+      let u = come o w.acts kept.0 (length acts + 0) is (kept.1 ∙ append_assoc k.acts w.acts kept.0) (omega (arith, length-append k.acts w.acts)) in
+      let now : BodyGoesOn g e b bs 0 at' mid = record { acts = acts; cost = k.cost + w.spent; phase = refl; same = subst T more same } in
+      let P : List Handler → Type 0 = λ hs. RunsFirst g e hs 0 at' mid in
+      let R : Stage → Type 0 = λ st. Stands g st at' mid in
+      record {
+        at = at';
+        gave = acts_gave g a l at' c old mid w.acts [] (no_tail c a.took) holds w.by (with_tail w.acts at' u) (subst R (sym there) (subst P (sym left) now, runs)) refl refl;
+        stops = ap is_asking there;
+      }
+
+  abbrev asked : Conn
+  asked = record mid { stage = stage.Asking at number }
+
+  asks : (call : List (List ℕ)) → said ≡ turn.Asks call → mid.body.asks ≡ true → drop number (g.handlers e) ≡ b ∷ bs → ActGave g a l c old asked [] (done.Asks call)
+  asks call is_ask waits left =
+      let m = mid.body.machine.at in
+      let path = path_of m.frames.items in
+      let calls = act.Called path call ∷ [] in
+      let xs = w.acts ++ calls in
+      let o : Outcome HostState = Stops path call (state mid.vars (seen_host mid.host) [] m.budget (k.cost + w.spent) (acts ++ calls)) in
+      let P : Turn → Type 0 = λ t. TurnIs t m in
+      let Q : Turn → Type 0 = λ t. comes_by t S b.body m mid.vars (seen_host mid.host) [] (k.cost + w.spent) acts ≡ o in
+      let T : Turn → Type 0 = λ t. (rs : List Reply) → evaluate S b.body l.vars l.host (l.answers.replies ++ rs) g.budget ≡ comes_by t S b.body m mid.vars (seen_host mid.host) rs (k.cost + w.spent) acts in
+      let is = body_is o (subst Q (sym is_ask) (asking_waits S b.body m mid.vars (seen_host mid.host) call (k.cost + w.spent) acts (subst P is_ask w.turn_is))) in
+      let all : acts ++ calls ≡ k.acts ++ (xs ++ []) = append_assoc k.acts w.acts calls ∙ ap (λ x. k.acts ++ x) (sym (append-nil xs)) in
+      let at' = running e b bs (length acts + 1) (sent_by xs) l in
+      let u = come o xs [] (length acts + 1) is all (omega (arith, length-append k.acts w.acts, length-append w.acts calls)) in
+      let now : BodyGoesOn g e b bs 1 at' asked = record { acts = acts; cost = k.cost + w.spent; phase = refl; same = subst T is_ask same } in
+      let R : List Handler → Type 0 = λ hs. RunsFirst g e hs 1 at' asked in
+      let M : List Effect → Type 0 = λ es. Made old.host es mid.host in
+      record {
+        at = at';
+        gave = acts_gave g a l at' c old asked xs [] (no_tail c a.took) holds (subst M (sym (called_is_none w.acts path call)) w.by) (with_tail xs at' u) (subst R (sym left) now, waits) refl refl;
+        stops = ap (λ n. next_item g (running e b bs n (sent_by xs) l)) (sym (length-append acts calls))
+            ∙ body_waits g e b bs l path call (state mid.vars (seen_host mid.host) [] m.budget (k.cost + w.spent) (acts ++ calls)) (sent_by xs) holds.no_cut is;
+      }
+
+  -- where a body that ended leaves it
+  ended_stands : (L : TraceState) → L.vars ≡ mid.vars → L.answers.replies ≡ [] → drop (number + 1) (g.handlers e) ≡ bs → (new : Conn) (f : Option TclFault) → Ended s h at number f mid new
+      → Stands g new.stage (put (after_body g e l.finished Absent b bs f (seen_host mid.host)) L) new × (is_asking new.stage ≡ false)
+  ended_stands L vars none behind new None n =
+      let P : List Handler → Type 0 = λ hs. Stands g new.stage (put (next_body g e l.finished Absent hs (seen_host mid.host)) L) new in
+      (subst P behind (next_stands s g serves at (number + 1) mid new n L vars none l.finished), next_awake s at (number + 1) mid new n)
+  ended_stands L vars none behind new (Some fault) n =
+      let line = uncaught_line h.name e fault.text in
+      let L' = record L { phase = InEvent e (Failing fault.kind line bs); host = seen_host mid.host } in
+      let P : Stage → Type 0 = λ st. Stands g st L' new in
+      let there : Stands g (stage.Failing at (number + 1) fault.kind line) L' new =
+      (ap (λ hs. InEvent e (Failing fault.kind line hs)) (sym behind), record { vars = vars ∙ sym n.vars; host = ap seen_host (sym n.host); replies = none }) in
+      (subst P (sym n.there) there, ap is_asking n.there)
+
+  ended_host : (new : Conn) (f : Option TclFault) → Ended s h at number f mid new → new.host ≡ mid.host
+  ended_host new None n = next_host s at (number + 1) mid new n
+  ended_host new (Some fault) n = n.host
+
+  over : (code : Code) → said ≡ turn.Done code → (new : Conn) → Ended s h at number (uncaught_of code) mid new → drop (number + 1) (g.handlers e) ≡ bs → ActGave g a l c old new [] done.Goes
+  over code is_done new n behind =
+      let m = mid.body.machine.at in
+      let st = state mid.vars (seen_host mid.host) [] m.budget (k.cost + w.spent) acts in
+      let o : Outcome HostState = Ends code st in
+      let Q : Turn → Type 0 = λ t. comes_by t S b.body m mid.vars (seen_host mid.host) [] (k.cost + w.spent) acts ≡ o in
+      let is = body_is o (subst Q (sym is_done) refl) in
+      let at1 = running e b bs (length acts) (sent_by w.acts) l in
+      let at2 = ended g e b bs code st (sent_by w.acts) l in
+      let u = come o w.acts [] (length acts) is (ap (λ x. k.acts ++ x) (sym (append-nil w.acts))) (length-append k.acts w.acts) in
+      let last = end_comes g e b bs l code st (length acts) (sent_by w.acts) holds.no_cut is refl in
+      let L = with_replies [] (record l { vars = mid.vars; sent = sent_by w.acts }) in
+      let ends = ended_stands L refl refl behind new (uncaught_of code) n in
+      let P : Link → Type 0 = λ k'. Stands g new.stage (put (after_body g e l.finished k' b bs (uncaught_of code) (seen_host mid.host)) L) new in
+      record {
+        at = at2;
+        gave = acts_gave g a l at2 c old new w.acts (Ran e st.cost ∷ []) (end_tail c a.took e st.cost) holds (subst (λ x. Made old.host (effects_in w.acts) x) (sym (ended_host new (uncaught_of code) n)) w.by)
+            (unfolds_on g l at1 at2 (map (act_item 0) w.acts) (Ran e st.cost ∷ []) u (unfolds_one g at1 at2 (Ran e st.cost) last))
+            (subst P (sym (ap link_of holds.no_server)) ends.0) refl refl;
+        stops = ends.1;
+      }
+
+-- what the step said decides
+turned_gives : (s : code_setup.Setup) (g : Setup) (serves : Serves s g) (a : Around) (l : TraceState) (c : ℕ) (old mid new : Conn) (at : At) (number : ℕ) (h : code.Handler) (bs : List Handler)
+    → Holds g a l old → BodyGoesOn g (event_of at) (handler_of h) bs 0 l old → drop number (g.handlers (event_of at)) ≡ handler_of h ∷ bs → drop (number + 1) (g.handlers (event_of at)) ≡ bs → mid.stage ≡ stage.Running at number
+    → (said : Turn) (ticks : ℕ) → Went (body_setting g (procs_view h.procs)) (node_view h.body) (place old.body.machine.at old.vars (seen_host old.host)) (place mid.body.machine.at mid.vars (seen_host mid.host)) said (λ es. Made old.host es mid.host) ticks
+    → SaidIs said mid.body → (did : step_act.Act) → Turned s h at number said mid new did → ActGave g a l c old new [] did
+turned_gives s g serves a l c old mid new at number h bs holds k left behind there turn.More ticks w is did t =
+    let P : Conn → Type 0 = λ x. ActGave g a l c old x [] did in
+    let Q : step_act.Act → Type 0 = λ x. ActGave g a l c old mid [] x in
+    subst P (sym t.1) (subst Q (sym t.0) (goes_on s g serves a l c old mid at number h bs holds k turn.More ticks w refl is left there))
+turned_gives s g serves a l c old mid new at number h bs holds k left behind there (turn.Asks call) ticks w is did t =
+    let P : Conn → Type 0 = λ x. ActGave g a l c old x [] did in
+    let Q : step_act.Act → Type 0 = λ x. ActGave g a l c old (record mid { stage = stage.Asking at number }) [] x in
+    subst P (sym t.1) (subst Q (sym t.0) (asks s g serves a l c old mid at number h bs holds k (turn.Asks call) ticks w call refl is left))
+turned_gives s g serves a l c old mid new at number h bs holds k left behind there (turn.Done code) ticks w is did t =
+    let Q : step_act.Act → Type 0 = λ x. ActGave g a l c old new [] x in
+    subst Q (sym t.0) (over s g serves a l c old mid at number h bs holds k (turn.Done code) ticks w code refl new t.1 behind)
+
+pub body_gives : (s : code_setup.Setup) (g : Setup) → Serves s g → (a : Around) (l : TraceState) (c : ℕ) (old new : Conn) (at : At) (number : ℕ) (h : code.Handler) (did : step_act.Act) → slice_get (bodies_at s at) number ≡ Some h
+    → BodySteps s h at number old new did → old.stage ≡ stage.Running at number → Holds g a l old → ActGave g a l c old new [] did
+body_gives s g serves a l c old new at number h did got k is holds =
+    let e = event_of at in
+    let all = handlers_are s g serves at in
+    let bs = drop (number + 1) (map handler_of (bodies_at s at)) in
+    let left : drop number (g.handlers e) ≡ handler_of h ∷ bs = ap (drop number) all ∙ first_left (bodies_at s at) number h got in
+    let behind : drop (number + 1) (g.handlers e) ≡ bs = ap (drop (number + 1)) all in
+    let P : Stage → Type 0 = λ st. Stands g st l old in
+    let here = subst P is holds.stage in
+    let R : List Handler → Type 0 = λ hs. RunsFirst g e hs 0 l old in
+    let goes : BodyGoesOn g e (handler_of h) bs 0 l old = subst R left here.0 in
+    let W : Level → Type 0 = λ lv. Went (setting (Some lv) respond_table (procs_view h.procs)) (node_view h.body) (place old.body.machine.at old.vars (seen_host old.host)) (place k.mid.body.machine.at k.mid.vars (seen_host k.mid.host)) k.said (λ es. Made old.host es k.mid.host) k.ticks in
+    turned_gives s g serves a l c old k.mid new at number h bs holds goes left behind (k.there ∙ is) k.said k.ticks (subst W (sym serves.statics) (k.went here.1)) (k.said_is here.1) did k.turned

@@ -1,0 +1,13 @@
+pub mod Keeping
+pub mod FramesKeep
+pub mod Giving
+pub mod Places
+pub mod ActItems
+pub mod Acting
+pub mod Asking
+pub mod BodyActs
+pub mod BodyMoves
+pub mod Resting
+pub mod Taking
+pub mod Advancing
+pub mod Running

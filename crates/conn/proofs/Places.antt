@@ -1,0 +1,129 @@
+-- Where a connection goes stands for where its trace goes.
+use Rattle.std.proofs.Common.{◌≡◌, refl, sym, ap, subst, ◌∙◌, ℕ, zero, suc, ◌+◌, ◌<◌, List, [], ◌∷◌, ◌++◌, map, drop, length, Bool, true, false, nat_lt, arith, ◌≤◌, Some}
+use Rattle.std.specs.Bool.{MatchBool}
+use Rattle.std.specs.Prelude.{slice_get}
+use Rattle.std.proofs.lemmas.Bool.Decides.{nat_tests}
+use Rattle.px_bytes.specs.declared.fault.Reply.{Reply}
+use Rattle.tcl_compile.specs.Tree.{Tree}
+use Rattle.tcl_vars.specs.Scopes.{Scopes}
+use Rattle.event_order.specs.declared.event.EventName.{EventName}
+use Rattle.rule_model.specs.Evaluator.{evaluate}
+use Rattle.rule_model.specs.Outcome.{Outcome, state}
+use Rattle.rule_model.specs.Setting as given
+use Rattle.connection_model.specs.Host.{HostState, body_setting}
+use Rattle.connection_model.specs.Places.{at as put, after_event, next_body, entered}
+use Rattle.connection_model.specs.Setup.{Handler, Setup}
+use Rattle.connection_model.specs.State.{Absent, Gated, Running, InEvent, TraceState}
+use Rattle.frame_machine.specs.Frames.{full_room, meaning, comes_to}
+use Rattle.frame_machine.specs.declared.frame.Frame.{Frame}
+use Rattle.frame_machine.specs.declared.frame.Mode.{Mode}
+use Rattle.frame_machine.specs.declared.frame.Mode.TheVariants as mode
+use Rattle.frame_machine.specs.declared.frame.Standing.{Standing}
+use Rattle.conn.specs.Acts.{GoesTo, StartsBody, NextBody}
+use Rattle.conn.specs.Events.{event_of}
+use Rattle.conn.specs.Holds.{BodyGoesOn, GatedBefore, RunsFirst, Stands}
+use Rattle.conn.specs.Hosts.{seen_host}
+use Rattle.conn.specs.Setups.{handler_of, bodies_at, Serves}
+use Rattle.conn.specs.Stages.{after_stage, entered_by, entered_stage}
+use Rattle.conn.specs.declared.connection.Conn.{Conn}
+use Rattle.conn.specs.declared.events.At.{At}
+use Rattle.conn.specs.declared.events.At.TheVariants.{Accepted, Failed, Closed}
+use Rattle.conn.specs.declared.setup.Handler as code
+use Rattle.conn.specs.declared.setup.Setup as code_setup
+use Rattle.conn.specs.declared.stage.Stage.{Stage}
+
+-- the bodies of an event
+pub handlers_are : (s : code_setup.Setup) (g : Setup) → Serves s g → (at : At) → g.handlers (event_of at) ≡ map handler_of (bodies_at s at)
+handlers_are s g e Accepted = e.handlers (event_of Accepted)
+handlers_are s g e Failed = e.handlers (event_of Failed)
+handlers_are s g e Closed = e.handlers (event_of Closed)
+
+-- a number that has a body is below their number
+pub within : (hs : List code.Handler) (n : ℕ) (h : code.Handler) → slice_get hs n ≡ Some h → n < length hs
+within [] zero h e = absurd (cc)
+within [] (suc n) h e = absurd (cc)
+within (x ∷ hs) zero h e = omega arith
+within (x ∷ hs) (suc n) h e = let k = within hs n h e in omega (arith, k)
+
+-- those that are left
+pub first_left : (hs : List code.Handler) (n : ℕ) (h : code.Handler) → slice_get hs n ≡ Some h → drop n (map handler_of hs) ≡ handler_of h ∷ drop (n + 1) (map handler_of hs)
+first_left [] n h e = absurd (cc)
+first_left (x ∷ hs) zero h e = let same : x ≡ h = cc in ap (λ y. handler_of y ∷ map handler_of hs) same
+first_left (x ∷ hs) (suc n) h e =
+    let more : suc n + 1 ≡ suc (n + 1) = omega arith in
+    first_left hs n h e ∙ ap (λ r. handler_of h ∷ r) (sym (ap (λ k. drop k (map handler_of (x ∷ hs))) more))
+
+some_left : (hs : List code.Handler) (n : ℕ) → n < length hs → (b : Handler) × (bs : List Handler) × (drop n (map handler_of hs) ≡ b ∷ bs)
+some_left [] n e = absurd (omega (arith, e))
+some_left (x ∷ hs) zero e = (handler_of x, map handler_of hs, refl)
+some_left (x ∷ hs) (suc n) e = some_left hs n (omega (arith, e))
+
+pub none_left : (hs : List code.Handler) (n : ℕ) → length hs ≤ n → drop n (map handler_of hs) ≡ []
+none_left [] zero e = refl
+none_left [] (suc n) e = refl
+none_left (x ∷ hs) zero e = absurd (omega (arith, e))
+none_left (x ∷ hs) (suc n) e = none_left hs n (omega (arith, e))
+
+-- a body that begins comes to what its evaluation does
+begins_same : {H : Type 0} (g : given.Setting H) (tree : Tree) (budget : ℕ) (vars : Scopes) (host : H) (more : List Reply) (m : Standing) → m.frames.items ≡ [] → m.mode ≡ mode.Begin → m.budget ≡ budget
+    → evaluate g tree vars host more budget ≡ comes_to g tree m vars host more 0 []
+unfolding evaluate
+begins_same {H = H} g tree budget vars host more m frames begins units =
+    let F : List Frame → Mode → ℕ → Outcome H = λ fs md b. meaning g full_room tree fs md [] (state vars host more b 0 []) in
+    sym (ap (λ fs. F fs m.mode m.budget) frames ∙ ap (λ md. F [] md m.budget) begins ∙ ap (λ b. F [] mode.Begin b) units)
+
+pub body_begins : (s : code_setup.Setup) (g : Setup) → Serves s g → (e : EventName) (b : Handler) (bs : List Handler) (mid new : Conn) (at : At) (n : ℕ) → StartsBody s at n mid new
+    → (l : TraceState) → l.vars ≡ mid.vars → l.answers.replies ≡ [] → BodyGoesOn g e b bs 0 (record l { phase = InEvent e (Running b bs 0); host = seen_host mid.host }) new
+body_begins s g serves e b bs mid new at n k l vars none =
+    let S = body_setting g b.procedures in
+    let m = new.body.machine.at in
+    record {
+      acts = [];
+      cost = 0;
+      phase = refl;
+      same = λ more.
+          ap (λ rs. evaluate S b.body l.vars (seen_host mid.host) (rs ++ more) g.budget) none
+          ∙ ap (λ v. evaluate S b.body v (seen_host mid.host) more g.budget) (vars ∙ sym k.vars)
+          ∙ ap (λ h. evaluate S b.body new.vars (seen_host h) more g.budget) (sym k.host)
+          ∙ begins_same S b.body g.budget new.vars (seen_host new.host) more m k.fresh.frames k.fresh.mode (k.fresh.units ∙ sym serves.budget);
+    }
+
+-- behind an event
+after_stands : (g : Setup) (at : At) (fin : Bool) (new : Conn) (l : TraceState) → l.vars ≡ new.vars → l.answers.replies ≡ []
+    → Stands g (after_stage at) (put (after_event g (event_of at) fin Absent (seen_host new.host)) l) new
+after_stands g Accepted fin new l vars none = (refl, record { vars = vars; host = refl; replies = none })
+after_stands g Failed fin new l vars none = (refl, record { vars = vars; host = refl; replies = none })
+after_stands g Closed fin new l vars none = (refl, record { vars = vars; host = refl; replies = none })
+
+-- behind a body
+pub next_stands : (s : code_setup.Setup) (g : Setup) → Serves s g → (at : At) (n : ℕ) (mid new : Conn) → NextBody s at n mid new → (l : TraceState) → l.vars ≡ mid.vars → l.answers.replies ≡ [] → (fin : Bool)
+    → Stands g new.stage (put (next_body g (event_of at) fin Absent (drop n (g.handlers (event_of at))) (seen_host mid.host)) l) new
+next_stands s g serves at n mid new k l vars none fin = by_test (nat_lt n (length (bodies_at s at))) refl k
+  where
+    by_test : (b : Bool) → nat_lt n (length (bodies_at s at)) ≡ b → MatchBool b (StartsBody s at n mid new) (GoesTo (after_stage at) mid new) → Stands g new.stage (put (next_body g (event_of at) fin Absent (drop n (g.handlers (event_of at))) (seen_host mid.host)) l) new
+    by_test true e c =
+        let some = some_left (bodies_at s at) n (grind (arith, nat_tests, e)) in
+        let is : drop n (g.handlers (event_of at)) ≡ some.0 ∷ some.1 = ap (drop n) (handlers_are s g serves at) ∙ some.2 in
+        let P : List Handler → Type 0 = λ hs. RunsFirst g (event_of at) hs 0 (put (next_body g (event_of at) fin Absent hs (seen_host mid.host)) l) new in
+        let Q : Stage → Type 0 = λ st. Stands g st (put (next_body g (event_of at) fin Absent (drop n (g.handlers (event_of at))) (seen_host mid.host)) l) new in
+        subst Q (sym c.there) (subst P (sym is) (body_begins s g serves (event_of at) some.0 some.1 mid new at n c l vars none), c.fresh.runs)
+    by_test false e c =
+        let is : drop n (g.handlers (event_of at)) ≡ [] = ap (drop n) (handlers_are s g serves at) ∙ none_left (bodies_at s at) n (grind (arith, nat_tests, e)) in
+        let P : List Handler → Type 0 = λ hs. Stands g (after_stage at) (put (next_body g (event_of at) fin Absent hs (seen_host mid.host)) l) new in
+        let Q : Stage → Type 0 = λ st. Stands g st (put (next_body g (event_of at) fin Absent (drop n (g.handlers (event_of at))) (seen_host mid.host)) l) new in
+        let H : HostState → Type 0 = λ h. Stands g (after_stage at) (put (after_event g (event_of at) fin Absent h) l) new in
+        subst Q (sym c.there) (subst P (sym is) (subst H (ap seen_host c.host) (after_stands g at fin new l (vars ∙ sym c.vars) none)))
+
+-- where an event is entered
+pub entered_stands : (s : code_setup.Setup) (g : Setup) → Serves s g → (at : At) (new : Conn) → new.stage ≡ entered_stage s at → (l : TraceState) → l.vars ≡ new.vars → l.answers.replies ≡ []
+    → Stands g new.stage (put (entered g (event_of at) Absent (g.handlers (event_of at)) (seen_host new.host)) l) new
+entered_stands s g serves at new there l vars none =
+    let P : List Handler → Type 0 = λ hs. Stands g (entered_stage s at) (put (entered g (event_of at) Absent hs (seen_host new.host)) l) new in
+    let Q : Stage → Type 0 = λ st. Stands g st (put (entered g (event_of at) Absent (g.handlers (event_of at)) (seen_host new.host)) l) new in
+    subst Q (sym there) (subst P (sym (handlers_are s g serves at)) (by_bodies (bodies_at s at) (handlers_are s g serves at)))
+  where
+    by_bodies : (hs : List code.Handler) → g.handlers (event_of at) ≡ map handler_of hs → Stands g (entered_by at hs) (put (entered g (event_of at) Absent (map handler_of hs) (seen_host new.host)) l) new
+    by_bodies [] e = after_stands g at false new l vars none
+    by_bodies (h ∷ hs) e =
+        let P : List Handler → Type 0 = λ ms. GatedBefore (event_of at) ms (InEvent (event_of at) (Gated (handler_of h) (map handler_of hs))) in
+        (subst P (sym e) refl, record { vars = vars; host = refl; replies = none })

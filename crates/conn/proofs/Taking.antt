@@ -1,0 +1,79 @@
+-- A connection of which more is taken, and one that begins.
+use Rattle.std.proofs.Common.{◌≡◌, refl, sym, ap, subst, ◌∙◌, ℕ, ◌+◌, ◌-◌, ◌≤◌, List, [], ◌∷◌, length, drop, arith, false, option_map}
+use Rattle.std.proofs.lemmas.List.{length-drop}
+use Rattle.event_order.specs.declared.event.EventName.{EventName}
+use Rattle.event_order.specs.declared.event.EventName.TheVariants.{ClientAccepted}
+use Rattle.tcl_vars.specs.Scopes.{no_scopes}
+use Rattle.connection_model.specs.Gates.{no_bytes}
+use Rattle.connection_model.specs.Host.{HostState, first_host}
+use Rattle.connection_model.specs.Places.{at as put, begun, entered}
+use Rattle.connection_model.specs.Setup.{Handler, Setup}
+use Rattle.connection_model.specs.State.{Absent, Draining, NoServer, TraceState, no_stream, no_answers}
+use Rattle.connection_model.specs.Trace.{start}
+use Rattle.conn.specs.Calls.{Begins, Takes}
+use Rattle.conn.specs.Events.{event_of}
+use Rattle.conn.specs.Holds.{Between, RunsFirst, Stands}
+use Rattle.conn.specs.Hosts.{fresh_host, seen_host}
+use Rattle.conn.specs.Stages.{entered_stage}
+use Rattle.conn.specs.declared.connection.Conn.{Conn}
+use Rattle.conn.specs.declared.events.At.TheVariants.{Accepted}
+use Rattle.conn.specs.declared.setup.Setup as code
+use Rattle.conn.specs.declared.stage.Stage.{Stage}
+use Rattle.conn.specs.declared.stage.Stage.TheVariants as stage
+use Rattle.conn.proofs.Places.{entered_stands}
+
+-- the same with another queue
+abbrev pub with_queue : List ℕ → Conn → Conn
+with_queue q c = record c { host = record c.host { to_client = q } }
+
+same_body : (g : Setup) (e : EventName) (hs : List Handler) (n : ℕ) (l : TraceState) (c : Conn) (q : List ℕ) → RunsFirst g e hs n l c → RunsFirst g e hs n l (with_queue q c)
+same_body g e [] n l c q k = k
+same_body g e (b ∷ bs) n l c q k = record { acts = k.acts; cost = k.cost; phase = k.phase; same = k.same }
+
+same_between : (l : TraceState) (c : Conn) (q : List ℕ) → Between l c → Between l (with_queue q c)
+same_between l c q b = record { vars = b.vars; host = b.host; replies = b.replies }
+
+-- where it stands doesn't read it
+same_stands : (g : Setup) (st : Stage) (l : TraceState) (c : Conn) (q : List ℕ) → Stands g st l c → Stands g st l (with_queue q c)
+same_stands g (stage.Gated at) l c q k = (k.0, same_between l c q k.1)
+same_stands g (stage.Running at n) l c q k = (same_body g (event_of at) (drop n (g.handlers (event_of at))) 0 l c q k.0, k.1)
+same_stands g (stage.Asking at n) l c q k = (same_body g (event_of at) (drop n (g.handlers (event_of at))) 1 l c q k.0, k.1)
+same_stands g (stage.Failing at n kind line) l c q k = (k.0, same_between l c q k.1)
+same_stands g stage.Choosing l c q k = (k.0, same_between l c q k.1)
+same_stands g (stage.Finishing f) l c q k = (k.0, same_between l c q k.1)
+same_stands g stage.Draining l c q k = (k.0, same_between l c q k.1)
+
+pub takes : (n : ℕ) (old : Conn) (q : List ℕ) → n ≤ length old.host.to_client → q ≡ drop n old.host.to_client → Takes n old (with_queue q old)
+takes n old q within is g a l h = record {
+  stage = same_stands g old.stage l old q h.stage;
+  taken = h.taken + n;
+  not_reset = ap (option_map (λ k. k + n)) h.not_reset;
+  untaken = (let s : length q ≡ length old.host.to_client - n = ap length is ∙ length-drop n old.host.to_client in let u = h.untaken in omega (arith, s, u, within));
+  no_server = h.no_server;
+  none_sent = h.none_sent;
+  no_number = h.no_number;
+  no_cut = h.no_cut;
+}
+
+-- a connection that begins stands where its trace does
+pub begins : (s : code.Setup) (new : Conn) → new.stage ≡ entered_stage s Accepted → new.vars ≡ no_scopes → new.host ≡ fresh_host → Begins s new
+begins s new there vars host g serves =
+    let l0 : TraceState = record { phase = Draining; vars = no_scopes; host = first_host g; finished = false; client = no_stream; server = NoServer; sent = no_bytes; answers = no_answers } in
+    let first : begun ClientAccepted Absent (first_host g) ≡ seen_host new.host = ap (λ t. begun ClientAccepted Absent (record (first_host g) { target = t })) serves.target ∙ ap seen_host (sym host) in
+    let P : HostState → Type 0 = λ h. Stands g new.stage (put (entered g ClientAccepted Absent (g.handlers ClientAccepted) h) l0) new in
+    record {
+      stage = subst P (sym first) (entered_stands s g serves Accepted new there l0 (sym vars) refl);
+      taken = 0;
+      not_reset = refl;
+      untaken = sent_none;
+      no_server = refl;
+      none_sent = same_none;
+      no_number = refl;
+      no_cut = refl;
+    }
+  where
+    same_none : (start g no_stream no_answers).sent.server ≡ 0
+    same_none = refl
+
+    sent_none : length new.host.to_client + 0 ≡ (start g no_stream no_answers).sent.client
+    sent_none = ap (λ h. length h.to_client + 0) host

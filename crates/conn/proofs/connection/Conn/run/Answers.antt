@@ -1,0 +1,50 @@
+use Rattle.std.proofs.Common.{◌≡◌, sym, ap, subst, ◌∙◌, ◌∷◌, ◌++◌, arith}
+use Rattle.connection_model.specs.declared.note.Note.TheVariants.{Finish}
+use Rattle.connection_model.specs.declared.note.Cause.TheVariants.{Memory}
+use Rattle.conn.specs.Acts.{Acted}
+use Rattle.conn.specs.RunsItems.{closing}
+use Rattle.conn.specs.declared.turn.Act.TheVariants as done
+use Rattle.conn.specs.declared.turn.ConnTurn.{ConnTurn}
+use Rattle.conn.proofs.Running.{RunsBy, at_first, one_more, runs_more, runs_asks, runs_rests, runs_out}
+use Rattle.conn.proofs.connection.Conn.run.Goals as goal
+
+pub loop-moved-init : goal.loop-moved-init
+loop-moved-init g c =
+    let given = c.len-given.ensures in
+    let room = c.requires in
+    (at_first c.args.setup.now c.args.number c.args.self.now c.args.notes.now.items, omega (arith, given), omega (arith, given, room))
+
+pub loop-moved-preserved : goal.loop-moved-preserved
+loop-moved-preserved g c =
+    let k = c.loop-moved.invariant in
+    let acted : Acted c.args.setup.now c.args.number c.loop-moved.self c.advance.new.self c.loop-moved.notes.items c.advance.new.notes.items done.Goes = rw c.in-Ok-Goes.field-0-is at c.in-Ok-Goes.ensures.ok in
+    let grows = c.advance.ensures.grows in
+    let room = c.advance.ensures.room in
+    let within = k.1 in
+    let wide = k.2 in
+    (one_more c.args.setup.now c.args.number c.args.self.now c.loop-moved.self c.advance.new.self c.args.notes.now.items c.loop-moved.notes.items c.advance.new.notes.items k.0 acted, omega (arith, grows, within), omega (arith, room, wide))
+
+pub returns-then-len-given-ge-MOST_NOTES : goal.returns-then-len-given-ge-MOST_NOTES
+returns-then-len-given-ge-MOST_NOTES g c = runs_more c.args.setup.now c.args.number c.args.self.now c.loop-moved.self c.args.notes.now.items c.loop-moved.notes.items c.loop-moved.invariant.0
+
+pub returns-in-Ok-Asks : goal.returns-in-Ok-Asks
+returns-in-Ok-Asks g c =
+    let acted : Acted c.args.setup.now c.args.number c.loop-moved.self c.advance.new.self c.loop-moved.notes.items c.advance.new.notes.items (done.Asks c.in-Ok-Asks.call) = rw c.in-Ok-Asks.field-0-is at c.in-Ok-Asks.ensures.ok in
+    runs_asks c.args.setup.now c.args.number c.args.self.now c.loop-moved.self c.advance.new.self c.args.notes.now.items c.loop-moved.notes.items c.advance.new.notes.items c.in-Ok-Asks.call c.loop-moved.invariant.0 acted
+
+pub returns-in-Ok-Rests : goal.returns-in-Ok-Rests
+returns-in-Ok-Rests g c =
+    let acted : Acted c.args.setup.now c.args.number c.loop-moved.self c.advance.new.self c.loop-moved.notes.items c.advance.new.notes.items done.Rests = rw c.in-Ok-Rests.field-0-is at c.in-Ok-Rests.ensures.ok in
+    runs_rests c.args.setup.now c.args.number c.args.self.now c.loop-moved.self c.advance.new.self c.args.notes.now.items c.loop-moved.notes.items c.advance.new.notes.items c.rest.new.notes.items c.rest.result c.loop-moved.invariant.0 acted c.rest.ensures
+
+pub returns-in-Err : goal.returns-in-Err
+returns-in-Err g c =
+    let same : c.advance.new.notes.items ≡ c.loop-moved.notes.items = ap (λ n. n.items) c.in-Err.ensures.err in
+    let noted : c.fail.new.notes.items ≡ c.loop-moved.notes.items ++ Finish c.args.number Memory ∷ closing c.args.number c.pending-pending.result =
+    c.fail.ensures.noted ∙ ap (λ x. x ++ Finish c.args.number Memory ∷ closing c.args.number c.pending-pending.result) same in
+    let P : ConnTurn → Type 0 = λ t. RunsBy c.args.setup.now c.args.number c.args.self.now c.advance.new.self c.args.notes.now.items c.fail.new.notes.items t in
+    subst P (sym c.fail.ensures.over)
+    (runs_out c.args.setup.now c.args.number c.pending-pending.result c.args.self.now c.loop-moved.self c.advance.new.self c.args.notes.now.items c.loop-moved.notes.items c.fail.new.notes.items c.loop-moved.invariant.0 c.pending-pending.ensures noted)
+
+pub returns : goal.returns
+returns g c = runs_more c.args.setup.now c.args.number c.args.self.now c.loop-moved.self c.args.notes.now.items c.loop-moved.notes.items c.loop-moved.invariant.0

@@ -1,0 +1,9 @@
+use Rattle.std.proofs.Common.{◌≤◌, ◌+◌, length}
+use Rattle.conn.proofs.Running.{RunsOn}
+use Rattle.conn.proofs.connection.Conn.run.Given as goal
+
+abbrev pub invariant-loop-moved : goal.invariant-loop-moved
+invariant-loop-moved g l =
+    RunsOn l.setup l.number l.initial.self l.self l.initial.notes.items l.notes.items
+    × (l.given ≤ length l.notes.items)
+    × (68 + l.given ≤ l.notes.spare + length l.notes.items)

@@ -1,0 +1,19 @@
+-- A body of the code.
+use Rattle.std.specs.Prelude.{◌≡◌, ℕ, [], true}
+use Rattle.frame_machine.specs.declared.frame.Mode.TheVariants as mode
+use Rattle.frame_machine.specs.declared.turn.Turn.{Turn}
+use Rattle.frame_machine.specs.declared.turn.Turn.TheVariants as turn
+use Rattle.conn.specs.declared.body.Body.{Body}
+
+-- before its first command
+pub record Fresh (body : Body) (budget : ℕ) : Type 0 where
+  pub frames : body.machine.at.frames.items ≡ []
+  pub mode : body.machine.at.mode ≡ mode.Begin
+  pub units : body.machine.at.budget ≡ budget
+  pub runs : body.runs ≡ true
+
+-- what a step said is what may be done next
+abbrev pub SaidIs : Turn → Body → Type 0
+SaidIs turn.More body = body.runs ≡ true
+SaidIs (turn.Asks call) body = body.asks ≡ true
+SaidIs (turn.Done code) body = Unit {0}

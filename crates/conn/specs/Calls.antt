@@ -1,0 +1,38 @@
+-- What the calls of a connection make of it, for each state that its trace may stand at.
+use Rattle.std.specs.Prelude.{◌≡◌, ℕ, ◌+◌, Bool, ◌&&◌, option_map}
+use Rattle.connection_model.specs.Setup as model
+use Rattle.connection_model.specs.State.{TraceState, no_stream, no_answers}
+use Rattle.connection_model.specs.Trace.{start}
+use Rattle.conn.specs.declared.connection.Conn.{Conn}
+use Rattle.conn.specs.declared.setup.Setup.{Setup}
+use Rattle.conn.specs.Holds.{Around, fresh, Holds}
+use Rattle.conn.specs.RunsItems.{is_drained}
+use Rattle.conn.specs.Setups.{Serves}
+use Rattle.conn.specs.Stages.{is_draining}
+use Rattle.seg_buffer.specs.Bytes.{is_empty}
+
+-- the most bytes of a side that may lie unread, all of which are wanted while nothing arrives
+abbrev pub wanted : ℕ
+wanted = 65536
+
+abbrev pub Begins : Setup → Conn → Type 0
+Begins s new = (g : model.Setup) → Serves s g → Holds g fresh (start g no_stream no_answers) new
+
+-- n bytes more are taken
+abbrev pub took_more : ℕ → Around → Around
+took_more n a = record a { took = record a.took { client = option_map (λ k. k + n) a.took.client } }
+
+abbrev pub Takes : ℕ → Conn → Conn → Type 0
+Takes n old new =
+    (g : model.Setup) (a : Around) (l : TraceState) → Holds g a l old
+    → Holds g (took_more n a) l new
+
+-- what is left is taken
+abbrev pub over_in : Conn → Bool
+over_in c = is_draining c.stage && is_empty c.host.to_client
+
+-- its trace is over, and its client took all
+abbrev pub Settles : Conn → Bool → Type 0
+Settles c over =
+    (g : model.Setup) (a : Around) (l : TraceState) → Holds g a l c
+    → over ≡ is_drained g a.took l

@@ -1,0 +1,12 @@
+pub mod Events
+pub mod Setups
+pub mod Stages
+pub mod Modes
+pub mod Hosts
+pub mod Making
+pub mod Bodies
+pub mod Acts
+pub mod Holds
+pub mod RunsItems
+pub mod Calls
+pub mod Runs

@@ -1,0 +1,51 @@
+-- What a Run makes of a connection, for each state that its trace may stand at.
+use Rattle.std.specs.Prelude.{◌≡◌, ◌⊎◌, ℕ, ◌+◌, List, ◌++◌, length, true, false}
+use Rattle.connection_model.specs.declared.note.Note.{Note}
+use Rattle.connection_model.specs.Gates.{Met}
+use Rattle.connection_model.specs.Item.{Item, client_output}
+use Rattle.connection_model.specs.Setup as model
+use Rattle.connection_model.specs.State.{TraceState}
+use Rattle.connection_model.specs.Trace.{Unfolds}
+use Rattle.conn.specs.declared.connection.Conn.{Conn}
+use Rattle.conn.specs.declared.setup.Setup.{Setup}
+use Rattle.conn.specs.declared.turn.ConnTurn.{ConnTurn}
+use Rattle.conn.specs.declared.turn.ConnTurn.TheVariants as turn
+use Rattle.conn.specs.Holds.{Around, Holds}
+use Rattle.conn.specs.RunsItems.{RunsItems, closing, out_of_memory}
+use Rattle.conn.specs.Calls.{Settles}
+use Rattle.conn.specs.Setups.{Serves}
+use Rattle.conn.specs.Stages.{is_asking}
+
+-- it goes on with these items, and its queue grew by what they send
+pub record GoesOnWith (g : model.Setup) (a : Around) (l : TraceState) (c : ℕ) (old new : Conn)
+    (group : List Note) (t : ConnTurn) : Type 0 where
+  pub more : List Item
+  pub at : TraceState
+  pub items : RunsItems g a.took l c more at group t
+  pub holds : Holds g a at new
+  pub queue : new.host.to_client ≡ old.host.to_client ++ client_output more
+
+-- behind these items it found no memory, and all that is queued is dropped
+pub record StopsWithout (g : model.Setup) (a : Around) (l : TraceState) (c : ℕ) (old : Conn)
+    (group : List Note) (t : ConnTurn) : Type 0 where
+  pub more : List Item
+  pub at : TraceState
+  pub passed : Unfolds g l more at
+  pub met : Met l.sent a.took more
+  pub noted : group ≡ out_of_memory c more
+      (length old.host.to_client + length (client_output more))
+  pub over : t ≡ turn.Over
+
+-- wherever its trace stands, and no call is open
+abbrev pub Runs : Setup → ℕ → Conn → Conn → List Note → ConnTurn → Type 0
+Runs s c old new group t =
+    (g : model.Setup) (a : Around) (l : TraceState) → Serves s g → Holds g a l old
+    → is_asking old.stage ≡ false
+    → GoesOnWith g a l c old new group t ⊎ StopsWithout g a l c old group t
+
+-- where no more may be given the last notes come, if it is over
+abbrev pub Rested : ℕ → Conn → List Note → List Note → ConnTurn → Type 0
+Rested c conn before after turn.More = ⊥
+Rested c conn before after (turn.Asks call) = ⊥
+Rested c conn before after turn.NotYet = Settles conn false × (after ≡ before)
+Rested c conn before after turn.Over = Settles conn true × (after ≡ before ++ closing c 0)

@@ -1,0 +1,97 @@
+// A body that runs.
+
+use crate::setup::Handler;
+use frame_machine::{Host, Machine, Turn};
+use px_bytes::{M, Steps};
+use std::alloc::Global;
+use std::sync::ledger::Ledger;
+use tcl_vars::Vars;
+
+/// A body by steps, and whether its next step may be made.
+#[derive(Drop)]
+pub struct Body {
+    pub(crate) machine: Machine,
+    /// The next step may be made.
+    pub(crate) runs: bool,
+    /// A shared call waits.
+    pub(crate) asks: bool,
+    ghost running: { runs ≡ true → is_running machine.at.mode ≡ true },
+    ghost asking: { asks ≡ true → is_asked machine.at.mode ≡ true },
+}
+
+ghost use Rattle.std.specs.Prelude.{◌≡◌, true};
+ghost use Rattle.conn.specs.Modes.{is_running, is_asked};
+
+impl Body {
+    ghost use Rattle.std.specs.Prelude.{◌+◌, ◌-◌, ◌<◌, ◌≤◌, false, List, Some, OnOk, IfOk};
+    ghost use Rattle.px_bytes.specs.Host.{Effect};
+    ghost use Rattle.tcl_compile.specs.Procedures.{procs_view};
+    ghost use Rattle.tcl_compile.specs.TreeView.{node_view};
+    ghost use Rattle.frame_machine.specs.Given.{setting};
+    ghost use Rattle.frame_machine.specs.Went.{Went, place};
+    ghost use Rattle.conn.specs.Bodies.{Fresh, SaidIs};
+
+    /// A body that doesn't run.
+    pub fn new(alloc: Global) -> Body {
+        Body {
+            machine: Machine::start(alloc, 0),
+            runs: false,
+            asks: false,
+        }
+    }
+
+    /// A body begins, with this budget.
+    pub fn begin(&mut self, budget: u32)
+        ensures { Fresh self.new budget }
+    {
+        self.machine.restart(budget);
+        self.runs = true;
+        self.asks = false;
+    }
+
+    /// One step of the body, on these static variables.
+    pub fn step<H: Host, L: Ledger>(
+        &mut self,
+        alloc: Global,
+        handler: &Handler,
+        statics: &Vars,
+        vars: &mut Vars,
+        host: &mut H,
+        env: &H::Env,
+        steps: &mut Steps<L>,
+    ) -> M<Turn>
+        ensures went { let procs = procs_view handler.now.procs in
+            let g = setting (Some statics.now.statics) (H.table env.now) procs in
+            let t = node_view handler.now.body in
+            let old = place self.old.machine.at vars.old (H.seen host.old) in
+            let new = place self.new.machine.at vars.new (H.seen host.new) in
+            let made : List Effect → Type 0 = λ es. H.made host.old es host.new in
+            let ticks = steps.new - steps.old in
+            IfOk result (λ turn. self.old.runs ≡ true → Went g t old new turn made ticks) }
+        ensures said { IfOk result (λ turn. self.old.runs ≡ true → SaidIs turn self.new) }
+        ensures stopped { self.old.runs ≡ false → steps.new ≡ steps.old }
+    {
+        if !self.runs {
+            return Ok(Turn::More);
+        }
+        self.runs = false;
+        self.asks = false;
+        let statics = Some(statics);
+        let turn = self.machine.step::<H, L>(
+            alloc,
+            &handler.body,
+            &handler.procs,
+            statics,
+            vars,
+            host,
+            env,
+            steps,
+        )?;
+        match &turn {
+            Turn::More => self.runs = true,
+            Turn::Asks(_) => self.asks = true,
+            Turn::Done(_) => {}
+        }
+        Ok(turn)
+    }
+}

@@ -1,0 +1,122 @@
+// A connection.
+
+ghost use Rattle.std.specs.Prelude.{◌≡◌, ◌≤◌, ◌++◌, [], IfOk, length, take, drop};
+ghost use Rattle.conn.specs.Calls.{Begins, Takes, Settles, over_in, wanted};
+ghost use Rattle.conn.specs.RunsItems.{closing_if};
+
+use crate::body::Body;
+use crate::events::At;
+use crate::host::RuleHost;
+use crate::setup::Setup;
+use crate::stage::Stage;
+use connection_model::{Note, Notes};
+use px_bytes::{M, Text};
+use std::alloc::Global;
+use tcl_vars::Vars;
+
+/// The most bytes of a side that may have arrived and not been read.
+const UNREAD_LIMIT: usize = 65_536;
+
+/// A connection: where it stands, the body that runs, the variables of its rules, which all events
+/// share, and their host.
+#[derive(Drop)]
+pub struct Conn {
+    pub(crate) stage: Stage,
+    pub(crate) body: Body,
+    pub(crate) vars: Vars,
+    pub(crate) host: RuleHost,
+}
+
+impl Conn {
+    /// A connection that was accepted and has done nothing yet.
+    pub fn new(alloc: Global, setup: &Setup<'_>) -> Conn
+        ensures begins { Begins setup.now result }
+        ensures queue { result.host.to_client ≡ [] }
+    {
+        Conn {
+            stage: setup.enter(At::Accepted),
+            body: Body::new(alloc),
+            vars: Vars::new(alloc),
+            host: RuleHost::new(alloc),
+        }
+    }
+
+    /// Its client took the first `n` bytes.
+    pub fn took(&mut self, n: usize)
+        requires { n ≤ length self.old.host.to_client }
+        ensures takes { Takes n self.old self.new }
+        ensures queue { self.new.host.to_client ≡ drop n self.old.host.to_client }
+    {
+        self.host.to_client.drop_front(n);
+    }
+
+    /// How many bytes its client is to take.
+    pub fn pending(&self) -> usize
+        ensures { result ≡ length self.now.host.to_client }
+    {
+        self.host.to_client.len()
+    }
+
+    /// The bytes that its client is to take.
+    pub fn front(&self) -> &[u8]
+        ensures { result.now ≡ self.now.host.to_client }
+    {
+        self.host.to_client.front()
+    }
+
+    /// The first `n` of them.
+    pub fn copy(&self, n: usize) -> M<Text>
+        requires { n ≤ length self.now.host.to_client }
+        ensures { IfOk result (λ text. text ≡ take n self.now.host.to_client) }
+    {
+        self.host.to_client.copy(n)
+    }
+
+    /// How many bytes that its client sends may arrive. None arrive today.
+    pub fn wants(&self) -> usize
+        ensures { result ≡ wanted }
+    {
+        UNREAD_LIMIT
+    }
+
+    /// Gives its last notes where it is over and its client took all, and says whether.
+    pub fn settle(&self, number: u32, notes: &mut Notes) -> bool
+        requires { 2 ≤ notes.old.spare }
+        ensures settles { Settles self.now result }
+        ensures notes { notes.new.items ≡ notes.old.items ++ closing_if result number }
+    {
+        self.close_if_over(number, notes)
+    }
+
+    fn close_if_over(&self, number: u32, notes: &mut Notes) -> bool
+        requires { 2 ≤ notes.old.spare }
+        ensures over { result ≡ over_in self.now }
+        ensures notes { notes.new.items ≡ notes.old.items ++ closing_if result number }
+    {
+        let over = self.is_over();
+        if over {
+            close(number, 0, notes);
+        }
+        over
+    }
+
+    fn is_over(&self) -> bool
+        ensures { result ≡ over_in self.now }
+    {
+        self.stage.is_draining() && self.host.to_client.is_empty()
+    }
+}
+
+ghost use Rattle.conn.specs.RunsItems.{closing};
+
+/// The last notes of a connection.
+pub(crate) fn close(number: u32, dropped: usize, notes: &mut Notes)
+    requires { 2 ≤ notes.old.spare }
+    ensures { notes.new.items ≡ notes.old.items ++ closing number dropped }
+{
+    notes.push_reserved(Note::CloseClient { conn: number });
+    notes.push_reserved(Note::Ended {
+        conn: number,
+        dropped,
+    });
+}

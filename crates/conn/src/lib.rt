@@ -1,0 +1,22 @@
+//! One connection: the bodies of its rules by steps, a slice at a time.
+#![tactic(auto)]
+
+mod advance;
+mod body;
+mod body_step;
+mod connection;
+mod events;
+mod host;
+mod run;
+mod setup;
+mod stage;
+mod turn;
+mod uncaught;
+
+pub use body::Body;
+pub use connection::Conn;
+pub use events::At;
+pub use host::RuleHost;
+pub use setup::{Handler, Setup};
+pub use stage::{Finish, Stage};
+pub use turn::ConnTurn;

@@ -1,0 +1,79 @@
+// A slice of a connection.
+
+ghost use Rattle.std.specs.Prelude.{◌≡◌, ◌≤◌, ◌∷◌, ◌++◌, List};
+ghost use Rattle.connection_model.specs.declared.note.Note.{Note};
+ghost use Rattle.connection_model.specs.declared.note.Note.TheVariants as noted;
+ghost use Rattle.connection_model.specs.declared.note.Cause.TheVariants as causes;
+ghost use Rattle.conn.specs.Runs.{Rested, Runs};
+ghost use Rattle.conn.specs.RunsItems.{closing};
+
+use crate::connection::{Conn, close};
+use crate::setup::Setup;
+use crate::turn::{Act, ConnTurn};
+use connection_model::{Cause, Note, Notes};
+use px_bytes::Steps;
+use std::alloc::Global;
+use std::sync::ledger::Ledger;
+
+/// A Run goes on for as many moves, and while it gave fewer notes.
+const MOST_MOVES: usize = 199;
+
+const MOST_NOTES: usize = 64;
+
+impl Conn {
+    /// Goes on until it waits, is over, made 199 moves or gave 64 notes. Where memory
+    /// is refused it finishes and is over.
+    pub fn run<L: Ledger>(
+        &mut self,
+        alloc: Global,
+        setup: &Setup<'_>,
+        number: u32,
+        steps: &mut Steps<L>,
+        notes: &mut Notes,
+    ) -> ConnTurn
+        requires { 68 ≤ notes.old.spare }
+        ensures { (group : List Note) × (notes.new.items ≡ notes.old.items ++ group)
+            × Runs setup.now number self.old self.new group result }
+    {
+        let given = notes.len();
+        for _moved in 0..MOST_MOVES {
+            if notes.len() - given >= MOST_NOTES {
+                return ConnTurn::More;
+            }
+            let pending = self.pending();
+            match self.advance(alloc, setup, number, steps, notes) {
+                Ok(Act::Goes) => {}
+                Ok(Act::Asks(call)) => return ConnTurn::Asks(call),
+                Ok(Act::Rests) => return self.rest(number, notes),
+                Err(_) => return fail(number, pending, notes),
+            }
+        }
+        ConnTurn::More
+    }
+
+    fn rest(&self, number: u32, notes: &mut Notes) -> ConnTurn
+        requires { 2 ≤ notes.old.spare }
+        ensures { Rested number self.now notes.old.items notes.new.items result }
+    {
+        if self.settle(number, notes) {
+            ConnTurn::Over
+        } else {
+            ConnTurn::NotYet
+        }
+    }
+}
+
+// No memory was found, and so many bytes are dropped.
+fn fail(number: u32, dropped: usize, notes: &mut Notes) -> ConnTurn
+    requires { 3 ≤ notes.old.spare }
+    ensures over { result ≡ ConnTurn.Over }
+    ensures noted { notes.new.items ≡ notes.old.items
+        ++ noted.Finish number causes.Memory ∷ closing number dropped }
+{
+    notes.push_reserved(Note::Finish {
+        conn: number,
+        cause: Cause::Memory,
+    });
+    close(number, dropped, notes);
+    ConnTurn::Over
+}

@@ -1,0 +1,94 @@
+// Where a connection stands.
+
+ghost use Rattle.std.specs.Prelude.{◌≡◌};
+ghost use Rattle.conn.specs.Stages.{after_stage, cause_for, is_asking, is_draining};
+
+use crate::events::At;
+use connection_model::Cause;
+use px_bytes::{FaultKind, Text};
+
+/// Why a connection finishes.
+#[derive(Clone, Copy)]
+pub enum Finish {
+    /// No server could be selected.
+    Unselected,
+    /// A fault that no body caught.
+    Fault(FaultKind),
+}
+
+impl Finish {
+    pub fn cause(self) -> Cause
+        ensures { result ≡ cause_for self }
+    {
+        match self {
+            Finish::Unselected => Cause::Unselected,
+            Finish::Fault(kind) => Cause::Tcl(kind),
+        }
+    }
+}
+
+/// Where a connection stands.
+#[derive(Drop)]
+pub enum Stage {
+    /// At the gate before the bodies of an event.
+    Gated {
+        at: At,
+    },
+    /// The body of this number runs.
+    Running {
+        at: At,
+        number: usize,
+    },
+    /// It waits for the reply to a shared call.
+    Asking {
+        at: At,
+        number: usize,
+    },
+    /// A body left a fault uncaught, whose line is to be logged; `next` is the number of the body
+    /// behind it.
+    Failing {
+        at: At,
+        next: usize,
+        kind: FaultKind,
+        line: Text,
+    },
+    /// A server is to be selected.
+    Choosing,
+    /// It is to finish.
+    Finishing(Finish),
+    /// What is queued is to be taken.
+    Draining,
+}
+
+impl Stage {
+    /// Where a connection stands whose bodies of an event have ended.
+    pub fn after(at: At) -> Stage
+        ensures { result ≡ after_stage at }
+    {
+        match at {
+            At::Accepted => Stage::Choosing,
+            At::Failed => Stage::Finishing(Finish::Unselected),
+            At::Closed => Stage::Draining,
+        }
+    }
+
+    /// Whether it waits for a reply.
+    pub fn is_asking(&self) -> bool
+        ensures { result ≡ is_asking self.now }
+    {
+        match self {
+            Stage::Asking { .. } => true,
+            _ => false,
+        }
+    }
+
+    /// Whether only what is queued is left.
+    pub fn is_draining(&self) -> bool
+        ensures { result ≡ is_draining self.now }
+    {
+        match self {
+            Stage::Draining => true,
+            _ => false,
+        }
+    }
+}
