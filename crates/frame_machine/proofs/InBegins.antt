@@ -1,5 +1,5 @@
 -- The moves of nodes with words, and of what ends at once.
-use Rattle.std.proofs.Common.{◌≡◌, refl, ap, ◌∙◌, ℕ, ◌+◌, ◌≤◌, List, [], ◌++◌, Bool, true, Some, append-nil, arith}
+use Rattle.std.proofs.Common.{◌≡◌, refl, ap, ◌∙◌, ℕ, ◌+◌, ◌≤◌, List, [], ◌++◌, Bool, true, Some, None, append-nil, arith}
 use Rattle.px_bytes.specs.declared.fault.Reply.{Reply}
 use Rattle.tcl_compile.specs.Procedures.{Procedure}
 use Rattle.tcl_compile.specs.Tree.{Tree}
@@ -43,6 +43,8 @@ module _ {H : Type 0} (g : Setting H) (r : Room) (w : Bool) (t : Tree) where
     acts = [];
     same = λ p more cost before. rw append-nil (ap (heard w) (e p more cost before));
     by = m;
+    called = None;
+    once = (refl, refl);
   }
 
   pub flat_moved : (vars : Scopes) (h : H) (budget a : ℕ) (made : List Effect → Type 0) → is_flat t ≡ true
@@ -60,6 +62,8 @@ module _ {H : Type 0} (g : Setting H) (r : Room) (w : Bool) (t : Tree) where
     acts = [];
     same = λ p more cost before. rw (append-nil before, heard_true) refl;
     by = m;
+    called = None;
+    once = (refl, refl);
   }
 
   pub first_moved : (vars : Scopes) (h : H) (budget a b : ℕ) (new : Now H) (next : Next)
@@ -102,6 +106,8 @@ module _ {H : Type 0} (g : Setting H) (r : Room) (w : Bool) (t : Tree) where
         ∙ f.same (inner_of g r) p more budget (cost + a) before
         ∙ ap (heard w) (done_next d p (state vars' h' more budget (cost + a) (before ++ f.acts)));
     by = f.by;
+    called = f.called;
+    once = f.once;
   }
 
 verb_end : {H : Type 0} (g : Setting H) (i : Inner H) (t : Tree) (v : Verb) (words : List (List ℕ))

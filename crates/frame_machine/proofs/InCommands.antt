@@ -1,5 +1,5 @@
 -- What a command and a host's answer come to.
-use Rattle.std.proofs.Common.{◌≡◌, refl, ap, ◌∙◌, sym, ℕ, List, [], ◌∷◌, map, Bool, true, false, append-nil}
+use Rattle.std.proofs.Common.{◌≡◌, refl, ap, ◌∙◌, sym, ℕ, List, [], ◌∷◌, map, Bool, true, false, Some, None, append-nil}
 use Rattle.px_bytes.specs.declared.fault.HostAnswer.TheVariants as answer
 use Rattle.px_bytes.specs.declared.fault.TclFault.{TclFault}
 use Rattle.tcl_compile.specs.declared.node.Verb.{Verb}
@@ -28,6 +28,7 @@ answers_value (Gives w h es) after v made d = record {
   acts = map Did es;
   same = λ p vars k more budget cost before. rw (d.0, d.1) refl;
   by = rw (effects_did es) d.2;
+  once = (d.1, refl);
 }
 answers_value (Faults w h es) after v made d = absurd d
 answers_value (Asks call h) after v made d = absurd d
@@ -39,6 +40,7 @@ answers_fault (Faults e h es) after f made d = record {
   acts = map Did es;
   same = λ p vars k more budget cost before. rw (d.0, d.1) refl;
   by = rw (effects_did es) d.2;
+  once = (d.1, refl);
 }
 answers_fault (Asks call h) after f made d = absurd d
 
@@ -51,6 +53,7 @@ answers_ask (Asks asked h) after call made d = record {
   acts = [];
   same = λ p vars k more budget cost before. rw (d.0, d.1, append-nil) refl;
   by = d.2;
+  once = (d.1, refl);
 }
 
 module _ {H : Type 0} (g : Setting H) (i : Inner H) where
@@ -94,6 +97,8 @@ finished_host g w v ws vars h after d made a b is ans = record {
       (host_by g i v ws p (state vars h more budget cost before) a b is
       ∙ ans.same p vars h more budget cost before);
   by = ans.by;
+  called = Some ws;
+  once = ans.once;
 }
 
 pub finished_own : {H : Type 0} (g : Setting H) (w : Bool) (v : Verb) (ws : List (List ℕ))
@@ -108,4 +113,6 @@ finished_own g w v ws vars vars' h c made is e f m = record {
       ∙ rw (append-nil, f) (ap (λ x. Ends x
       (state (own_done g.statics v ws vars).vars h more budget cost before)) (sym e));
   by = m;
+  called = None;
+  once = (refl, refl);
 }

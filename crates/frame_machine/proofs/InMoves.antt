@@ -1,5 +1,5 @@
 -- Moves from moves.
-use Rattle.std.proofs.Common.{◌≡◌, ap, ◌∙◌, ℕ, ◌+◌, List, [], Bool, append-nil, add_assoc}
+use Rattle.std.proofs.Common.{◌≡◌, refl, ap, ◌∙◌, ℕ, ◌+◌, List, [], Bool, None, append-nil, add_assoc}
 use Rattle.px_bytes.specs.declared.fault.Reply.{Reply}
 use Rattle.tcl_compile.specs.Tree.{Tree}
 use Rattle.tcl_vars.specs.Scopes.{Scopes}
@@ -23,6 +23,8 @@ comes_moved g r w t whole vars vars' h budget budget' a b c next made k n v u pa
   same = λ p more cost before. rw (n, v, u, append-nil, paid, ← add_assoc cost a c.move.cost)
       (k.same p h more (cost + a) before);
   by = m;
+  called = None;
+  once = (refl, refl);
 }
 
 -- what is paid before a move
@@ -37,4 +39,6 @@ moved_after g r w t whole mid vars h budget a a' n new next made e paid q = reco
   same = λ p more cost before. ap (heard w) (e p more (cost + a) before)
       ∙ rw (add_assoc cost a n, ← paid) (q.same p more cost before);
   by = q.by;
+  called = q.called;
+  once = q.once;
 }

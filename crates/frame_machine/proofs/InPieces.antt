@@ -20,7 +20,7 @@ use Rattle.frame_machine.specs.Frames.{inner_of, pieces_in, text_end}
 use Rattle.frame_machine.specs.Moves.{Ready, due, goes_on, stands}
 use Rattle.frame_machine.specs.Owed.{is_flat, mode_owed}
 use Rattle.frame_machine.specs.Pieces.{pieces_behind, pieces_cost, pieces_from}
-use Rattle.frame_machine.specs.Stills.{Comes, moves, still}
+use Rattle.frame_machine.specs.Stills.{Comes, still}
 use Rattle.frame_machine.specs.WordMoves.{pieces_begin, pieces_goes, pieces_next, whole_code}
 use Rattle.frame_machine.specs.declared.frame.Frame.TheVariants as frame
 use Rattle.frame_machine.specs.declared.frame.Mode.TheVariants as mode

@@ -4,7 +4,7 @@ use Rattle.tcl_compile.specs.Tree.{Tree}
 use Rattle.tcl_compile.specs.Tree as tree
 use Rattle.rule_model.specs.Children.{alone}
 use Rattle.rule_model.specs.Evaluator.{eval}
-use Rattle.rule_model.specs.Outcome.{State, paid}
+use Rattle.rule_model.specs.Outcome.{State}
 use Rattle.rule_model.specs.declared.code.Code.{Code}
 use Rattle.rule_model.specs.Setting.{Setting, Inner}
 use Rattle.frame_machine.specs.Owed.{is_flat}

@@ -10,7 +10,7 @@ use Rattle.tcl_compile.specs.Tree as tree
 use Rattle.tcl_vars.specs.Scopes.{Scopes}
 use Rattle.rule_model.specs.Children.{child, one}
 use Rattle.rule_model.specs.Evaluator.{eval, joints}
-use Rattle.rule_model.specs.Expressions.{by_value, decided, decided_by, joined_value, joint_value, operands, row}
+use Rattle.rule_model.specs.Expressions.{by_value, decided, decided_by, joined_value, joint_value, operands}
 use Rattle.rule_model.specs.Outcome.{Act, state, Ends, Meaning, then_value}
 use Rattle.rule_model.specs.declared.code.Code.{Code}
 use Rattle.rule_model.specs.declared.code.Code.TheVariants.{Value, Raised, Return, Break, Continue}
@@ -307,7 +307,7 @@ done_bounded : {procedures : List Procedure} {t : Tree} {n : ℕ} (code : Code)
     → JoinedBounded procedures t n (given (joined.Ends (rowed.Done code)))
 done_bounded code = record { ticks = omega arith; ends = bounded_less (omega arith) (stop_bounded code) }
 
-joint_once : (joint : Joint) → joint_ticks joint ≤ 1
+pub joint_once : (joint : Joint) → joint_ticks joint ≤ 1
 joint_once (Both op) = omega arith
 joint_once And = omega arith
 joint_once Or = omega arith

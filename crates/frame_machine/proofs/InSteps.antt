@@ -13,7 +13,7 @@ use Rattle.rule_model.specs.Setting.{Setting}
 use Rattle.rule_model.specs.declared.code.Code.{Code}
 use Rattle.rule_model.specs.declared.code.Code.TheVariants.{Value, Raised, Return, Break, Continue}
 use Rattle.frame_machine.specs.Frames.{apply, unwind, inside, wants, places, room_in, inner_of, full_room, meaning, path_of, room_above, tree_above, comes_to}
-use Rattle.frame_machine.specs.Moves.{Moved, Now, Ready, ReadyBy, begins, due, frame_owed, goes_on, list_of, now, stands, state_at}
+use Rattle.frame_machine.specs.Moves.{Moved, Now, Ready, ReadyBy, begins, due, frame_owed, goes_on, list_of, now, state_at}
 use Rattle.frame_machine.specs.Owed.{Heavy, is_flat, mode_owed, owed, owed_by, weight}
 use Rattle.frame_machine.specs.Places.{wants_above}
 use Rattle.frame_machine.specs.Steps.{StepsTo, told_mode, told_turn}
@@ -25,7 +25,6 @@ use Rattle.frame_machine.specs.declared.frame.Room.{Room}
 use Rattle.frame_machine.specs.declared.frame.Standing.{Standing}
 use Rattle.frame_machine.specs.declared.next.Next.{Next}
 use Rattle.frame_machine.specs.declared.turn.Turn.{Turn}
-use Rattle.frame_machine.specs.declared.turn.Turn.TheVariants as turn
 use Rattle.frame_machine.proofs.Heard.{heard_true}
 
 module _ {H : Type 0} (g : Setting H) where
@@ -52,6 +51,8 @@ module _ {H : Type 0} (g : Setting H) where
         (unwound full_room t [] fs (begins g (room_above full_room fs) (tree_above g.procedures t fs) (path_of fs) (state_at old more cost before)) _ (q.same (path_of fs) more cost before)
         ∙ sym (unwind_both full_room t [] fs (list_of next.frame) next.mode (state_at new more cost (before ++ q.acts))));
     by = q.by;
+    called = q.called;
+    once = q.once;
   }
 
   pub back_steps : (t : Tree) (fs all fs' : List Frame) (top : Frame) (c : Code) (m' : Mode) (old new : Now H) (next : Next) (made : List Effect → Type 0) → all ≡ fs ++ top ∷ [] → fs' ≡ fs ++ list_of next.frame → m' ≡ next.mode
@@ -64,10 +65,12 @@ module _ {H : Type 0} (g : Setting H) where
         ∙ unwound full_room t [] fs (goes_on g (room_above full_room fs) (tree_above g.procedures t fs) top (heard_code (wants top) c) (path_of fs) (state_at old more cost before)) _ (q.same (path_of fs) more cost before)
         ∙ sym (unwind_both full_room t [] fs (list_of next.frame) next.mode (state_at new more cost (before ++ q.acts))));
     by = q.by;
+    called = q.called;
+    once = q.once;
   }
 
   pub root_steps : (t : Tree) (fs fs' : List Frame) (m m' : Mode) (old : Now H) (made : List Effect → Type 0) → fs' ≡ fs → m' ≡ m → made [] → StepsTo g t fs m fs' m' old old made
-  root_steps t fs fs' m m' old made e f q = record { acts = []; same = λ more cost before. rw (e, f, append-nil) refl; by = q }
+  root_steps t fs fs' m m' old made e f q = record { acts = []; same = λ more cost before. rw (e, f, append-nil) refl; by = q; called = None; once = (refl, refl) }
 
   stands_same : (t : Tree) (m : Standing) (fs : List Frame) (md : Mode) (vars : Scopes) (h : H) (more : List Reply) (cost : ℕ) (acts : List Act) → m.frames.items ≡ fs → m.mode ≡ md
       → meaning g full_room t fs md [] (state vars h more m.budget cost acts) ≡ comes_to g t m vars h more cost acts
@@ -119,6 +122,8 @@ went g t old new fs md said vars vars' h h' a b s s' made z goes e f n q heavy p
   same = λ more cost before. rw n (rw (z, add-zero) at (q.same more cost before) ∙ told_same g t new fs md vars' h' more (cost + b) (before ++ q.acts) e f);
   turn_is = rw n (told_is new fs md goes f);
   by = q.by;
+  called = q.called;
+  once = q.once;
   stays_heavy = heavy;
   paid = λ w. let k = paid w in omega (arith, k, z, grows);
 }

@@ -6,7 +6,7 @@ use Rattle.tcl_compile.specs.Tree.{Tree}
 use Rattle.tcl_vars.specs.Scopes.{Scopes}
 use Rattle.rule_model.specs.Control.{after_body, after_next, is_caught}
 use Rattle.rule_model.specs.Evaluator.{eval}
-use Rattle.rule_model.specs.Outcome.{Act, State, state, Outcome, Ends, Waits, Meaning, heard, paid, then_code, then_value}
+use Rattle.rule_model.specs.Outcome.{Act, State, state, Outcome, Ends, Waits, Meaning, heard, then_code, then_value}
 use Rattle.rule_model.specs.declared.code.Code.{Code}
 use Rattle.rule_model.specs.declared.code.Code.TheVariants.{Value, Raised, Return, Break, Continue}
 use Rattle.rule_model.specs.Setting.{Setting}

@@ -12,7 +12,7 @@ use Rattle.rule_model.specs.Outcome.{Meaning}
 use Rattle.rule_model.specs.declared.code.Code.TheVariants.{Value, Raised}
 use Rattle.rule_model.specs.Setting.{Setting, Inner}
 use Rattle.frame_machine.specs.Branches.{within}
-use Rattle.frame_machine.specs.Children.{all, child_at, children}
+use Rattle.frame_machine.specs.Children.{all, child_at}
 use Rattle.frame_machine.specs.Frames.{inner_of, words_end}
 use Rattle.frame_machine.specs.Moves.{stop}
 use Rattle.frame_machine.specs.Owed.{is_flat}

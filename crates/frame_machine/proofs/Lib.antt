@@ -1,5 +1,6 @@
 mod BranchSteps
 mod EndMeans
+mod FewTicks
 mod FirstViews
 mod Given
 mod Heard
@@ -31,6 +32,7 @@ mod PriceViews
 mod Rests
 mod RowSteps
 mod RunLaws
+mod TicksTold
 mod WholeViews
 mod WordGoes
 mod WordMeans

@@ -3,7 +3,7 @@ use Rattle.std.proofs.Common.{◌≡◌, refl, ap, ◌∙◌, sym, ℕ, zero, su
 use Rattle.std.proofs.lemmas.Nat.{div-add-mod'}
 use Rattle.std.proofs.lemmas.Bool.Decides.{nat_tests}
 use Rattle.std.proofs.lemmas.Option.{slice_get_read}
-use Rattle.std.proofs.lemmas.List.{get_or_past, length-append, length-map}
+use Rattle.std.proofs.lemmas.List.{get_or_past, length-map}
 use Rattle.tcl_expr.specs.declared.expr.Joint.{Joint}
 use Rattle.tcl_compile.specs.declared.node.Node.{Node}
 use Rattle.frame_machine.specs.Nodes.{both_nodes}

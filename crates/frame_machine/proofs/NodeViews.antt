@@ -1,7 +1,6 @@
 -- The children of nodes and of their trees.
-use Rattle.std.proofs.Common.{◌≡◌, refl, ap, ◌∙◌, sym, ℕ, List, [], ◌∷◌, ◌++◌, map, get_or, length, ◌+◌, ◌≤◌, arith}
+use Rattle.std.proofs.Common.{◌≡◌, refl, ap, ◌∙◌, sym, ℕ, List, [], ◌∷◌, ◌++◌, map, get_or}
 use Rattle.std.proofs.Math.ListN.{get_or-map}
-use Rattle.std.proofs.lemmas.List.{get_or_past}
 use Rattle.tcl_expr.specs.declared.expr.Joint.{Joint}
 use Rattle.tcl_compile.specs.Tree.{Tree, trees_of, operands_of, values_of}
 use Rattle.tcl_compile.specs.Tree as tree

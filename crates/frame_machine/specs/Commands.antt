@@ -1,5 +1,5 @@
 -- What a command does with its words, in one move.
-use Rattle.std.specs.Prelude.{◌≡◌, ℕ, List, ◌++◌, Bool, None}
+use Rattle.std.specs.Prelude.{◌≡◌, ℕ, List, ◌++◌, Bool, Option, None}
 use Rattle.px_bytes.specs.declared.fault.Reply.{Reply}
 use Rattle.tcl_compile.specs.declared.node.Verb.{Verb}
 use Rattle.tcl_vars.specs.Scopes.{Scopes}
@@ -8,7 +8,7 @@ use Rattle.rule_model.specs.Host.{Effect, HostStep}
 use Rattle.rule_model.specs.Outcome.{Act, Ends, Meaning, answered, ask, heard, state}
 use Rattle.rule_model.specs.Setting.{Setting, Inner}
 use Rattle.frame_machine.specs.Moves.{stop}
-use Rattle.frame_machine.specs.Went.{effects_in}
+use Rattle.frame_machine.specs.Went.{CalledBy, IsCall, effects_in}
 use Rattle.frame_machine.specs.declared.commands.Done.{Done}
 use Rattle.frame_machine.specs.declared.commands.Done.TheVariants as done
 use Rattle.frame_machine.specs.declared.frame.Mode.TheVariants as mode
@@ -31,6 +31,7 @@ pub record Answers {H : Type 0} (step : HostStep H) (after : H) (d : Done)
       → answered step path (state vars host more budget cost before)
       ≡ done_out d path (state vars after more budget cost (before ++ acts))
   pub by : made (effects_in acts)
+  pub once : IsCall step after acts
 
 -- what a command came to, with what was done; where its value isn't wanted, any may stand for it
 pub record Finished {H : Type 0} (g : Setting H) (wanted : Bool) (v : Verb)
@@ -42,3 +43,5 @@ pub record Finished {H : Type 0} (g : Setting H) (wanted : Bool) (v : Verb)
       → heard wanted (command g i v words path (state vars host more budget cost before))
       ≡ heard wanted (done_out d path (state vars' host' more budget cost (before ++ acts)))
   pub by : made (effects_in acts)
+  pub called : Option (List (List ℕ))
+  pub once : CalledBy g host host' called acts

@@ -11,7 +11,7 @@ use Rattle.rule_model.specs.Setting.{Setting}
 use Rattle.rule_model.specs.declared.code.Code.{Code}
 use Rattle.frame_machine.specs.Frames.{apply, inner_of, inside, meaning}
 use Rattle.frame_machine.specs.Owed.{is_flat, mode_owed, weight}
-use Rattle.frame_machine.specs.Went.{effects_in}
+use Rattle.frame_machine.specs.Went.{CalledBy, effects_in}
 use Rattle.frame_machine.specs.declared.frame.Frame.{Frame}
 use Rattle.frame_machine.specs.declared.frame.Mode.{Mode}
 use Rattle.frame_machine.specs.declared.frame.Mode.TheVariants as mode
@@ -59,7 +59,7 @@ state_at n more cost acts = state n.vars n.host more n.budget (cost + n.paid) ac
 
 -- A node's move: whatever replies come, and whatever was paid and done before, the node comes to the
 -- same from where it stands then, with what the move paid and did. The effects among what it did were
--- made.
+-- made, and are those of one call of the host at most.
 pub record Moved {H : Type 0} (g : Setting H) (r : Room) (wanted : Bool) (t : Tree)
     (whole : Meaning H) (old new : Now H) (next : Next) (made : List Effect → Type 0) : Type 0 where
   pub acts : List Act
@@ -67,6 +67,8 @@ pub record Moved {H : Type 0} (g : Setting H) (r : Room) (wanted : Bool) (t : Tr
       → heard wanted (whole path (state_at old more cost before))
       ≡ heard wanted (stands g r t next path (state_at new more cost (before ++ acts)))
   pub by : made (effects_in acts)
+  pub called : Option (List (List ℕ))
+  pub once : CalledBy g old.host new.host called acts
 
 -- what is owed where a node stands then
 abbrev pub frame_owed : Option Frame → ℕ

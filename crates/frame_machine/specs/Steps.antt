@@ -1,5 +1,5 @@
 -- What a step of a machine comes to, before it is told.
-use Rattle.std.specs.Prelude.{◌≡◌, ℕ, ◌+◌, List, [], ◌++◌}
+use Rattle.std.specs.Prelude.{◌≡◌, ℕ, List, [], ◌++◌, Option}
 use Rattle.px_bytes.specs.declared.fault.Reply.{Reply}
 use Rattle.tcl_compile.specs.Tree.{Tree}
 use Rattle.rule_model.specs.Host.{Effect}
@@ -7,7 +7,7 @@ use Rattle.rule_model.specs.Outcome.{Act}
 use Rattle.rule_model.specs.Setting.{Setting}
 use Rattle.frame_machine.specs.Frames.{full_room, meaning}
 use Rattle.frame_machine.specs.Moves.{Now, state_at}
-use Rattle.frame_machine.specs.Went.{effects_in}
+use Rattle.frame_machine.specs.Went.{CalledBy, effects_in}
 use Rattle.frame_machine.specs.declared.frame.Frame.{Frame}
 use Rattle.frame_machine.specs.declared.frame.Mode.{Mode}
 use Rattle.frame_machine.specs.declared.frame.Mode.TheVariants as mode
@@ -33,6 +33,8 @@ pub record StepsTo {H : Type 0} (g : Setting H) (tree : Tree) (fs : List Frame) 
       → meaning g full_room tree fs m [] (state_at old more cost before)
       ≡ meaning g full_room tree fs' m' [] (state_at new more cost (before ++ acts))
   pub by : made (effects_in acts)
+  pub called : Option (List (List ℕ))
+  pub once : CalledBy g old.host new.host called acts
 
 -- a step with its counter of cost, and what it tells
 pub record Stood {H : Type 0} (g : Setting H) (tree : Tree) (old new : Standing) (said : Turn)

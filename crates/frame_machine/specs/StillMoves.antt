@@ -17,7 +17,7 @@ use Rattle.frame_machine.specs.Prefixes.{expr_move, operand_told, prefixed_move,
 use Rattle.frame_machine.specs.Reads.{Known, known}
 use Rattle.frame_machine.specs.Rows.{left_told, listed, right_told, row_move, row_of}
 use Rattle.frame_machine.specs.Scripts.{script_from, script_goes}
-use Rattle.frame_machine.specs.Stills.{Change, Move, Spend, changes, spends, spent, written}
+use Rattle.frame_machine.specs.Stills.{Change, Move, Spend, spends, spent, written}
 use Rattle.frame_machine.specs.Turns.{each_told}
 use Rattle.frame_machine.specs.WordMoves.{pieces_begin, pieces_goes}
 use Rattle.frame_machine.specs.declared.frame.Frame.{Frame}

@@ -1,9 +1,9 @@
 -- What a step of a machine promises.
-use Rattle.std.specs.Prelude.{◌≡◌, ℕ, ◌+◌, ◌*◌, ◌≤◌, List, [], ◌∷◌, ◌++◌}
+use Rattle.std.specs.Prelude.{◌≡◌, ℕ, ◌+◌, ◌*◌, ◌≤◌, List, [], ◌∷◌, ◌++◌, map, Option, Some, None}
 use Rattle.px_bytes.specs.declared.fault.Reply.{Reply}
 use Rattle.tcl_compile.specs.Tree.{Tree}
 use Rattle.tcl_vars.specs.Scopes.{Scopes}
-use Rattle.rule_model.specs.Host.{Effect}
+use Rattle.rule_model.specs.Host.{Effect, HostStep, Gives, Faults, Asks}
 use Rattle.rule_model.specs.Outcome.{Act, Did, Called, state, Outcome, Ends, reply_code}
 use Rattle.rule_model.specs.Setting.{Setting}
 use Rattle.frame_machine.specs.Frames.{comes_to}
@@ -19,6 +19,17 @@ abbrev pub effects_in : List Act → List Effect
 effects_in [] = []
 effects_in (Did e ∷ acts) = e ∷ effects_in acts
 effects_in (Called path call ∷ acts) = effects_in acts
+
+-- what is seen of a host after one call of it, and what the call did
+abbrev pub IsCall : {H : Type 0} → HostStep H → H → List Act → Type 0
+IsCall (Gives v h effects) after acts = (after ≡ h) × (acts ≡ map Did effects)
+IsCall (Faults f h effects) after acts = (after ≡ h) × (acts ≡ map Did effects)
+IsCall (Asks call h) after acts = (after ≡ h) × (acts ≡ [])
+
+-- the host wasn't called, or once, with these words
+abbrev pub CalledBy : {H : Type 0} → Setting H → H → H → Option (List (List ℕ)) → List Act → Type 0
+CalledBy g before after None acts = (after ≡ before) × (acts ≡ [])
+CalledBy g before after (Some words) acts = IsCall (g.table before words) after acts
 
 -- what a body comes to where a step said this: its end, where that is told
 abbrev pub comes_by : {H : Type 0} → Turn → Setting H → Tree → Standing → Scopes → H → List Reply
@@ -55,8 +66,8 @@ TurnIs (turn.Done code) m = m.mode ≡ mode.Over
 
 -- A step from one place to the next, with so many ticks: whatever replies come, and whatever was paid
 -- and done before, the body comes to the same, with what the step paid and did. The effects among
--- what it did were made. What it ticked and still owes is what was owed before, and three for each
--- unit of cost.
+-- what it did were made, and they are those of one call of the host at most. What it ticked and still
+-- owes is what was owed before, and three for each unit of cost.
 pub record Went {H : Type 0} (g : Setting H) (tree : Tree) (old new : Place H) (said : Turn)
     (made : List Effect → Type 0) (ticks : ℕ) : Type 0 where
   pub spent : ℕ
@@ -66,6 +77,8 @@ pub record Went {H : Type 0} (g : Setting H) (tree : Tree) (old new : Place H) (
       ≡ comes_by said g tree new.machine new.vars new.host more (cost + spent) (before ++ acts)
   pub turn_is : TurnIs said new.machine
   pub by : made (effects_in acts)
+  pub called : Option (List (List ℕ))
+  pub once : CalledBy g old.host new.host called acts
   pub stays_heavy : Heavy g.procedures tree old.machine.frames.items old.machine.mode
       → Heavy g.procedures tree new.machine.frames.items new.machine.mode
   pub paid : Heavy g.procedures tree old.machine.frames.items old.machine.mode

@@ -67,7 +67,8 @@ pub(crate) fn by_words<H: Host, L: Ledger>(
     ensures grows { steps.old ≤ steps.new }
 {
     if !is_own(verb, words) {
-        return call_host(context, words, host, steps);
+        let done = call_host(context, words, host, steps)?;
+        return Ok(done);
     }
     let (alloc, statics) = (context.alloc, context.statics);
     let code = own_command(alloc, statics, verb, words, wanted, vars, steps)?;

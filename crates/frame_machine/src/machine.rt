@@ -15,6 +15,7 @@ use std::alloc::Global;
 #[derive(Drop)]
 pub struct Machine {
     pub(crate) at: Standing,
+    pub(crate) ticked: u64,
 }
 
 impl Machine {
@@ -30,6 +31,7 @@ impl Machine {
                 mode: Mode::Begin,
                 budget,
             },
+            ticked: 0,
         }
     }
 
@@ -52,6 +54,13 @@ impl Machine {
     {
         self.at.mode = Mode::Back(code_of_reply(reply)?);
         Ok(())
+    }
+
+    /// How often the last step ticked.
+    pub fn ticked(&self) -> u64
+        ensures { result ≡ self.now.ticked }
+    {
+        self.ticked
     }
 
     /// How many numbers the path has to the node on which the body stands.

@@ -107,6 +107,7 @@ impl Machine {
             OnOk result (Heavy procedures t self.old.at.frames.items self.old.at.mode
             → steps.new + owed self.new.at + 3 * paid.old ≤ most) }
         ensures ticks { OnOk result (steps.old < steps.new) }
+        ensures few { OnOk result (steps.new ≤ steps.old + 6) }
     {
         steps.tick();
         let none = Node::NextBody;
@@ -161,10 +162,60 @@ impl Machine {
             let ticks = steps.new - steps.old in
             IfOk result (λ turn. Went g t old new turn made ticks) }
         ensures ticks { OnOk result (steps.old < steps.new) }
+        ensures few { OnOk result (steps.new ≤ steps.old + 6) }
     {
         let mut paid = Steps::<K>::new(blank);
         let turn = self.step_with(context, tree, vars, host, steps, &mut paid)?;
         Ok(turn)
+    }
+
+    /// The same, with a counter of its own for the ticks, which it tells.
+    fn step_ticked<H: Host, L: Ledger, J: Ledger>(
+        &mut self,
+        context: &Context<'_, H::Env>,
+        tree: &Node,
+        vars: &mut Vars,
+        host: &mut H,
+        steps: &mut Steps<L>,
+        blank: Blank,
+    ) -> M<Turn>
+        requires name { blank.name ≡ J.name }
+        requires parts { blank.parts ≡ J.parts }
+        requires some { 0 < blank.parts }
+        requires running { IsRunning self.old.at.mode }
+        ensures went { let g = setting_of H.table context.now in
+            let t = node_view tree.now in
+            let old = place self.old.at vars.old (H.seen host.old) in
+            let new = place self.new.at vars.new (H.seen host.new) in
+            let made : List Effect → Type 0 = λ es. H.made host.old es host.new in
+            let ticks = steps.new - steps.old in
+            IfOk result (λ turn. Went g t old new turn made ticks) }
+        ensures ticked { steps.new ≡ steps.old + self.new.ticked }
+        ensures some { OnOk result (0 < self.new.ticked) }
+        ensures few { OnOk result (self.new.ticked ≤ 10) }
+    {
+        let mut ticks = Steps::<J>::new(blank);
+        let paid = Blank::new(1);
+        match self.step_counted::<H, J, Brand>(context, tree, vars, host, &mut ticks, paid) {
+            Ok(turn) => {
+                self.tell_ticks(ticks.count(), steps);
+                Ok(turn)
+            }
+            Err(memory) => {
+                self.tell_ticks(ticks.count(), steps);
+                Err(memory)
+            }
+        }
+    }
+
+    /// Tells so many ticks, and counts them.
+    fn tell_ticks<L: Ledger>(&mut self, ticked: u64, steps: &mut Steps<L>)
+        ensures at { self.new.at ≡ self.old.at }
+        ensures ticked { self.new.ticked ≡ ticked }
+        ensures steps { steps.new ≡ steps.old + ticked }
+    {
+        self.ticked = ticked;
+        steps.add(ticked);
     }
 
     /// One move of a body: what it comes to stays the same, whatever replies are still to come.
@@ -190,7 +241,9 @@ impl Machine {
             let made : List Effect → Type 0 = λ es. H.made host.old es host.new in
             let ticks = steps.new - steps.old in
             IfOk result (λ turn. Went g t old new turn made ticks) }
-        ensures ticks { OnOk result (steps.old < steps.new) }
+        ensures ticked { steps.new ≡ steps.old + self.new.ticked }
+        ensures some { OnOk result (0 < self.new.ticked) }
+        ensures few { OnOk result (self.new.ticked ≤ 10) }
     {
         let context = Context {
             alloc,
@@ -199,6 +252,6 @@ impl Machine {
             procs,
         };
         let blank = Blank::new(1);
-        self.step_counted::<H, L, Brand>(&context, tree, vars, host, steps, blank)
+        self.step_ticked::<H, L, Brand>(&context, tree, vars, host, steps, blank)
     }
 }

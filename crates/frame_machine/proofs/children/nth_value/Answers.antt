@@ -1,4 +1,4 @@
-use Rattle.std.proofs.Common.{◌∙◌, ◌-◌, arith}
+use Rattle.std.proofs.Common.{◌∙◌, arith}
 use Rattle.frame_machine.proofs.NodePlaces.{even_both, odd_both, behind_both}
 use Rattle.frame_machine.proofs.children.nth_value.Goals as goal
 

@@ -1,7 +1,7 @@
 use Rattle.std.proofs.Common.{◌≡◌, true, false}
 use Rattle.rule_steps.specs.Own.{is_own}
 use Rattle.frame_machine.specs.Given.{setting_of}
-use Rattle.frame_machine.proofs.InCommands.{finished_own}
+use Rattle.frame_machine.proofs.InCommands.{finished_host, finished_own}
 use Rattle.frame_machine.proofs.commands.by_words.Goals as goal
 
 pub returns-clause-did : goal.returns-clause-did
@@ -11,3 +11,10 @@ returns-clause-did g c =
     finished_own (setting_of g.H.Host.table c.args.context.now) c.args.wanted c.args.verb c.args.words.now
     c.args.vars.now _ _ c.in_ok-code.code _ own c.in_ok-code.ensures.code c.in_ok-code.ensures.vars
     (g.met.H.Host.made_none _)
+
+pub returns-then-not-is_own-clause-did : goal.returns-then-not-is_own-clause-did
+returns-then-not-is_own-clause-did g c =
+    let own : is_own c.args.verb c.args.words.now ≡ false =
+    (let e = c.is_own.ensures in let t = c.if-not-is_own.true in cc) in
+    finished_host (setting_of g.H.Host.table c.args.context.now) c.args.wanted c.args.verb c.args.words.now
+    c.args.vars.now _ _ c.in_ok-done.done _ c.requires.call c.requires.read own c.in_ok-done.ensures.did

@@ -1,7 +1,6 @@
 use Rattle.std.proofs.Common.{◌∙◌, sym, arith}
 use Rattle.tcl_compile.specs.Procedures.{procs_view}
 use Rattle.tcl_compile.specs.TreeView.{node_view}
-use Rattle.frame_machine.specs.FirstWords.{word_verb}
 use Rattle.frame_machine.specs.Given.{setting_of}
 use Rattle.frame_machine.proofs.EndMeans.{ends_moved, ends_owe}
 use Rattle.frame_machine.proofs.InBegins.{done_owes, done_ready, not_call, word_verb_moved}
@@ -48,3 +47,8 @@ returns-clause-owed g c =
     let o = (ends_owe (caller_at (setting_of g.H.Host.table c.args.context.now) c.args.room c.args.wanted)
     (node_view c.args.node.now) c.args.words _ _ _ c.in_ok-next-in-None.ensures).owed in
     omega (arith, o)
+
+pub returns-clause-few : goal.returns-clause-few
+returns-clause-few g c =
+    (ends_owe (caller_at (setting_of g.H.Host.table c.args.context.now) c.args.room c.args.wanted)
+    (node_view c.args.node.now) c.args.words _ _ _ c.in_ok-next-in-None.ensures).few

@@ -1,4 +1,4 @@
-use Rattle.std.proofs.Common.{◌≡◌, refl, arith}
+use Rattle.std.proofs.Common.{refl, arith}
 use Rattle.tcl_compile.specs.TreeView.{node_view}
 use Rattle.frame_machine.specs.Given.{setting_of}
 use Rattle.frame_machine.proofs.InSteps.{went}

@@ -1,12 +1,10 @@
-use Rattle.std.proofs.Common.{◌≡◌, refl, ◌∙◌, ◌+◌, ◌*◌, ◌≤◌, ◌++◌, [], ◌∷◌, ap, sym, true, append-nil, arith}
+use Rattle.std.proofs.Common.{◌≡◌, refl, ◌∙◌, [], ap, sym, true, append-nil, arith}
 use Rattle.std.proofs.lemmas.List.{nil_from_length}
 use Rattle.tcl_compile.specs.Procedures.{procs_view}
 use Rattle.tcl_compile.specs.TreeView.{node_view}
 use Rattle.frame_machine.specs.Frames.{full_room, room_above, tree_above}
 use Rattle.frame_machine.specs.Given.{setting_of}
-use Rattle.frame_machine.specs.Owed.{owed, owed_by}
 use Rattle.frame_machine.specs.Places.{wants_above}
-use Rattle.frame_machine.specs.Steps.{Stood, told_mode}
 use Rattle.frame_machine.specs.declared.frame.Mode.TheVariants as mode
 use Rattle.frame_machine.proofs.InSteps.{back_owes, back_steps, begin_owes, begin_steps, heavy_next, next_goes, root_steps}
 use Rattle.frame_machine.proofs.machine.Machine.step_with.Goals as goal
