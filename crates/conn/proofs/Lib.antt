@@ -9,5 +9,6 @@ pub mod BodyActs
 pub mod BodyMoves
 pub mod Resting
 pub mod Taking
+pub mod Replying
 pub mod Advancing
 pub mod Running

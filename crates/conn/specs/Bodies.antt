@@ -1,5 +1,7 @@
 -- A body of the code.
 use Rattle.std.specs.Prelude.{◌≡◌, ℕ, [], true}
+use Rattle.px_bytes.specs.declared.fault.Reply.{Reply}
+use Rattle.rule_model.specs.Outcome.{reply_code}
 use Rattle.frame_machine.specs.declared.frame.Mode.TheVariants as mode
 use Rattle.frame_machine.specs.declared.turn.Turn.{Turn}
 use Rattle.frame_machine.specs.declared.turn.Turn.TheVariants as turn
@@ -17,3 +19,8 @@ abbrev pub SaidIs : Turn → Body → Type 0
 SaidIs turn.More body = body.runs ≡ true
 SaidIs (turn.Asks call) body = body.asks ≡ true
 SaidIs (turn.Done code) body = Unit {0}
+
+-- a reply came to the call that waited
+pub record Heard (reply : Reply) (old new : Body) : Type 0 where
+  pub machine : new.machine.at ≡ record old.machine.at { mode = mode.Back (reply_code reply) }
+  pub runs : new.runs ≡ true

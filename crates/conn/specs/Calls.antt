@@ -1,5 +1,7 @@
 -- What the calls of a connection make of it, for each state that its trace may stand at.
-use Rattle.std.specs.Prelude.{◌≡◌, ℕ, ◌+◌, Bool, ◌&&◌, option_map}
+use Rattle.std.specs.Prelude.{◌≡◌, ℕ, ◌+◌, [], ◌∷◌, Bool, ◌&&◌, option_map}
+use Rattle.px_bytes.specs.declared.fault.Reply.{Reply}
+use Rattle.connection_model.specs.Further.{longer, replies_only}
 use Rattle.connection_model.specs.Setup as model
 use Rattle.connection_model.specs.State.{TraceState, no_stream, no_answers}
 use Rattle.connection_model.specs.Trace.{start}
@@ -36,3 +38,9 @@ abbrev pub Settles : Conn → Bool → Type 0
 Settles c over =
     (g : model.Setup) (a : Around) (l : TraceState) → Holds g a l c
     → over ≡ is_drained g a.took l
+
+-- the reply to the call that it waits for
+abbrev pub Replies : Reply → Conn → Conn → Type 0
+Replies reply old new =
+    (g : model.Setup) (a : Around) (l : TraceState) → Holds g a l old
+    → Holds g a (longer (replies_only (reply ∷ [])) l) new

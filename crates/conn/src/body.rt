@@ -2,7 +2,7 @@
 
 use crate::setup::Handler;
 use frame_machine::{Host, Machine, Turn};
-use px_bytes::{M, Steps};
+use px_bytes::{M, Reply, Steps};
 use std::alloc::Global;
 use std::sync::ledger::Ledger;
 use tcl_vars::Vars;
@@ -29,7 +29,7 @@ impl Body {
     ghost use Rattle.tcl_compile.specs.TreeView.{node_view};
     ghost use Rattle.frame_machine.specs.Given.{setting};
     ghost use Rattle.frame_machine.specs.Went.{Went, place};
-    ghost use Rattle.conn.specs.Bodies.{Fresh, SaidIs};
+    ghost use Rattle.conn.specs.Bodies.{Fresh, Heard, SaidIs};
 
     /// A body that doesn't run.
     pub fn new(alloc: Global) -> Body {
@@ -47,6 +47,19 @@ impl Body {
         self.machine.restart(budget);
         self.runs = true;
         self.asks = false;
+    }
+
+    /// The reply comes to the call that waits. Out of memory the body doesn't go on.
+    pub fn resume(&mut self, reply: &Reply) -> M<()>
+        ensures { OnOk result (self.old.asks ≡ true → Heard reply.now self.old self.new) }
+    {
+        if !self.asks {
+            return Ok(());
+        }
+        self.asks = false;
+        self.machine.resume(reply)?;
+        self.runs = true;
+        Ok(())
     }
 
     /// One step of the body, on these static variables.

@@ -1,7 +1,8 @@
 // A connection.
 
-ghost use Rattle.std.specs.Prelude.{◌≡◌, ◌≤◌, ◌++◌, [], IfOk, length, take, drop};
-ghost use Rattle.conn.specs.Calls.{Begins, Takes, Settles, over_in, wanted};
+ghost use Rattle.std.specs.Prelude.{◌≡◌, ◌≤◌, ◌++◌, [], true, IfOk, OnOk, length, take, drop};
+ghost use Rattle.conn.specs.Calls.{Begins, Replies, Takes, Settles, over_in, wanted};
+ghost use Rattle.conn.specs.Stages.{is_asking};
 ghost use Rattle.conn.specs.RunsItems.{closing_if};
 
 use crate::body::Body;
@@ -10,7 +11,7 @@ use crate::host::RuleHost;
 use crate::setup::Setup;
 use crate::stage::Stage;
 use connection_model::{Note, Notes};
-use px_bytes::{M, Text};
+use px_bytes::{M, Reply, Text};
 use std::alloc::Global;
 use tcl_vars::Vars;
 
@@ -48,6 +49,35 @@ impl Conn {
         ensures queue { self.new.host.to_client ≡ drop n self.old.host.to_client }
     {
         self.host.to_client.drop_front(n);
+    }
+
+    /// Whether it waits for the reply to a shared call.
+    pub fn is_asking(&self) -> bool
+        ensures { result ≡ is_asking self.now.stage }
+    {
+        self.stage.is_asking()
+    }
+
+    /// The reply comes to the call that it waits for. Out of memory it isn't to be used further.
+    pub fn reply(&mut self, reply: &Reply) -> M<()>
+        requires { is_asking self.old.stage ≡ true }
+        ensures replies { OnOk result (Replies reply.now self.old self.new) }
+        ensures queue { self.new.host.to_client ≡ self.old.host.to_client }
+    {
+        match self.stage {
+            Stage::Asking { at, number } => self.hear(at, number, reply),
+            _ => Ok(()),
+        }
+    }
+
+    fn hear(&mut self, at: At, number: usize, reply: &Reply) -> M<()>
+        requires { self.old.stage ≡ Stage.Asking at number }
+        ensures replies { OnOk result (Replies reply.now self.old self.new) }
+        ensures queue { self.new.host.to_client ≡ self.old.host.to_client }
+    {
+        self.body.resume(reply)?;
+        self.stage = Stage::Running { at, number };
+        Ok(())
     }
 
     /// How many bytes its client is to take.
