@@ -5,7 +5,8 @@ use Rattle.rule_model.specs.Host as effect
 use Rattle.rule_model.specs.Outcome.{Act, Did}
 use Rattle.rule_model.specs.Outcome as act
 use Rattle.event_order.specs.declared.event.EventName.{EventName}
-use Rattle.connection_model.specs.Item.{Item, Ran, client_output, notes_of}
+use Rattle.connection_model.specs.Item.{Item, Ran, client_output, notes_of, choices_in}
+use Rattle.connection_model.specs.HeardLaws.{cut_in}
 use Rattle.connection_model.specs.Gates.{Counts, TakenCounts, Met, sent_after, sent_from}
 use Rattle.connection_model.specs.Bodies.{act_item}
 use Rattle.frame_machine.specs.Went.{effects_in}
@@ -17,12 +18,14 @@ pub record Silent (c : ℕ) (took : TakenCounts) (tail : List Item) : Type 0 whe
   pub output : client_output tail ≡ []
   pub noted : notes_of c tail ≡ []
   pub sent : (sent : Counts) → sent_from sent tail ≡ sent
+  pub choices : choices_in tail ≡ []
+  pub uncut : (t : TakenCounts) (rest : List Item) → cut_in t (tail ++ rest) ≡ cut_in t rest
 
 pub no_tail : (c : ℕ) (took : TakenCounts) → Silent c took []
-no_tail c took = record { met = λ s. tt; output = refl; noted = refl; sent = λ s. refl }
+no_tail c took = record { met = λ s. tt; output = refl; noted = refl; sent = λ s. refl; choices = refl; uncut = λ t rest. refl }
 
 pub end_tail : (c : ℕ) (took : TakenCounts) (e : EventName) (cost : ℕ) → Silent c took (Ran e cost ∷ [])
-end_tail c took e cost = record { met = λ s. (refl, tt); output = refl; noted = refl; sent = λ s. refl }
+end_tail c took e cost = record { met = λ s. (refl, tt); output = refl; noted = refl; sent = λ s. refl; choices = refl; uncut = λ t rest. refl }
 
 module _ (c number : ℕ) (took : TakenCounts) (tail : List Item) (t : Silent c took tail) where
   abbrev items : List Act → List Item
@@ -47,6 +50,18 @@ module _ (c number : ℕ) (took : TakenCounts) (tail : List Item) (t : Silent c 
   acts_noted (Did (effect.Sent Client bytes) ∷ xs) p = acts_noted xs p
   acts_noted (Did (effect.Sent Server bytes) ∷ xs) p = absurd p
   acts_noted (act.Called path call ∷ xs) p = acts_noted xs p
+
+  pub acts_choices : (xs : List Act) → choices_in (items xs) ≡ []
+  acts_choices [] = t.choices
+  acts_choices (Did (effect.Logged text) ∷ xs) = acts_choices xs
+  acts_choices (Did (effect.Sent side bytes) ∷ xs) = acts_choices xs
+  acts_choices (act.Called path call ∷ xs) = acts_choices xs
+
+  pub acts_uncut : (xs : List Act) (k : TakenCounts) (rest : List Item) → cut_in k (items xs ++ rest) ≡ cut_in k rest
+  acts_uncut [] k rest = t.uncut k rest
+  acts_uncut (Did (effect.Logged text) ∷ xs) k rest = acts_uncut xs k rest
+  acts_uncut (Did (effect.Sent side bytes) ∷ xs) k rest = acts_uncut xs k rest
+  acts_uncut (act.Called path call ∷ xs) k rest = acts_uncut xs k rest
 
   pub acts_server : (xs : List Act) → ToClientAlone (effects_in xs) → (sent : Counts) → (sent_from sent (items xs)).server ≡ sent.server
   acts_server [] p sent = ap (λ s. s.server) (t.sent sent)

@@ -16,7 +16,7 @@ use Rattle.conn.specs.Stages.{is_asking}
 use Rattle.conn.specs.declared.connection.Conn.{Conn}
 use Rattle.conn.specs.declared.turn.Act as code
 use Rattle.conn.specs.declared.turn.Act.TheVariants as done
-use Rattle.conn.proofs.ActItems.{Silent, acts_met, acts_output, acts_noted, acts_server, acts_number}
+use Rattle.conn.proofs.ActItems.{Silent, acts_met, acts_output, acts_noted, acts_choices, acts_uncut, acts_server, acts_number}
 use Rattle.conn.proofs.Giving.{Gave}
 
 -- where it stands behind what an action gave
@@ -57,4 +57,6 @@ acts_gave g a l at c old new xs tail t h made u stands server cut =
       };
       queue = queue;
       noted = sym (acts_noted c 0 a.took tail t xs made.alone);
+      choices = acts_choices c 0 a.took tail t xs;
+      uncut = acts_uncut c 0 a.took tail t xs;
     }

@@ -6,12 +6,13 @@ use Rattle.px_bytes.specs.declared.fault.FaultKind.{FaultKind}
 use Rattle.event_order.specs.declared.event.EventName.TheVariants.{LbFailed, ClientClosed}
 use Rattle.connection_model.specs.declared.note.Note.{Note}
 use Rattle.connection_model.specs.declared.note.Note.TheVariants as note
-use Rattle.connection_model.specs.Gates.{room_limit}
+use Rattle.connection_model.specs.Gates.{TakenCounts, room_limit}
 use Rattle.connection_model.specs.Host.{HostState}
+use Rattle.connection_model.specs.HeardLaws.{cut_for}
 use Rattle.connection_model.specs.Item.{Item, BeforeBodies, Opened, Resumed, Logged, Finished, cause_of, note_of}
 use Rattle.connection_model.specs.Places.{at as put, after_fault, closed, enter, entered, next_body}
 use Rattle.connection_model.specs.Setup.{Handler, Setup}
-use Rattle.connection_model.specs.State.{Gated, Running, Failing, InEvent, Finishing, Absent, link_of, TraceState, Next, Does}
+use Rattle.connection_model.specs.State.{Cut, Gated, Running, Failing, InEvent, Finishing, Absent, link_of, TraceState, Next, Does}
 use Rattle.connection_model.specs.Trace.{next_item, GivesNoMore}
 use Rattle.conn.specs.Acts.{StartsBody, PassesGate, Chooses, Closes, BehindFault, BodyMovedBy, BodyMoved, ActedAt, Acted}
 use Rattle.conn.specs.Events.{event_of}
@@ -62,6 +63,8 @@ module _ (s : code_setup.Setup) (g : Setup) (serves : Serves s g) (a : Around) (
         step = next_at g l (InEvent ev (Gated x xs)) h.no_cut k;
         open_now = gate_is g a l old h ∙ room;
         silent = refl;
+        choice = refl;
+        uncut = λ t later. refl;
         stands = subst S (sym starts.there) (subst R (sym e) body, starts.fresh.runs);
         sent = refl;
         server = refl;
@@ -123,6 +126,8 @@ module _ (s : code_setup.Setup) (g : Setup) (serves : Serves s g) (a : Around) (
             ∙ ap (λ k'. Does (Logged line) (put (after_fault g ev l.finished (link_of k') kind bs (seen_host old.host)) l)) h.no_server;
         open_now = refl;
         silent = refl;
+        choice = refl;
+        uncut = λ t later. refl;
         stands = f.0;
         sent = refl;
         server = refl;
@@ -138,6 +143,8 @@ module _ (s : code_setup.Setup) (g : Setup) (serves : Serves s g) (a : Around) (
         step = choosing_item g l old st.1 h.no_cut h.no_server st.0;
         open_now = refl;
         silent = refl;
+        choice = refl;
+        uncut = λ t later. refl;
         stands = subst P (ap seen_host k.host) (entered_stands s g serves Failed new k.there l (st.1.vars ∙ sym k.vars) st.1.replies);
         sent = refl;
         server = refl;
@@ -153,6 +160,10 @@ module _ (s : code_setup.Setup) (g : Setup) (serves : Serves s g) (a : Around) (
   cause_is finish.Unselected = refl
   cause_is (finish.Fault kind) = refl
 
+  uncut_by : (f : Finish) (t : TakenCounts) (later : Option Cut) → cut_for (Some (reason_for f)) t later ≡ later
+  uncut_by finish.Unselected t later = refl
+  uncut_by (finish.Fault kind) t later = refl
+
   finishes : (f : Finish) → Stands g (stage.Finishing f) l old → Closes s old new → ActGave g a l c old new (note.Finish c (cause_for f) ∷ []) done.Goes
   finishes f st k =
       let b = st.1 in
@@ -166,6 +177,8 @@ module _ (s : code_setup.Setup) (g : Setup) (serves : Serves s g) (a : Around) (
             ∙ ap (λ k'. Does (Finished (reason_for f)) (put (closed g (link_of k') (seen_host old.host)) l')) h.no_server;
         open_now = refl;
         silent = refl;
+        choice = refl;
+        uncut = λ t later. uncut_by f t later;
         stands = subst P (ap seen_host k.host) (next_stands s g serves Closed 0 k.mid new k.begins l' (b.vars ∙ sym k.vars) b.replies true);
         sent = refl;
         server = refl;

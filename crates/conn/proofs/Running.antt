@@ -1,5 +1,5 @@
 -- A Run, action by action.
-use Rattle.std.proofs.Common.{◌≡◌, inl, inr, refl, sym, ap, ◌∙◌, ℕ, ◌+◌, List, [], ◌∷◌, ◌++◌, append-nil, append_assoc, length, length-append, false}
+use Rattle.std.proofs.Common.{None, ◌≡◌, inl, inr, refl, sym, ap, ◌∙◌, ℕ, ◌+◌, List, [], ◌∷◌, ◌++◌, append-nil, append_assoc, length, length-append, false}
 use Rattle.connection_model.specs.declared.note.Note.{Note}
 use Rattle.connection_model.specs.declared.note.Note.TheVariants as note
 use Rattle.connection_model.specs.declared.note.Cause.TheVariants.{Memory}
@@ -8,7 +8,7 @@ use Rattle.connection_model.specs.Setup.{Setup}
 use Rattle.connection_model.specs.State.{TraceState}
 use Rattle.conn.specs.Acts.{Acted}
 use Rattle.conn.specs.Holds.{Around, Holds}
-use Rattle.conn.specs.Runs.{GoesOnWith, Runs, Rested}
+use Rattle.conn.specs.Runs.{IsWhole, GoesOnWith, Runs, Rested}
 use Rattle.conn.specs.RunsItems.{closing, closing_if, ends, StopsAt}
 use Rattle.conn.specs.Setups.{Serves}
 use Rattle.conn.specs.Stages.{is_asking}
@@ -18,7 +18,7 @@ use Rattle.conn.specs.declared.turn.Act.TheVariants as done
 use Rattle.conn.specs.declared.turn.ConnTurn.{ConnTurn}
 use Rattle.conn.specs.declared.turn.ConnTurn.TheVariants as turn
 use Rattle.conn.proofs.Advancing.{ActedWell, acted_well}
-use Rattle.conn.proofs.Giving.{Gave, gave_none, gave_more}
+use Rattle.conn.proofs.Giving.{Gave, as_taken, gave_none, gave_more}
 
 -- what was given so far, and no call is open
 pub record Given (g : Setup) (a : Around) (l : TraceState) (c : ℕ) (old mid : Conn) (group : List Note) : Type 0 where
@@ -51,11 +51,11 @@ one_more s c old mid new before notes after r acted =
     }
 
 -- a Run that gave these items
-gives : (g : Setup) (a : Around) (l at : TraceState) (c : ℕ) (old new : Conn) (group last : List Note) (t : ConnTurn) → Gave g a l at c old new group → last ≡ closing_if (ends t) c → StopsAt g a.took at t → GoesOnWith g a l c old new (group ++ last) t
-gives g a l at c old new group last t p is stops = record {
+gives : (g : Setup) (a : Around) (l at : TraceState) (c : ℕ) (old new : Conn) (group last : List Note) (t : ConnTurn) → l.answers.cut ≡ None → Gave g a l at c old new group → last ≡ closing_if (ends t) c → StopsAt g a.took at t → GoesOnWith g a l c old new (group ++ last) t
+gives g a l at c old new group last t none p is stops = record {
   more = p.more;
   at = at;
-  items = record { passed = p.passed; met = p.met; noted = ap (λ x. x ++ last) p.noted ∙ ap (λ x. notes_of c p.more ++ x) is; stops = stops };
+  items = record { passed = as_taken g a l at c old new group none p; met = p.met; noted = ap (λ x. x ++ last) p.noted ∙ ap (λ x. notes_of c p.more ++ x) is; stops = stops };
   holds = p.holds;
   queue = p.queue;
 }
@@ -64,7 +64,7 @@ pub runs_more : (s : code.Setup) (c : ℕ) (old new : Conn) (before after : List
 runs_more s c old new before after r = (
   r.group ++ [],
   r.notes ∙ ap (λ x. before ++ x) (sym (append-nil r.group)),
-  λ g a l serves h awake. (let p = r.along g a l serves h awake in inl (gives g a l p.at c old new r.group [] turn.More p.gave refl tt)),
+  λ g a l serves h awake. (let p = r.along g a l serves h awake in inl (gives g a l p.at c old new r.group [] turn.More h.no_cut p.gave refl tt)),
 )
 
 both_notes : (before first second notes after : List Note) → notes ≡ before ++ first → after ≡ notes ++ second → after ≡ before ++ (first ++ second)
@@ -78,7 +78,7 @@ runs_asks s c old mid new before notes after call r acted =
       λ g a l serves h awake.
           (let p = r.along g a l serves h awake in
           let q = k.along g a p.at serves p.gave.holds p.awake in
-          inl (gives g a l q.at c old new (r.group ++ k.group) [] (turn.Asks call) (gave_more g a l p.at q.at c old mid new r.group k.group p.gave q.gave) refl q.stops)),
+          inl (gives g a l q.at c old new (r.group ++ k.group) [] (turn.Asks call) h.no_cut (gave_more g a l p.at q.at c old mid new r.group k.group p.gave q.gave) refl q.stops)),
     )
 
 pub runs_rests : (s : code.Setup) (c : ℕ) (old mid new : Conn) (before notes after last : List Note) (t : ConnTurn) → RunsOn s c old mid before notes → Acted s c mid new notes after done.Rests → Rested c new after last t → RunsBy s c old new before last t
@@ -96,7 +96,7 @@ runs_rests s c old mid new before notes after last t r acted rested = by_turn t 
       λ g a l serves h awake.
           (let p = r.along g a l serves h awake in
           let q = k.along g a p.at serves p.gave.holds p.awake in
-          inl (gives g a l q.at c old new (r.group ++ k.group) [] turn.NotYet (gave_more g a l p.at q.at c old mid new r.group k.group p.gave q.gave) refl (q.stops, sym (settles g a q.at q.gave.holds)))),
+          inl (gives g a l q.at c old new (r.group ++ k.group) [] turn.NotYet h.no_cut (gave_more g a l p.at q.at c old mid new r.group k.group p.gave q.gave) refl (q.stops, sym (settles g a q.at q.gave.holds)))),
     )
     by_turn turn.Over (settles, more) = (
       (r.group ++ k.group) ++ closing c 0,
@@ -104,7 +104,7 @@ runs_rests s c old mid new before notes after last t r acted rested = by_turn t 
       λ g a l serves h awake.
           (let p = r.along g a l serves h awake in
           let q = k.along g a p.at serves p.gave.holds p.awake in
-          inl (gives g a l q.at c old new (r.group ++ k.group) (closing c 0) turn.Over (gave_more g a l p.at q.at c old mid new r.group k.group p.gave q.gave) refl (sym (settles g a q.at q.gave.holds)))),
+          inl (gives g a l q.at c old new (r.group ++ k.group) (closing c 0) turn.Over h.no_cut (gave_more g a l p.at q.at c old mid new r.group k.group p.gave q.gave) refl (sym (settles g a q.at q.gave.holds)))),
     )
 
 pub runs_out : (s : code.Setup) (c pending : ℕ) (old mid new : Conn) (before notes after : List Note) → RunsOn s c old mid before notes → pending ≡ length mid.host.to_client → after ≡ notes ++ note.Finish c Memory ∷ closing c pending
@@ -119,9 +119,16 @@ runs_out s c pending old mid new before notes after r waits ends = (
       inr (record {
         more = p.more;
         at = given.at;
-        passed = p.passed;
+        passed = as_taken g a l given.at c old mid r.group h.no_cut p;
         met = p.met;
         noted = ap (λ x. x ++ note.Finish c Memory ∷ closing c pending) p.noted ∙ ap (λ n. notes_of c p.more ++ note.Finish c Memory ∷ closing c n) q;
         over = refl;
       })),
 )
+
+-- a Run that rests doesn't stop in the middle
+pub rests_whole : (c : ℕ) (conn : Conn) (before after : List Note) (t : ConnTurn) (steps notes : ℕ) → Rested c conn before after t → IsWhole t steps notes
+rests_whole c conn before after turn.More steps notes r = absurd r
+rests_whole c conn before after (turn.Asks call) steps notes r = tt
+rests_whole c conn before after turn.NotYet steps notes r = tt
+rests_whole c conn before after turn.Over steps notes r = tt

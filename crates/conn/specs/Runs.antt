@@ -1,7 +1,9 @@
 -- What a Run makes of a connection, for each state that its trace may stand at.
-use Rattle.std.specs.Prelude.{◌≡◌, ◌⊎◌, ℕ, ◌+◌, List, ◌++◌, length, true, false}
+use Rattle.std.specs.Prelude.{◌≡◌, ◌⊎◌, ℕ, ◌+◌, ◌≤◌, List, ◌++◌, length, true, false}
 use Rattle.connection_model.specs.declared.note.Note.{Note}
 use Rattle.connection_model.specs.Gates.{Met}
+use Rattle.connection_model.specs.Further.{longer}
+use Rattle.connection_model.specs.HeardLaws.{taken_by_items}
 use Rattle.connection_model.specs.Item.{Item, client_output}
 use Rattle.connection_model.specs.Setup as model
 use Rattle.connection_model.specs.State.{TraceState}
@@ -30,7 +32,7 @@ pub record StopsWithout (g : model.Setup) (a : Around) (l : TraceState) (c : ℕ
     (group : List Note) (t : ConnTurn) : Type 0 where
   pub more : List Item
   pub at : TraceState
-  pub passed : Unfolds g l more at
+  pub passed : Unfolds g (longer (taken_by_items a.took more) l) more at
   pub met : Met l.sent a.took more
   pub noted : group ≡ out_of_memory c more
       (length old.host.to_client + length (client_output more))
@@ -49,3 +51,8 @@ Rested c conn before after turn.More = ⊥
 Rested c conn before after (turn.Asks call) = ⊥
 Rested c conn before after turn.NotYet = Settles conn false × (after ≡ before)
 Rested c conn before after turn.Over = Settles conn true × (after ≡ before ++ closing c 0)
+
+-- a slice that stops in the middle made at least so many steps, or gave so many notes
+abbrev pub IsWhole : ConnTurn → (steps notes : ℕ) → Type 0
+IsWhole turn.More steps notes = (199 ≤ steps) ⊎ (64 ≤ notes)
+IsWhole other steps notes = Unit {0}

@@ -8,6 +8,8 @@ use Rattle.connection_model.specs.declared.note.Note.{Note}
 use Rattle.connection_model.specs.declared.note.Note.TheVariants.{Finish, CloseClient, Ended}
 use Rattle.connection_model.specs.Gates.{TakenCounts, to_take, Met}
 use Rattle.connection_model.specs.Item.{Item, notes_of}
+use Rattle.connection_model.specs.Further.{longer}
+use Rattle.connection_model.specs.HeardLaws.{taken_by_items}
 use Rattle.connection_model.specs.Setup.{Setup}
 use Rattle.connection_model.specs.State.{TraceState, ForReply, Next, Does, Waits, Over}
 use Rattle.connection_model.specs.Trace.{next_item, Unfolds, GivesNoMore}
@@ -45,11 +47,11 @@ StopsAt g took at turn.NotYet =
     GivesNoMore false at.sent took (next_item g at) × (is_drained g took at ≡ false)
 StopsAt g took at turn.Over = is_drained g took at ≡ true
 
--- From l these items came, each was let through its gate, and then it stands at `at`; its notes are
+-- From l these items came, on the choices that they took, each was let through its gate, and then it stands at `at`; its notes are
 -- those of the items, and then the last ones where it ends.
 pub record RunsItems (g : Setup) (took : TakenCounts) (l : TraceState) (c : ℕ)
     (more : List Item) (at : TraceState) (group : List Note) (t : ConnTurn) : Type 0 where
-  pub passed : Unfolds g l more at
+  pub passed : Unfolds g (longer (taken_by_items took more) l) more at
   pub met : Met l.sent took more
   pub noted : group ≡ notes_of c more ++ closing_if (ends t) c
   pub stops : StopsAt g took at t

@@ -1,6 +1,7 @@
 // One action of a connection.
 
-ghost use Rattle.std.specs.Prelude.{◌≡◌, ◌+◌, ◌<◌, ◌≤◌, ◌∷◌, ◌++◌, [], length, IfOk, OnErr};
+ghost use Rattle.std.specs.Prelude.{◌≡◌, ◌+◌, ◌<◌, ◌≤◌, ◌∷◌, ◌++◌, [], length, IfOk, OnOk};
+ghost use Rattle.std.specs.Prelude.{OnErr};
 ghost use Rattle.connection_model.specs.declared.note.Note.TheVariants as noted;
 ghost use Rattle.conn.specs.Acts.{Acted, BehindFault, Chooses, Closes, LogsFault, PassesGate};
 ghost use Rattle.conn.specs.Stages.{cause_for};
@@ -33,6 +34,7 @@ impl Conn {
         ensures ok { IfOk result
             (λ act. Acted setup.now number self.old self.new notes.old.items notes.new.items act) }
         ensures err { OnErr result (notes.new ≡ notes.old) }
+        ensures ticks { OnOk result (steps.old < steps.new) }
         ensures spare { notes.old.spare ≤ notes.new.spare + 1 }
         ensures grows { length notes.old.items ≤ length notes.new.items }
         ensures room { notes.new.spare + length notes.new.items
@@ -41,19 +43,28 @@ impl Conn {
         match self.stage {
             Stage::Running { at, number } => self.step_body(alloc, setup, at, number, steps),
             Stage::Failing { .. } => {
+                steps.tick();
                 self.log_fault(setup, number, notes);
                 Ok(Act::Goes)
             }
-            Stage::Gated { at } => Ok(self.pass_gate(setup, at)),
+            Stage::Gated { at } => {
+                steps.tick();
+                Ok(self.pass_gate(setup, at))
+            }
             Stage::Choosing => {
+                steps.tick();
                 self.choose(setup);
                 Ok(Act::Goes)
             }
             Stage::Finishing(finish) => {
+                steps.tick();
                 self.finish(setup, number, finish, notes);
                 Ok(Act::Goes)
             }
-            Stage::Asking { .. } | Stage::Draining => Ok(Act::Rests),
+            Stage::Asking { .. } | Stage::Draining => {
+                steps.tick();
+                Ok(Act::Rests)
+            }
         }
     }
 

@@ -82,9 +82,10 @@ impl Body {
             let ticks = steps.new - steps.old in
             IfOk result (λ turn. self.old.runs ≡ true → Went g t old new turn made ticks) }
         ensures said { IfOk result (λ turn. self.old.runs ≡ true → SaidIs turn self.new) }
-        ensures stopped { self.old.runs ≡ false → steps.new ≡ steps.old }
+        ensures ticks { OnOk result (steps.old < steps.new) }
     {
         if !self.runs {
+            steps.tick();
             return Ok(Turn::More);
         }
         self.runs = false;

@@ -59,9 +59,12 @@ impl Conn {
         number: usize,
         steps: &mut Steps<L>,
     ) -> M<Act>
-        ensures { IfOk result (λ act. BodyMoved setup.now at number self.old self.new act) }
+        ensures moved { IfOk result
+            (λ act. BodyMoved setup.now at number self.old self.new act) }
+        ensures ticks { OnOk result (steps.old < steps.new) }
     {
         let Some(handler) = setup.body(at, number) else {
+            steps.tick();
             return Ok(Act::Rests);
         };
         let turn = self.body.step(

@@ -1,10 +1,10 @@
 // A slice of a connection.
 
-ghost use Rattle.std.specs.Prelude.{◌≡◌, ◌≤◌, ◌∷◌, ◌++◌, List};
+ghost use Rattle.std.specs.Prelude.{◌≡◌, ◌-◌, ◌≤◌, ◌∷◌, ◌++◌, List, length};
 ghost use Rattle.connection_model.specs.declared.note.Note.{Note};
 ghost use Rattle.connection_model.specs.declared.note.Note.TheVariants as noted;
 ghost use Rattle.connection_model.specs.declared.note.Cause.TheVariants as causes;
-ghost use Rattle.conn.specs.Runs.{Rested, Runs};
+ghost use Rattle.conn.specs.Runs.{IsWhole, Rested, Runs};
 ghost use Rattle.conn.specs.RunsItems.{closing};
 
 use crate::connection::{Conn, close};
@@ -32,8 +32,10 @@ impl Conn {
         notes: &mut Notes,
     ) -> ConnTurn
         requires { 68 ≤ notes.old.spare }
-        ensures { (group : List Note) × (notes.new.items ≡ notes.old.items ++ group)
+        ensures ran { (group : List Note) × (notes.new.items ≡ notes.old.items ++ group)
             × Runs setup.now number self.old self.new group result }
+        ensures slice { let given = length notes.new.items - length notes.old.items in
+            IsWhole result (steps.new - steps.old) given }
     {
         let given = notes.len();
         for _moved in 0..MOST_MOVES {

@@ -5,14 +5,14 @@ use Rattle.conn.specs.Acts.{Acted}
 use Rattle.conn.specs.RunsItems.{closing}
 use Rattle.conn.specs.declared.turn.Act.TheVariants as done
 use Rattle.conn.specs.declared.turn.ConnTurn.{ConnTurn}
-use Rattle.conn.proofs.Running.{RunsBy, at_first, one_more, runs_more, runs_asks, runs_rests, runs_out}
+use Rattle.conn.proofs.Running.{RunsBy, at_first, one_more, runs_more, runs_asks, runs_rests, runs_out, rests_whole}
 use Rattle.conn.proofs.connection.Conn.run.Goals as goal
 
 pub loop-moved-init : goal.loop-moved-init
 loop-moved-init g c =
     let given = c.len-given.ensures in
     let room = c.requires in
-    (at_first c.args.setup.now c.args.number c.args.self.now c.args.notes.now.items, omega (arith, given), omega (arith, given, room))
+    (at_first c.args.setup.now c.args.number c.args.self.now c.args.notes.now.items, omega (arith, given), omega (arith, given, room), omega arith)
 
 pub loop-moved-preserved : goal.loop-moved-preserved
 loop-moved-preserved g c =
@@ -22,23 +22,25 @@ loop-moved-preserved g c =
     let room = c.advance.ensures.room in
     let within = k.1 in
     let wide = k.2 in
-    (one_more c.args.setup.now c.args.number c.args.self.now c.loop-moved.self c.advance.new.self c.args.notes.now.items c.loop-moved.notes.items c.advance.new.notes.items k.0 acted, omega (arith, grows, within), omega (arith, room, wide))
+    let counted = k.3 in
+    let ticks = c.in-Ok-Goes.ensures.ticks in
+    (one_more c.args.setup.now c.args.number c.args.self.now c.loop-moved.self c.advance.new.self c.args.notes.now.items c.loop-moved.notes.items c.advance.new.notes.items k.0 acted, omega (arith, grows, within), omega (arith, room, wide), omega (arith, counted, ticks))
 
-pub returns-then-len-given-ge-MOST_NOTES : goal.returns-then-len-given-ge-MOST_NOTES
-returns-then-len-given-ge-MOST_NOTES g c = runs_more c.args.setup.now c.args.number c.args.self.now c.loop-moved.self c.args.notes.now.items c.loop-moved.notes.items c.loop-moved.invariant.0
+pub returns-then-len-given-ge-MOST_NOTES-clause-ran : goal.returns-then-len-given-ge-MOST_NOTES-clause-ran
+returns-then-len-given-ge-MOST_NOTES-clause-ran g c = runs_more c.args.setup.now c.args.number c.args.self.now c.loop-moved.self c.args.notes.now.items c.loop-moved.notes.items c.loop-moved.invariant.0
 
-pub returns-in-Ok-Asks : goal.returns-in-Ok-Asks
-returns-in-Ok-Asks g c =
+pub returns-in-Ok-Asks-clause-ran : goal.returns-in-Ok-Asks-clause-ran
+returns-in-Ok-Asks-clause-ran g c =
     let acted : Acted c.args.setup.now c.args.number c.loop-moved.self c.advance.new.self c.loop-moved.notes.items c.advance.new.notes.items (done.Asks c.in-Ok-Asks.call) = rw c.in-Ok-Asks.field-0-is at c.in-Ok-Asks.ensures.ok in
     runs_asks c.args.setup.now c.args.number c.args.self.now c.loop-moved.self c.advance.new.self c.args.notes.now.items c.loop-moved.notes.items c.advance.new.notes.items c.in-Ok-Asks.call c.loop-moved.invariant.0 acted
 
-pub returns-in-Ok-Rests : goal.returns-in-Ok-Rests
-returns-in-Ok-Rests g c =
+pub returns-in-Ok-Rests-clause-ran : goal.returns-in-Ok-Rests-clause-ran
+returns-in-Ok-Rests-clause-ran g c =
     let acted : Acted c.args.setup.now c.args.number c.loop-moved.self c.advance.new.self c.loop-moved.notes.items c.advance.new.notes.items done.Rests = rw c.in-Ok-Rests.field-0-is at c.in-Ok-Rests.ensures.ok in
     runs_rests c.args.setup.now c.args.number c.args.self.now c.loop-moved.self c.advance.new.self c.args.notes.now.items c.loop-moved.notes.items c.advance.new.notes.items c.rest.new.notes.items c.rest.result c.loop-moved.invariant.0 acted c.rest.ensures
 
-pub returns-in-Err : goal.returns-in-Err
-returns-in-Err g c =
+pub returns-in-Err-clause-ran : goal.returns-in-Err-clause-ran
+returns-in-Err-clause-ran g c =
     let same : c.advance.new.notes.items ≡ c.loop-moved.notes.items = ap (λ n. n.items) c.in-Err.ensures.err in
     let noted : c.fail.new.notes.items ≡ c.loop-moved.notes.items ++ Finish c.args.number Memory ∷ closing c.args.number c.pending-pending.result =
     c.fail.ensures.noted ∙ ap (λ x. x ++ Finish c.args.number Memory ∷ closing c.args.number c.pending-pending.result) same in
@@ -46,5 +48,11 @@ returns-in-Err g c =
     subst P (sym c.fail.ensures.over)
     (runs_out c.args.setup.now c.args.number c.pending-pending.result c.args.self.now c.loop-moved.self c.advance.new.self c.args.notes.now.items c.loop-moved.notes.items c.fail.new.notes.items c.loop-moved.invariant.0 c.pending-pending.ensures noted)
 
-pub returns : goal.returns
-returns g c = runs_more c.args.setup.now c.args.number c.args.self.now c.loop-moved.self c.args.notes.now.items c.loop-moved.notes.items c.loop-moved.invariant.0
+pub returns-clause-ran : goal.returns-clause-ran
+returns-clause-ran g c = runs_more c.args.setup.now c.args.number c.args.self.now c.loop-moved.self c.args.notes.now.items c.loop-moved.notes.items c.loop-moved.invariant.0
+
+pub returns-in-Ok-Rests-clause-slice : goal.returns-in-Ok-Rests-clause-slice
+returns-in-Ok-Rests-clause-slice g c = rests_whole c.args.number c.advance.new.self c.advance.new.notes.items c.rest.new.notes.items c.rest.result _ _ c.rest.ensures
+
+pub returns-in-Err-clause-slice : goal.returns-in-Err-clause-slice
+returns-in-Err-clause-slice g c = rw c.fail.ensures.over tt

@@ -7,3 +7,4 @@ invariant-loop-moved g l =
     RunsOn l.setup l.number l.initial.self l.self l.initial.notes.items l.notes.items
     × (l.given ≤ length l.notes.items)
     × (68 + l.given ≤ l.notes.spare + length l.notes.items)
+    × (l.initial.steps + l._moved ≤ l.steps)

@@ -10,8 +10,8 @@ use Rattle.conn.proofs.connection.Conn.step_body.Goals as goal
 pub turned-requires : goal.turned-requires
 turned-requires g c = within (bodies_at c.args.setup.now c.args.at) c.args.number c.in-Some.handler.now (sym c.body.ensures ∙ ap (option_map (λ h. h.now)) c.in-Some.is)
 
-pub returns : goal.returns
-returns g c =
+pub returns-clause-moved : goal.returns-clause-moved
+returns-clause-moved g c =
     let s = c.args.setup.now in
     let old = c.args.self.now in
     let got : slice_get (bodies_at s c.args.at) c.args.number ≡ Some c.in-Some.handler.now = sym c.body.ensures ∙ ap (option_map (λ h. h.now)) c.in-Some.is in
