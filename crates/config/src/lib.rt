@@ -39,3 +39,4 @@ pub use fault::{ConfigFault, Fault, FaultKind};
 pub use laws::{first_is_told, one_configuration};
 pub use reader::{Config, read_config};
 pub use rule_text::LoadedRule;
+pub use section::Section;

@@ -2,7 +2,7 @@
 
 /// An array of tables of a document.
 #[derive(Clone, Copy)]
-pub(crate) enum Section {
+pub enum Section {
     Virtual,
     Pool,
     Rule,

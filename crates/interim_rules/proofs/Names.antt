@@ -1,8 +1,7 @@
 -- Names of host commands.
-use Rattle.std.proofs.Common.{◌≡◌, ◌≤◌, ℕ, List, [], ◌∷◌, length, Bool, true, false, ◌||◌, Option, Some, None, IsTrue, ◌↔◌, refl, sym, ap, ◌∙◌, find, cond, arith}
+use Rattle.std.proofs.Common.{◌≡◌, ◌≤◌, ℕ, List, [], ◌∷◌, length, Bool, true, false, ◌||◌, Option, Some, None, IsTrue, ◌↔◌, refl, sym, ap, find, arith}
 use Rattle.std.specs.Prelude.{not}
-use Rattle.std.specs.Option.{is_some, option_and_then}
-use Rattle.std.specs.Result.{result_ok}
+use Rattle.std.specs.Option.{is_some}
 use Rattle.std.specs.Str.{bytes_eq}
 use Rattle.std.proofs.lemmas.Bool.{false≢true}
 use Rattle.std.proofs.lemmas.List.Sums.{AllPass-from_list_all, list_all-from_AllPass}
@@ -10,15 +9,11 @@ use Rattle.std.proofs.lemmas.Slice.Eq.{bytes_eq-Decides}
 use Rattle.event_order.proofs.ByName.{command_by_name}
 use Rattle.event_order.specs.Command.{IsHostCommand, command_row, every_command}
 use Rattle.event_order.specs.declared.command.HostCommand.{HostCommand}
-use Rattle.px_bytes.specs.Limit.{is_short}
 use Rattle.interim_rules.specs.HostCommands.{NamesBuilt, built_name, is_built, is_host_name, may_all_stand, may_stand, names_in}
 use Rattle.interim_rules.specs.HostCommands.{only_text}
-use Rattle.interim_rules.specs.RuleText.{body_tree, built_tree, rule_body, script_body, script_tree}
-use Rattle.tcl_compile.specs.Compiled.{compiled_body}
 use Rattle.tcl_compile.specs.Tree.{Tree, trees_of}
 use Rattle.tcl_compile.specs.TreeView.{nodes_view}
 use Rattle.tcl_compile.specs.declared.node.Node.{Node}
-use Rattle.tcl_words.specs.Reading.{reading}
 
 -- a word of several parts tells no name
 pub several_parts : (parts : List Node) → 2 ≤ length parts → may_all_stand (only_text (trees_of (nodes_view parts))) ≡ true
@@ -66,25 +61,3 @@ built_if t = (
   λ h k d there. (stands_if _).0 (AllPass-from_list_all may_stand (names_in t) h k d there),
   λ each. list_all-from_AllPass may_stand (names_in t) (λ k d there. (stands_if _).1 (each k d there)),
 )
-
--- the tree of a rule's body
-
-behind : {X : Type 0} (next : X → Option Tree) → ((x : X) (t : Tree) → next x ≡ Some t → IsTrue (is_built t))
-    → (found : Option X) (t : Tree) → option_and_then next found ≡ Some t → IsTrue (is_built t)
-behind next each None t e = cc
-behind next each (Some x) t e = each x t e
-
-when_built : (b : Bool) (u t : Tree) → b ≡ is_built u → cond b (Some u) None ≡ Some t → IsTrue (is_built t)
-when_built true u t is e = let same : u ≡ t = cc in ap is_built (sym same) ∙ sym is
-when_built false u t is e = cc
-
-in_time : (b : Bool) (o : Option Tree) (t : Tree) → cond b o None ≡ Some t → o ≡ Some t
-in_time true o t e = e
-in_time false o t e = cc
-
-pub rule_named : (text : List ℕ) (t : Tree) → rule_body text ≡ Some t → NamesBuilt t
-unfolding rule_body
-rule_named text t e =
-    (built_if t).0 (behind script_tree
-    (λ commands. behind body_tree (λ w. behind built_tree (λ u v. when_built (is_built u) u v refl) (result_ok (compiled_body w))) (script_body commands))
-    (result_ok (reading text)) t (in_time (is_short text) (option_and_then script_tree (result_ok (reading text))) t e))

@@ -1,3 +1,1 @@
 pub mod HostCommands
-pub mod RuleOutcome
-pub mod RuleText

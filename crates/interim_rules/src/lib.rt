@@ -1,11 +1,8 @@
-//! The text of a rule, in the form that can be run today.
+//! The trees of rules that are loaded: whether one can be run today, and a copy of it.
 #![tactic(auto)]
 
-mod handler;
+mod copy;
 mod host_commands;
-mod rule_fault;
-mod rule_text;
 
+pub use copy::copy_tree;
 pub use host_commands::is_built;
-pub use rule_fault::RuleFault;
-pub use rule_text::read_rule;

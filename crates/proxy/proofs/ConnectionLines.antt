@@ -1,6 +1,6 @@
 -- The lines of the connections, as the program writes them, are those of the past and the state.
-use Rattle.std.proofs.Common.{◌≡◌, refl, sym, ap, subst, ◌∙◌, ℕ, ◌-◌, List, [], ◌∷◌, ◌++◌, length}
-use Rattle.std.proofs.Common.{Bool, true, false, Option, Some, None, arith, if◌then◌else◌}
+use Rattle.std.proofs.Common.{◌≡◌, refl, ap, subst, ◌∙◌, ℕ, List, [], ◌∷◌, ◌++◌}
+use Rattle.std.proofs.Common.{Bool, true, false, Option, Some, None, if◌then◌else◌}
 use Rattle.px_bytes.specs.declared.addr.Side.TheVariants.{Client, Server}
 use Rattle.proxy_core.specs.Past.{Past, shared}
 use Rattle.proxy_core.specs.Queries.{pending_on}
@@ -17,7 +17,7 @@ use Rattle.proxy_core.proofs.LiveLookups.{live_absent, live_present}
 use Rattle.proxy_core.proofs.Standing.{as_live}
 use Rattle.proxy_core.proofs.Stepping.{pending_same}
 use Rattle.proxy.specs.Replay.{taken_bytes, connection_text, connections_text, taken_of}
-use Rattle.proxy.specs.Replay.{open_if_live, conn_text, conns_text}
+use Rattle.proxy.specs.Replay.{open_if_live, conns_text}
 use Rattle.proxy.specs.Report.{client_text, open_text}
 
 none_to_server : (o : Option Conn) → pending_on Server o ≡ 0

@@ -1,8 +1,7 @@
 -- From what stands and the end of a report to what a replay comes to.
 use Rattle.std.proofs.lemmas.List.{append-nil}
-use Rattle.std.proofs.Common.{◌≡◌, ◌⊎◌, inl, inr, refl, sym, ap, subst, ◌∙◌, ℕ, ◌+◌, ◌≤◌, List, []}
-use Rattle.std.proofs.Common.{◌++◌, length, take, Option, Result, Ok, Err, IfOk, arith}
-use Rattle.std.proofs.Common.{append_assoc}
+use Rattle.std.proofs.Common.{◌≡◌, inl, inr, refl, sym, ap, subst, ◌∙◌, ℕ, ◌+◌, ◌≤◌, List, []}
+use Rattle.std.proofs.Common.{◌++◌, length, Option, Result, Ok, Err, IfOk, arith}
 use Rattle.px_bytes.specs.declared.memory.Memory as want
 use Rattle.px_outside.specs.Outside.{told_more, Rose}
 use Rattle.proxy_core.specs.declared.config.Config as configured
@@ -16,8 +15,8 @@ use Rattle.proxy.specs.End.{end_unless}
 use Rattle.proxy.specs.Replay.{past_text, accepted, connections_text, conns_text, report_text}
 use Rattle.proxy.specs.Report.{end_text, text_fault, event_fault}
 use Rattle.proxy.specs.Stops.{StoppedText, StoppedEvent}
-use Rattle.proxy.specs.Written.{Stands, IsLast, IsReport, WritesFront, WritesFrontOf}
-use Rattle.proxy.specs.Replayed.{Reports, ReplaysAll, MeetsFault, MeetsRefusal, Replayed, Finished}
+use Rattle.proxy.specs.Written.{Stands, IsLast, WritesFront, WritesFrontOf}
+use Rattle.proxy.specs.Replayed.{Reports, ReplaysAll, Replayed, Finished}
 use Rattle.proxy.specs.Replayed.{FinishFault}
 use Rattle.proxy.proofs.ConnectionLines.{lines_same}
 use Rattle.proxy.proofs.Stopping.{told_twice, front_more, front_of, written_front, front_longer}

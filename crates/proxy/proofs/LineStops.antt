@@ -1,8 +1,8 @@
 -- One line: it is skipped, its event is given, or the replay stops there.
 use Rattle.std.proofs.Common.{◌≡◌, ◌↔◌, refl, sym, ap, subst, ◌∙◌, ℕ, ◌+◌, List, [], ◌∷◌, ◌++◌}
-use Rattle.std.proofs.Common.{length, map, Bool, true, false, Option, Some, None, Result, Ok, Err}
-use Rattle.std.proofs.Common.{IfOk, IfErr, OnOk, IfSome, arith, inl, inr}
-use Rattle.proxy_core.specs.Past.{Happened, Past, kind_of, with_accepted}
+use Rattle.std.proofs.Common.{length, true, false, Option, Some, None, Result, Ok, Err}
+use Rattle.std.proofs.Common.{IfOk, IfErr, OnOk, IfSome, arith, inl}
+use Rattle.proxy_core.specs.Past.{Past, kind_of, with_accepted}
 use Rattle.proxy_core.specs.Scheduler.{State}
 use Rattle.proxy_core.specs.declared.config.Config.{Config}
 use Rattle.proxy_core.specs.declared.core_state.Core.{Core}
@@ -13,7 +13,7 @@ use Rattle.proxy.specs.declared.replay.Stop.TheVariants as stop
 use Rattle.proxy.specs.declared.schedule.LineFault.{LineFault}
 use Rattle.proxy.specs.declared.taken.Taken.{Taken}
 use Rattle.proxy.specs.Lines.{IsLine, Gives, GivesNone, MayFollow, accepted_in, events_of, Reads}
-use Rattle.proxy.specs.Replay.{accepted, taken_bytes, taken_of}
+use Rattle.proxy.specs.Replay.{accepted, taken_of}
 use Rattle.proxy.specs.Schedule.{IsSkipped, SpellsEvent}
 use Rattle.proxy.specs.Stops.{with_line, StoppedAtEvent, StoppedAtLine}
 use Rattle.proxy.specs.Taken.{is_second}

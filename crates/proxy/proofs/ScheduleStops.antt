@@ -1,7 +1,6 @@
 -- A schedule: what stands behind its lines, and where the replay stops.
-use Rattle.std.proofs.Common.{◌≡◌, refl, sym, ap, subst, ◌∙◌, ℕ, zero, suc, ◌+◌, ◌-◌, ◌≤◌, ◌<◌}
+use Rattle.std.proofs.Common.{◌≡◌, refl, sym, ap, subst, ◌∙◌, ℕ, ◌+◌, ◌-◌, ◌<◌}
 use Rattle.std.proofs.Common.{List, [], ◌∷◌, ◌++◌, length, take, drop, Option, Some, None, arith}
-use Rattle.std.proofs.Common.{append_assoc}
 use Rattle.std.specs.List.{position_from}
 use Rattle.std.proofs.lemmas.List.{take-append-drop, take_rest, length-drop}
 use Rattle.proxy_core.specs.declared.config.Config.{Config}
@@ -9,10 +8,10 @@ use Rattle.proxy_core.specs.declared.core_state.Core.{Core}
 use Rattle.proxy.specs.declared.replay.Stop.{Stop}
 use Rattle.proxy.specs.declared.replay.Stop.TheVariants as stop
 use Rattle.proxy.specs.declared.taken.Taken.{Taken}
-use Rattle.proxy.specs.Lines.{IsLine, Faulty, Unended, NoEvent, Refuses, events_of}
+use Rattle.proxy.specs.Lines.{IsLine, Faulty, Unended, NoEvent, events_of}
 use Rattle.proxy.specs.Stops.{with_line, StoppedAtLine, Stopped}
-use Rattle.proxy.specs.Written.{Stands, WritesFront}
-use Rattle.proxy.proofs.LineCuts.{is_lf, Cut, cut, no_lf, next_line}
+use Rattle.proxy.specs.Written.{Stands}
+use Rattle.proxy.proofs.LineCuts.{is_lf, cut, no_lf, next_line}
 use Rattle.proxy.proofs.Stopping.{front_longer}
 
 split : (at : ℕ) (s : List ℕ) → s ≡ take at s ++ drop at s

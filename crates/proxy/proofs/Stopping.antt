@@ -1,5 +1,5 @@
 -- What is written where a replay stops, and after an event.
-use Rattle.std.proofs.Common.{◌≡◌, ℕ, ◌+◌, ◌≤◌, ◌<◌, List, [], ◌∷◌, ◌++◌, Option, Some, None}
+use Rattle.std.proofs.Common.{◌≡◌, ℕ, ◌+◌, ◌<◌, List, [], ◌∷◌, ◌++◌, Option, Some, None}
 use Rattle.std.proofs.Common.{Result, Ok, Err, IfErr, OnErr, IsErrAnd, length, take, refl, sym, ap}
 use Rattle.std.proofs.Common.{◌∙◌, arith, append_assoc, zero-add, suc-add, drop, get_or, subst, inl}
 use Rattle.std.proofs.Common.{inr}
@@ -10,7 +10,7 @@ use Rattle.px_outside.specs.Outside.{told_more, AddsPrefix}
 use Rattle.px_outside.specs.declared.failed.Failed.{Failed}
 use Rattle.px_outside.specs.declared.failed.Failed.TheVariants as failed
 use Rattle.connection_model.specs.declared.note.Note.{Note}
-use Rattle.proxy_core.specs.Past.{Happened, Past, kind_of}
+use Rattle.proxy_core.specs.Past.{Past, kind_of}
 use Rattle.proxy_core.specs.Refusal.{refusal, refused}
 use Rattle.proxy_core.specs.Represents.{Represents}
 use Rattle.proxy_core.specs.Scheduler.{State, no_connections}
@@ -23,12 +23,11 @@ use Rattle.proxy.specs.declared.taken.Taken.{Taken}
 use Rattle.proxy.specs.declared.replay.Stop.{Stop}
 use Rattle.proxy.specs.declared.replay.Stop.TheVariants as stop
 use Rattle.proxy.specs.Lines.{IsLine, Gives, Reads, events_of}
-use Rattle.proxy.specs.Replay.{past_text, accepted, connections_text, conn_text, conns_text}
-use Rattle.proxy.specs.Replay.{report_text}
-use Rattle.proxy.specs.Report.{note_lines, end_text}
+use Rattle.proxy.specs.Replay.{past_text, conn_text, conns_text}
+use Rattle.proxy.specs.Report.{note_lines}
 use Rattle.proxy.specs.Stops.{stop_of, with_line}
 use Rattle.proxy.specs.Taken.{took_of, with_took}
-use Rattle.proxy.specs.Written.{Stands, IsFront, IsNotes, WritesNotes, WritesFront, WritesFrontOf}
+use Rattle.proxy.specs.Written.{Stands, IsFront, WritesNotes, WritesFront, WritesFrontOf}
 use Rattle.proxy.proofs.TakenKept.{taken_kept}
 
 -- an error that is want of memory

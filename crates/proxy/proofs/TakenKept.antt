@@ -1,6 +1,6 @@
 -- What the program keeps of the bytes that clients took is what the past and the state say.
-use Rattle.std.proofs.Common.{◌≡◌, refl, sym, ap, subst, ◌∙◌, ℕ, zero, suc, ◌+◌, ◌-◌, ◌≤◌, ◌<◌}
-use Rattle.std.proofs.Common.{List, [], ◌∷◌, ◌++◌, length, take, drop, map, Bool, true, false, ◌||◌}
+use Rattle.std.proofs.Common.{◌≡◌, refl, sym, ap, subst, ◌∙◌, ℕ, zero, suc, ◌+◌, ◌≤◌, ◌<◌}
+use Rattle.std.proofs.Common.{List, [], ◌∷◌, ◌++◌, length, take, drop, Bool, true, false, ◌||◌}
 use Rattle.std.proofs.Common.{Option, Some, None, nat_eq, nat_le, nat_lt, arith, if◌then◌else◌, ◌⊎◌}
 use Rattle.std.proofs.Common.{inl, inr}
 use Rattle.std.specs.Bool.{MatchBool}
@@ -15,11 +15,11 @@ use Rattle.px_bytes.specs.declared.addr.Side.TheVariants.{Client}
 use Rattle.connection_model.specs.declared.note.Cause.TheVariants.{Memory}
 use Rattle.connection_model.specs.declared.note.Note.{Note}
 use Rattle.connection_model.specs.declared.note.Note.TheVariants.{Finish}
-use Rattle.connection_model.specs.Heard.{Takes, EventKind, Accepts, Comes, Runs, Accepted, Heard}
+use Rattle.connection_model.specs.Heard.{Takes, Accepts, Comes, Runs, Accepted}
 use Rattle.connection_model.specs.Item.{Item, to_client, client_output}
 use Rattle.connection_model.proofs.Hearing.{others_not_heard}
 use Rattle.proxy_core.specs.Live.{pending_in}
-use Rattle.proxy_core.specs.Moves.{Leads, Moves, MovesBy, MovesFailed, MovesOn, MovesCome, is_drained_at}
+use Rattle.proxy_core.specs.Moves.{Leads, Moves, MovesFailed, MovesOn}
 use Rattle.proxy_core.specs.Moves.{MovesRing, RunsOn, RunsOut, RunsFailed}
 use Rattle.proxy_core.specs.Past.{Happened, Past, kind_of, heard, shared}
 use Rattle.proxy_core.specs.Queries.{front_of, front_in, queue_on}
@@ -28,7 +28,7 @@ use Rattle.proxy_core.specs.Refusal.{known, core_standing, core_known, refusal_r
 use Rattle.proxy_core.specs.Refusal.{refused, refusal}
 use Rattle.proxy_core.specs.Refusals.{live_at}
 use Rattle.proxy_core.specs.Represents.{ConnectionContinues, AgreesAt, Represents}
-use Rattle.proxy_core.specs.Scheduler.{State, Seen, seen, seen_after}
+use Rattle.proxy_core.specs.Scheduler.{State, Seen, seen}
 use Rattle.proxy_core.specs.Sound.{unseen, Served}
 use Rattle.proxy_core.specs.declared.config.Config.{Config}
 use Rattle.proxy_core.specs.declared.core_state.Core.{Core}
@@ -41,7 +41,7 @@ use Rattle.proxy_core.proofs.GroupNotes.{About}
 use Rattle.proxy_core.proofs.Hearing.{come_told, run_told}
 use Rattle.proxy_core.proofs.Members.{eq_self, eq_same, eq_turned, in_pushed_other}
 use Rattle.proxy_core.proofs.ReadyRing.{distinct_none, distinct_push, absent_all}
-use Rattle.proxy_core.proofs.SoundEvents.{first_notes, seen_accept}
+use Rattle.proxy_core.proofs.SoundEvents.{seen_accept}
 use Rattle.proxy_core.proofs.SoundPast.{none_holds, may_come_at, not_accepted, front_served, unchanged}
 use Rattle.proxy.specs.declared.taken.Taken.{Taken}
 use Rattle.proxy.specs.Replay.{accepted, taken_bytes, taken_of}

@@ -1,12 +1,12 @@
 -- A schedule all of whose lines spell events has no faulty line.
-use Rattle.std.proofs.Common.{◌≡◌, ◌⊎◌, inl, inr, refl, sym, ap, subst, ◌∙◌, ℕ, List, [], ◌∷◌, ◌++◌}
-use Rattle.std.proofs.Common.{reverse, Bool, true, false, nat_eq, append_assoc, arith}
+use Rattle.std.proofs.Common.{◌≡◌, inl, inr, refl, sym, ap, subst, ◌∙◌, ℕ, List, [], ◌∷◌, ◌++◌}
+use Rattle.std.proofs.Common.{reverse, true, false, nat_eq, append_assoc, arith}
 use Rattle.std.proofs.lemmas.Bool.Decides.{nat_tests}
-use Rattle.std.proofs.lemmas.List.{append-nil, reverse-append, reverse-reverse}
+use Rattle.std.proofs.lemmas.List.{reverse-append, reverse-reverse}
 use Rattle.proxy_core.specs.declared.event.Event.{Event}
 use Rattle.proxy.specs.Lines.{IsLine, AllLines, lines_text, Gives, GivesNone, Spell, Reads, Faulty}
 use Rattle.proxy.specs.Lines.{Unended, NoEvent}
-use Rattle.proxy.specs.Schedule.{IsSkipped, words_of}
+use Rattle.proxy.specs.Schedule.{words_of}
 use Rattle.proxy.proofs.OneEvent.{one_event}
 
 -- one line at the front of a text

@@ -2,6 +2,8 @@
 use Rattle.std.specs.Prelude.{ℕ, List, [], ◌∷◌, Bool, false, not, ◌&&◌, nat_eq, Option, Some, None}
 use Rattle.std.specs.Prelude.{if◌then◌else◌, codes}
 use Rattle.std.specs.Str.{bytes_eq}
+use Rattle.proxy.specs.declared.command.Command as code
+use Rattle.proxy.specs.declared.command.Command.TheVariants as words
 use Rattle.proxy.specs.declared.command.Replay.{Replay}
 
 -- the names of the files that a replay reads
@@ -12,14 +14,25 @@ pub record Named : Type 0 where
 abbrev pub named_of : Replay → Named
 named_of r = record { config = r.config.now; schedule = r.schedule.now }
 
+-- what is to be done, with the names of the files
+pub data Command : Type 0 where
+  Checks : List ℕ → Command
+  Replays : Named → Command
+
+abbrev pub command_view : code.Command → Command
+command_view (words.Check config) = Checks config.now
+command_view (words.Replay r) = Replays (named_of r)
+
 -- a word that names a file: it isn't empty and doesn't begin with `-`
 abbrev pub is_file_name : List ℕ → Bool
 is_file_name [] = false
 is_file_name (b ∷ bytes) = not (nat_eq b 45)
 
--- `replay CONFIG SCHEDULE`
-abbrev pub replay_of : List (List ℕ) → Option Named
-replay_of (command ∷ config ∷ schedule ∷ []) =
+-- `check CONFIG` and `replay CONFIG SCHEDULE`
+abbrev pub command_of : List (List ℕ) → Option Command
+command_of (command ∷ config ∷ []) =
+    if bytes_eq command (codes "check") && is_file_name config then Some (Checks config) else None
+command_of (command ∷ config ∷ schedule ∷ []) =
     if bytes_eq command (codes "replay") && (is_file_name config && is_file_name schedule)
-    then Some (record { config = config; schedule = schedule }) else None
-replay_of words = None
+    then Some (Replays (record { config = config; schedule = schedule })) else None
+command_of words = None

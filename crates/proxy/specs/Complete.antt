@@ -1,25 +1,66 @@
--- When a replay comes to its whole report.
-use Rattle.std.specs.Prelude.{◌≡◌, ◌⊎◌, ℕ, List, Option, Some}
+-- When a command comes to its whole text.
+use Rattle.std.specs.Prelude.{◌≡◌, ◌⊎◌, ℕ, List, Option, Some, None, IsSome}
+use Rattle.config.specs.Documents.{document_fault, items_at}
+use Rattle.config.specs.Keys.{rules, rule_text}
+use Rattle.config.specs.Loading.{file_name}
+use Rattle.config.specs.Outcomes.{Configures, IsDocument}
+use Rattle.config.specs.Texts.{text_in}
+use Rattle.config.specs.declared.reader.Config as loaded
 use Rattle.px_outside.specs.Outside.{Rose}
-use Rattle.proxy_core.specs.declared.config.Config as configured
+use Rattle.proxy_core.specs.declared.config.Config as core
 use Rattle.proxy_core.specs.declared.event.Event.{Event}
+use Rattle.toml.specs.Data.{Data, Items, no_items, item, Members}
 use Rattle.proxy.specs.declared.end.End.{End}
 use Rattle.proxy.specs.declared.end.End.TheVariants.{Done, Schedule, Memory}
-use Rattle.proxy.specs.Command.{Named, replay_of}
-use Rattle.proxy.specs.Config.{Loads}
+use Rattle.proxy.specs.Command.{Checks, Replays, Named, command_of}
 use Rattle.proxy.specs.Lines.{Reads}
+use Rattle.proxy.specs.Offline.{Runs}
 use Rattle.proxy.specs.Replayed.{MeetsRefusal}
+use Rattle.proxy.specs.Runnable.{IsRun}
 
--- The words are a replay of two files that are told; the configuration loads, each line of the
--- schedule spells an event or is skipped, and no count rose.
+-- the files tell the text of a rule, where it doesn't stand in the document
+abbrev pub IsTold : (List ℕ → Option (List ℕ)) → Data → Type 0
+IsTold told d = IsSome (text_in (Some rule_text.name) d) ⊎ IsSome (told (file_name d))
+
+abbrev pub AreTold : (List ℕ → Option (List ℕ)) → Items → Type 0
+AreTold told no_items = Unit {0}
+AreTold told (item d ds) = IsTold told d × AreTold told ds
+
+-- the configuration loads, of files that are told
+pub record MayLoad (told : List ℕ → Option (List ℕ)) (name : List ℕ) (C : loaded.Config)
+    : Type 0 where
+  pub bytes : List ℕ
+  pub config : told name ≡ Some bytes
+  pub top : Members
+  pub document : IsDocument bytes top
+  pub faultless : document_fault top ≡ None
+  pub texts : AreTold told (items_at rules top)
+  pub configures : Configures told top C
+
+-- ---- `check CONFIG`
+
+-- the configuration loads, and no count rose
+pub record MayCheck (words : List (List ℕ)) (told : List ℕ → Option (List ℕ))
+    (reads_before reads_now before now : ℕ) : Type 0 where
+  pub name : List ℕ
+  pub command : command_of words ≡ Some (Checks name)
+  pub C : loaded.Config
+  pub loads : MayLoad told name C
+  pub no_read_fault : Rose reads_before reads_now → ⊥
+  pub no_write_fault : Rose before now → ⊥
+
+-- ---- `replay CONFIG SCHEDULE`
+
+-- the configuration loads and can be run, each line of the schedule spells an event or is skipped,
+-- and no count rose
 pub record MayReplay (words : List (List ℕ)) (told : List ℕ → Option (List ℕ))
     (reads_before reads_now before now : ℕ) : Type 0 where
   pub named : Named
-  pub command : replay_of words ≡ Some named
-  pub bytes : List ℕ
-  pub config : told named.config ≡ Some bytes
-  pub C : configured.Config
-  pub loads : Loads bytes C
+  pub command : command_of words ≡ Some (Replays named)
+  pub C : loaded.Config
+  pub loads : MayLoad told named.config C
+  pub K : core.Config
+  pub is_run : IsRun C K
   pub schedule : List ℕ
   pub schedule_is : told named.schedule ≡ Some schedule
   pub number : ℕ
@@ -28,11 +69,19 @@ pub record MayReplay (words : List (List ℕ)) (told : List ℕ → Option (List
   pub no_read_fault : Rose reads_before reads_now → ⊥
   pub no_write_fault : Rose before now → ⊥
 
--- Then the replay is done, or an event is refused at its place, or memory was refused.
-abbrev pub Completes : List (List ℕ) → (List ℕ → Option (List ℕ)) → Option (List ℕ)
-    → Option (List ℕ) → ℕ → ℕ → ℕ → ℕ → End → Type 0
-Completes words told old new reads_before reads_now before now end =
-    (m : MayReplay words told reads_before reads_now before now)
-    → (end ≡ Done) ⊎ (end ≡ Memory)
-    ⊎ ((end ≡ Schedule)
-    × ((C : configured.Config) × Loads m.bytes C × MeetsRefusal C m.schedule old new))
+-- an event is refused at its place
+abbrev pub IsRefused : (List ℕ → Option (List ℕ)) → Named → List ℕ → Option (List ℕ)
+    → Option (List ℕ) → Type 0
+IsRefused told named schedule old new =
+    (K : core.Config) × Runs told named K schedule × MeetsRefusal K schedule old new
+
+-- Then a check is done, or memory was refused; a replay is done, or an event is refused at its
+-- place, or memory was refused.
+pub record Completes (words : List (List ℕ)) (told : List ℕ → Option (List ℕ))
+    (old new : Option (List ℕ)) (reads_before reads_now before now : ℕ) (end : End)
+    : Type 0 where
+  pub check : MayCheck words told reads_before reads_now before now
+      → (end ≡ Done) ⊎ (end ≡ Memory)
+  pub replay : (m : MayReplay words told reads_before reads_now before now)
+      → (end ≡ Done) ⊎ (end ≡ Memory)
+      ⊎ ((end ≡ Schedule) × IsRefused told m.named m.schedule old new)

@@ -7,7 +7,9 @@ pub mod Replay
 pub mod Written
 pub mod Stops
 pub mod Replayed
-pub mod Config
+pub mod Loads
+pub mod Runnable
+pub mod Says
 pub mod Complete
 pub mod Offline
 pub mod Schedule

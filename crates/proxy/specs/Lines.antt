@@ -1,7 +1,7 @@
 -- A schedule as lines, in this project's own format: which events they spell, and where the first
 -- faulty one stands.
 use Rattle.std.specs.Prelude.{◌≡◌, ◌⊎◌, ℕ, List, [], ◌∷◌, ◌++◌, length, false, nat_eq, Some}
-use Rattle.proxy_core.specs.Past.{Past, Happened, kind_of}
+use Rattle.proxy_core.specs.Past.{Past, kind_of}
 use Rattle.proxy_core.specs.Refusal.{refused}
 use Rattle.proxy_core.specs.Scheduler.{State}
 use Rattle.proxy_core.specs.declared.config.Config.{Config}

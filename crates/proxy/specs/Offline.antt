@@ -1,15 +1,21 @@
 -- What the commands that wait for nobody come to: the program's promise.
-use Rattle.std.specs.Prelude.{◌≡◌, ◌⊎◌, ℕ, List, Option, Some, None, Result, Ok, Err, IfSome, codes}
+use Rattle.std.specs.Prelude.{◌≡◌, ◌⊎◌, ℕ, List, Option, Some, None, codes}
+use Rattle.config.specs.Loading.{IsContents}
+use Rattle.config.specs.declared.fault.Fault.{Fault}
+use Rattle.config.specs.declared.reader.Config as loaded
 use Rattle.px_outside.specs.Outside.{told_more, Rose}
 use Rattle.px_outside.specs.declared.failed.Failed.{Failed}
 use Rattle.px_outside.specs.declared.failed.Failed.TheVariants as failed
-use Rattle.proxy_core.specs.declared.config.Config as configured
+use Rattle.proxy_core.specs.declared.config.Config as core
 use Rattle.proxy.specs.declared.end.End.{End}
 use Rattle.proxy.specs.declared.end.End.TheVariants.{Done, Usage, Config, Schedule, ReadFault}
 use Rattle.proxy.specs.declared.end.End.TheVariants.{WriteFault, Memory}
-use Rattle.proxy.specs.Command.{Named, replay_of}
-use Rattle.proxy.specs.Config.{Loads}
-use Rattle.proxy.specs.Report.{config_fault, usage_fault}
+use Rattle.proxy.specs.Command.{Command, Checks as Checking, Replays as Replaying, Named}
+use Rattle.proxy.specs.Command.{command_of}
+use Rattle.proxy.specs.Loads.{Loads, IsFaulty, IsUnread}
+use Rattle.proxy.specs.Report.{config_fault, ok_text, usage_fault}
+use Rattle.proxy.specs.Runnable.{IsRun, run_of}
+use Rattle.proxy.specs.Says.{fault_text}
 use Rattle.proxy.specs.Written.{IsWritten, WritesFrontOf}
 use Rattle.proxy.specs.Replayed.{Replayed}
 
@@ -17,77 +23,129 @@ abbrev pub end_of_read : Failed → End
 end_of_read failed.Failed = ReadFault
 end_of_read failed.Memory = Memory
 
--- these are the bytes of a file, where the files tell what they hold
-abbrev pub IsContents : (List ℕ → Option (List ℕ)) → List ℕ → List ℕ → Type 0
-IsContents told name bytes = IfSome (told name) (λ held. bytes ≡ held)
+-- a prefix of a text that is due was written
+abbrev pub WritesDue : (List ℕ → Type 0) → Option (List ℕ) → Option (List ℕ) → Type 0
+WritesDue IsDue old new = (text : List ℕ) × IsDue text × WritesFrontOf text old new
 
--- a text was written; or a prefix of it, and writing failed or memory was refused
-abbrev pub Says : List ℕ → Option (List ℕ) → Option (List ℕ) → ℕ → ℕ → Result (Unit {0}) End
-    → Type 0
-Says text old new before now (Ok u) = new ≡ told_more old text
-Says text old new before now (Err WriteFault) = Rose before now × WritesFrontOf text old new
-Says text old new before now (Err Memory) = (new ≡ old) ⊎ WritesFrontOf text old new
-Says text old new before now (Err end) = ⊥
+-- ---- the configuration, which is read first
 
--- the configuration was read, and doesn't load
-pub record IsRefused (told : List ℕ → Option (List ℕ)) (named : Named) : Type 0 where
-  pub bytes : List ℕ
-  pub contents : IsContents told named.config bytes
-  pub refused : (C : configured.Config) → Loads bytes C → ⊥
+-- it doesn't load, and this text tells why
+pub record TellsFault (told : List ℕ → Option (List ℕ)) (before now : ℕ) (name text : List ℕ)
+    : Type 0 where
+  pub fault : Fault
+  pub faulty : IsFaulty told before now name fault
+  pub text_is : text ≡ fault_text fault
 
--- the text that is due for files that are read: the fault of a configuration that doesn't load; or,
--- of one that does, the notes of a front of the schedule, or the whole report of it
-abbrev pub IsDue : (List ℕ → Option (List ℕ)) → Named → List ℕ → Type 0
-IsDue told named text =
-    (IsRefused told named × (text ≡ config_fault 9 (codes "config")))
-    ⊎ ((bytes : List ℕ) × (C : configured.Config) × IsContents told named.config bytes
-    × Loads bytes C × (schedule : List ℕ) × IsContents told named.schedule schedule
-    × IsWritten C schedule text)
+-- it loads
+abbrev pub LoadsSome : (List ℕ → Option (List ℕ)) → List ℕ → Type 0
+LoadsSome told name = (C : loaded.Config) × Loads told name C
 
-abbrev pub WritesDue : (List ℕ → Option (List ℕ)) → Named → Option (List ℕ) → Option (List ℕ)
-    → Type 0
-WritesDue told named old new = (text : List ℕ) × IsDue told named text × WritesFrontOf text old new
+-- it loads, and can't be run today
+pub record IsNotBuilt (told : List ℕ → Option (List ℕ)) (name : List ℕ) : Type 0 where
+  pub C : loaded.Config
+  pub loads : Loads told name C
+  pub not_built : run_of C ≡ None
 
--- both files were read, the configuration loads, and the schedule was replayed to this end
+-- the line of what can't be run
+abbrev pub not_built_text : List ℕ
+not_built_text = config_fault 9 (codes "config")
+
+-- ---- `check CONFIG`
+
+-- the text that is due: that it loads, or why it doesn't
+abbrev pub IsCheck : (List ℕ → Option (List ℕ)) → (before now : ℕ) → List ℕ → List ℕ → Type 0
+IsCheck told before now name text =
+    TellsFault told before now name text ⊎ (LoadsSome told name × (text ≡ ok_text))
+
+-- by its end
+abbrev pub ChecksFile : List ℕ → (List ℕ → Option (List ℕ)) → Option (List ℕ) → Option (List ℕ) → ℕ
+    → ℕ → ℕ → ℕ → End → Type 0
+ChecksFile name told old new reads_before reads_now before now Done =
+    LoadsSome told name × (new ≡ told_more old ok_text)
+ChecksFile name told old new reads_before reads_now before now Usage = ⊥
+ChecksFile name told old new reads_before reads_now before now Config =
+    (text : List ℕ) × TellsFault told reads_before reads_now name text
+    × (new ≡ told_more old text)
+ChecksFile name told old new reads_before reads_now before now Schedule = ⊥
+ChecksFile name told old new reads_before reads_now before now ReadFault =
+    Rose reads_before reads_now × IsUnread told reads_before reads_now name × (new ≡ old)
+ChecksFile name told old new reads_before reads_now before now WriteFault =
+    Rose before now × WritesDue (IsCheck told reads_before reads_now name) old new
+ChecksFile name told old new reads_before reads_now before now Memory =
+    (new ≡ old) ⊎ WritesDue (IsCheck told reads_before reads_now name) old new
+
+-- ---- `replay CONFIG SCHEDULE`
+
+-- why there is no replay: the configuration doesn't load, or can't be run today
+abbrev pub IsRefusal : (List ℕ → Option (List ℕ)) → (before now : ℕ) → List ℕ → List ℕ → Type 0
+IsRefusal told before now name text =
+    TellsFault told before now name text ⊎ (IsNotBuilt told name × (text ≡ not_built_text))
+
+-- the configuration loads, and the core runs it
+abbrev pub RunsSome : (List ℕ → Option (List ℕ)) → List ℕ → Type 0
+RunsSome told name = (C : loaded.Config) × (K : core.Config) × Loads told name C × IsRun C K
+
+-- both files were read, the configuration loads, and the core runs it
+pub record Runs (told : List ℕ → Option (List ℕ)) (named : Named) (K : core.Config)
+    (schedule : List ℕ) : Type 0 where
+  pub C : loaded.Config
+  pub loads : Loads told named.config C
+  pub is_run : IsRun C K
+  pub schedule_contents : IsContents told named.schedule schedule
+
+-- the text that is due: why there is no replay; or the notes of a front of the schedule, or the
+-- whole report of it
+abbrev pub IsDue : (List ℕ → Option (List ℕ)) → (before now : ℕ) → Named → List ℕ → Type 0
+IsDue told before now named text =
+    IsRefusal told before now named.config text
+    ⊎ ((K : core.Config) × (schedule : List ℕ) × Runs told named K schedule
+    × IsWritten K schedule text)
+
+-- the schedule was replayed to this end
 pub record Replays (told : List ℕ → Option (List ℕ)) (named : Named) (old new : Option (List ℕ))
     (before now : ℕ) (end : End) : Type 0 where
-  pub bytes : List ℕ
-  pub C : configured.Config
-  pub contents : IsContents told named.config bytes
-  pub loads : Loads bytes C
+  pub K : core.Config
   pub schedule : List ℕ
-  pub schedule_contents : IsContents told named.schedule schedule
-  pub replayed : Replayed C schedule old new before now end
+  pub runs : Runs told named K schedule
+  pub replayed : Replayed K schedule old new before now end
 
--- `replay CONFIG SCHEDULE`, by its end
+-- by its end
 abbrev pub ReplaysFiles : Named → (List ℕ → Option (List ℕ)) → Option (List ℕ) → Option (List ℕ) → ℕ
     → ℕ → ℕ → ℕ → End → Type 0
 ReplaysFiles named told old new reads_before reads_now before now Done =
     Replays told named old new before now Done
 ReplaysFiles named told old new reads_before reads_now before now Usage = ⊥
 ReplaysFiles named told old new reads_before reads_now before now Config =
-    IsRefused told named × (new ≡ told_more old (config_fault 9 (codes "config")))
+    (text : List ℕ) × IsRefusal told reads_before reads_now named.config text
+    × (new ≡ told_more old text)
 ReplaysFiles named told old new reads_before reads_now before now Schedule =
     Replays told named old new before now Schedule
 ReplaysFiles named told old new reads_before reads_now before now ReadFault =
-    Rose reads_before reads_now × (new ≡ old)
+    Rose reads_before reads_now
+    × (IsUnread told reads_before reads_now named.config ⊎ RunsSome told named.config)
+    × (new ≡ old)
 ReplaysFiles named told old new reads_before reads_now before now WriteFault =
-    Rose before now × WritesDue told named old new
+    Rose before now × WritesDue (IsDue told reads_before reads_now named) old new
 ReplaysFiles named told old new reads_before reads_now before now Memory =
-    (new ≡ old) ⊎ WritesDue told named old new
+    (new ≡ old) ⊎ WritesDue (IsDue told reads_before reads_now named) old new
 
--- Words that are no command: they have one end, which yields to a write fault and to want of
--- memory.
+-- ---- words that are no command
+
+-- They have one end, which yields to a write fault and to want of memory.
 abbrev pub SaysUsage : Option (List ℕ) → Option (List ℕ) → ℕ → ℕ → End → Type 0
 SaysUsage old new before now Usage = new ≡ told_more old usage_fault
 SaysUsage old new before now WriteFault = Rose before now × WritesFrontOf usage_fault old new
 SaysUsage old new before now Memory = (new ≡ old) ⊎ WritesFrontOf usage_fault old new
 SaysUsage old new before now end = ⊥
 
-abbrev pub OfCommand : Option Named → (List ℕ → Option (List ℕ)) → Option (List ℕ) → Option (List ℕ)
-    → ℕ → ℕ → ℕ → ℕ → End → Type 0
+-- ---- all words
+
+abbrev pub OfCommand : Option Command → (List ℕ → Option (List ℕ)) → Option (List ℕ)
+    → Option (List ℕ) → ℕ → ℕ → ℕ → ℕ → End → Type 0
 OfCommand None told old new reads_before reads_now before now end = SaysUsage old new before now end
-OfCommand (Some named) told old new reads_before reads_now before now end =
+OfCommand (Some (Checking name)) told old new reads_before reads_now before now end =
+    ChecksFile name told old new reads_before reads_now before now end
+OfCommand (Some (Replaying named)) told old new reads_before reads_now before now end =
     ReplaysFiles named told old new reads_before reads_now before now end
 
 -- The program's promise for these words, by its end: `told` is what the files hold, where they tell
@@ -96,4 +154,4 @@ OfCommand (Some named) told old new reads_before reads_now before now end =
 abbrev pub Offline : List (List ℕ) → (List ℕ → Option (List ℕ)) → Option (List ℕ) → Option (List ℕ)
     → ℕ → ℕ → ℕ → ℕ → End → Type 0
 Offline words told old new reads_before reads_now before now end =
-    OfCommand (replay_of words) told old new reads_before reads_now before now end
+    OfCommand (command_of words) told old new reads_before reads_now before now end

@@ -147,6 +147,10 @@ abbrev pub config_fault : ℕ → List ℕ → List ℕ
 config_fault kind place =
     codes "config fault " ++ decimal kind ++ codes " at " ++ place ++ codes "\n"
 
+-- a configuration loads
+abbrev pub ok_text : List ℕ
+ok_text = codes "ok\n"
+
 -- the words of the command line are no command
 abbrev pub usage_fault : List ℕ
 usage_fault = codes "usage fault\n"

@@ -1,7 +1,7 @@
 // The words of the command line.
 
 ghost use Rattle.std.specs.Prelude.{◌≡◌, option_map};
-ghost use Rattle.proxy.specs.Command.{named_of, replay_of, is_file_name};
+ghost use Rattle.proxy.specs.Command.{command_of, command_view, is_file_name};
 
 use px_bytes::{Text, Texts};
 
@@ -12,18 +12,30 @@ pub struct Replay<'a> {
     pub schedule: &'a [u8],
 }
 
-/// The command that the words are; None exactly where they aren't `replay CONFIG SCHEDULE`.
-pub fn replay_of(words: &Texts) -> Option<Replay<'_>>
-    ensures { option_map named_of result ≡ replay_of words.now }
+/// What is to be done.
+#[derive(Clone, Copy)]
+pub enum Command<'a> {
+    /// Says whether the configuration loads.
+    Check(&'a [u8]),
+    Replay(Replay<'a>),
+}
+
+/// The command that the words are; None exactly where they are neither `check CONFIG` nor `replay
+/// CONFIG SCHEDULE`.
+pub fn command_of(words: &Texts) -> Option<Command<'_>>
+    ensures { option_map command_view result ≡ command_of words.now }
 {
     match words.as_slice() {
+        [command, config] if command.as_bytes() == b"check".as_slice() && is_name(config) => {
+            Some(Command::Check(config.as_bytes()))
+        }
         [command, config, schedule]
             if command.as_bytes() == b"replay".as_slice() && is_name(config) && is_name(schedule) =>
             {
-                Some(Replay {
+                Some(Command::Replay(Replay {
                     config: config.as_bytes(),
                     schedule: schedule.as_bytes(),
-                })
+                }))
             }
         _ => None,
     }

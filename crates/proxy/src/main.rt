@@ -2,7 +2,6 @@
 #![tactic(auto)]
 
 mod command;
-mod config;
 mod end;
 mod finish;
 mod lines;
@@ -10,6 +9,7 @@ mod offline;
 mod replay;
 mod report;
 mod run_schedule;
+mod runnable;
 mod schedule;
 mod taken;
 #[cfg(test)]

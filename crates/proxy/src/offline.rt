@@ -1,22 +1,27 @@
 // The commands that wait for nobody.
 
-ghost use Rattle.std.specs.Prelude.{◌≡◌, codes};
+ghost use Rattle.std.specs.Prelude.{◌≡◌};
+ghost use Rattle.config.specs.declared.fault.ConfigFault.TheVariants.{Fault as Told};
 ghost use Rattle.proxy.specs.Command.{named_of};
 ghost use Rattle.proxy.specs.Complete.{Completes};
 ghost use Rattle.proxy.specs.End.{status_of};
-ghost use Rattle.proxy.specs.Offline.{Offline, ReplaysFiles, Says, end_of_read};
+ghost use Rattle.proxy.specs.Loads.{is_read_fault};
+ghost use Rattle.proxy.specs.Offline.{ChecksFile, Offline, ReplaysFiles, end_of_read};
 ghost use Rattle.proxy.specs.Report.{config_fault};
+ghost use Rattle.proxy.specs.Says.{Refuses, Says, Tells};
+ghost use Rattle.proxy.specs.declared.end.End.TheVariants.{Config};
 
-use crate::command::{Replay, replay_of};
-use crate::config::{ConfigFault, read_config};
+use crate::command::{Command, Replay, command_of};
 use crate::end::{End, Status};
-use crate::report::{config_fault_line, usage_fault_line};
+use crate::report::{config_fault_line, ok_line, usage_fault_line};
 use crate::run_schedule::replay;
+use crate::runnable::core_config;
+use config::{ConfigFault, Fault, FaultKind, read_config};
 use px_bytes::Texts;
 use px_outside::{Failed, Files, Sink, write_all};
 use std::alloc::Global;
 
-/// The number of the fault of a configuration that isn't of today's form.
+/// The number of the fault of a configuration that can't be run today.
 const NOT_BUILT: u8 = 9;
 
 /// Runs the command that the words are, and gives its status.
@@ -39,13 +44,25 @@ fn run<F: Files, K: Sink>(alloc: Global, words: &Texts, files: &mut F, out: &mut
     ensures { Offline words.now (F.told files.old) (K.written out.old) (K.written out.new)
         (F.faults files.old) (F.faults files.new) (K.faults out.old) (K.faults out.new) result }
 {
-    match replay_of(words) {
-        Some(named) => replay_files(alloc, named, files, out),
+    match command_of(words) {
+        Some(Command::Check(name)) => check(alloc, name, files, out),
+        Some(Command::Replay(named)) => replay_files(alloc, named, files, out),
         None => End::Usage.unless(say(out, usage_fault_line())),
     }
 }
 
-// Reads both files, and replays the schedule where the configuration loads.
+// Says whether a configuration loads.
+fn check<F: Files, K: Sink>(alloc: Global, name: &[u8], files: &mut F, out: &mut K) -> End
+    ensures { ChecksFile name.now (F.told files.old) (K.written out.old) (K.written out.new)
+        (F.faults files.old) (F.faults files.new) (K.faults out.old) (K.faults out.new) result }
+{
+    match read_config(alloc, files, name) {
+        Ok(_loaded) => tell(End::Done, ok_line(), out),
+        Err(why) => refuse(alloc, why, out),
+    }
+}
+
+// Reads both files, and replays the schedule where the configuration loads and can be run.
 fn replay_files<F: Files, K: Sink>(
     alloc: Global,
     named: Replay<'_>,
@@ -56,14 +73,15 @@ fn replay_files<F: Files, K: Sink>(
         (K.written out.new)
         (F.faults files.old) (F.faults files.new) (K.faults out.old) (K.faults out.new) result }
 {
-    let document = match files.read(alloc, named.config) {
-        Ok(document) => document,
-        Err(failed) => return read_end(failed),
+    let loaded = match read_config(alloc, files, named.config) {
+        Ok(loaded) => loaded,
+        Err(why) => return refuse(alloc, why, out),
     };
-    let config = match read_config(alloc, document.as_bytes()) {
-        Ok(config) => config,
-        Err(ConfigFault::NotBuilt) => return End::Config.unless(say_config_fault(alloc, out)),
-        Err(ConfigFault::Memory) => return End::Memory,
+    let Ok(config) = core_config(alloc, &loaded) else {
+        return End::Memory;
+    };
+    let Some(config) = config else {
+        return tell_fault(alloc, NOT_BUILT, b"config", out);
     };
     match files.read(alloc, named.schedule) {
         Ok(schedule) => replay(alloc, config, schedule.as_bytes(), out),
@@ -71,11 +89,60 @@ fn replay_files<F: Files, K: Sink>(
     }
 }
 
-fn say_config_fault<K: Sink>(alloc: Global, out: &mut K) -> Result<(), End>
-    ensures { Says (config_fault 9 (codes "config")) (K.written out.old) (K.written out.new)
+// Says why there is no configuration.
+fn refuse<K: Sink>(alloc: Global, why: ConfigFault, out: &mut K) -> End
+    ensures { Refuses why (K.written out.old) (K.written out.new) (K.faults out.old)
+        (K.faults out.new) result }
+{
+    match why {
+        ConfigFault::Fault(fault) => refuse_for(alloc, fault, out),
+        ConfigFault::Memory => End::Memory,
+    }
+}
+
+// Says what is wrong with a configuration that was read.
+fn refuse_for<K: Sink>(alloc: Global, fault: Fault, out: &mut K) -> End
+    ensures { Refuses (Told fault) (K.written out.old) (K.written out.new) (K.faults out.old)
+        (K.faults out.new) result }
+{
+    if is_read_fault(fault.kind) {
+        return End::ReadFault;
+    }
+    tell_fault(alloc, fault.kind.number(), fault.place.as_bytes(), out)
+}
+
+fn is_read_fault(kind: FaultKind) -> bool
+    ensures { result ≡ is_read_fault kind }
+{
+    matches!(kind, FaultKind::ReadFault)
+}
+
+// Says what is wrong with a configuration, and ends so.
+fn tell_fault<K: Sink>(alloc: Global, number: u8, place: &[u8], out: &mut K) -> End
+    ensures { Tells (config_fault number place.now) Config (K.written out.old) (K.written out.new)
         (K.faults out.old) (K.faults out.new) result }
 {
-    match config_fault_line(alloc, NOT_BUILT, b"config") {
+    End::Config.unless(say_config_fault(alloc, number, place, out))
+}
+
+// Says a text, and ends so.
+fn tell<K: Sink>(usual: End, text: &[u8], out: &mut K) -> End
+    ensures { Tells text.now usual (K.written out.old) (K.written out.new) (K.faults out.old)
+        (K.faults out.new) result }
+{
+    usual.unless(say(out, text))
+}
+
+fn say_config_fault<K: Sink>(
+    alloc: Global,
+    number: u8,
+    place: &[u8],
+    out: &mut K,
+) -> Result<(), End>
+    ensures { Says (config_fault number place.now) (K.written out.old) (K.written out.new)
+        (K.faults out.old) (K.faults out.new) result }
+{
+    match config_fault_line(alloc, number, place) {
         Ok(line) => say(out, line.as_bytes()),
         Err(_) => Err(End::Memory),
     }

@@ -3,7 +3,7 @@
 ghost use Rattle.std.specs.Prelude.{◌≡◌, IfOk, string_bytes};
 ghost use Rattle.proxy.specs.Report.{fault_number, refusal_number, note_line, note_lines};
 ghost use Rattle.proxy.specs.Report.{reply_text, side_text, client_text, open_text, end_text};
-ghost use Rattle.proxy.specs.Report.{text_fault, event_fault, config_fault, usage_fault};
+ghost use Rattle.proxy.specs.Report.{text_fault, event_fault, config_fault, ok_text, usage_fault};
 
 use connection_model::CutReason;
 use proxy_core::{BadEvent, Cause, Note};
@@ -229,6 +229,13 @@ pub fn config_fault_line(alloc: Global, kind: u8, place: &[u8]) -> M<Text>
     line.push(place)?;
     line.push(b"\n")?;
     Ok(line)
+}
+
+/// A configuration loads.
+pub fn ok_line() -> &'static [u8]
+    ensures { result.now ≡ ok_text }
+{
+    b"ok\n"
 }
 
 /// The words of the command line are no command.

@@ -1,6 +1,5 @@
-use Rattle.std.proofs.Common.{◌≡◌, ◌+◌, ◌-◌, ◌∙◌, List, ℕ, take, drop, ap, sym, subst, arith}
+use Rattle.std.proofs.Common.{◌≡◌, ◌+◌, ◌-◌, ℕ, take, drop, subst, arith}
 use Rattle.std.proofs.lemmas.List.{length-drop}
-use Rattle.proxy.specs.Lines.{IsLine}
 use Rattle.proxy.specs.Stops.{StoppedAtLine}
 use Rattle.proxy.proofs.LineCuts.{cut}
 use Rattle.proxy.proofs.ScheduleStops.{placed, within_rest, behind_line, stops_there, stops_unended}

@@ -1,0 +1,108 @@
+-- What a command comes to, from what it said.
+use Rattle.std.proofs.Common.{◌≡◌, ◌⊎◌, ℕ, Bool, true, false, List, Option, None, inl, inr, refl, sym, subst}
+use Rattle.std.specs.Prelude.{Result, Ok, Err}
+use Rattle.config.specs.Outcomes.{Answers}
+use Rattle.config.specs.declared.fault.ConfigFault.{ConfigFault}
+use Rattle.config.specs.declared.fault.ConfigFault.TheVariants as refused
+use Rattle.config.specs.declared.fault.Fault.{Fault}
+use Rattle.config.specs.declared.reader.Config as loaded
+use Rattle.px_outside.specs.Outside.{told_more, Rose}
+use Rattle.px_outside.specs.declared.failed.Failed.{Failed}
+use Rattle.px_outside.specs.declared.failed.Failed.TheVariants as failed
+use Rattle.proxy_core.specs.declared.config.Config as core
+use Rattle.proxy.specs.declared.end.End.{End}
+use Rattle.proxy.specs.declared.end.End.TheVariants.{Done, Usage, Config, Schedule, ReadFault}
+use Rattle.proxy.specs.declared.end.End.TheVariants.{WriteFault, Memory}
+use Rattle.proxy.specs.Command.{Named}
+use Rattle.proxy.specs.End.{end_unless}
+use Rattle.proxy.specs.Loads.{Loads, is_read_fault}
+use Rattle.proxy.specs.Offline.{ChecksFile, IsCheck, IsDue, IsNotBuilt, LoadsSome, ReplaysFiles, Runs, TellsFault, WritesDue, end_of_read, not_built_text}
+use Rattle.proxy.specs.Replayed.{Replayed}
+use Rattle.proxy.specs.Report.{ok_text}
+use Rattle.proxy.specs.Runnable.{IsRun, run_of}
+use Rattle.proxy.specs.Says.{Refuses, Says, Tells, TellsBy, fault_text}
+use Rattle.proxy.specs.Written.{WritesFrontOf}
+use Rattle.proxy.proofs.ConfigAnswers.{loads, read_rose}
+
+-- an end that says a text, by what was said
+module _ (text : List ℕ) (usual : End) (old new : Option (List ℕ)) (before now : ℕ) (P : End → Type 0)
+    (done : new ≡ told_more old text → P usual) (cut : Rose before now → WritesFrontOf text old new → P WriteFault)
+    (none : (new ≡ old) ⊎ WritesFrontOf text old new → P Memory) where
+  by_said : (res : Result (Unit {0}) End) → Says text old new before now res → P (end_unless usual res)
+  by_said (Ok u) s = done s
+  by_said (Err Done) s = absurd s
+  by_said (Err Usage) s = absurd s
+  by_said (Err Config) s = absurd s
+  by_said (Err Schedule) s = absurd s
+  by_said (Err ReadFault) s = absurd s
+  by_said (Err WriteFault) s = cut s.0 s.1
+  by_said (Err Memory) s = none s
+
+  pub by_end : (end : End) → Tells text usual old new before now end → P end
+  by_end end t = subst P (sym t.ends) (by_said t.said t.says)
+
+-- a prefix of a text that is due, or nothing
+cut_due : (text : List ℕ) (IsDue : List ℕ → Type 0) (old new : Option (List ℕ)) → IsDue text → (new ≡ old) ⊎ WritesFrontOf text old new → (new ≡ old) ⊎ WritesDue IsDue old new
+cut_due text due old new is (inl same) = inl same
+cut_due text due old new is (inr front) = inr (text, is, front)
+
+module _ (told : List ℕ → Option (List ℕ)) (old new : Option (List ℕ)) (rb rn b n : ℕ) where
+  -- `check`
+  module _ (name : List ℕ) where
+    pub checked : (C : loaded.Config) → Answers told rb rn name (Ok C) → (end : End) → Tells ok_text Done old new b n end → ChecksFile name told old new rb rn b n end
+    checked C answers end tells =
+        let some : LoadsSome told name = (C, loads told rb rn name C answers) in
+        by_end ok_text Done old new b n (λ e. ChecksFile name told old new rb rn b n e)
+        (λ written. (some, written)) (λ rose front. (rose, (ok_text, inr (some, refl), front)))
+        (λ part. cut_due ok_text (IsCheck told rb rn name) old new (inr (some, refl)) part) end tells
+
+    check_fault : (f : Fault) (is : Bool) → is_read_fault f.kind ≡ is → Answers told rb rn name (Err (refused.Fault f)) → (end : End) → TellsBy is f old new b n end → ChecksFile name told old new rb rn b n end
+    check_fault f true is answers end t =
+        subst (λ e. ChecksFile name told old new rb rn b n e) (sym t.0) (read_rose told rb rn name f is answers, record { fault = f; answers = answers; unread = is }, t.1)
+    check_fault f false is answers end t =
+        let tells : TellsFault told rb rn name (fault_text f) = record { fault = f; faulty = record { answers = answers; was_read = is }; text_is = refl } in
+        by_end (fault_text f) Config old new b n (λ e. ChecksFile name told old new rb rn b n e)
+        (λ written. (fault_text f, tells, written)) (λ rose front. (rose, (fault_text f, inl tells, front)))
+        (λ part. cut_due (fault_text f) (IsCheck told rb rn name) old new (inl tells) part) end t
+
+    pub check_refused : (why : ConfigFault) → Answers told rb rn name (Err why) → (end : End) → Refuses why old new b n end → ChecksFile name told old new rb rn b n end
+    check_refused (refused.Fault f) answers end t = check_fault f (is_read_fault f.kind) refl answers end t
+    check_refused refused.Memory answers end t = subst (λ e. ChecksFile name told old new rb rn b n e) (sym t.0) (inl t.1)
+
+  -- `replay`
+  module _ (named : Named) where
+    replay_fault : (f : Fault) (is : Bool) → is_read_fault f.kind ≡ is → Answers told rb rn named.config (Err (refused.Fault f)) → (end : End) → TellsBy is f old new b n end → ReplaysFiles named told old new rb rn b n end
+    replay_fault f true is answers end t =
+        subst (λ e. ReplaysFiles named told old new rb rn b n e) (sym t.0) (read_rose told rb rn named.config f is answers, inl (record { fault = f; answers = answers; unread = is }), t.1)
+    replay_fault f false is answers end t =
+        let tells : TellsFault told rb rn named.config (fault_text f) = record { fault = f; faulty = record { answers = answers; was_read = is }; text_is = refl } in
+        by_end (fault_text f) Config old new b n (λ e. ReplaysFiles named told old new rb rn b n e)
+        (λ written. (fault_text f, inl tells, written)) (λ rose front. (rose, (fault_text f, inl (inl tells), front)))
+        (λ part. cut_due (fault_text f) (IsDue told rb rn named) old new (inl (inl tells)) part) end t
+
+    pub replay_refused : (why : ConfigFault) → Answers told rb rn named.config (Err why) → (end : End) → Refuses why old new b n end → ReplaysFiles named told old new rb rn b n end
+    replay_refused (refused.Fault f) answers end t = replay_fault f (is_read_fault f.kind) refl answers end t
+    replay_refused refused.Memory answers end t = subst (λ e. ReplaysFiles named told old new rb rn b n e) (sym t.0) (inl t.1)
+
+    pub not_built : (C : loaded.Config) → Answers told rb rn named.config (Ok C) → run_of C ≡ None → (end : End) → Tells not_built_text Config old new b n end → ReplaysFiles named told old new rb rn b n end
+    not_built C answers none end t =
+        let is : IsNotBuilt told named.config = record { C = C; loads = loads told rb rn named.config C answers; not_built = none } in
+        by_end not_built_text Config old new b n (λ e. ReplaysFiles named told old new rb rn b n e)
+        (λ written. (not_built_text, inr (is, refl), written)) (λ rose front. (rose, (not_built_text, inl (inr (is, refl)), front)))
+        (λ part. cut_due not_built_text (IsDue told rb rn named) old new (inl (inr (is, refl))) part) end t
+
+    -- the schedule can't be read
+    pub unread : (C : loaded.Config) (K : core.Config) → Loads told named.config C → IsRun C K → (why : Failed) → (why ≡ failed.Failed → Rose rb rn) → new ≡ old → ReplaysFiles named told old new rb rn b n (end_of_read why)
+    unread C K loaded is failed.Failed rose same = (rose refl, inr (C, K, loaded, is), same)
+    unread C K loaded is failed.Memory rose same = inl same
+
+    module _ (K : core.Config) (schedule : List ℕ) (runs : Runs told named K schedule) where
+      pub replayed : (end : End) → Replayed K schedule old new b n end → ReplaysFiles named told old new rb rn b n end
+      replayed Done r = record { K = K; schedule = schedule; runs = runs; replayed = r }
+      replayed Usage r = absurd r
+      replayed Config r = absurd r
+      replayed Schedule r = record { K = K; schedule = schedule; runs = runs; replayed = r }
+      replayed ReadFault r = absurd r
+      replayed WriteFault r = (r.0, (r.1.0, inr (K, schedule, runs, r.1.1), r.1.2))
+      replayed Memory (inl same) = inl same
+      replayed Memory (inr w) = inr (w.0, inr (K, schedule, runs, w.1), w.2)
