@@ -1,5 +1,5 @@
 -- What a Run makes of a connection, for each state that its trace may stand at.
-use Rattle.std.specs.Prelude.{◌≡◌, ◌⊎◌, ℕ, ◌+◌, ◌≤◌, List, ◌++◌, length, true, false}
+use Rattle.std.specs.Prelude.{◌≡◌, ◌⊎◌, ℕ, ◌+◌, ◌<◌, ◌≤◌, List, ◌++◌, length, true, false}
 use Rattle.connection_model.specs.declared.note.Note.{Note}
 use Rattle.connection_model.specs.Gates.{Met}
 use Rattle.connection_model.specs.Further.{longer}
@@ -52,7 +52,7 @@ Rested c conn before after (turn.Asks call) = ⊥
 Rested c conn before after turn.NotYet = Settles conn false × (after ≡ before)
 Rested c conn before after turn.Over = Settles conn true × (after ≡ before ++ closing c 0)
 
--- a slice that stops in the middle made at least so many steps, or gave so many notes
+-- a slice that stops in the middle counted more steps than these, or gave so many notes
 abbrev pub IsWhole : ConnTurn → (steps notes : ℕ) → Type 0
-IsWhole turn.More steps notes = (199 ≤ steps) ⊎ (64 ≤ notes)
+IsWhole turn.More steps notes = (1990 < steps) ⊎ (64 ≤ notes)
 IsWhole other steps notes = Unit {0}

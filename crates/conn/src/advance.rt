@@ -28,41 +28,52 @@ impl Conn {
         setup: &Setup<'_>,
         number: u32,
         steps: &mut Steps<L>,
+        spent: &mut u64,
         notes: &mut Notes,
     ) -> M<Act>
-        requires { 1 ≤ notes.old.spare }
+        requires room { 1 ≤ notes.old.spare }
+        requires spent { spent.old < 2000 }
         ensures ok { IfOk result
             (λ act. Acted setup.now number self.old self.new notes.old.items notes.new.items act) }
         ensures err { OnErr result (notes.new ≡ notes.old) }
         ensures ticks { OnOk result (steps.old < steps.new) }
+        ensures few { OnOk result (steps.new ≤ steps.old + 10) }
+        ensures counted { OnOk result (spent.new + steps.old ≡ spent.old + steps.new) }
         ensures spare { notes.old.spare ≤ notes.new.spare + 1 }
         ensures grows { length notes.old.items ≤ length notes.new.items }
         ensures room { notes.new.spare + length notes.new.items
             ≡ notes.old.spare + length notes.old.items }
     {
         match self.stage {
-            Stage::Running { at, number } => self.step_body(alloc, setup, at, number, steps),
+            Stage::Running { at, number } => {
+                self.step_body(alloc, setup, at, number, steps, spent)
+            },
             Stage::Failing { .. } => {
                 steps.tick();
+                *spent += 1;
                 self.log_fault(setup, number, notes);
                 Ok(Act::Goes)
             }
             Stage::Gated { at } => {
                 steps.tick();
+                *spent += 1;
                 Ok(self.pass_gate(setup, at))
             }
             Stage::Choosing => {
                 steps.tick();
+                *spent += 1;
                 self.choose(setup);
                 Ok(Act::Goes)
             }
             Stage::Finishing(finish) => {
                 steps.tick();
+                *spent += 1;
                 self.finish(setup, number, finish, notes);
                 Ok(Act::Goes)
             }
             Stage::Asking { .. } | Stage::Draining => {
                 steps.tick();
+                *spent += 1;
                 Ok(Act::Rests)
             }
         }

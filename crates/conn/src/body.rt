@@ -72,7 +72,9 @@ impl Body {
         host: &mut H,
         env: &H::Env,
         steps: &mut Steps<L>,
+        spent: &mut u64,
     ) -> M<Turn>
+        requires { spent.old < 2000 }
         ensures went { let procs = procs_view handler.now.procs in
             let g = setting (Some statics.now.statics) (H.table env.now) procs in
             let t = node_view handler.now.body in
@@ -83,9 +85,12 @@ impl Body {
             IfOk result (λ turn. self.old.runs ≡ true → Went g t old new turn made ticks) }
         ensures said { IfOk result (λ turn. self.old.runs ≡ true → SaidIs turn self.new) }
         ensures ticks { OnOk result (steps.old < steps.new) }
+        ensures few { OnOk result (steps.new ≤ steps.old + 10) }
+        ensures counted { OnOk result (spent.new + steps.old ≡ spent.old + steps.new) }
     {
         if !self.runs {
             steps.tick();
+            *spent += 1;
             return Ok(Turn::More);
         }
         self.runs = false;
@@ -101,6 +106,7 @@ impl Body {
             env,
             steps,
         )?;
+        *spent += self.machine.ticked();
         match &turn {
             Turn::More => self.runs = true,
             Turn::Asks(_) => self.asks = true,

@@ -1,6 +1,6 @@
 // A body goes on, begins or ends.
 
-ghost use Rattle.std.specs.Prelude.{◌≡◌, ◌<◌, length, IfOk, OnOk};
+ghost use Rattle.std.specs.Prelude.{◌≡◌, ◌+◌, ◌<◌, ◌≤◌, length, IfOk, OnOk};
 ghost use Rattle.conn.specs.Setups.{bodies_at};
 ghost use Rattle.conn.specs.Stages.{entered_stage};
 ghost use Rattle.conn.specs.Acts.{NextBody, Ended, StartsBody, BodyMoved, Turned};
@@ -58,13 +58,18 @@ impl Conn {
         at: At,
         number: usize,
         steps: &mut Steps<L>,
+        spent: &mut u64,
     ) -> M<Act>
+        requires { spent.old < 2000 }
         ensures moved { IfOk result
             (λ act. BodyMoved setup.now at number self.old self.new act) }
         ensures ticks { OnOk result (steps.old < steps.new) }
+        ensures few { OnOk result (steps.new ≤ steps.old + 10) }
+        ensures counted { OnOk result (spent.new + steps.old ≡ spent.old + steps.new) }
     {
         let Some(handler) = setup.body(at, number) else {
             steps.tick();
+            *spent += 1;
             return Ok(Act::Rests);
         };
         let turn = self.body.step(
@@ -75,6 +80,7 @@ impl Conn {
             &mut self.host,
             &(),
             steps,
+            spent,
         )?;
         let act = self.turned(alloc, setup, handler, at, number, turn)?;
         Ok(act)

@@ -15,13 +15,13 @@ use px_bytes::Steps;
 use std::alloc::Global;
 use std::sync::ledger::Ledger;
 
-/// A Run goes on for as many moves, and while it gave fewer notes.
-const MOST_MOVES: usize = 199;
+/// A Run goes on while it counted no more steps, and gave fewer notes.
+const MOST_STEPS: u64 = 1_990;
 
 const MOST_NOTES: usize = 64;
 
 impl Conn {
-    /// Goes on until it waits, is over, made 199 moves or gave 64 notes. Where memory
+    /// Goes on until it waits, is over, counted more than 1,990 steps or gave 64 notes. Where memory
     /// is refused it finishes and is over.
     pub fn run<L: Ledger>(
         &mut self,
@@ -38,12 +38,16 @@ impl Conn {
             IsWhole result (steps.new - steps.old) given }
     {
         let given = notes.len();
-        for _moved in 0..MOST_MOVES {
+        let mut spent = 0;
+        for _moved in 0..MOST_STEPS + 1 {
+            if spent > MOST_STEPS {
+                return ConnTurn::More;
+            }
             if notes.len() - given >= MOST_NOTES {
                 return ConnTurn::More;
             }
             let pending = self.pending();
-            match self.advance(alloc, setup, number, steps, notes) {
+            match self.advance(alloc, setup, number, steps, &mut spent, notes) {
                 Ok(Act::Goes) => {}
                 Ok(Act::Asks(call)) => return ConnTurn::Asks(call),
                 Ok(Act::Rests) => return self.rest(number, notes),

@@ -1,4 +1,4 @@
-use Rattle.std.proofs.Common.{◌≤◌, ◌+◌, length}
+use Rattle.std.proofs.Common.{◌≡◌, ◌≤◌, ◌+◌, length}
 use Rattle.conn.proofs.Running.{RunsOn}
 use Rattle.conn.proofs.connection.Conn.run.Given as goal
 
@@ -8,3 +8,5 @@ invariant-loop-moved g l =
     × (l.given ≤ length l.notes.items)
     × (68 + l.given ≤ l.notes.spare + length l.notes.items)
     × (l.initial.steps + l._moved ≤ l.steps)
+    × (l.initial.steps + l.spent ≡ l.steps)
+    × (l.spent ≤ 2000)
