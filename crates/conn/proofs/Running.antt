@@ -1,5 +1,5 @@
 -- A Run, action by action.
-use Rattle.std.proofs.Common.{None, ◌≡◌, inl, inr, refl, sym, ap, ◌∙◌, ℕ, ◌+◌, List, [], ◌∷◌, ◌++◌, append-nil, append_assoc, length, length-append, false}
+use Rattle.std.proofs.Common.{None, ◌≡◌, ◌≤◌, inl, inr, refl, sym, ap, ◌∙◌, ℕ, ◌+◌, List, [], ◌∷◌, ◌++◌, append-nil, append_assoc, length, length-append, false}
 use Rattle.connection_model.specs.declared.note.Note.{Note}
 use Rattle.connection_model.specs.declared.note.Note.TheVariants as note
 use Rattle.connection_model.specs.declared.note.Cause.TheVariants.{Memory}
@@ -8,7 +8,7 @@ use Rattle.connection_model.specs.Setup.{Setup}
 use Rattle.connection_model.specs.State.{TraceState}
 use Rattle.conn.specs.Acts.{Acted}
 use Rattle.conn.specs.Holds.{Around, Holds}
-use Rattle.conn.specs.Runs.{IsWhole, GoesOnWith, Runs, Rested}
+use Rattle.conn.specs.Runs.{IsBounded, IsWhole, GoesOnWith, Runs, Rested}
 use Rattle.conn.specs.RunsItems.{closing, closing_if, ends, StopsAt}
 use Rattle.conn.specs.Setups.{Serves}
 use Rattle.conn.specs.Stages.{is_asking}
@@ -132,3 +132,10 @@ rests_whole c conn before after turn.More steps notes r = absurd r
 rests_whole c conn before after (turn.Asks call) steps notes r = tt
 rests_whole c conn before after turn.NotYet steps notes r = tt
 rests_whole c conn before after turn.Over steps notes r = tt
+
+-- and counts as many steps as its actions
+pub rests_bounded : (c : ℕ) (conn : Conn) (before after : List Note) (t : ConnTurn) (steps : ℕ) → Rested c conn before after t → steps ≤ 2000 → IsBounded t steps
+rests_bounded c conn before after turn.More steps r few = few
+rests_bounded c conn before after (turn.Asks call) steps r few = few
+rests_bounded c conn before after turn.NotYet steps r few = few
+rests_bounded c conn before after turn.Over steps r few = tt

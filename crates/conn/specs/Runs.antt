@@ -56,3 +56,8 @@ Rested c conn before after turn.Over = Settles conn true × (after ≡ before ++
 abbrev pub IsWhole : ConnTurn → (steps notes : ℕ) → Type 0
 IsWhole turn.More steps notes = (1990 < steps) ⊎ (64 ≤ notes)
 IsWhole other steps notes = Unit {0}
+
+-- a slice counts at most so many steps, unless it found no memory
+abbrev pub IsBounded : ConnTurn → (steps : ℕ) → Type 0
+IsBounded turn.Over steps = Unit {0}
+IsBounded other steps = steps ≤ 2000

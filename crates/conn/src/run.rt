@@ -4,7 +4,7 @@ ghost use Rattle.std.specs.Prelude.{◌≡◌, ◌-◌, ◌≤◌, ◌∷◌, �
 ghost use Rattle.connection_model.specs.declared.note.Note.{Note};
 ghost use Rattle.connection_model.specs.declared.note.Note.TheVariants as noted;
 ghost use Rattle.connection_model.specs.declared.note.Cause.TheVariants as causes;
-ghost use Rattle.conn.specs.Runs.{IsWhole, Rested, Runs};
+ghost use Rattle.conn.specs.Runs.{IsBounded, IsWhole, Rested, Runs};
 ghost use Rattle.conn.specs.RunsItems.{closing};
 
 use crate::connection::{Conn, close};
@@ -36,6 +36,7 @@ impl Conn {
             × Runs setup.now number self.old self.new group result }
         ensures slice { let given = length notes.new.items - length notes.old.items in
             IsWhole result (steps.new - steps.old) given }
+        ensures bounded { IsBounded result (steps.new - steps.old) }
     {
         let given = notes.len();
         let mut spent = 0;

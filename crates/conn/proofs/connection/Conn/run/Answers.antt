@@ -5,7 +5,7 @@ use Rattle.conn.specs.Acts.{Acted}
 use Rattle.conn.specs.RunsItems.{closing}
 use Rattle.conn.specs.declared.turn.Act.TheVariants as done
 use Rattle.conn.specs.declared.turn.ConnTurn.{ConnTurn}
-use Rattle.conn.proofs.Running.{RunsBy, at_first, one_more, runs_more, runs_asks, runs_rests, runs_out, rests_whole}
+use Rattle.conn.proofs.Running.{RunsBy, at_first, one_more, runs_more, runs_asks, runs_rests, runs_out, rests_whole, rests_bounded}
 use Rattle.conn.proofs.connection.Conn.run.Goals as goal
 
 pub loop-moved-init : goal.loop-moved-init
@@ -62,3 +62,11 @@ returns-in-Err-clause-slice g c = rw c.fail.ensures.over tt
 
 pub returns-then-spent-gt-MOST_STEPS-clause-ran : goal.returns-then-spent-gt-MOST_STEPS-clause-ran
 returns-then-spent-gt-MOST_STEPS-clause-ran g c = runs_more c.args.setup.now c.args.number c.args.self.now c.loop-moved.self c.args.notes.now.items c.loop-moved.notes.items c.loop-moved.invariant.0
+
+pub returns-in-Ok-Rests-clause-bounded : goal.returns-in-Ok-Rests-clause-bounded
+returns-in-Ok-Rests-clause-bounded g c =
+    let k = c.loop-moved.invariant in
+    rests_bounded c.args.number c.advance.new.self c.advance.new.notes.items c.rest.new.notes.items c.rest.result _ c.rest.ensures (omega (arith, k.4, c.if-spent-gt-MOST_STEPS.false, c.in-Ok-Rests.ensures.few))
+
+pub returns-in-Err-clause-bounded : goal.returns-in-Err-clause-bounded
+returns-in-Err-clause-bounded g c = rw c.fail.ensures.over tt
