@@ -86,7 +86,7 @@ abbrev with_parts : Stream → ServerSide → List Reply → List (Option Stream
 with_parts client server replies connects choices cut l = record l { client = client; server = server; answers = record { replies = replies; connects = connects; choices = choices; cut = cut } }
 
 -- nothing comes
-longer_nothing : (l : TraceState) → l.answers.cut ≡ None → longer (choosing [] None) l ≡ l
+pub longer_nothing : (l : TraceState) → l.answers.cut ≡ None → longer (choosing [] None) l ≡ l
 longer_nothing l none =
     let k = longer (choosing [] None) l in
     ap (λ x. with_parts x k.server k.answers.replies k.answers.connects k.answers.choices k.answers.cut l) (nothing_stream nothing_comes l.client refl)

@@ -10,5 +10,6 @@ pub mod BodyMoves
 pub mod Resting
 pub mod Taking
 pub mod Replying
+pub mod Awake
 pub mod Advancing
 pub mod Running

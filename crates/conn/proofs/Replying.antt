@@ -26,7 +26,7 @@ use Rattle.conn.specs.declared.events.At.{At}
 use Rattle.conn.specs.declared.stage.Stage.{Stage}
 use Rattle.conn.specs.declared.stage.Stage.TheVariants as stage
 
-asked_mode : (m : Mode) → is_asked m ≡ true → (call : List (List ℕ)) × (m ≡ mode.Asked call)
+pub asked_mode : (m : Mode) → is_asked m ≡ true → (call : List (List ℕ)) × (m ≡ mode.Asked call)
 asked_mode mode.Begin e = cc
 asked_mode (mode.Back code) e = cc
 asked_mode (mode.Asked call) e = (call, refl)

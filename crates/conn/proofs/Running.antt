@@ -3,13 +3,14 @@ use Rattle.std.proofs.Common.{None, ◌≡◌, ◌≤◌, inl, inr, refl, sym, a
 use Rattle.connection_model.specs.declared.note.Note.{Note}
 use Rattle.connection_model.specs.declared.note.Note.TheVariants as note
 use Rattle.connection_model.specs.declared.note.Cause.TheVariants.{Memory}
+use Rattle.connection_model.specs.HeardLaws.{cut_in}
 use Rattle.connection_model.specs.Item.{client_output, notes_of}
 use Rattle.connection_model.specs.Setup.{Setup}
 use Rattle.connection_model.specs.State.{TraceState}
 use Rattle.conn.specs.Acts.{Acted}
 use Rattle.conn.specs.Holds.{Around, Holds}
 use Rattle.conn.specs.Runs.{IsBounded, IsWhole, GoesOnWith, Runs, Rested}
-use Rattle.conn.specs.RunsItems.{closing, closing_if, ends, StopsAt}
+use Rattle.conn.specs.RunsItems.{closing, closing_if, ends, Passes, StopsAt}
 use Rattle.conn.specs.Setups.{Serves}
 use Rattle.conn.specs.Stages.{is_asking}
 use Rattle.conn.specs.declared.connection.Conn.{Conn}
@@ -50,12 +51,21 @@ one_more s c old mid new before notes after r acted =
           record { at = q.at; gave = gave_more g a l p.at q.at c old mid new r.group k.group p.gave q.gave; awake = q.stops });
     }
 
+-- its items were let through
+passes_of : (g : Setup) (a : Around) (l at : TraceState) (c : ℕ) (old new : Conn) (group : List Note) → l.answers.cut ≡ None → (p : Gave g a l at c old new group) → Passes g a.took l p.more at
+passes_of g a l at c old new group none p = record {
+  passed = as_taken g a l at c old new group none p;
+  met = p.met;
+  uncut = λ t. ap (cut_in t) (sym (append-nil p.more)) ∙ p.uncut t [];
+  no_server = p.holds.none_sent;
+}
+
 -- a Run that gave these items
 gives : (g : Setup) (a : Around) (l at : TraceState) (c : ℕ) (old new : Conn) (group last : List Note) (t : ConnTurn) → l.answers.cut ≡ None → Gave g a l at c old new group → last ≡ closing_if (ends t) c → StopsAt g a.took at t → GoesOnWith g a l c old new (group ++ last) t
 gives g a l at c old new group last t none p is stops = record {
   more = p.more;
   at = at;
-  items = record { passed = as_taken g a l at c old new group none p; met = p.met; noted = ap (λ x. x ++ last) p.noted ∙ ap (λ x. notes_of c p.more ++ x) is; stops = stops };
+  items = record { passes = passes_of g a l at c old new group none p; noted = ap (λ x. x ++ last) p.noted ∙ ap (λ x. notes_of c p.more ++ x) is; stops = stops };
   holds = p.holds;
   queue = p.queue;
 }
@@ -119,8 +129,7 @@ runs_out s c pending old mid new before notes after r waits ends = (
       inr (record {
         more = p.more;
         at = given.at;
-        passed = as_taken g a l given.at c old mid r.group h.no_cut p;
-        met = p.met;
+        passes = passes_of g a l given.at c old mid r.group h.no_cut p;
         noted = ap (λ x. x ++ note.Finish c Memory ∷ closing c pending) p.noted ∙ ap (λ n. notes_of c p.more ++ note.Finish c Memory ∷ closing c n) q;
         over = refl;
       })),

@@ -1,19 +1,15 @@
 -- What a Run makes of a connection, for each state that its trace may stand at.
 use Rattle.std.specs.Prelude.{◌≡◌, ◌⊎◌, ℕ, ◌+◌, ◌<◌, ◌≤◌, List, ◌++◌, length, true, false}
 use Rattle.connection_model.specs.declared.note.Note.{Note}
-use Rattle.connection_model.specs.Gates.{Met}
-use Rattle.connection_model.specs.Further.{longer}
-use Rattle.connection_model.specs.HeardLaws.{taken_by_items}
 use Rattle.connection_model.specs.Item.{Item, client_output}
 use Rattle.connection_model.specs.Setup as model
 use Rattle.connection_model.specs.State.{TraceState}
-use Rattle.connection_model.specs.Trace.{Unfolds}
 use Rattle.conn.specs.declared.connection.Conn.{Conn}
 use Rattle.conn.specs.declared.setup.Setup.{Setup}
 use Rattle.conn.specs.declared.turn.ConnTurn.{ConnTurn}
 use Rattle.conn.specs.declared.turn.ConnTurn.TheVariants as turn
 use Rattle.conn.specs.Holds.{Around, Holds}
-use Rattle.conn.specs.RunsItems.{RunsItems, closing, out_of_memory}
+use Rattle.conn.specs.RunsItems.{Passes, RunsItems, closing, out_of_memory}
 use Rattle.conn.specs.Calls.{Settles}
 use Rattle.conn.specs.Setups.{Serves}
 use Rattle.conn.specs.Stages.{is_asking}
@@ -32,8 +28,7 @@ pub record StopsWithout (g : model.Setup) (a : Around) (l : TraceState) (c : ℕ
     (group : List Note) (t : ConnTurn) : Type 0 where
   pub more : List Item
   pub at : TraceState
-  pub passed : Unfolds g (longer (taken_by_items a.took more) l) more at
-  pub met : Met l.sent a.took more
+  pub passes : Passes g a.took l more at
   pub noted : group ≡ out_of_memory c more
       (length old.host.to_client + length (client_output more))
   pub over : t ≡ turn.Over

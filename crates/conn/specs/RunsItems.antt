@@ -1,7 +1,7 @@
 -- What a connection gives in one Run, from where its trace stands: the code's promise and the
 -- scheduler's move alike.
 use Rattle.std.specs.Prelude.{◌≡◌, ℕ, List, [], ◌∷◌, ◌++◌, Bool, true, false, ◌&&◌, nat_eq}
-use Rattle.std.specs.Prelude.{if◌then◌else◌}
+use Rattle.std.specs.Prelude.{if◌then◌else◌, None}
 use Rattle.px_bytes.specs.declared.addr.Side.TheVariants.{Client, Server}
 use Rattle.connection_model.specs.declared.note.Cause.TheVariants.{Memory}
 use Rattle.connection_model.specs.declared.note.Note.{Note}
@@ -9,7 +9,7 @@ use Rattle.connection_model.specs.declared.note.Note.TheVariants.{Finish, CloseC
 use Rattle.connection_model.specs.Gates.{TakenCounts, to_take, Met}
 use Rattle.connection_model.specs.Item.{Item, notes_of}
 use Rattle.connection_model.specs.Further.{longer}
-use Rattle.connection_model.specs.HeardLaws.{taken_by_items}
+use Rattle.connection_model.specs.HeardLaws.{cut_in, taken_by_items}
 use Rattle.connection_model.specs.Setup.{Setup}
 use Rattle.connection_model.specs.State.{TraceState, ForReply, Next, Does, Waits, Over}
 use Rattle.connection_model.specs.Trace.{next_item, Unfolds, GivesNoMore}
@@ -47,12 +47,25 @@ StopsAt g took at turn.NotYet =
     GivesNoMore false at.sent took (next_item g at) × (is_drained g took at ≡ false)
 StopsAt g took at turn.Over = is_drained g took at ≡ true
 
--- From l these items came, on the choices that they took, each was let through its gate, and then it stands at `at`; its notes are
--- those of the items, and then the last ones where it ends.
-pub record RunsItems (g : Setup) (took : TakenCounts) (l : TraceState) (c : ℕ)
-    (more : List Item) (at : TraceState) (group : List Note) (t : ConnTurn) : Type 0 where
+-- whether it stopped at a call
+abbrev pub asks : ConnTurn → Bool
+asks (turn.Asks call) = true
+asks other = false
+
+-- From l these items came, on the choices that they took, and each was let through its gate; then
+-- it stands at `at`. No cut is among them, and nothing was sent to a server.
+pub record Passes (g : Setup) (took : TakenCounts) (l : TraceState) (more : List Item)
+    (at : TraceState) : Type 0 where
   pub passed : Unfolds g (longer (taken_by_items took more) l) more at
   pub met : Met l.sent took more
+  pub uncut : (t : TakenCounts) → cut_in t more ≡ None
+  pub no_server : at.sent.server ≡ 0
+
+-- It gave these items, and stops there; its notes are those of the items, and then the last ones
+-- where it ends.
+pub record RunsItems (g : Setup) (took : TakenCounts) (l : TraceState) (c : ℕ)
+    (more : List Item) (at : TraceState) (group : List Note) (t : ConnTurn) : Type 0 where
+  pub passes : Passes g took l more at
   pub noted : group ≡ notes_of c more ++ closing_if (ends t) c
   pub stops : StopsAt g took at t
 

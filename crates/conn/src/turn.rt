@@ -1,5 +1,8 @@
 // What a Run comes to.
 
+ghost use Rattle.std.specs.Prelude.{◌≡◌};
+ghost use Rattle.conn.specs.RunsItems.{ends};
+
 use px_bytes::Texts;
 
 /// What a Run of a connection comes to.
@@ -13,6 +16,18 @@ pub enum ConnTurn {
     NotYet,
     /// It is over, and its last notes were given.
     Over,
+}
+
+impl ConnTurn {
+    /// Whether its last notes were given.
+    pub fn is_over(&self) -> bool
+        ensures { result ≡ ends self.now }
+    {
+        match self {
+            ConnTurn::Over => true,
+            _ => false,
+        }
+    }
 }
 
 /// What one action comes to.
