@@ -217,3 +217,5 @@ acted_well s c old new before after did k = by_stage old.stage refl k
     by_stage stage.Choosing is (e, k, notes) = record { group = []; notes = none notes; along = λ g a l serves h awake. as_goes e g a l [] (chooses s g serves a l c old new h (here stage.Choosing is g a l h) k) }
     by_stage (stage.Finishing f) is (e, k, notes) = record { group = note.Finish c (cause_for f) ∷ []; notes = notes; along = λ g a l serves h awake. as_goes e g a l (note.Finish c (cause_for f) ∷ []) (finishes s g serves a l c old new h f (here (stage.Finishing f) is g a l h) k) }
     by_stage stage.Draining is (rests, same, notes) = record { group = []; notes = none notes; along = λ g a l serves h awake. drains s g serves a l c old new h did (here stage.Draining is g a l h) rests same }
+    by_stage stage.OutOfMemory is (rests, same, notes) = record { group = []; notes = none notes; along = λ g a l serves h awake. absurd (here stage.OutOfMemory is g a l h) }
+    by_stage (stage.Dropped n) is (rests, same, notes) = record { group = []; notes = none notes; along = λ g a l serves h awake. absurd (here (stage.Dropped n) is g a l h) }

@@ -1,5 +1,5 @@
 -- No body of today makes a shared call.
-use Rattle.std.proofs.Common.{◌≡◌, refl, sym, ap, ◌∙◌, ℕ, ◌+◌, List, [], ◌∷◌, ◌++◌, append-nil, length, drop, Bool, true, false, Option, Some, None, nat_lt, codes, if◌then◌else◌}
+use Rattle.std.proofs.Common.{◌≡◌, refl, sym, ap, ◌∙◌, ℕ, ◌+◌, List, [], ◌∷◌, ◌++◌, length, drop, Bool, true, false, Option, Some, None, nat_lt, codes, if◌then◌else◌}
 use Rattle.std.specs.Prelude.{slice_get}
 use Rattle.std.specs.Str.{bytes_eq}
 use Rattle.px_bytes.specs.Host.{HostStep}
@@ -9,10 +9,9 @@ use Rattle.tcl_vars.specs.Scopes.{Scopes}
 use Rattle.rule_model.specs.Evaluator.{evaluate, inner_limit}
 use Rattle.rule_model.specs.Laws.{waits, asks as asks_step, state_after}
 use Rattle.rule_model.specs.Outcome.{Act, state, Outcome, Ends, Waits as Stops}
-use Rattle.rule_model.specs.Setting as given
 use Rattle.rule_model.proofs.Facts.{never_waits}
 use Rattle.connection_model.specs.Bodies.{run_body, act_next, ended_next}
-use Rattle.connection_model.specs.Gates.{Counts, TakenCounts}
+use Rattle.connection_model.specs.Gates.{Counts}
 use Rattle.connection_model.specs.Host.{HostState, body_setting, respond, respond_table, respond_limit}
 use Rattle.connection_model.specs.Setup.{Handler, Setup}
 use Rattle.connection_model.specs.State.{Phase, Gated, Running, Failing, InEvent, Finishing, ForReply, TraceState, Next, Does, Waits, Over, WaitKind}
@@ -73,6 +72,8 @@ never_asks g a l c h = by_stage c.stage h.stage
     by_stage stage.Choosing k = refl
     by_stage (stage.Finishing f) k = refl
     by_stage stage.Draining k = refl
+    by_stage stage.OutOfMemory k = absurd k
+    by_stage (stage.Dropped n) k = absurd k
 
 -- and its trace waits for no reply
 abbrev for_reply : WaitKind → Bool
@@ -111,6 +112,8 @@ module _ (g : Setup) (a : Around) (l : TraceState) (c : Conn) (h : Holds g a l c
   no_reply stage.Choosing k = ap asks_now (choosing_item g l c k.1 h.no_cut h.no_server k.0)
   no_reply (stage.Finishing f) k = by_phase (Finishing (reason_for f)) k.0 refl
   no_reply stage.Draining k = ap asks_now (over_next g a l c h k.0)
+  no_reply stage.OutOfMemory k = absurd k
+  no_reply (stage.Dropped n) k = absurd k
 
   -- a Run stops at no call
   pub no_call : (t : ConnTurn) → StopsAt g a.took l t → asks t ≡ false

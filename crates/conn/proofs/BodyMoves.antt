@@ -51,7 +51,7 @@ use Rattle.conn.proofs.Acting.{ActGave, acts_gave}
 use Rattle.conn.proofs.ActItems.{no_tail, end_tail, called_is_none}
 use Rattle.conn.proofs.Asking.{asking_waits}
 use Rattle.conn.proofs.BodyActs.{acts_come, end_comes}
-use Rattle.conn.proofs.FramesKeep.{frames_keep}
+use Rattle.conn.proofs.FramesKeep.{acts_stay}
 use Rattle.conn.proofs.Places.{handlers_are, first_left, next_stands}
 
 -- no call is open behind a body
@@ -118,7 +118,7 @@ module _ (s : code_setup.Setup) (g : Setup) (serves : Serves s g) (a : Around) (
       let Q : Turn → Type 0 = λ t. comes_by t S b.body mid.body.machine.at mid.vars (seen_host mid.host) [] (k.cost + w.spent) acts ≡ o in
       let T : Turn → Type 0 = λ t. (rs : List Reply) → evaluate S b.body l.vars l.host (l.answers.replies ++ rs) g.budget ≡ comes_by t S b.body mid.body.machine.at mid.vars (seen_host mid.host) rs (k.cost + w.spent) acts in
       let is = body_is o (subst Q (sym more) refl) in
-      let kept = (frames_keep S b.body mid.body.machine.at mid.vars (seen_host mid.host) [] (k.cost + w.spent) acts).acts in
+      let kept = (acts_stay S b.body mid.body.machine.at mid.vars (seen_host mid.host) [] (k.cost + w.spent) acts) in
       let at' = running e b bs (length acts + 0) (sent_by w.acts) l in
       let u = come o w.acts kept.0 (length acts + 0) is (kept.1 ∙ append_assoc k.acts w.acts kept.0) (omega (arith, length-append k.acts w.acts)) in
       let now : BodyGoesOn g e b bs 0 at' mid = record { acts = acts; cost = k.cost + w.spent; phase = refl; same = subst T more same } in

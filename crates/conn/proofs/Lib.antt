@@ -1,4 +1,5 @@
-pub mod Keeping
+pub mod Fine
+pub mod FramesAlike
 pub mod FramesKeep
 pub mod Giving
 pub mod Places
@@ -13,3 +14,6 @@ pub mod Replying
 pub mod Awake
 pub mod Advancing
 pub mod Running
+pub mod Continuing
+pub mod Wanting
+pub mod Continued

@@ -33,7 +33,7 @@ asked_mode (mode.Asked call) e = (call, refl)
 asked_mode mode.Over e = cc
 
 -- a call goes on with its reply
-goes_on : {H : Type 0} (g : given.Setting H) (tree : Tree) (m : Standing) (v : Scopes) (h : H) (call : List (List ℕ)) (reply : Reply) (more : List Reply) (cost : ℕ) (acts : List Act) → m.mode ≡ mode.Asked call
+pub goes_on : {H : Type 0} (g : given.Setting H) (tree : Tree) (m : Standing) (v : Scopes) (h : H) (call : List (List ℕ)) (reply : Reply) (more : List Reply) (cost : ℕ) (acts : List Act) → m.mode ≡ mode.Asked call
     → comes_to g tree m v h (reply ∷ more) cost acts ≡ comes_to g tree (record m { mode = mode.Back (reply_code reply) }) v h more cost (acts ++ Called (path_of m.frames.items) call ∷ [])
 goes_on g tree m v h call reply more cost acts e = rw e refl
 

@@ -22,7 +22,7 @@ use Rattle.conn.specs.Events.{event_of}
 use Rattle.conn.specs.Holds.{Around, Between, GatedBefore, RunsFirst, Stands, Holds}
 use Rattle.conn.specs.Hosts.{seen_host}
 use Rattle.conn.specs.RunsItems.{is_over, is_drained}
-use Rattle.conn.specs.Stages.{is_draining, reason_for}
+use Rattle.conn.specs.Stages.{dropped_in, is_draining, reason_for}
 use Rattle.conn.specs.declared.connection.Conn.{Conn}
 use Rattle.conn.specs.declared.stage.Stage.{Stage}
 use Rattle.conn.specs.declared.stage.Stage.TheVariants as stage
@@ -89,6 +89,8 @@ module _ (g : Setup) (a : Around) (l : TraceState) (c : Conn) (h : Holds g a l c
   not_over stage.Choosing k e = ap is_over (choosing_item g l c k.1 h.no_cut h.no_server k.0)
   not_over (stage.Finishing f) k e = by_phase (Finishing (reason_for f)) k.0 refl
   not_over stage.Draining k e = cc
+  not_over stage.OutOfMemory k e = absurd k
+  not_over (stage.Dropped n) k e = absurd k
 
   pub over_next : l.phase ≡ Draining → next_item g l ≡ Over
   over_next is = next_at g l Draining h.no_cut is
@@ -114,6 +116,8 @@ module _ (g : Setup) (a : Around) (l : TraceState) (c : Conn) (h : Holds g a l c
       draining stage.Choosing k t = cc
       draining (stage.Finishing f) k t = cc
       draining stage.Draining k t = ap is_over (over_next k.0)
+      draining stage.OutOfMemory k t = absurd k
+      draining (stage.Dropped n) k t = absurd k
 
       by_test : (b : Bool) → is_draining st ≡ b → is_over (next_item g l) ≡ is_draining st
       by_test true t = draining st here t ∙ sym t
@@ -128,3 +132,8 @@ pub settles : (c : Conn) (over : Bool) → over ≡ over_in c → Settles c over
 settles c over e g a l h =
     e ∙ ap (λ x. is_draining c.stage && x) (empty_test c.host.to_client)
     ∙ sym (drained_by g a l c h (is_draining c.stage) (over_at g a l c h c.stage refl))
+
+-- where only what is queued is left, nothing was dropped
+pub draining_drops_none : (st : Stage) (b : Bool) → (is_draining st && b) ≡ true → dropped_in st ≡ 0
+draining_drops_none (stage.Dropped n) b e = absurd (let f : false ≡ true = e in cc)
+draining_drops_none other b e = refl

@@ -1,5 +1,5 @@
 -- A Run, action by action.
-use Rattle.std.proofs.Common.{None, ◌≡◌, ◌≤◌, inl, inr, refl, sym, ap, ◌∙◌, ℕ, ◌+◌, List, [], ◌∷◌, ◌++◌, append-nil, append_assoc, length, length-append, false}
+use Rattle.std.proofs.Common.{None, ◌≡◌, ◌≤◌, inl, inr, refl, sym, ap, subst, ◌∙◌, ℕ, ◌+◌, List, [], ◌∷◌, ◌++◌, append-nil, append_assoc, length, length-append, false}
 use Rattle.connection_model.specs.declared.note.Note.{Note}
 use Rattle.connection_model.specs.declared.note.Note.TheVariants as note
 use Rattle.connection_model.specs.declared.note.Cause.TheVariants.{Memory}
@@ -9,10 +9,10 @@ use Rattle.connection_model.specs.Setup.{Setup}
 use Rattle.connection_model.specs.State.{TraceState}
 use Rattle.conn.specs.Acts.{Acted}
 use Rattle.conn.specs.Holds.{Around, Holds}
-use Rattle.conn.specs.Runs.{IsBounded, IsWhole, GoesOnWith, Runs, Rested}
+use Rattle.conn.specs.Runs.{DropsQueued, IsBounded, IsWhole, GoesOnWith, Runs, Rested, TellsDropped}
 use Rattle.conn.specs.RunsItems.{closing, closing_if, ends, Passes, StopsAt}
 use Rattle.conn.specs.Setups.{Serves}
-use Rattle.conn.specs.Stages.{is_asking}
+use Rattle.conn.specs.Stages.{dropped_in, is_asking}
 use Rattle.conn.specs.declared.connection.Conn.{Conn}
 use Rattle.conn.specs.declared.setup.Setup as code
 use Rattle.conn.specs.declared.turn.Act.TheVariants as done
@@ -117,11 +117,11 @@ runs_rests s c old mid new before notes after last t r acted rested = by_turn t 
           inl (gives g a l q.at c old new (r.group ++ k.group) (closing c 0) turn.Over h.no_cut (gave_more g a l p.at q.at c old mid new r.group k.group p.gave q.gave) refl (sym (settles g a q.at q.gave.holds)))),
     )
 
-pub runs_out : (s : code.Setup) (c pending : ℕ) (old mid new : Conn) (before notes after : List Note) → RunsOn s c old mid before notes → pending ≡ length mid.host.to_client → after ≡ notes ++ note.Finish c Memory ∷ closing c pending
+pub runs_out : (s : code.Setup) (c pending : ℕ) (old mid new : Conn) (before notes after : List Note) → RunsOn s c old mid before notes → pending ≡ length mid.host.to_client → after ≡ (notes ++ note.Finish c Memory ∷ []) ++ closing c pending
     → RunsBy s c old new before after turn.Over
 runs_out s c pending old mid new before notes after r waits ends = (
   r.group ++ note.Finish c Memory ∷ closing c pending,
-  both_notes before r.group (note.Finish c Memory ∷ closing c pending) notes after r.notes ends,
+  both_notes before r.group (note.Finish c Memory ∷ closing c pending) notes after r.notes (ends ∙ append_assoc notes (note.Finish c Memory ∷ []) (closing c pending)),
   λ g a l serves h awake.
       (let given = r.along g a l serves h awake in
       let p = given.gave in
@@ -148,3 +148,9 @@ rests_bounded c conn before after turn.More steps r few = few
 rests_bounded c conn before after (turn.Asks call) steps r few = few
 rests_bounded c conn before after turn.NotYet steps r few = few
 rests_bounded c conn before after turn.Over steps r few = tt
+
+-- what was queued is dropped, as the last notes tell
+pub drops_told : (c given : ℕ) (new : Conn) (before after : List Note) (t : ConnTurn) → DropsQueued c given new before after t → TellsDropped t c new after
+drops_told c given new before after t d =
+    let P : ConnTurn → Type 0 = λ x. TellsDropped x c new after in
+    subst P (sym d.over) (before, d.noted ∙ ap (λ n. before ++ closing c n) (sym (ap dropped_in d.there)))

@@ -42,6 +42,8 @@ same_stands g (stage.Failing at n kind line) l c q k = (k.0, same_between l c q 
 same_stands g stage.Choosing l c q k = (k.0, same_between l c q k.1)
 same_stands g (stage.Finishing f) l c q k = (k.0, same_between l c q k.1)
 same_stands g stage.Draining l c q k = (k.0, same_between l c q k.1)
+same_stands g stage.OutOfMemory l c q k = k
+same_stands g (stage.Dropped n) l c q k = k
 
 pub takes : (n : ℕ) (old : Conn) (q : List ℕ) → n ≤ length old.host.to_client → q ≡ drop n old.host.to_client → Takes n old (with_queue q old)
 takes n old q within is g a l h = record {

@@ -118,15 +118,13 @@ ActedAt (stage.Gated at) s c old new before after a =
     PassesGate s at old new a × (after ≡ before)
 ActedAt (stage.Running at number) s c old new before after a =
     BodyMoved s at number old new a × (after ≡ before)
-ActedAt (stage.Asking at number) s c old new before after a =
-    (a ≡ act.Rests) × (new ≡ old) × (after ≡ before)
 ActedAt (stage.Failing at next kind line) s c old new before after a =
     (a ≡ act.Goes) × BehindFault s at next kind old new × (after ≡ before ++ note.Log c line ∷ [])
 ActedAt stage.Choosing s c old new before after a =
     (a ≡ act.Goes) × Chooses s old new × (after ≡ before)
 ActedAt (stage.Finishing f) s c old new before after a =
     (a ≡ act.Goes) × Closes s old new × (after ≡ before ++ note.Finish c (cause_for f) ∷ [])
-ActedAt stage.Draining s c old new before after a =
+ActedAt other s c old new before after a =
     (a ≡ act.Rests) × (new ≡ old) × (after ≡ before)
 
 -- logs the fault that a body left

@@ -1,11 +1,17 @@
 -- A body of the code.
-use Rattle.std.specs.Prelude.{◌≡◌, ℕ, [], true}
+use Rattle.std.specs.Prelude.{◌≡◌, ℕ, [], true, false}
 use Rattle.px_bytes.specs.declared.fault.Reply.{Reply}
 use Rattle.rule_model.specs.Outcome.{reply_code}
 use Rattle.frame_machine.specs.declared.frame.Mode.TheVariants as mode
 use Rattle.frame_machine.specs.declared.turn.Turn.{Turn}
 use Rattle.frame_machine.specs.declared.turn.Turn.TheVariants as turn
 use Rattle.conn.specs.declared.body.Body.{Body}
+
+-- none runs or waits
+pub record IsIdle (body : Body) : Type 0 where
+  pub frames : body.machine.at.frames.items ≡ []
+  pub runs : body.runs ≡ false
+  pub asks : body.asks ≡ false
 
 -- before its first command
 pub record Fresh (body : Body) (budget : ℕ) : Type 0 where

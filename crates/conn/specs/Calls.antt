@@ -1,7 +1,9 @@
 -- What the calls of a connection make of it, for each state that its trace may stand at.
 use Rattle.std.specs.Prelude.{◌≡◌, ℕ, ◌+◌, [], ◌∷◌, Bool, ◌&&◌, option_map}
+use Rattle.px_bytes.specs.declared.addr.Side.TheVariants.{Client}
 use Rattle.px_bytes.specs.declared.fault.Reply.{Reply}
 use Rattle.connection_model.specs.Further.{longer, replies_only}
+use Rattle.connection_model.specs.Queries as query
 use Rattle.connection_model.specs.Setup as model
 use Rattle.connection_model.specs.State.{TraceState, no_stream, no_answers}
 use Rattle.connection_model.specs.Trace.{start}
@@ -16,6 +18,12 @@ use Rattle.seg_buffer.specs.Bytes.{is_empty}
 -- the most bytes of a side that may lie unread, all of which are wanted while nothing arrives
 abbrev pub wanted : ℕ
 wanted = 65536
+
+-- as many as its trace wants, where nothing lies unread
+abbrev pub Wants : Conn → ℕ → Type 0
+Wants c n =
+    (g : model.Setup) (a : Around) (l : TraceState) → Holds g a l c → l.client.unread ≡ []
+    → n ≡ query.wanted Client l
 
 abbrev pub Begins : Setup → Conn → Type 0
 Begins s new = (g : model.Setup) → Serves s g → Holds g fresh (start g no_stream no_answers) new
@@ -44,3 +52,8 @@ abbrev pub Replies : Reply → Conn → Conn → Type 0
 Replies reply old new =
     (g : model.Setup) (a : Around) (l : TraceState) → Holds g a l old
     → Holds g a (longer (replies_only (reply ∷ [])) l) new
+
+-- while it stands for a state nothing was dropped
+abbrev pub DropsNone : Conn → ℕ → Type 0
+DropsNone c dropped =
+    (g : model.Setup) (a : Around) (l : TraceState) → Holds g a l c → dropped ≡ 0

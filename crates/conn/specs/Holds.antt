@@ -68,6 +68,8 @@ Stands g (stage.Failing at n kind line) l c =
 Stands g stage.Choosing l c = (l.phase ≡ phase.Choosing) × Between l c
 Stands g (stage.Finishing f) l c = (l.phase ≡ phase.Finishing (reason_for f)) × Between l c
 Stands g stage.Draining l c = (l.phase ≡ phase.Draining) × Between l c
+Stands g stage.OutOfMemory l c = ⊥
+Stands g (stage.Dropped n) l c = ⊥
 
 -- What it holds where its trace stands at l: what waits for its client is what was sent and not
 -- taken. Nothing was sent to a server, and no cut was heard.

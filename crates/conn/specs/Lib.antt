@@ -10,3 +10,4 @@ pub mod Holds
 pub mod RunsItems
 pub mod Calls
 pub mod Runs
+pub mod Continues

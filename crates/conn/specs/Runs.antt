@@ -1,18 +1,20 @@
 -- What a Run makes of a connection, for each state that its trace may stand at.
-use Rattle.std.specs.Prelude.{◌≡◌, ◌⊎◌, ℕ, ◌+◌, ◌<◌, ◌≤◌, List, ◌++◌, length, true, false}
+use Rattle.std.specs.Prelude.{◌≡◌, ◌⊎◌, ℕ, ◌+◌, ◌<◌, ◌≤◌, List, [], ◌++◌, length, true, false}
 use Rattle.connection_model.specs.declared.note.Note.{Note}
 use Rattle.connection_model.specs.Item.{Item, client_output}
 use Rattle.connection_model.specs.Setup as model
 use Rattle.connection_model.specs.State.{TraceState}
 use Rattle.conn.specs.declared.connection.Conn.{Conn}
 use Rattle.conn.specs.declared.setup.Setup.{Setup}
+use Rattle.conn.specs.declared.stage.Stage.{Stage}
+use Rattle.conn.specs.declared.stage.Stage.TheVariants as stage
 use Rattle.conn.specs.declared.turn.ConnTurn.{ConnTurn}
 use Rattle.conn.specs.declared.turn.ConnTurn.TheVariants as turn
 use Rattle.conn.specs.Holds.{Around, Holds}
 use Rattle.conn.specs.RunsItems.{Passes, RunsItems, closing, out_of_memory}
 use Rattle.conn.specs.Calls.{Settles}
 use Rattle.conn.specs.Setups.{Serves}
-use Rattle.conn.specs.Stages.{is_asking}
+use Rattle.conn.specs.Stages.{dropped_in, is_asking}
 
 -- it goes on with these items, and its queue grew by what they send
 pub record GoesOnWith (g : model.Setup) (a : Around) (l : TraceState) (c : ℕ) (old new : Conn)
@@ -56,3 +58,22 @@ IsWhole other steps notes = Unit {0}
 abbrev pub IsBounded : ConnTurn → (steps : ℕ) → Type 0
 IsBounded turn.Over steps = Unit {0}
 IsBounded other steps = steps ≤ 2000
+
+-- and so it does wherever it dropped nothing, also where it is over
+abbrev pub IsFew : Stage → (steps : ℕ) → Type 0
+IsFew (stage.Dropped n) steps = Unit {0}
+IsFew other steps = steps ≤ 2000
+
+-- Memory was refused: what is queued is dropped, of which so many bytes were given, and it is over.
+pub record DropsQueued (c given : ℕ) (new : Conn) (before after : List Note) (t : ConnTurn)
+    : Type 0 where
+  pub there : new.stage ≡ stage.Dropped given
+  pub queue : new.host.to_client ≡ []
+  pub noted : after ≡ before ++ closing c given
+  pub over : t ≡ turn.Over
+
+-- where it is over its last notes tell what was dropped
+abbrev pub TellsDropped : ConnTurn → ℕ → Conn → List Note → Type 0
+TellsDropped turn.Over c new after =
+    (before : List Note) × (after ≡ before ++ closing c (dropped_in new.stage))
+TellsDropped other c new after = Unit {0}

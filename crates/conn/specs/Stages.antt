@@ -1,5 +1,5 @@
 -- Where a connection goes.
-use Rattle.std.specs.Prelude.{List, [], ◌∷◌, Bool, true, false}
+use Rattle.std.specs.Prelude.{ℕ, List, [], ◌∷◌, Bool, true, false}
 use Rattle.connection_model.specs.declared.note.Cause.{Cause}
 use Rattle.connection_model.specs.declared.note.Cause.TheVariants as cause
 use Rattle.connection_model.specs.Item.{Reason}
@@ -43,3 +43,13 @@ is_asking other = false
 abbrev pub is_draining : Stage → Bool
 is_draining stage.Draining = true
 is_draining other = false
+
+-- where memory was refused; a connection that is over stays so
+abbrev pub failed : Stage → Stage
+failed (stage.Dropped n) = stage.Dropped n
+failed other = stage.OutOfMemory
+
+-- how many bytes were dropped
+abbrev pub dropped_in : Stage → ℕ
+dropped_in (stage.Dropped n) = n
+dropped_in other = 0

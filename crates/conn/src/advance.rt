@@ -71,7 +71,7 @@ impl Conn {
                 self.finish(setup, number, finish, notes);
                 Ok(Act::Goes)
             }
-            Stage::Asking { .. } | Stage::Draining => {
+            Stage::Asking { .. } | Stage::Draining | Stage::OutOfMemory | Stage::Dropped(_) => {
                 steps.tick();
                 *spent += 1;
                 Ok(Act::Rests)

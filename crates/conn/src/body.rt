@@ -29,10 +29,12 @@ impl Body {
     ghost use Rattle.tcl_compile.specs.TreeView.{node_view};
     ghost use Rattle.frame_machine.specs.Given.{setting};
     ghost use Rattle.frame_machine.specs.Went.{Went, place};
-    ghost use Rattle.conn.specs.Bodies.{Fresh, Heard, SaidIs};
+    ghost use Rattle.conn.specs.Bodies.{Fresh, Heard, IsIdle, SaidIs};
 
     /// A body that doesn't run.
-    pub fn new(alloc: Global) -> Body {
+    pub fn new(alloc: Global) -> Body
+        ensures { IsIdle result }
+    {
         Body {
             machine: Machine::start(alloc, 0),
             runs: false,

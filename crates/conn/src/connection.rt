@@ -1,7 +1,7 @@
 // A connection.
 
 ghost use Rattle.std.specs.Prelude.{◌≡◌, ◌≤◌, ◌++◌, [], true, IfOk, OnOk, length, take, drop};
-ghost use Rattle.conn.specs.Calls.{Begins, Replies, Takes, Settles, over_in, wanted};
+ghost use Rattle.conn.specs.Calls.{Begins, Replies, Takes, Settles, Wants, over_in, wanted};
 ghost use Rattle.conn.specs.Stages.{is_asking};
 ghost use Rattle.conn.specs.RunsItems.{closing_if};
 
@@ -104,7 +104,8 @@ impl Conn {
 
     /// How many bytes that its client sends may arrive. None arrive today.
     pub fn wants(&self) -> usize
-        ensures { result ≡ wanted }
+        ensures exact { result ≡ wanted }
+        ensures wanted { Wants self.now result }
     {
         UNREAD_LIMIT
     }
@@ -113,6 +114,7 @@ impl Conn {
     pub fn settle(&self, number: u32, notes: &mut Notes) -> bool
         requires { 2 ≤ notes.old.spare }
         ensures settles { Settles self.now result }
+        ensures over { result ≡ over_in self.now }
         ensures notes { notes.new.items ≡ notes.old.items ++ closing_if result number }
     {
         self.close_if_over(number, notes)

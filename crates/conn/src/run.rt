@@ -1,16 +1,14 @@
 // A slice of a connection.
 
-ghost use Rattle.std.specs.Prelude.{◌≡◌, ◌-◌, ◌≤◌, ◌∷◌, ◌++◌, List, length};
+ghost use Rattle.std.specs.Prelude.{◌≡◌, ◌-◌, ◌≤◌, ◌++◌, List, length};
 ghost use Rattle.connection_model.specs.declared.note.Note.{Note};
-ghost use Rattle.connection_model.specs.declared.note.Note.TheVariants as noted;
-ghost use Rattle.connection_model.specs.declared.note.Cause.TheVariants as causes;
-ghost use Rattle.conn.specs.Runs.{IsBounded, IsWhole, Rested, Runs};
-ghost use Rattle.conn.specs.RunsItems.{closing};
+ghost use Rattle.conn.specs.Runs.{DropsQueued, IsBounded, IsFew, IsWhole, Rested, Runs, TellsDropped};
 
-use crate::connection::{Conn, close};
+use crate::connection::Conn;
 use crate::setup::Setup;
+use crate::stage::Stage;
 use crate::turn::{Act, ConnTurn};
-use connection_model::{Cause, Note, Notes};
+use connection_model::Notes;
 use px_bytes::Steps;
 use std::alloc::Global;
 use std::sync::ledger::Ledger;
@@ -37,7 +35,17 @@ impl Conn {
         ensures slice { let given = length notes.new.items - length notes.old.items in
             IsWhole result (steps.new - steps.old) given }
         ensures bounded { IsBounded result (steps.new - steps.old) }
+        ensures few { IsFew self.new.stage (steps.new - steps.old) }
+        ensures failed { let queued = length self.old.host.to_client in
+            let after = notes.new.items in
+            self.old.stage ≡ Stage.OutOfMemory
+            → DropsQueued number queued self.new notes.old.items after result }
+        ensures dropped { TellsDropped result number self.new notes.new.items }
     {
+        if let Stage::OutOfMemory = self.stage {
+            let dropped = self.pending();
+            return self.drop_queued(number, dropped, notes);
+        }
         let given = notes.len();
         let mut spent = 0;
         for _moved in 0..MOST_STEPS + 1 {
@@ -52,7 +60,7 @@ impl Conn {
                 Ok(Act::Goes) => {}
                 Ok(Act::Asks(call)) => return ConnTurn::Asks(call),
                 Ok(Act::Rests) => return self.rest(number, notes),
-                Err(_) => return fail(number, pending, notes),
+                Err(_) => return self.fail(number, pending, notes),
             }
         }
         ConnTurn::More
@@ -60,7 +68,8 @@ impl Conn {
 
     fn rest(&self, number: u32, notes: &mut Notes) -> ConnTurn
         requires { 2 ≤ notes.old.spare }
-        ensures { Rested number self.now notes.old.items notes.new.items result }
+        ensures rested { Rested number self.now notes.old.items notes.new.items result }
+        ensures dropped { TellsDropped result number self.now notes.new.items }
     {
         if self.settle(number, notes) {
             ConnTurn::Over
@@ -68,19 +77,4 @@ impl Conn {
             ConnTurn::NotYet
         }
     }
-}
-
-// No memory was found, and so many bytes are dropped.
-fn fail(number: u32, dropped: usize, notes: &mut Notes) -> ConnTurn
-    requires { 3 ≤ notes.old.spare }
-    ensures over { result ≡ ConnTurn.Over }
-    ensures noted { notes.new.items ≡ notes.old.items
-        ++ noted.Finish number causes.Memory ∷ closing number dropped }
-{
-    notes.push_reserved(Note::Finish {
-        conn: number,
-        cause: Cause::Memory,
-    });
-    close(number, dropped, notes);
-    ConnTurn::Over
 }

@@ -1,7 +1,8 @@
 // Where a connection stands.
 
 ghost use Rattle.std.specs.Prelude.{◌≡◌};
-ghost use Rattle.conn.specs.Stages.{after_stage, cause_for, is_asking, is_draining};
+ghost use Rattle.conn.specs.Stages.{after_stage, cause_for, dropped_in, failed, is_asking};
+ghost use Rattle.conn.specs.Stages.{is_draining};
 
 use crate::events::At;
 use connection_model::Cause;
@@ -58,6 +59,10 @@ pub enum Stage {
     Finishing(Finish),
     /// What is queued is to be taken.
     Draining,
+    /// Memory was refused: nothing of it runs any more, and what is queued is to be dropped.
+    OutOfMemory,
+    /// It is over, and so many bytes were dropped.
+    Dropped(usize),
 }
 
 impl Stage {
@@ -69,6 +74,26 @@ impl Stage {
             At::Accepted => Stage::Choosing,
             At::Failed => Stage::Finishing(Finish::Unselected),
             At::Closed => Stage::Draining,
+        }
+    }
+
+    /// Where a connection stands to which memory was refused; one that is over stays so.
+    pub fn failed(&self) -> Stage
+        ensures { result ≡ failed self.now }
+    {
+        match self {
+            Stage::Dropped(dropped) => Stage::Dropped(*dropped),
+            _ => Stage::OutOfMemory,
+        }
+    }
+
+    /// How many bytes were dropped.
+    pub fn dropped(&self) -> usize
+        ensures { result ≡ dropped_in self.now }
+    {
+        match self {
+            Stage::Dropped(dropped) => *dropped,
+            _ => 0,
         }
     }
 

@@ -1,0 +1,271 @@
+-- Whatever may still come, the trace is what was given, and then what follows by the connection's own fields.
+use Rattle.std.proofs.Common.{◌≡◌, refl, sym, ap, subst, ◌∙◌, ℕ, zero, suc, ◌+◌, ◌≤◌, List, [], ◌∷◌, ◌++◌, append-nil, append_assoc, map, take, drop, length, length-append, Bool, true, false, Option, Some, None, unwrap_or, arith}
+use Rattle.std.specs.Prelude.{slice_get, if◌then◌else◌}
+use Rattle.std.proofs.lemmas.Option.{slice_get_past}
+use Rattle.px_bytes.specs.declared.fault.Reply.{Reply}
+use Rattle.tcl_compile.specs.Tree.{Tree}
+use Rattle.tcl_vars.specs.Scopes.{Scopes}
+use Rattle.event_order.specs.declared.event.EventName.{EventName}
+use Rattle.rule_model.specs.Laws.{state_after}
+use Rattle.rule_model.specs.Outcome.{Act, Called, Outcome, Ends, Waits as Stops, reply_code}
+use Rattle.rule_model.specs.Setting as given
+use Rattle.connection_model.specs.Bodies.{run_body, act_item, act_next, ended_next}
+use Rattle.connection_model.specs.Further.{Further, longer, CutMeets}
+use Rattle.connection_model.specs.Gates.{Counts, TakenCounts, Met, sent_from}
+use Rattle.connection_model.specs.Host.{HostState, body_setting}
+use Rattle.connection_model.specs.Item.{Item}
+use Rattle.connection_model.specs.Phases.{RunsIn, OrderlyIn, Orderly}
+use Rattle.connection_model.specs.Setup.{Handler, Setup}
+use Rattle.connection_model.specs.State.{Gated, Running, Failing, Phase, InEvent, NoServer, ServerSide, link_of, Cut, Answers, TraceState, ForReply, Next, Does, Waits, Over}
+use Rattle.connection_model.specs.State as phase
+use Rattle.connection_model.specs.Trace.{counted, cut_next, next_item, Unfolds, trace_from, trace, start}
+use Rattle.connection_model.proofs.BodyItems.{running, acts_unfold}
+use Rattle.connection_model.proofs.Furthering.{further_keeps}
+use Rattle.connection_model.proofs.Given.{cut_keeps}
+use Rattle.connection_model.proofs.Stepping.{finishes_once}
+use Rattle.connection_model.proofs.Taking.{met_more}
+use Rattle.connection_model.proofs.Unfolding.{trace_unfolds}
+use Rattle.frame_machine.specs.Frames.{comes_to, path_of}
+use Rattle.frame_machine.specs.declared.frame.Mode.TheVariants as mode
+use Rattle.frame_machine.specs.declared.frame.Standing.{Standing}
+use Rattle.conn.specs.Continues.{Unread, unread_in, gated_phase, phase_at, is_closed, has_finished, sent_by, own_state, items_of, first_ahead, ahead_at, MayCome, ConnectionContinues}
+use Rattle.conn.specs.Events.{event_of}
+use Rattle.conn.specs.Holds.{Around, Between, BodyGoesOn, GatedBefore, RunsFirst, Stands, Holds}
+use Rattle.conn.specs.Hosts.{seen_host}
+use Rattle.conn.specs.Modes.{is_asked}
+use Rattle.conn.specs.Stages.{reason_for}
+use Rattle.conn.specs.declared.connection.Conn.{Conn}
+use Rattle.conn.specs.declared.events.At.{At}
+use Rattle.conn.specs.declared.events.At.TheVariants.{Accepted, Failed, Closed}
+use Rattle.conn.specs.declared.stage.Stage.{Stage}
+use Rattle.conn.specs.declared.stage.Stage.TheVariants as stage
+use Rattle.conn.proofs.ActItems.{no_tail, acts_met}
+use Rattle.conn.proofs.Asking.{asking_waits}
+use Rattle.conn.proofs.FramesKeep.{all_behind, frames_keep, acts_behind, acts_stay}
+use Rattle.conn.proofs.Replying.{asked_mode, goes_on}
+
+-- the first items
+take_more : (n k : ℕ) (g : Setup) (o : Next) → n ≤ k → take n (trace_from k g o) ≡ trace_from n g o
+take_more zero k g o within = refl
+take_more (suc n) zero g o within = absurd (omega (arith, within))
+take_more (suc n) (suc k) g (Does i l) within = ap (λ r. i ∷ r) (take_more n k g (next_item g l) (omega (arith, within)))
+take_more (suc n) (suc k) g (Waits kind) within = refl
+take_more (suc n) (suc k) g Over within = refl
+
+-- are those of an unfolding, and then those from where it stands
+trace_front : (n k : ℕ) (g : Setup) (l m : TraceState) (items : List Item) → n ≤ k → Unfolds g l items m → trace n g l ≡ take n (items ++ trace k g m)
+trace_front n k g l m [] within is = ap (trace n g) is ∙ sym (take_more n k g (next_item g m) within)
+trace_front zero k g l m (i ∷ items) within (mid, step, more) = refl
+trace_front (suc n) k g l m (i ∷ items) within (mid, step, more) =
+    ap (trace_from (suc n) g) step ∙ ap (λ r. i ∷ r) (trace_front n k g mid m items (omega (arith, within)) more)
+
+-- whether it has finished is told by where it stands
+runs_in : (at : At) (finished : Bool) → RunsIn (event_of at) finished → finished ≡ is_closed at
+runs_in Accepted finished k = k
+runs_in Failed finished k = k
+runs_in Closed finished k = k
+
+module _ (g : Setup) (l : TraceState) (c : Conn) (order : Orderly l) where
+  in_phase : (p : Phase) → l.phase ≡ p → OrderlyIn p l.finished (link_of l.server)
+  in_phase p is = let P : Phase → Type 0 = λ x. OrderlyIn x l.finished (link_of l.server) in subst P is order
+
+  gated_finished : (e : EventName) (hs : List Handler) → GatedBefore e hs l.phase → l.finished ≡ false
+  gated_finished e [] k = absurd k
+  gated_finished e (b ∷ bs) k = (in_phase (InEvent e (Gated b bs)) k).0
+
+  first_finished : (at : At) (hs : List Handler) (n : ℕ) → RunsFirst g (event_of at) hs n l c → l.finished ≡ is_closed at
+  first_finished at [] n k = absurd k
+  first_finished at (b ∷ bs) n k = runs_in at l.finished (in_phase (InEvent (event_of at) (Running b bs (length k.acts + n))) k.phase).0
+
+  finished_at : (st : Stage) → Stands g st l c → l.finished ≡ has_finished st
+  finished_at (stage.Gated at) k = gated_finished (event_of at) (g.handlers (event_of at)) k.0
+  finished_at (stage.Running at n) k = first_finished at (drop n (g.handlers (event_of at))) 0 k.0
+  finished_at (stage.Asking at n) k = first_finished at (drop n (g.handlers (event_of at))) 1 k.0
+  finished_at (stage.Failing at n kind line) k = runs_in at l.finished (in_phase (InEvent (event_of at) (Failing kind line (drop n (g.handlers (event_of at))))) k.0).0
+  finished_at stage.Choosing k = in_phase phase.Choosing k.0
+  finished_at (stage.Finishing f) k = in_phase (phase.Finishing (reason_for f)) k.0
+  finished_at stage.Draining k = in_phase phase.Draining k.0
+  finished_at stage.OutOfMemory k = absurd k
+  finished_at (stage.Dropped n) k = absurd k
+
+-- the connection's own fields, but for these
+abbrev own_at : Around → Unread → Conn → Phase → Scopes → HostState → List Reply → TraceState
+own_at a u c p v h replies = record {
+  phase = p;
+  vars = v;
+  host = h;
+  finished = has_finished c.stage;
+  client = u.client;
+  server = NoServer;
+  sent = sent_by a c;
+  answers = record { replies = replies; connects = u.connects; choices = u.choices; cut = None };
+}
+
+abbrev counts : ℕ → ℕ → ℕ → Counts
+counts client server number = record { client = client; server = server; number = number }
+
+sent_is : (g : Setup) (a : Around) (l : TraceState) (c : Conn) → Holds g a l c → l.sent ≡ sent_by a c
+sent_is g a l c h =
+    let n = length c.host.to_client in
+    ap (λ x. counts x l.sent.server l.sent.number) (sym h.untaken ∙ ap (λ t. n + t) (sym (ap (λ t. unwrap_or t 0) h.not_reset)))
+    ∙ ap (λ x. counts (sent_by a c).client x l.sent.number) h.none_sent
+    ∙ ap (λ x. counts (sent_by a c).client 0 x) h.no_number
+
+is_own : (g : Setup) (a : Around) (l : TraceState) (c : Conn) → Holds g a l c → l.finished ≡ has_finished c.stage → l ≡ own_at a (unread_in l) c l.phase l.vars l.host l.answers.replies
+is_own g a l c h finished =
+    let own : Bool → ServerSide → Counts → Option Cut → TraceState = λ f s n k. record l { finished = f; server = s; sent = n; answers = record l.answers { cut = k } } in
+    ap (λ f. own f l.server l.sent l.answers.cut) finished
+    ∙ ap (λ s. own (has_finished c.stage) s l.sent l.answers.cut) h.no_server
+    ∙ ap (λ n. own (has_finished c.stage) NoServer n l.answers.cut) (sent_is g a l c h)
+    ∙ ap (λ k. own (has_finished c.stage) NoServer (sent_by a c) k) h.no_cut
+
+-- acts of the frames that were given at an open call
+record FirstGiven (w : ℕ) (o : Outcome HostState) : Type 0 where
+  first : List Act
+  count : length first ≡ w
+  split : (state_after o).acts ≡ first ++ drop w (state_after o).acts
+
+none_given : (o : Outcome HostState) → FirstGiven 0 o
+none_given o = record { first = []; count = refl; split = refl }
+
+first_of : (o : Outcome HostState) (x : Act) (more : List Act) → (state_after o).acts ≡ x ∷ more → FirstGiven 1 o
+first_of o x more is = record { first = x ∷ []; count = refl; split = is ∙ ap (λ r. x ∷ r) (sym (ap (drop 1) is)) }
+
+call_given : (S : given.Setting HostState) (t : Tree) (m : Standing) (v : Scopes) (h : HostState) (call : List (List ℕ)) (replies : List Reply) (cost : ℕ) → m.mode ≡ mode.Asked call → FirstGiven 1 (comes_to S t m v h replies cost [])
+call_given S t m v h call [] cost asked =
+    first_of (comes_to S t m v h [] cost []) (Called (path_of m.frames.items) call) [] (ap (λ o. (state_after o).acts) (asking_waits S t m v h call cost [] asked))
+call_given S t m v h call (r ∷ more) cost asked =
+    let act = Called (path_of m.frames.items) call in
+    let next = record m { mode = mode.Back (reply_code r) } in
+    let stays = acts_stay S t next v h more cost (act ∷ []) in
+    first_of (comes_to S t m v h (r ∷ more) cost []) act stays.0 (ap (λ o. (state_after o).acts) (goes_on S t m v h call r more cost [] asked) ∙ stays.1)
+
+-- where all acts of a body were given
+ends_next : (g : Setup) (e : EventName) (b : Handler) (bs : List Handler) (l : TraceState) (m : ℕ) (sent : Counts) (o : Outcome HostState) → run_body g b l ≡ o → slice_get (state_after o).acts m ≡ None
+    → next_item g (running e b bs m sent l) ≡ counted sent (cut_next g l.answers.cut (running e b bs m sent l) (ended_next g e b bs (running e b bs m sent l) o))
+unfolding next_item
+ends_next g e b bs l m sent o is none =
+    let r = running e b bs m sent l in
+    ap (λ x. counted sent (cut_next g l.answers.cut r (act_next e b bs m r (slice_get (state_after x).acts m) (ended_next g e b bs r x)))) is
+    ∙ ap (λ x. counted sent (cut_next g l.answers.cut r (act_next e b bs m r x (ended_next g e b bs r o)))) none
+
+if_same : (b : Bool) (o : Next) → (if b then o else o) ≡ o
+if_same true o = refl
+if_same false o = refl
+
+-- no cut is taken where a body ends or waits
+cut_passes : (g : Setup) (cut : Option Cut) (r : TraceState) (e : EventName) (b : Handler) (bs : List Handler) (o : Outcome HostState) → cut_next g cut r (ended_next g e b bs r o) ≡ ended_next g e b bs r o
+cut_passes g None r e b bs o = refl
+cut_passes g (Some k) r e b bs (Ends code st) = if_same r.finished (ended_next g e b bs r (Ends code st))
+cut_passes g (Some k) r e b bs (Stops path call st) = if_same r.finished (Waits (ForReply call))
+
+-- nor among its acts
+abbrev cutting : Option Cut → TraceState → TraceState
+cutting cut l = record l { answers = record l.answers { cut = cut } }
+
+cut_front : (g : Setup) (l m : TraceState) (acts : List Act) (cut : Option Cut) → l.answers.cut ≡ None → m.answers.cut ≡ None → Unfolds g l (map (act_item 0) acts) m → Unfolds g (cutting cut l) (map (act_item 0) acts) (cutting cut m)
+cut_front g l m acts None none later is =
+    let items = map (act_item 0) acts in
+    let P : Option Cut → Type 0 = λ k. Unfolds g (cutting k l) items m in
+    let Q : Option Cut → Type 0 = λ k. Unfolds g (cutting None l) items (cutting k m) in
+    subst Q later (subst P none is)
+cut_front g l m acts (Some k) none later is =
+    let items = map (act_item 0) acts in
+    let M : List Item → Type 0 = λ xs. Met l.sent k.took xs in
+    cut_keeps g l m k items none (subst M (append-nil items) (acts_met 0 0 k.took [] (no_tail 0 k.took) acts l.sent)) is
+
+module _ (g : Setup) (a : Around) (l : TraceState) (c : Conn) (h : Holds g a l c) (finished : l.finished ≡ has_finished c.stage) where
+  abbrev u : Unread
+  u = unread_in l
+
+  abbrev own : TraceState
+  own = own_state g a u c
+
+  same_end : (f : Further) (e : EventName) (b : Handler) (bs : List Handler) (p : Phase) (v : Scopes) (hs : HostState) (rs : List Reply) (m : ℕ) (sent : Counts) (acts : List Act) (o : Outcome HostState)
+      → counted sent (ended_next g e b bs (running e b bs m sent (longer f (own_at a u c p v hs rs))) (all_behind acts o)) ≡ ended_next g e b bs (record (longer f own) { sent = sent }) o
+  same_end f e b bs p v hs rs m sent acts (Ends code st) = refl
+  same_end f e b bs p v hs rs m sent acts (Stops path call st) = refl
+
+  -- a body that has begun is ended by its frames
+  body_follows : (e : EventName) (b : Handler) (bs : List Handler) (w : ℕ) (k : BodyGoesOn g e b bs w l c)
+      → ((replies : List Reply) → FirstGiven w (comes_to (body_setting g b.procedures) b.body c.body.machine.at c.vars (seen_host c.host) replies k.cost []))
+      → (f : Further) (n : ℕ) → trace n g (longer f l) ≡ items_of n g (first_ahead g c e (b ∷ bs) w k.cost (longer f own))
+  body_follows e b bs w k first f n =
+      let S = body_setting g b.procedures in
+      let m = c.body.machine.at in
+      let o : Outcome HostState = comes_to S b.body m c.vars (seen_host c.host) f.replies k.cost [] in
+      let p = first f.replies in
+      let todo = drop w (state_after o).acts in
+      let done = k.acts ++ p.first in
+      let given = length k.acts + w in
+      let all_given = given + length todo in
+      let now : Phase = InEvent e (Running b bs given) in
+      let at : TraceState = own_at a u c now l.vars l.host l.answers.replies in
+      let plain : TraceState = longer (record f { cut = None }) at in
+      let items = map (act_item 0) todo in
+      let sent = sent_from (sent_by a c) items in
+      let is : run_body g b (longer f at) ≡ all_behind k.acts o = k.same f.replies ∙ frames_keep S b.body m c.vars (seen_host c.host) f.replies k.cost k.acts in
+      let acts : (state_after (all_behind k.acts o)).acts ≡ done ++ todo = acts_behind k.acts o ∙ ap (λ x. k.acts ++ x) p.split ∙ sym (append_assoc k.acts p.first todo) in
+      let here : given ≡ length done = omega (arith, p.count, length-append k.acts p.first) in
+      let past : length (state_after (all_behind k.acts o)).acts ≤ all_given = omega (arith, here, ap length acts, length-append done todo) in
+      let same : l ≡ at = is_own g a l c h finished ∙ ap (λ x. own_at a u c x l.vars l.host l.answers.replies) k.phase in
+      let front : Unfolds g plain items (running e b bs all_given sent plain) = acts_unfold g e b bs plain (all_behind k.acts o) refl is done todo given all_given 0 (sent_by a c) refl acts here refl in
+      let stood : TraceState = running e b bs all_given sent (longer f at) in
+      let next : next_item g stood ≡ ended_next g e b bs (record (longer f own) { sent = sent }) o =
+      ends_next g e b bs (longer f at) all_given sent (all_behind k.acts o) is (slice_get_past (state_after (all_behind k.acts o)).acts all_given past)
+      ∙ ap (counted sent) (cut_passes g f.cut stood e b bs (all_behind k.acts o))
+      ∙ same_end f e b bs now l.vars l.host l.answers.replies all_given sent k.acts o in
+      ap (λ x. trace n g (longer f x)) same
+      ∙ trace_front n n g (longer f at) stood items (omega arith) (cut_front g plain (running e b bs all_given sent plain) todo f.cut refl refl front)
+      ∙ ap (λ x. take n (items ++ trace_from n g x)) next
+
+  running_follows : (e : EventName) (hs : List Handler) → RunsFirst g e hs 0 l c → (cost : ℕ) × ((f : Further) (n : ℕ) → trace n g (longer f l) ≡ items_of n g (first_ahead g c e hs 0 cost (longer f own)))
+  running_follows e [] k = absurd k
+  running_follows e (b ∷ bs) k = (k.cost, body_follows e b bs 0 k (λ rs. none_given (comes_to (body_setting g b.procedures) b.body c.body.machine.at c.vars (seen_host c.host) rs k.cost [])))
+
+  asking_follows : (e : EventName) (hs : List Handler) → RunsFirst g e hs 1 l c → is_asked c.body.machine.at.mode ≡ true → (cost : ℕ) × ((f : Further) (n : ℕ) → trace n g (longer f l) ≡ items_of n g (first_ahead g c e hs 1 cost (longer f own)))
+  asking_follows e [] k asked = absurd k
+  asking_follows e (b ∷ bs) k asked =
+      let is = asked_mode c.body.machine.at.mode asked in
+      (k.cost, body_follows e b bs 1 k (λ rs. call_given (body_setting g b.procedures) b.body c.body.machine.at c.vars (seen_host c.host) is.0 rs k.cost is.1))
+
+  -- between bodies it goes on as its own fields say
+  between_follows : l.phase ≡ phase_at g c.stage → Between l c → (f : Further) (n : ℕ) → trace n g (longer f l) ≡ take n (trace n g (longer f own))
+  between_follows here b f n =
+      let same : l ≡ own = is_own g a l c h finished
+      ∙ ap (λ x. own_at a u c x l.vars l.host l.answers.replies) here
+      ∙ ap (λ x. own_at a u c (phase_at g c.stage) x l.host l.answers.replies) b.vars
+      ∙ ap (λ x. own_at a u c (phase_at g c.stage) c.vars x l.answers.replies) b.host
+      ∙ ap (λ x. own_at a u c (phase_at g c.stage) c.vars (seen_host c.host) x) b.replies in
+      ap (λ x. trace n g (longer f x)) same ∙ sym (take_more n n g (next_item g (longer f own)) (omega arith))
+
+  gated_is : (e : EventName) (hs : List Handler) → GatedBefore e hs l.phase → l.phase ≡ gated_phase e hs
+  gated_is e [] k = absurd k
+  gated_is e (b ∷ bs) k = k
+
+  follows_at : (st : Stage) → c.stage ≡ st → Stands g st l c → (cost : ℕ) × ((f : Further) (n : ℕ) → trace n g (longer f l) ≡ items_of n g (ahead_at st g c cost (longer f own)))
+  follows_at (stage.Gated at) is k = (0, between_follows (gated_is (event_of at) (g.handlers (event_of at)) k.0 ∙ sym (ap (phase_at g) is)) k.1)
+  follows_at (stage.Running at n) is k = running_follows (event_of at) (drop n (g.handlers (event_of at))) k.0
+  follows_at (stage.Asking at n) is k = asking_follows (event_of at) (drop n (g.handlers (event_of at))) k.0 (c.body.asking k.1)
+  follows_at (stage.Failing at n kind line) is k = (0, between_follows (k.0 ∙ sym (ap (phase_at g) is)) k.1)
+  follows_at stage.Choosing is k = (0, between_follows (k.0 ∙ sym (ap (phase_at g) is)) k.1)
+  follows_at (stage.Finishing f) is k = (0, between_follows (k.0 ∙ sym (ap (phase_at g) is)) k.1)
+  follows_at stage.Draining is k = (0, between_follows (k.0 ∙ sym (ap (phase_at g) is)) k.1)
+  follows_at stage.OutOfMemory is k = absurd k
+  follows_at (stage.Dropped n) is k = absurd k
+
+-- a cut that may come meets the gates of all that was given
+cut_meets : (sent : Counts) (took : TakenCounts) (given : List Item) (cut : Option Cut) → Met sent took given → MayCome took cut → CutMeets cut sent given
+cut_meets sent took given None met may = tt
+cut_meets sent took given (Some k) met may = met_more sent took k.took given may met
+
+pub continues : ConnectionContinues
+continues g a client answers given at c none k =
+    let first = start g client answers in
+    let order = (finishes_once g client answers at given k.passed).orderly in
+    let more = follows_at g a at c k.holds (finished_at g at c order c.stage k.holds.stage) c.stage refl k.holds.stage in (
+      more.0,
+      λ f n may.
+          trace_unfolds n g (longer f first) (longer f at) given (further_keeps g first at f given none (cut_meets first.sent a.took given f.cut k.met may) k.passed)
+          ∙ ap (λ r. given ++ r) (more.1 f n),
+    )

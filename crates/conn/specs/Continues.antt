@@ -1,0 +1,180 @@
+-- What a connection is followed by, from its own fields: whatever may still come, its trace is what
+-- was given, and then this.
+use Rattle.std.specs.Prelude.{◌≡◌, ℕ, ◌+◌, List, [], ◌∷◌, ◌++◌, length, map, take, drop}
+use Rattle.std.specs.Prelude.{Bool, true, false, Option, Some, None, unwrap_or}
+use Rattle.px_bytes.specs.declared.fault.Reply.{Reply}
+use Rattle.event_order.specs.declared.event.EventName.{EventName}
+use Rattle.rule_model.specs.Laws.{state_after}
+use Rattle.rule_model.specs.Outcome.{Act, Outcome}
+use Rattle.connection_model.specs.Bodies.{act_item, ended_next}
+use Rattle.connection_model.specs.Further.{Further, longer, replies_only}
+use Rattle.connection_model.specs.Gates.{Counts, TakenCounts, Met, sent_from}
+use Rattle.connection_model.specs.HeardLaws.{taken_by_items}
+use Rattle.connection_model.specs.Host.{HostState, body_setting}
+use Rattle.connection_model.specs.Item.{Item, Choice}
+use Rattle.connection_model.specs.Laws.{TakesMore}
+use Rattle.connection_model.specs.Setup.{Handler, Setup}
+use Rattle.connection_model.specs.State.{Gated, Running, Failing, Phase, InEvent, Stream, NoServer}
+use Rattle.connection_model.specs.State.{Cut, Answers, TraceState, Next, no_stream, no_answers}
+use Rattle.connection_model.specs.declared.note.Note.{Note}
+use Rattle.connection_model.specs.State as phase
+use Rattle.connection_model.specs.Trace.{next_item, Unfolds, trace_from, trace, start}
+use Rattle.frame_machine.specs.Frames.{comes_to}
+use Rattle.conn.specs.declared.connection.Conn.{Conn}
+use Rattle.conn.specs.declared.events.At.{At}
+use Rattle.conn.specs.declared.events.At.TheVariants.{Accepted, Failed, Closed}
+use Rattle.conn.specs.declared.stage.Stage.{Stage}
+use Rattle.conn.specs.declared.stage.Stage.TheVariants as stage
+use Rattle.conn.specs.declared.turn.ConnTurn.{ConnTurn}
+use Rattle.conn.specs.Calls.{took_more, Takes, Replies}
+use Rattle.conn.specs.Events.{event_of}
+use Rattle.conn.specs.Holds.{Around, fresh, Holds}
+use Rattle.conn.specs.Hosts.{seen_host}
+use Rattle.conn.specs.Runs.{GoesOnWith}
+use Rattle.conn.specs.Stages.{reason_for}
+
+-- What came and wasn't read. A connection of today keeps none of it, as nothing reads it.
+pub record Unread : Type 0 where
+  pub client : Stream
+  pub connects : List (Option Stream)
+  pub choices : List Choice
+
+abbrev pub unread_in : TraceState → Unread
+unread_in l = record {
+  client = l.client;
+  connects = l.answers.connects;
+  choices = l.answers.choices;
+}
+
+-- the phase before, in and behind the bodies of an event
+abbrev pub gated_phase : EventName → List Handler → Phase
+gated_phase e [] = phase.Draining
+gated_phase e (b ∷ bs) = InEvent e (Gated b bs)
+
+abbrev pub begun_phase : EventName → List Handler → Phase
+begun_phase e [] = phase.Draining
+begun_phase e (b ∷ bs) = InEvent e (Running b bs 0)
+
+abbrev pub phase_at : Setup → Stage → Phase
+phase_at g (stage.Gated at) = gated_phase (event_of at) (g.handlers (event_of at))
+phase_at g (stage.Running at n) = begun_phase (event_of at) (drop n (g.handlers (event_of at)))
+phase_at g (stage.Asking at n) = begun_phase (event_of at) (drop n (g.handlers (event_of at)))
+phase_at g (stage.Failing at n kind line) =
+    InEvent (event_of at) (Failing kind line (drop n (g.handlers (event_of at))))
+phase_at g stage.Choosing = phase.Choosing
+phase_at g (stage.Finishing f) = phase.Finishing (reason_for f)
+phase_at g other = phase.Draining
+
+-- the closing event runs once it has finished
+abbrev pub is_closed : At → Bool
+is_closed Accepted = false
+is_closed Failed = false
+is_closed Closed = true
+
+abbrev pub has_finished : Stage → Bool
+has_finished (stage.Running at n) = is_closed at
+has_finished (stage.Asking at n) = is_closed at
+has_finished (stage.Failing at n kind line) = is_closed at
+has_finished stage.Draining = true
+has_finished other = false
+
+-- what was taken, and what waits for its client, was sent
+abbrev pub sent_by : Around → Conn → Counts
+sent_by a c = record {
+  client = length c.host.to_client + unwrap_or a.took.client 0;
+  server = 0;
+  number = 0;
+}
+
+-- where its trace stands, by its own fields
+abbrev pub own_state : Setup → Around → Unread → Conn → TraceState
+own_state g a u c = record {
+  phase = phase_at g c.stage;
+  vars = c.vars;
+  host = seen_host c.host;
+  finished = has_finished c.stage;
+  client = u.client;
+  server = NoServer;
+  sent = sent_by a c;
+  answers = record { replies = []; connects = u.connects; choices = u.choices; cut = None };
+}
+
+-- these items, and then what this says
+pub record Ahead : Type 0 where
+  pub items : List Item
+  pub next : Next
+
+abbrev pub items_of : ℕ → Setup → Ahead → List Item
+items_of n g ahead = take n (ahead.items ++ trace_from n g ahead.next)
+
+-- a body that comes to this: these acts are left of it, and then its end or its call
+abbrev pub body_ahead : Setup → EventName → Handler → List Handler → TraceState → List Act
+    → Outcome HostState → Ahead
+body_ahead g e b bs l acts o =
+    let items = map (act_item 0) acts in
+    let given = record l { sent = sent_from l.sent items } in
+    record { items = items; next = ended_next g e b bs given o }
+
+-- The first of these bodies runs, at this cost so far: its frames end it, and no more of it is
+-- evaluated. Where it waits for a reply its call was given.
+abbrev pub first_ahead : Setup → Conn → EventName → List Handler → (waiting cost : ℕ) → TraceState
+    → Ahead
+first_ahead g c e [] waiting cost l = record { items = []; next = next_item g l }
+first_ahead g c e (b ∷ bs) waiting cost l =
+    let o = comes_to (body_setting g b.procedures) b.body c.body.machine.at c.vars
+    (seen_host c.host) l.answers.replies cost [] in
+    body_ahead g e b bs l (drop waiting (state_after o).acts) o
+
+abbrev pub ahead_at : Stage → Setup → Conn → (cost : ℕ) → TraceState → Ahead
+ahead_at (stage.Running at n) g c cost l =
+    first_ahead g c (event_of at) (drop n (g.handlers (event_of at))) 0 cost l
+ahead_at (stage.Asking at n) g c cost l =
+    first_ahead g c (event_of at) (drop n (g.handlers (event_of at))) 1 cost l
+ahead_at other g c cost l = record { items = []; next = next_item g l }
+
+-- the first n items that follow on this further input, where the body that runs has this cost
+abbrev pub rest : Setup → Around → Unread → Conn → (cost : ℕ) → Further → ℕ → List Item
+rest g a u c cost f n =
+    items_of n g (ahead_at c.stage g c cost (longer f (own_state g a u c)))
+
+-- these items were given, each let through its gate, and it holds what stands behind them
+pub record Continues (g : Setup) (a : Around) (l : TraceState) (given : List Item)
+    (at : TraceState) (c : Conn) : Type 0 where
+  pub passed : Unfolds g l given at
+  pub met : Met l.sent a.took given
+  pub holds : Holds g a at c
+
+-- a reply came
+abbrev pub replied : Reply → TraceState → TraceState
+replied reply l = longer (replies_only (reply ∷ [])) l
+
+-- a cut may come with as much taken as now, or more
+abbrev pub MayCome : TakenCounts → Option Cut → Type 0
+MayCome took None = Unit {0}
+MayCome took (Some cut) = TakesMore took cut.took
+
+-- Whatever may still come, its trace is what was given, and then what follows by its own fields.
+abbrev pub ConnectionContinues : Type 0
+ConnectionContinues =
+    (g : Setup) (a : Around) (client : Stream) (answers : Answers) (given : List Item)
+    (at : TraceState) (c : Conn)
+    → answers.cut ≡ None → Continues g a (start g client answers) given at c
+    → (cost : ℕ) × ((f : Further) (n : ℕ) → MayCome a.took f.cut
+    → trace (length given + n) g (longer f (start g client answers))
+    ≡ given ++ rest g a (unread_in at) c cost f n)
+
+-- Each call keeps it: what a connection gives stands behind what it gave before.
+pub record CallsContinue : Type 0 where
+  pub begins : (g : Setup) (c : Conn) → Holds g fresh (start g no_stream no_answers) c
+      → Continues g fresh (start g no_stream no_answers) [] (start g no_stream no_answers) c
+  pub takes : (g : Setup) (a : Around) (l : TraceState) (given : List Item) (at : TraceState)
+      (n : ℕ) (old new : Conn) → Takes n old new
+      → Continues g a l given at old → Continues g (took_more n a) l given at new
+  pub replies : (g : Setup) (a : Around) (l : TraceState) (given : List Item) (at : TraceState)
+      (reply : Reply) (old new : Conn) → Replies reply old new
+      → Continues g a l given at old
+      → Continues g a (replied reply l) given (replied reply at) new
+  pub runs : (g : Setup) (a : Around) (l : TraceState) (given : List Item) (at : TraceState)
+      (c : ℕ) (old new : Conn) (group : List Note) (t : ConnTurn) → l.answers.cut ≡ None
+      → (r : GoesOnWith g a at c old new group t) → Continues g a l given at old
+      → Continues g a (longer (taken_by_items a.took r.more) l) (given ++ r.more) r.at new

@@ -1,0 +1,56 @@
+// A connection to which memory was refused.
+
+ghost use Rattle.std.specs.Prelude.{◌≡◌, ◌≤◌, [], ◌∷◌, ◌++◌};
+ghost use Rattle.connection_model.specs.declared.note.Note.TheVariants as noted;
+ghost use Rattle.connection_model.specs.declared.note.Cause.TheVariants as causes;
+ghost use Rattle.conn.specs.Calls.{DropsNone};
+ghost use Rattle.conn.specs.Runs.{DropsQueued};
+ghost use Rattle.conn.specs.Stages.{dropped_in, failed};
+
+use crate::connection::{Conn, close};
+use crate::stage::Stage;
+use crate::turn::ConnTurn;
+use connection_model::{Cause, Note, Notes};
+
+impl Conn {
+    /// Memory was refused to a call on it: no body of it runs any more, no call of it is open, and
+    /// its next Run drops what is queued and ends it.
+    pub fn out_of_memory(&mut self)
+        ensures { self.new ≡ record self.old { stage = failed self.old.stage } }
+    {
+        self.stage = self.stage.failed();
+    }
+
+    /// How many bytes were queued, weren't taken, and were dropped.
+    pub fn dropped(&self) -> usize
+        ensures exact { result ≡ dropped_in self.now.stage }
+        ensures none { DropsNone self.now result }
+    {
+        self.stage.dropped()
+    }
+
+    /// No memory was found, where so many bytes were queued.
+    pub(crate) fn fail(&mut self, number: u32, queued: usize, notes: &mut Notes) -> ConnTurn
+        requires { 3 ≤ notes.old.spare }
+        ensures { let before = notes.old.items ++ noted.Finish number causes.Memory ∷ [] in
+            DropsQueued number queued self.new before notes.new.items result }
+    {
+        notes.push_reserved(Note::Finish {
+            conn: number,
+            cause: Cause::Memory,
+        });
+        self.drop_queued(number, queued, notes)
+    }
+
+    /// Drops what is queued, of which so many bytes were given, and gives the last notes.
+    pub(crate) fn drop_queued(&mut self, number: u32, given: usize, notes: &mut Notes) -> ConnTurn
+        requires { 2 ≤ notes.old.spare }
+        ensures { DropsQueued number given self.new notes.old.items notes.new.items result }
+    {
+        let queued = self.pending();
+        self.host.to_client.drop_front(queued);
+        self.stage = Stage::Dropped(given);
+        close(number, given, notes);
+        ConnTurn::Over
+    }
+}
