@@ -18,7 +18,8 @@ use Rattle.connection_model.specs.declared.note.Note.TheVariants.{Finish}
 use Rattle.connection_model.specs.Heard.{Takes, Accepts, Comes, Runs, Accepted}
 use Rattle.connection_model.specs.Item.{Item, to_client, client_output}
 use Rattle.connection_model.proofs.Hearing.{others_not_heard}
-use Rattle.proxy_core.specs.Live.{pending_in}
+use Rattle.conn.specs.declared.connection.Conn.{Conn}
+use Rattle.proxy_core.specs.Live.{pending_in, queue_of}
 use Rattle.proxy_core.specs.Moves.{Leads, Moves, MovesFailed, MovesOn}
 use Rattle.proxy_core.specs.Moves.{MovesRing, RunsOn, RunsOut, RunsFailed}
 use Rattle.proxy_core.specs.Past.{Happened, Past, kind_of, heard, shared}
@@ -34,7 +35,6 @@ use Rattle.proxy_core.specs.declared.config.Config.{Config}
 use Rattle.proxy_core.specs.declared.core_state.Core.{Core}
 use Rattle.proxy_core.specs.declared.event.Event.{Event}
 use Rattle.proxy_core.specs.declared.event.Event.TheVariants.{Accept, ClientTook, Run}
-use Rattle.proxy_core.specs.declared.live.Conn.{Conn}
 use Rattle.proxy_core.specs.declared.live.Live.{Live}
 use Rattle.proxy_core.proofs.Framing.{about, front, touches, only_changed}
 use Rattle.proxy_core.proofs.GroupNotes.{About}
@@ -185,7 +185,7 @@ front_is n l h = by_conn l.conn h
   where
     by_conn : (o : Option Conn) → n ≤ pending_in o → front_in n (queue_on Client o) ≡ Some (take n (queue_on Client o))
     by_conn None h = let e : nat_le n 0 ≡ true = grind (arith, nat_tests) in rw e refl
-    by_conn (Some conn) h = let e : nat_le n (length conn.queue) ≡ true = grind (arith, nat_tests) in rw e refl
+    by_conn (Some conn) h = let e : nat_le n (length (queue_of conn)) ≡ true = grind (arith, nat_tests) in rw e refl
 
 queue_is : (C : Config) (z : Seen) (o : Option Conn) → ConnectionContinues C z o → queue_on Client o ≡ drop z.heard.client.took (client_output z.place)
 queue_is C z None k = rw k.no_items (sym (drop_nothing z.heard.client.took))

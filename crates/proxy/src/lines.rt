@@ -13,15 +13,18 @@ ghost use Rattle.proxy.specs.Written.{Stands};
 use crate::replay::{Replay, Stop};
 use crate::schedule::{LineFault, line_event};
 use proxy_core::Event;
+use px_bytes::Steps;
 use px_outside::Sink;
 use std::alloc::Global;
+use std::sync::ledger::Ledger;
 
 impl Replay {
     /// Gives the events of all lines to the core, and writes their notes.
-    pub fn lines<K: Sink>(
+    pub fn lines<K: Sink, L: Ledger>(
         &mut self,
         alloc: Global,
         schedule: &[u8],
+        steps: &mut Steps<L>,
         out: &mut K,
     ) -> Result<(), Stop>
         requires { self.old.events ≡ 0 }
@@ -46,7 +49,7 @@ impl Replay {
             let Some(len) = line_len(&schedule[at..]) else {
                 return Err(Stop::Text { line });
             };
-            if let Err(why) = self.line(alloc, line, &schedule[at..at + len], out) {
+            if let Err(why) = self.line(alloc, line, &schedule[at..at + len], steps, out) {
                 return Err(why);
             }
             at += len + 1;
@@ -55,11 +58,12 @@ impl Replay {
     }
 
     // Gives the event of one line to the core. Today a schedule has one connection at most.
-    fn line<K: Sink>(
+    fn line<K: Sink, L: Ledger>(
         &mut self,
         alloc: Global,
         line: u64,
         text: &[u8],
+        steps: &mut Steps<L>,
         out: &mut K,
     ) -> Result<(), Stop>
         requires room { self.old.events + 1 < 2 ^ 64 }
@@ -81,7 +85,7 @@ impl Replay {
                 if self.is_second(&event) {
                     return Err(Stop::Text { line });
                 }
-                self.event(alloc, line, event, out)
+                self.event(alloc, line, event, steps, out)
             }
             Err(LineFault::NotBuilt) => Err(Stop::Text { line }),
             Err(LineFault::Memory) => Err(Stop::Memory),

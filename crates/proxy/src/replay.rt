@@ -9,9 +9,10 @@ ghost use Rattle.proxy.specs.Stops.{GoesOnWith, StopsWith};
 use crate::report::notes_text;
 use crate::taken::{Taken, add_took, took_by};
 use proxy_core::{BadEvent, Config, Core, Event, Notes};
-use px_bytes::{M, Memory};
+use px_bytes::{M, Memory, Steps};
 use px_outside::{Failed, Sink, write_all};
 use std::alloc::Global;
+use std::sync::ledger::Ledger;
 
 /// What a replay keeps from one line to the next.
 #[derive(Drop)]
@@ -78,11 +79,12 @@ impl Replay {
     }
 
     /// Gives the event of a line to the core, and writes its notes.
-    pub fn event<K: Sink>(
+    pub fn event<K: Sink, L: Ledger>(
         &mut self,
         alloc: Global,
         line: u64,
         event: Event,
+        steps: &mut Steps<L>,
         out: &mut K,
     ) -> Result<(), Stop>
         requires { self.old.events + 1 < 2 ^ 64 }
@@ -100,7 +102,7 @@ impl Replay {
         self.notes.clear();
         self.notes.reserve(68)?;
         let took = took_by(&self.core, &event)?;
-        if let Err(why) = self.core.step(event, &mut self.notes) {
+        if let Err(why) = self.core.step(event, steps, &mut self.notes) {
             return Err(Stop::Event { line, why });
         }
         self.events += 1;

@@ -1,15 +1,17 @@
 // A whole replay.
 
-ghost use Rattle.std.specs.Prelude.{◌≡◌, ◌≤◌};
+ghost use Rattle.std.specs.Prelude.{◌≡◌, ◌≤◌, ◌<◌};
 ghost use Rattle.proxy.specs.Replayed.{Replayed, Finished};
 
 use crate::end::End;
 use crate::replay::{Replay, Stop};
 use crate::report::{end_line, event_fault_line, text_fault_line};
 use proxy_core::Config;
-use px_bytes::{M, Text};
+use px_bytes::{M, Steps, Text};
 use px_outside::Sink;
 use std::alloc::Global;
+use std::marker::Brand;
+use std::sync::ledger::{Blank, Ledger};
 
 /// The number of a line that spells no event.
 const NOT_BUILT: u8 = 6;
@@ -20,10 +22,29 @@ pub fn replay<K: Sink>(alloc: Global, config: Config, schedule: &[u8], out: &mut
         (K.faults out.old) (K.faults out.new) result }
     ensures faults_never_fall { K.faults out.old ≤ K.faults out.new }
 {
+    counted_replay::<K, Brand>(alloc, config, schedule, out, Blank::new(1))
+}
+
+// The same, by steps that this ledger counts.
+fn counted_replay<K: Sink, L: Ledger>(
+    alloc: Global,
+    config: Config,
+    schedule: &[u8],
+    out: &mut K,
+    blank: Blank,
+) -> End
+    requires name { blank.name ≡ L.name }
+    requires parts { blank.parts ≡ L.parts }
+    requires some { 0 < blank.parts }
+    ensures replayed { Replayed config schedule.now (K.written out.old) (K.written out.new)
+        (K.faults out.old) (K.faults out.new) result }
+    ensures faults_never_fall { K.faults out.old ≤ K.faults out.new }
+{
+    let mut steps = Steps::<L>::new(blank);
     let Ok(mut replay) = Replay::new(alloc, config) else {
         return End::Memory;
     };
-    match replay.lines(alloc, schedule, out) {
+    match replay.lines(alloc, schedule, &mut steps, out) {
         Ok(()) => {
             let last = end_line(alloc, replay.events);
             End::Done.unless(finish(&replay, alloc, last, out))

@@ -1,9 +1,11 @@
 -- The entries of a number in a ring that changed.
 use Rattle.std.proofs.Common.{◌≡◌, refl, sym, ap, ◌∙◌, ℕ, List, [], ◌∷◌, ◌++◌, Bool, true, false, ◌||◌, nat_eq, if◌then◌else◌, append-nil}
 use Rattle.std.proofs.lemmas.List.Elements.{filter-append}
-use Rattle.proxy_core.specs.Ready.{is_in, without, with_ready}
+use Rattle.conn.specs.declared.turn.ConnTurn.{ConnTurn}
+use Rattle.conn.specs.declared.turn.ConnTurn.TheVariants as turn
+use Rattle.proxy_core.specs.Ready.{is_in, ring_behind, without, with_ready}
 use Rattle.proxy_core.specs.Scheduler.{entries}
-use Rattle.proxy_core.proofs.Members.{eq_self, eq_same, eq_turned}
+use Rattle.proxy_core.proofs.Members.{eq_self, eq_same}
 
 pub entries_pushed_self : (n : ℕ) (ns : List ℕ) → entries n (ns ++ n ∷ []) ≡ entries n ns ++ n ∷ []
 entries_pushed_self n ns = filter-append (nat_eq n) ns (n ∷ []) ∙ rw (eq_self n) refl
@@ -65,3 +67,20 @@ entries_ready n q ns h = by_test (is_in ns n)
     by_test : (b : Bool) → entries q (if b then ns else ns ++ n ∷ []) ≡ entries q ns
     by_test true = refl
     by_test false = entries_pushed n q ns h
+
+-- where the front is put behind its Run
+abbrev pub ready_behind : ConnTurn → ℕ → List ℕ
+ready_behind turn.More n = n ∷ []
+ready_behind other n = []
+
+pub entries_behind_self : (t : ConnTurn) (n : ℕ) (ns : List ℕ) → entries n ns ≡ [] → entries n (ring_behind t n ns) ≡ ready_behind t n
+entries_behind_self turn.More n ns e = entries_ready_self n ns ∙ ap (ready_of n) e
+entries_behind_self (turn.Asks call) n ns e = e
+entries_behind_self turn.NotYet n ns e = e
+entries_behind_self turn.Over n ns e = e
+
+pub entries_behind : (t : ConnTurn) (n q : ℕ) (ns : List ℕ) → nat_eq q n ≡ false → entries q (ring_behind t n ns) ≡ entries q ns
+entries_behind turn.More n q ns h = entries_ready n q ns h
+entries_behind (turn.Asks call) n q ns h = refl
+entries_behind turn.NotYet n q ns h = refl
+entries_behind turn.Over n q ns h = refl

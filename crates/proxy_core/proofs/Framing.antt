@@ -10,12 +10,12 @@ use Rattle.connection_model.specs.Item.{Item, notes_of}
 use Rattle.connection_model.specs.Tellings.{tells, conn_of}
 use Rattle.connection_model.proofs.Hearing.{others_not_heard}
 use Rattle.proxy_core.specs.Moves.{Rests, is_drained_at, came, may_come, ran, MovesFailed, MovesOn, MovesCome, RunsOn, RunsOut, RunsFailed, MovesRing, MovesBy}
-use Rattle.proxy_core.specs.Past.{Past, heard, ended_in, without_all, with_accepted, shared, shared_after}
-use Rattle.proxy_core.specs.Ready.{is_in, without, with_ready}
-use Rattle.proxy_core.specs.RunsItems.{closing, closing_if, out_of_memory}
+use Rattle.proxy_core.specs.Past.{Past, heard, ended_in, without_all, with_accepted, shared}
+use Rattle.proxy_core.specs.Ready.{is_in, ring_behind, without}
+use Rattle.conn.specs.RunsItems.{closing, closing_if, ends, out_of_memory}
 use Rattle.proxy_core.specs.Scheduler.{State, entries, Seen, seen, seen_after, untaken_all}
 use Rattle.proxy_core.specs.declared.config.Config.{Config}
-use Rattle.proxy_core.proofs.Entries.{entries_pushed, entries_rest, entries_without, entries_ready}
+use Rattle.proxy_core.proofs.Entries.{entries_behind, entries_pushed, entries_rest, entries_without, entries_ready}
 use Rattle.proxy_core.proofs.GroupNotes.{About, about_joined, about_closing_if, about_items, of_items, own_none}
 use Rattle.proxy_core.proofs.Members.{eq_same, eq_turned, in_pushed_other, in_without_other}
 
@@ -78,11 +78,11 @@ comes_touch over c group old new e f = touched c group (closing_if over c) old n
     by_end false q h = entries_ready c q old.ring (eq_turned c q h)
 
 -- the front ran: its notes are about it
-ran_touch : (c : ℕ) (rest : List ℕ) (more : List Item) (group notes : List Note) (old new : State) → old.ring ≡ c ∷ rest → group ≡ notes → About c notes → new ≡ ran c rest more old → Touches c group old new
-ran_touch c rest more group notes old new front_is e a f =
-    touched c group notes old new (ran c rest more old) e f (record {
+ran_touch : (c : ℕ) (rest after : List ℕ) (more : List Item) (group notes : List Note) (old new : State) → old.ring ≡ c ∷ rest → ((q : ℕ) → nat_eq q c ≡ false → entries q after ≡ entries q rest) → group ≡ notes → About c notes → new ≡ ran c after more old → Touches c group old new
+ran_touch c rest after more group notes old new front_is others e a f =
+    touched c group notes old new (ran c after more old) e f (record {
       notes = a;
-      ready = λ q h. entries_rest c q rest (eq_turned c q h) ∙ ap (entries q) (sym front_is);
+      ready = λ q h. others q (eq_turned c q h) ∙ entries_rest c q rest (eq_turned c q h) ∙ ap (entries q) (sym front_is);
       place = λ q h. rw h refl;
     })
 
@@ -93,10 +93,11 @@ by_ring C past (c ∷ rest) group old new e m = by_failed (heard c past).failed 
     by_failed : (b : Bool) → MatchBool b (RunsFailed (heard c past) c rest group old new) (RunsOn C (heard c past) c rest group old new ⊎ RunsOut C (heard c past) c rest group old new) → Touches c group old new
     by_failed true k = touched c group (closing c (untaken_all (heard c past) (old.places c))) old new (record old { ring = rest }) k.notes k.state (record { notes = (refl, (refl, tt)); ready = λ q h. entries_rest c q rest (eq_turned c q h) ∙ ap (entries q) (sym e); place = λ q h. refl })
     by_failed false (inl k) =
-        ran_touch c rest k.more group (notes_of c k.more ++ closing_if k.over c) old new e k.items.noted
-        (about_joined c (notes_of c k.more) (closing_if k.over c) (about_items c (notes_of c k.more) (of_items c k.more)) (about_closing_if k.over c)) k.state
+        let behind = closing_if (ends k.turn) c in
+        ran_touch c rest (ring_behind k.turn c rest) k.more group (notes_of c k.more ++ behind) old new e (λ q h. entries_behind k.turn c q rest h) k.items.noted
+        (about_joined c (notes_of c k.more) behind (about_items c (notes_of c k.more) (of_items c k.more)) (about_closing_if (ends k.turn) c)) k.state
     by_failed false (inr k) =
-        ran_touch c rest k.more group (out_of_memory c k.more (untaken_all (heard c past) (old.places c ++ k.more))) old new e k.notes
+        ran_touch c rest rest k.more group (out_of_memory c k.more (untaken_all (heard c past) (old.places c ++ k.more))) old new e (λ q h. refl) k.notes
         (about_joined c (notes_of c k.more) (Finish c Memory ∷ closing c (untaken_all (heard c past) (old.places c ++ k.more))) (about_items c (notes_of c k.more) (of_items c k.more)) (refl, (refl, (refl, tt)))) k.state
 
 by_input : (C : Config) (past : Past) (c : ℕ) (input : Input) (group : List Note) (old new : State) → (b : Bool) → MatchBool b (MovesCome C (heard c past) (hears c (heard c past) (Comes c input) group) c group old new) ⊥ → Touches c group old new

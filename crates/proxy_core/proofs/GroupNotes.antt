@@ -1,7 +1,6 @@
 -- The notes of one event: about which connection, and what they tell.
-use Rattle.std.proofs.Common.{◌≡◌, refl, sym, ap, ◌∙◌, ℕ, List, [], ◌∷◌, ◌++◌, Bool, true, false, ◌||◌, Option, Some, None, map, if◌then◌else◌, nat_eq}
+use Rattle.std.proofs.Common.{◌≡◌, refl, ap, ◌∙◌, ℕ, List, [], ◌∷◌, ◌++◌, Bool, true, false, Option, Some, None, map, nat_eq}
 use Rattle.std.specs.List.{filter, list_any}
-use Rattle.px_bytes.specs.declared.fault.Reply.{Reply}
 use Rattle.connection_model.specs.declared.note.Note.{Note}
 use Rattle.connection_model.specs.declared.note.Note.TheVariants as note
 use Rattle.connection_model.specs.declared.note.CutReason.{CutReason}
@@ -9,11 +8,10 @@ use Rattle.connection_model.specs.declared.note.Cause.TheVariants.{Memory}
 use Rattle.connection_model.specs.Gates.{TakenCounts}
 use Rattle.connection_model.specs.HeardLaws.{TellsNothing}
 use Rattle.connection_model.specs.Item.{Item, Reason, Closed, Tcl, Unselected, Rejected, CutBy, cause_of, Passed, Fired, Reused, Connected, Logged, Finished, note_of, notes_of}
-use Rattle.connection_model.specs.State.{Cut}
-use Rattle.connection_model.specs.Tellings.{NoteTells, tells, conn_of, own, notes_about, replies_told, choices_told, cut_by, cut_told, failure_told}
+use Rattle.connection_model.specs.Tellings.{tells, conn_of, own, notes_about, replies_told, choices_told, cut_by, cut_told, failure_told}
 use Rattle.proxy_core.specs.Headline.{shows, closes}
 use Rattle.proxy_core.specs.Past.{ended_in}
-use Rattle.proxy_core.specs.RunsItems.{closing, closing_if}
+use Rattle.conn.specs.RunsItems.{closing, closing_if}
 use Rattle.proxy_core.proofs.Members.{eq_self}
 
 -- all of them are about connection c

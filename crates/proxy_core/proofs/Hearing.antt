@@ -1,11 +1,10 @@
 -- What an event and its notes change in what its connection heard.
-use Rattle.std.proofs.Common.{◌≡◌, refl, sym, ap, subst, ◌∙◌, ℕ, ◌+◌, ◌≤◌, List, [], ◌∷◌, ◌++◌, Bool, true, false, ◌||◌, Option, Some, None, map, nat_eq, if◌then◌else◌, arith, zero, suc}
-use Rattle.px_bytes.specs.declared.addr.Side.{Side}
+use Rattle.std.proofs.Common.{◌≡◌, refl, sym, ap, subst, ◌∙◌, ℕ, ◌+◌, ◌≤◌, List, [], ◌++◌, Bool, true, false, ◌||◌, Option, Some, None, map, nat_eq, if◌then◌else◌, arith, zero, suc}
 use Rattle.px_bytes.specs.declared.addr.Side.TheVariants.{Client, Server}
 use Rattle.connection_model.specs.declared.note.Note.{Note}
 use Rattle.connection_model.specs.Further.{Coming, first_cut}
 use Rattle.connection_model.specs.Gates.{TakenCounts, taken_of}
-use Rattle.connection_model.specs.Heard.{Input, Bytes, Ends, Resets, Connects, Takes, EventKind, Comes, Runs, SideHeard, Heard, taken_by, servers_taken, taken, hears_by, hears_more, at_last, Brought, brought_nothing, brings_in, marks, event_marks, brought, hears_event, hears}
+use Rattle.connection_model.specs.Heard.{Input, Bytes, Ends, Resets, Connects, Takes, EventKind, Comes, Runs, SideHeard, Heard, taken_by, servers_taken, taken, hears_by, hears_more, at_last, brought_nothing, brings_in, marks, event_marks, brought, hears_event, hears}
 use Rattle.connection_model.specs.Laws.{AtLeast, TakesMore}
 use Rattle.connection_model.specs.Tellings.{tells, own, notes_about, replies_told, cut_told, finish_told, failure_told}
 use Rattle.proxy_core.specs.Moves.{may_come}

@@ -2,7 +2,6 @@ pub mod ReadyRing
 pub mod Places
 pub mod Members
 pub mod LiveLookups
-pub mod Queues
 pub mod Entries
 pub mod GroupNotes
 pub mod Hearing
@@ -12,9 +11,10 @@ pub mod SoundEvents
 pub mod SoundPast
 pub mod Ending
 pub mod Promises
-pub mod BodiesRun
-pub mod TraceEnds
-pub mod Along
+pub mod Setups
 pub mod Agreeing
+pub mod AcceptAgrees
+pub mod TookAgrees
+pub mod RunAgrees
 pub mod FrontRuns
 pub mod Stepping

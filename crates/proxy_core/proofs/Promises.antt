@@ -1,11 +1,9 @@
 -- The promise, of every past that leads to a state.
-use Rattle.std.proofs.Common.{◌≡◌, refl, sym, ap, subst, ◌∙◌, ℕ, zero, suc, ◌+◌, ◌-◌, ◌≤◌, List, [], ◌∷◌, ◌++◌, length, take, map, Bool, true, false, ◌||◌, ◌&&◌, not, None, nat_eq, arith, append_assoc, eqb-true, append-nil, length-append, if◌then◌else◌}
-use Rattle.std.specs.Prelude.{is_some}
+use Rattle.std.proofs.Common.{◌≡◌, refl, sym, ap, subst, ◌∙◌, ℕ, ◌+◌, ◌≤◌, List, [], ◌∷◌, ◌++◌, length, take, map, Bool, true, false, ◌||◌, ◌&&◌, not, nat_eq, arith, append_assoc, eqb-true, append-nil, if◌then◌else◌}
 use Rattle.std.specs.List.{filter, list_any}
 use Rattle.std.proofs.lemmas.Bool.{and_parts}
 use Rattle.std.proofs.lemmas.List.{take-append-le, map-append}
 use Rattle.std.proofs.lemmas.List.Elements.{filter-append}
-use Rattle.std.proofs.lemmas.List.Folds.{list_any-append}
 use Rattle.std.proofs.lemmas.Grind.{flat_map-append}
 use Rattle.px_bytes.specs.declared.addr.Side.TheVariants.{Client, Server}
 use Rattle.connection_model.specs.declared.note.Cause.{Cause}
@@ -15,14 +13,14 @@ use Rattle.connection_model.specs.declared.note.CutReason.TheVariants.{ClientRes
 use Rattle.connection_model.specs.declared.note.Note.{Note}
 use Rattle.connection_model.specs.declared.note.Note.TheVariants.{Finish}
 use Rattle.connection_model.specs.Further.{is_some_of}
-use Rattle.connection_model.specs.Gates.{Counts, TakenCounts, no_bytes, sent_from, to_take, may_give}
+use Rattle.connection_model.specs.Gates.{Counts, TakenCounts, to_take}
 use Rattle.connection_model.specs.Heard.{Input, Bytes, Ends, Resets, Connects, Takes, EventKind, Accepts, Comes, Ticks, Turns, Runs, Marks, Heard, taken, accepts, marks, event_marks}
-use Rattle.connection_model.specs.Item.{Item, Reason, Closed, Tcl, Unselected, Rejected, CutBy, cause_of, Passed, Fired, Reused, Connected, Logged, Finished, shown, listed, to_client, client_output, note_of, notes_of, reasons_in}
+use Rattle.connection_model.specs.Item.{Item, Reason, cause_of, Passed, Fired, Reused, Connected, Logged, Finished, shown, listed, to_client, client_output, note_of, notes_of, reasons_in}
 use Rattle.connection_model.specs.Laws.{Stops}
 use Rattle.connection_model.specs.Setup.{Setup}
 use Rattle.connection_model.specs.State.{TraceState, Next, Does, Waits, Over}
 use Rattle.connection_model.specs.Tellings.{NoteTells, tells, own, notes_about, finish_told}
-use Rattle.connection_model.specs.Trace.{next_item, trace, Unfolds, GivesNoMore}
+use Rattle.connection_model.specs.Trace.{next_item, trace, GivesNoMore}
 use Rattle.connection_model.proofs.Given.{no_cut_behind}
 use Rattle.connection_model.proofs.Stepping.{finishes_once}
 use Rattle.connection_model.proofs.Taking.{taken_all_opens}
@@ -31,10 +29,10 @@ use Rattle.connection_model.proofs.Unfolding.{trace_unfolds, stopped_is_whole}
 use Rattle.proxy_core.specs.Headline.{first_items, SentIsPrefix, IsWhole, last_reset, licenses, shows, closes, cause_told, causes_told, ClosesRightly, causes_behind, ConnectionPromise, OutputMatchesEvaluator}
 use Rattle.proxy_core.specs.Moves.{Leads}
 use Rattle.proxy_core.specs.Past.{Past, kind_of, heard}
-use Rattle.proxy_core.specs.RunsItems.{closing, is_drained, is_over}
+use Rattle.conn.specs.RunsItems.{closing, is_drained, is_over}
 use Rattle.proxy_core.specs.Scheduler.{State, entries, Seen, seen, untaken_of, untaken_all}
 use Rattle.proxy_core.specs.Setup.{setup_of, begins_at, stand_of}
-use Rattle.proxy_core.specs.Sound.{IsPlain, last_notes, Spot, ServedAt, Served, SoundAt}
+use Rattle.proxy_core.specs.Sound.{IsPlain, last_notes, Spot, Served}
 use Rattle.proxy_core.specs.declared.config.Config.{Config}
 use Rattle.proxy_core.proofs.Ending.{finished_ends, over_has_finished}
 use Rattle.proxy_core.proofs.GroupNotes.{of_items, shown_all, closed_behind}

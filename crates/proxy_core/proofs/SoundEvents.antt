@@ -1,5 +1,5 @@
 -- What each kind of event owes: its own connection.
-use Rattle.std.proofs.Common.{◌≡◌, refl, sym, ap, subst, ◌∙◌, ℕ, ◌+◌, ◌≤◌, List, [], ◌∷◌, ◌++◌, length, map, Bool, true, false, ◌&&◌, ◌||◌, not, Option, Some, None, nat_eq, arith, append-nil, append_assoc, length-append, if◌then◌else◌}
+use Rattle.std.proofs.Common.{◌≡◌, refl, sym, ap, subst, ◌∙◌, ℕ, ◌+◌, ◌≤◌, List, [], ◌∷◌, ◌++◌, length, map, Bool, true, false, ◌||◌, not, Option, Some, None, nat_eq, arith, append-nil, append_assoc, length-append, if◌then◌else◌}
 use Rattle.std.specs.Prelude.{is_some}
 use Rattle.std.specs.Bool.{MatchBool}
 use Rattle.std.specs.List.{IsDistinct}
@@ -7,7 +7,7 @@ use Rattle.std.proofs.lemmas.Grind.{flat_map-append}
 use Rattle.connection_model.specs.declared.note.Cause.TheVariants.{Memory}
 use Rattle.connection_model.specs.declared.note.Note.{Note}
 use Rattle.connection_model.specs.declared.note.Note.TheVariants.{Finish}
-use Rattle.connection_model.specs.Further.{Further, longer, CutMeets}
+use Rattle.connection_model.specs.Further.{longer, CutMeets}
 use Rattle.px_bytes.specs.declared.addr.Side.TheVariants.{Client, Server}
 use Rattle.connection_model.specs.Gates.{Counts, TakenCounts, no_bytes, sent_from, to_take, Met}
 use Rattle.connection_model.specs.Heard.{Input, EventKind, Accepts, Comes, Runs, Accepted, Heard, nothing_heard, taken, hears, start_of, further_of}
@@ -16,23 +16,23 @@ use Rattle.connection_model.specs.Item.{Item, to_client, client_output, note_of,
 use Rattle.connection_model.specs.Laws.{TakesMore}
 use Rattle.connection_model.specs.Setup.{Setup}
 use Rattle.connection_model.specs.State.{Cut, TraceState}
-use Rattle.connection_model.specs.Tellings.{tells, notes_about, replies_told, cut_told, failure_told}
+use Rattle.connection_model.specs.Tellings.{tells, replies_told, cut_told, failure_told}
 use Rattle.connection_model.specs.Trace.{Unfolds}
 use Rattle.connection_model.proofs.Hearing.{event_stands, run_stands}
 use Rattle.connection_model.proofs.Taking.{met_more}
 use Rattle.connection_model.proofs.Querying.{met_joins}
 use Rattle.connection_model.proofs.Telling.{notes_tell_cut}
-use Rattle.proxy_core.specs.Moves.{MovesAccept, is_drained_at, came, may_come, ran}
+use Rattle.proxy_core.specs.Moves.{is_drained_at, came, may_come, ran}
 use Rattle.proxy_core.specs.Past.{Past, heard, ended_in, without_all, shared}
-use Rattle.proxy_core.specs.Ready.{is_in, without}
-use Rattle.proxy_core.specs.RunsItems.{closing, is_drained, closing_if, Passes}
+use Rattle.proxy_core.specs.Ready.{is_in}
+use Rattle.conn.specs.RunsItems.{closing, is_drained, closing_if, Passes}
 use Rattle.proxy_core.specs.Scheduler.{State, entries, Seen, seen, seen_after, untaken_all}
 use Rattle.proxy_core.specs.Setup.{setup_in, setup_of, stand_of}
 use Rattle.proxy_core.specs.Sound.{unseen, IsPlain, last_notes, Spot, ServedAt, Served, SoundAt}
 use Rattle.proxy_core.specs.declared.config.Config.{Config}
 use Rattle.proxy_core.proofs.Entries.{entries_pushed_self, entries_without_self, rest_of, ready_of, entries_ready_self}
 use Rattle.proxy_core.proofs.Framing.{same_seen}
-use Rattle.proxy_core.proofs.GroupNotes.{About, about_joined, about_closing_if, OfItems, of_items, about_items, tells_all, replies_behind, failure_behind, ended_behind, cut_behind, quiet_closing_if, quiet_closing, quiet_memory}
+use Rattle.proxy_core.proofs.GroupNotes.{About, about_joined, about_closing_if, of_items, about_items, tells_all, replies_behind, failure_behind, ended_behind, cut_behind, quiet_closing_if, quiet_closing, quiet_memory}
 use Rattle.proxy_core.proofs.Hearing.{taken_more, Told, come_told, run_told, counts, taken_plain, counts_more, still_plain}
 use Rattle.proxy_core.proofs.Members.{eq_self, in_pushed_self, not_in_without}
 use Rattle.proxy_core.proofs.Standing.{served_at, drained_at, sent_at}
@@ -241,13 +241,13 @@ took_stays h h' p p' e =
     let same : h'.client.took ≡ h.client.took = omega (arith, e) in
     taken_plain h' p'.not_reset p'.connects ∙ ap counts same ∙ sym (taken_plain h p.not_reset p.connects)
 
-pub run_served : (C : Config) (past : Past) (c : ℕ) (rest : List ℕ) (old : State) (more : List Item) (at : TraceState) (behind : List Note) (fails over : Bool) (d : ℕ)
+pub run_served : (C : Config) (past : Past) (c : ℕ) (rest after ready : List ℕ) (old : State) (more : List Item) (at : TraceState) (behind : List Note) (fails over : Bool) (d : ℕ)
     → IsDistinct nat_eq (shared past).live → old.ring ≡ c ∷ rest → (heard c past).failed ≡ false → Served C c (seen past old c)
     → Passes (setup_of C (heard c past)) (taken (heard c past)) (stand_of C (heard c past) (old.places c)) more at → Behind c behind fails over d
     → d ≡ untaken_all (heard c past) (old.places c ++ more)
-    → Spot fails (not over) [] (setup_of C (heard c past)) (taken (heard c past)) at
-    → Served C c (seen_after past Runs (notes_of c more ++ behind) (ran c rest more old) c)
-run_served C past c rest old more at behind fails over d distinct front_is not_failed k p b dropped spot =
+    → (entries c rest ≡ [] → entries c after ≡ ready) → Spot fails (not over) ready (setup_of C (heard c past)) (taken (heard c past)) at
+    → Served C c (seen_after past Runs (notes_of c more ++ behind) (ran c after more old) c)
+run_served C past c rest after ready old more at behind fails over d distinct front_is not_failed k p b dropped put spot =
     let z = seen past old c in
     let h = z.heard in
     let group = notes_of c more ++ behind in
@@ -257,11 +257,11 @@ run_served C past c rest old more at behind fails over d distinct front_is not_f
     let t = run_told c h group k.plain.connects (run_about c more behind b.about) in
     let plain = run_plain c h more behind fails over d k.plain b p.uncut in
     let took = took_stays h h' k.plain plain t.took in
-    let z' = seen_after past Runs group (ran c rest more old) c in
+    let z' = seen_after past Runs group (ran c after more old) c in
     let place : z'.place ≡ z.place ++ more = ap (λ x. if x then z.place ++ more else z.place) (eq_self c) in
-    let ready : z.ready ≡ c ∷ entries c rest = ap (entries c) front_is ∙ ap (λ x. if x then c ∷ entries c rest else entries c rest) (eq_self c) in
+    let front : z.ready ≡ c ∷ entries c rest = ap (entries c) front_is ∙ ap (λ x. if x then c ∷ entries c rest else entries c rest) (eq_self c) in
     let S : List ℕ → Type 0 = λ r. Spot h.failed z.live r g (taken h) l in
-    let f = at_front c rest h.failed z.live g (taken h) l (subst S ready k.spot) in
+    let f = at_front c rest h.failed z.live g (taken h) l (subst S front k.spot) in
     let failed : h'.failed ≡ fails = t.failed ∙ ap (λ x. x || failure_told (map tells group)) not_failed ∙ failure_behind c (notes_of c more) behind (of_items c more) ∙ b.failure in
     let live : z'.live ≡ not over = ap (λ ns. is_in (without_all ns (shared past).live) c) (ended_behind c (notes_of c more) behind (of_items c more)) ∙ b.ended (shared past).live distinct f.0 in
     let M : TakenCounts → Type 0 = λ y. Met no_bytes y (z.place ++ more) in
@@ -272,7 +272,7 @@ run_served C past c rest old more at behind fails over d distinct front_is not_f
     let F : Bool → Type 0 = λ x. Spot x z'.live z'.ready g (taken h') at in
     let L : Bool → Type 0 = λ x. Spot fails x z'.ready g (taken h') at in
     let R : List ℕ → Type 0 = λ r. Spot fails (not over) r g (taken h') at in
-    let T : TakenCounts → Type 0 = λ y. Spot fails (not over) [] g y at in
+    let T : TakenCounts → Type 0 = λ y. Spot fails (not over) ready g y at in
     served_at C c z' g at (ap (setup_in C) t.accepted) (subst W (sym place) (record {
       stands = ran_at C c z more at behind b.quiet p k;
       met = subst M (sym took) (met_joins no_bytes (taken h) z.place more k.met (subst N (sent_at g h z.place l k.stands) p.met));
@@ -284,7 +284,7 @@ run_served C past c rest old more at behind fails over d distinct front_is not_f
           (sym b.last ∙ ap (λ n. last_notes c fails (not over) n) (dropped ∙ sym untaken) ∙ ap (λ x. last_notes c x (not over) (untaken_all h' (z.place ++ more))) (sym failed) ∙ ap (λ x. last_notes c h'.failed x (untaken_all h' (z.place ++ more))) (sym live));
       plain = plain;
       no_server = p.no_server;
-      spot = subst F (sym failed) (subst L (sym live) (subst R (sym f.1) (subst T (sym took) spot)));
+      spot = subst F (sym failed) (subst L (sym live) (subst R (sym (put f.1)) (subst T (sym took) spot)));
     }))
   where
     untaken_by : TakenCounts → List Item → ℕ

@@ -1,41 +1,40 @@
 -- What holds of every state that a past leads to.
-use Rattle.std.proofs.Common.{◌≡◌, refl, sym, ap, subst, ◌∙◌, ℕ, ◌+◌, ◌-◌, ◌≤◌, ◌<◌, List, [], ◌∷◌, ◌++◌, length, Bool, true, false, ◌⊎◌, inl, inr, Option, Some, None, nat_eq, nat_lt, arith, if◌then◌else◌}
+use Rattle.std.proofs.Common.{◌≡◌, refl, sym, ap, subst, ◌∙◌, ℕ, ◌+◌, ◌-◌, ◌≤◌, ◌<◌, List, [], ◌∷◌, ◌++◌, length, Bool, true, false, ◌⊎◌, inl, inr, Some, None, nat_eq, nat_lt, arith, if◌then◌else◌}
 use Rattle.std.specs.Prelude.{is_none, is_some}
 use Rattle.std.specs.Prelude.{not}
 use Rattle.std.specs.Bool.{MatchBool}
 use Rattle.std.specs.List.{IsDistinct}
 use Rattle.std.proofs.lemmas.Bool.Decides.{nat_tests}
 use Rattle.px_bytes.specs.declared.addr.Addr.{Addr}
-use Rattle.px_bytes.specs.declared.addr.Side.{Side}
 use Rattle.px_bytes.specs.declared.addr.Side.TheVariants.{Client, Server}
 use Rattle.connection_model.specs.declared.note.Cause.TheVariants.{Memory}
 use Rattle.connection_model.specs.declared.note.Note.{Note}
 use Rattle.connection_model.specs.declared.note.Note.TheVariants.{Finish}
-use Rattle.connection_model.specs.Further.{longer}
 use Rattle.connection_model.specs.Gates.{TakenCounts}
-use Rattle.connection_model.specs.Heard.{Input, Bytes, Ends, Resets, Connects, Takes, EventKind, Accepts, Comes, Ticks, Turns, Runs, Marks, Accepted, Heard, taken, event_marks, marks, hears, further_of}
+use Rattle.connection_model.specs.Heard.{Input, Bytes, Ends, Resets, Connects, Takes, EventKind, Accepts, Comes, Ticks, Turns, Runs, Marks, Accepted, Heard, taken, event_marks, marks, hears}
 use Rattle.connection_model.specs.Item.{Item, client_output, notes_of}
-use Rattle.connection_model.specs.State.{TraceState, Does, Waits, Over}
+use Rattle.connection_model.specs.State.{TraceState}
 use Rattle.connection_model.specs.Setup.{Setup}
-use Rattle.connection_model.specs.Trace.{next_item, GivesNoMore}
 use Rattle.connection_model.proofs.Hearing.{others_not_heard}
 use Rattle.proxy_core.specs.Moves.{Rests, MovesFailed, MovesOn, MovesCome, MovesRing, MovesFront, MovesBy, Moves, RunsOn, RunsOut, RunsFailed, is_drained_at, came, may_come, ran, Leads}
 use Rattle.proxy_core.specs.Past.{Happened, Past, kind_of, heard, ended_in, without_all, with_accepted, shared, shared_after}
-use Rattle.proxy_core.specs.Ready.{is_in, without}
-use Rattle.proxy_core.specs.Refusal.{Row, Standing, standing_by, known, takes_too_much, refusal_rows, first_of, refused}
-use Rattle.proxy_core.specs.RunsItems.{closing, is_drained, closing_if, Passes, out_of_memory}
+use Rattle.proxy_core.specs.Ready.{is_in, ring_behind, without}
+use Rattle.proxy_core.specs.Refusal.{Row, standing_by, known, takes_too_much, refusal_rows, first_of, refused}
+use Rattle.conn.specs.RunsItems.{asks, closing, closing_if, ends, Passes, StopsAt, out_of_memory}
+use Rattle.conn.specs.declared.turn.ConnTurn.{ConnTurn}
+use Rattle.conn.specs.declared.turn.ConnTurn.TheVariants as turn
 use Rattle.proxy_core.specs.Scheduler.{State, no_connections, entries, Seen, seen, seen_after, untaken_of, untaken_all}
 use Rattle.proxy_core.specs.Setup.{setup_of, stand_of}
-use Rattle.proxy_core.specs.Sound.{unseen, last_notes, Spot, ServedAt, Served, SoundAt, Sound}
+use Rattle.proxy_core.specs.Sound.{unseen, Spot, Served, SoundAt, Sound}
 use Rattle.proxy_core.specs.declared.config.Config.{Config}
-use Rattle.proxy_core.specs.declared.event.BadEvent.{BadEvent}
+use Rattle.proxy_core.proofs.Entries.{entries_behind_self, ready_behind}
 use Rattle.proxy_core.proofs.Framing.{about, front, touches, only_changed, same_seen, each_by}
 use Rattle.proxy_core.proofs.GroupNotes.{about_closing_if}
 use Rattle.proxy_core.proofs.Hearing.{taken_more, Told, come_told, run_told}
 use Rattle.proxy_core.proofs.Members.{eq_self}
 use Rattle.proxy_core.proofs.ReadyRing.{distinct_none, distinct_push, distinct_without}
-use Rattle.proxy_core.proofs.SoundEvents.{first_notes, fresh_sound, fresh, seen_accept, MayCome, come_served, Behind, behind_closing, behind_memory, run_about, run_served, failed_served}
-use Rattle.proxy_core.proofs.Standing.{is_served, is_unseen, as_served, from_served, client_untaken}
+use Rattle.proxy_core.proofs.SoundEvents.{first_notes, fresh_sound, seen_accept, MayCome, come_served, Behind, behind_closing, behind_memory, run_about, run_served, failed_served}
+use Rattle.proxy_core.proofs.Standing.{is_served, is_unseen, from_served, client_untaken}
 
 -- no row holds
 abbrev pub NoneHolds : List Row → Type 0
@@ -104,20 +103,22 @@ front_served C past c rest old e s =
     is_served C c z (λ u. let n = sym ready ∙ ap (λ y. y.ready) u in cc) s
 
 -- where the front is put
-spot_ran : (over : Bool) (g : Setup) (took : TakenCounts) (at : TraceState) → over ≡ is_drained g took at → GivesNoMore false at.sent took (next_item g at) → Spot false (not over) [] g took at
-spot_ran true g took at e k = sym e
-spot_ran false g took at e k = (sym e, k)
+spot_ran : (t : ConnTurn) (c : ℕ) (g : Setup) (took : TakenCounts) (at : TraceState) → asks t ≡ false → StopsAt g took at t → Spot false (not (ends t)) (ready_behind t c) g took at
+spot_ran turn.More c g took at e k = tt
+spot_ran (turn.Asks call) c g took at e k = absurd (cc)
+spot_ran turn.NotYet c g took at e k = (k.1, k.0)
+spot_ran turn.Over c g took at e k = k
 
-run_sound : (C : Config) (past : Past) (c : ℕ) (rest : List ℕ) (old : State) (more : List Item) (at : TraceState) (behind : List Note) (fails over : Bool) (d : ℕ)
+run_sound : (C : Config) (past : Past) (c : ℕ) (rest after ready : List ℕ) (old : State) (more : List Item) (at : TraceState) (behind : List Note) (fails over : Bool) (d : ℕ)
     → IsDistinct nat_eq (shared past).live → old.ring ≡ c ∷ rest → (heard c past).failed ≡ false → is_some (heard c past).accepted ≡ true → Served C c (seen past old c)
     → Passes (setup_of C (heard c past)) (taken (heard c past)) (stand_of C (heard c past) (old.places c)) more at → Behind c behind fails over d
-    → d ≡ untaken_all (heard c past) (old.places c ++ more) → Spot fails (not over) [] (setup_of C (heard c past)) (taken (heard c past)) at
-    → SoundAt C c (seen_after past Runs (notes_of c more ++ behind) (ran c rest more old) c)
-run_sound C past c rest old more at behind fails over d distinct e f a v p b dropped spot =
+    → d ≡ untaken_all (heard c past) (old.places c ++ more) → (entries c rest ≡ [] → entries c after ≡ ready) → Spot fails (not over) ready (setup_of C (heard c past)) (taken (heard c past)) at
+    → SoundAt C c (seen_after past Runs (notes_of c more ++ behind) (ran c after more old) c)
+run_sound C past c rest after ready old more at behind fails over d distinct e f a v p b dropped put spot =
     let group = notes_of c more ++ behind in
-    from_served C c (seen_after past Runs group (ran c rest more old) c)
+    from_served C c (seen_after past Runs group (ran c after more old) c)
     (still_accepted c (heard c past) Runs group 0 (run_told c (heard c past) group v.plain.connects (run_about c more behind b.about)) a)
-    (run_served C past c rest old more at behind fails over d distinct e f v p b dropped spot)
+    (run_served C past c rest after ready old more at behind fails over d distinct e f v p b dropped put spot)
 
 failed_sound : (C : Config) (past : Past) (c : ℕ) (rest : List ℕ) (old : State) → IsDistinct nat_eq (shared past).live → old.ring ≡ c ∷ rest → (heard c past).failed ≡ true → is_some (heard c past).accepted ≡ true → Served C c (seen past old c)
     → SoundAt C c (seen_after past Runs (closing c (untaken_all (heard c past) (old.places c))) (record old { ring = rest }) c)
@@ -147,15 +148,17 @@ own_run C past c rest group old new d e s m = by_failed (heard c past).failed re
         (failed_sound C past c rest old d e f v.0 v.1)
     by_failed false f (inl k) =
         let v = front_served C past c rest old e s in
-        let p = k.items.passes in
-        let drained : Spot false (not k.over) [] (setup_of C h) (taken h) k.at = spot_ran k.over (setup_of C h) (taken h) k.at k.items.drained k.items.stops in
-        moved (notes_of c k.more ++ closing_if k.over c) (ran c rest k.more old) k.items.noted k.state
-        (run_sound C past c rest old k.more k.at (closing_if k.over c) false k.over (untaken_all h (old.places c ++ k.more)) d e f v.0 v.1 p (behind_closing k.over c (untaken_all h (old.places c ++ k.more))) refl drained)
+        let over = ends k.turn in
+        let after = ring_behind k.turn c rest in
+        let left = untaken_all h (old.places c ++ k.more) in
+        let spot = spot_ran k.turn c (setup_of C h) (taken h) k.at k.no_call k.items.stops in
+        moved (notes_of c k.more ++ closing_if over c) (ran c after k.more old) k.items.noted k.state
+        (run_sound C past c rest after (ready_behind k.turn c) old k.more k.at (closing_if over c) false over left d e f v.0 v.1 k.items.passes (behind_closing over c left) refl (entries_behind_self k.turn c rest) spot)
     by_failed false f (inr k) =
         let v = front_served C past c rest old e s in
         let left = untaken_all h (old.places c ++ k.more) in
         moved (out_of_memory c k.more left) (ran c rest k.more old) k.notes k.state
-        (run_sound C past c rest old k.more k.at (Finish c Memory ∷ closing c left) true true left d e f v.0 v.1 k.passes (behind_memory c left) refl tt)
+        (run_sound C past c rest rest [] old k.more k.at (Finish c Memory ∷ closing c left) true true left d e f v.0 v.1 k.passes (behind_memory c left) refl (λ x. x) tt)
 
 own_ring : (C : Config) (past : Past) (ring : List ℕ) (group : List Note) (old new : State) → IsDistinct nat_eq (shared past).live → old.ring ≡ ring → ((c : ℕ) → SoundAt C c (seen past old c)) → MovesRing C past ring group old new
     → SoundAt C (front ring) (seen_after past Runs group new (front ring))

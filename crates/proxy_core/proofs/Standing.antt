@@ -1,5 +1,5 @@
 -- Where a connection stands, and what is not taken of what it sent.
-use Rattle.std.proofs.Common.{◌≡◌, refl, sym, ap, subst, ◌∙◌, ℕ, ◌+◌, ◌-◌, ◌≤◌, List, [], ◌∷◌, ◌++◌, length, Bool, true, false, ◌||◌, Option, Some, None, arith, zero-add}
+use Rattle.std.proofs.Common.{◌≡◌, refl, sym, ap, subst, ◌∙◌, ℕ, ◌-◌, List, length, Bool, true, false, Option, Some, None, arith, zero-add}
 use Rattle.std.specs.Prelude.{is_some}
 use Rattle.std.specs.Bool.{MatchBool}
 use Rattle.px_bytes.specs.declared.addr.Side.TheVariants.{Client, Server}
@@ -11,12 +11,12 @@ use Rattle.connection_model.specs.State.{TraceState}
 use Rattle.connection_model.specs.Trace.{Unfolds, behind}
 use Rattle.connection_model.proofs.Given.{unfolds_behind, sent_counted, sent_output}
 use Rattle.proxy_core.specs.Moves.{is_drained_at}
-use Rattle.proxy_core.specs.RunsItems.{is_drained}
+use Rattle.conn.specs.RunsItems.{is_drained}
 use Rattle.proxy_core.specs.Scheduler.{Seen, untaken_of, untaken_all}
 use Rattle.proxy_core.specs.Setup.{setup_of, stand_of}
 use Rattle.proxy_core.specs.Sound.{unseen, IsPlain, ServedAt, Served, SoundAt}
 use Rattle.proxy_core.specs.declared.config.Config.{Config}
-use Rattle.proxy_core.proofs.Hearing.{counts, taken_plain}
+use Rattle.proxy_core.proofs.Hearing.{taken_plain}
 
 pub stands_at : (C : Config) (h : Heard) (g : Setup) (place : List Item) (at : TraceState) → setup_of C h ≡ g → Unfolds g (start_of g h) place at → stand_of C h place ≡ at
 stands_at C h g place at e u = ap (λ y. behind (length place) y (start_of y h)) e ∙ unfolds_behind g (start_of g h) at place u

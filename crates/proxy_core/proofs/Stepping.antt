@@ -1,31 +1,33 @@
 -- What a step did.
-use Rattle.std.proofs.Common.{◌≡◌, refl, sym, ap, subst, ◌∙◌, ℕ, ◌-◌, List, [], ◌∷◌, ◌++◌, length, Bool, true, false, Option, Some, None, Result, Ok, Err, OnOk, IfErr, arith}
+use Rattle.std.proofs.Common.{◌≡◌, refl, sym, ap, ◌∙◌, ℕ, List, [], ◌++◌, length, true, false, Option, Some, None, Result, Ok, Err, OnOk, IfErr}
 use Rattle.std.proofs.lemmas.List.{length-map, length-drop}
 use Rattle.px_bytes.specs.declared.addr.Side.TheVariants.{Client, Server}
 use Rattle.connection_model.specs.declared.note.Note.{Note}
-use Rattle.connection_model.specs.Gates.{TakenCounts, taken_of}
-use Rattle.connection_model.specs.Heard.{Heard, EventKind, taken}
+use Rattle.connection_model.specs.Heard.{EventKind, taken}
 use Rattle.connection_model.specs.Item.{client_output}
 use Rattle.proxy_core.specs.Changes.{Changes}
 use Rattle.proxy_core.specs.Live.{pending_in}
-use Rattle.proxy_core.specs.Past.{Happened, Past, kind_of, Shared, shared}
+use Rattle.proxy_core.specs.Past.{Past, kind_of, Shared, shared}
 use Rattle.proxy_core.specs.Ready.{numbers}
 use Rattle.proxy_core.specs.Refusal.{Standing, Known, standing_by, standing_of, named, known, refused, refusal_by, core_standing, core_known, refusal_of, refusal}
 use Rattle.proxy_core.specs.Refusals.{live_at}
-use Rattle.proxy_core.specs.Represents.{ConnectionContinues, AgreesAt, Agrees, Represents}
+use Rattle.proxy_core.specs.Represents.{ConnectionContinues, AgreesAt, Represents}
 use Rattle.proxy_core.specs.Scheduler.{State, Seen, seen, no_connections, untaken_of}
 use Rattle.proxy_core.specs.Setup.{setup_of, stand_of}
 use Rattle.proxy_core.specs.Sound.{Served, SoundAt}
 use Rattle.proxy_core.specs.Start.{IsStart}
-use Rattle.proxy_core.specs.Steps.{StandsAfter, KeepsStanding, Steps, IsRefused}
+use Rattle.proxy_core.specs.Steps.{KeepsStanding, Steps, IsRefused}
 use Rattle.proxy_core.specs.declared.config.Config.{Config}
 use Rattle.proxy_core.specs.declared.core_state.Core.{Core}
 use Rattle.proxy_core.specs.declared.event.BadEvent.{BadEvent}
 use Rattle.proxy_core.specs.declared.event.Event.{Event}
 use Rattle.proxy_core.specs.declared.event.Event.TheVariants.{Accept, ClientTook, Run}
-use Rattle.proxy_core.specs.declared.live.Conn.{Conn}
+use Rattle.conn.specs.declared.connection.Conn.{Conn}
 use Rattle.proxy_core.specs.declared.live.Live.{Live}
-use Rattle.proxy_core.proofs.Agreeing.{After, accepts, takes, runs}
+use Rattle.proxy_core.proofs.Agreeing.{After}
+use Rattle.proxy_core.proofs.AcceptAgrees.{accepts}
+use Rattle.proxy_core.proofs.TookAgrees.{takes}
+use Rattle.proxy_core.proofs.RunAgrees.{runs}
 use Rattle.proxy_core.proofs.SoundPast.{sound_start, sound_step}
 use Rattle.proxy_core.proofs.Standing.{is_served, none_untaken, client_untaken, none_to_server}
 
@@ -54,15 +56,15 @@ known_same C past s core v r =
 pub refusal_same : (C : Config) (past : Past) (s : State) (core : Core) (v : EventKind) → Represents C past s core → refusal_of core v ≡ refused C past s v
 refusal_same C past s core v r = ap (λ D. refusal_by D (core_known core v) v) r.agrees.config ∙ ap (λ k. refusal_by C k v) (known_same C past s core v r)
 
-by_event : (C : Config) (past : Past) (s : State) (old new : Core) (e : Event) (group : List Note) → Represents C past s old → refused C past s (kind_of e) ≡ None → Changes old new e group → After C past s (kind_of e) group new
-by_event C past s old new (Accept conn vs from) group r h k = accepts C past s old new conn vs from group r h k
-by_event C past s old new (ClientTook conn n) group r h k = takes C past s old new conn n group r h k
-by_event C past s old new Run group r h k = runs C past s old new old.ring.items group r (sym r.agrees.ring) k
+by_event : (C : Config) (past : Past) (s : State) (old new : Core) (e : Event) (group : List Note) (steps : ℕ) → Represents C past s old → refused C past s (kind_of e) ≡ None → Changes old new e group steps → After C past s (kind_of e) group new
+by_event C past s old new (Accept conn vs from) group steps r h k = accepts C past s old new conn vs from group r h k.0
+by_event C past s old new (ClientTook conn n) group steps r h k = takes C past s old new conn n group r h k.0
+by_event C past s old new Run group steps r h k = runs C past s old new old.ring.items group steps r (sym r.agrees.ring) k
 
-pub keeps_standing : (old new : Core) (e : Event) (group : List Note) → refusal old e ≡ None → Changes old new e group → KeepsStanding old new (record { event = e; group = group })
-keeps_standing old new e group h k C past s r =
+pub keeps_standing : (old new : Core) (e : Event) (group : List Note) (steps : ℕ) → refusal old e ≡ None → Changes old new e group steps → KeepsStanding old new (record { event = e; group = group })
+keeps_standing old new e group steps h k C past s r =
     let accepted = sym (refusal_same C past s old (kind_of e) r) ∙ h in
-    let a = by_event C past s old new e group r accepted k in
+    let a = by_event C past s old new e group steps r accepted k in
     record { next = a.next; moves = a.moves; represents = record { sound = sound_step C past (record { event = e; group = group }) s a.next r.sound accepted a.moves; agrees = a.agrees } }
 
 pub is_refused : (core : Core) (e : Event) (why : BadEvent) → refusal core e ≡ Some why → IsRefused core e why
@@ -85,9 +87,9 @@ start_represents C core k = record {
 }
 
 -- by the answer of the step
-pub steps_of : (old new : Core) (e : Event) (before after : List Note) (res : Result (Unit {0}) BadEvent) → OnOk res (refusal old e ≡ None) → OnOk res ((group : List Note) × (after ≡ before ++ group) × Changes old new e group) → OnOk res (Steps old new e before after)
-steps_of old new e before after (Ok u) h k = record { group = k.0; notes = k.1; changes = k.2; stands = keeps_standing old new e k.0 h k.2 }
-steps_of old new e before after (Err why) h k = tt
+pub steps_of : (old new : Core) (e : Event) (before after : List Note) (steps : ℕ) (res : Result (Unit {0}) BadEvent) → OnOk res (refusal old e ≡ None) → OnOk res ((group : List Note) × (after ≡ before ++ group) × Changes old new e group steps) → OnOk res (Steps old new e before after steps)
+steps_of old new e before after steps (Ok u) h k = record { group = k.0; notes = k.1; changes = k.2; stands = keeps_standing old new e k.0 steps h k.2 }
+steps_of old new e before after steps (Err why) h k = tt
 
 pub refused_of : (core : Core) (e : Event) (res : Result (Unit {0}) BadEvent) → IfErr res (λ why. refusal core e ≡ Some why) → IfErr res (λ why. IsRefused core e why)
 refused_of core e (Ok u) h = tt

@@ -17,9 +17,9 @@ use Rattle.connection_model.specs.Item.{Item, cause_of, client_output, notes_of,
 use Rattle.connection_model.specs.Laws.{takes_cut}
 use Rattle.connection_model.specs.Tellings.{notes_about, failure_told}
 use Rattle.connection_model.specs.Trace.{next_item, trace, GivesNoMore}
+use Rattle.conn.specs.RunsItems.{closing}
 use Rattle.proxy_core.specs.Moves.{Leads}
 use Rattle.proxy_core.specs.Past.{Past, heard}
-use Rattle.proxy_core.specs.RunsItems.{closing}
 use Rattle.proxy_core.specs.Scheduler.{State, Seen, seen, untaken_of, untaken_all, pending}
 use Rattle.proxy_core.specs.Setup.{setup_of, begins_at, stand_of}
 use Rattle.proxy_core.specs.Sound.{last_notes}

@@ -1,14 +1,10 @@
-pub mod Responder
-pub mod Bodies
 pub mod Live
 pub mod Ready
 pub mod Start
 pub mod Refusals
 pub mod Setup
-pub mod RunsItems
-pub mod Holds
+pub mod Serving
 pub mod Changes
-pub mod Runs
 pub mod Queries
 pub mod Past
 pub mod Scheduler

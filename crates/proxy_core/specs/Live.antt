@@ -1,23 +1,45 @@
--- What the place of a live connection holds.
-use Rattle.std.specs.Prelude.{ℕ, [], Bool, false, ◌&&◌, Option, Some, None, length, drop}
-use Rattle.px_bytes.specs.declared.addr.Addr.{Addr}
-use Rattle.tcl_vars.specs.Scopes.{no_scopes}
-use Rattle.proxy_core.specs.declared.live.Conn.{Conn}
-use Rattle.seg_buffer.specs.Bytes.{is_empty}
+-- What the place of a live connection holds, and what calls make of it.
+use Rattle.std.specs.Prelude.{◌≡◌, ℕ, List, Bool, false, Option, Some, None, length, drop}
+use Rattle.connection_model.specs.declared.note.Note.{Note}
+use Rattle.conn.specs.Calls.{Takes, Settles}
+use Rattle.conn.specs.Runs.{Runs}
+use Rattle.conn.specs.RunsItems.{closing}
+use Rattle.conn.specs.declared.connection.Conn.{Conn}
+use Rattle.conn.specs.declared.setup.Setup.{Setup}
+use Rattle.conn.specs.declared.turn.ConnTurn.{ConnTurn}
+use Rattle.conn.specs.declared.turn.ConnTurn.TheVariants as turn
+use Rattle.proxy_core.specs.declared.live.Live.{Live}
 
-abbrev pub fresh_conn : ℕ → Addr → Conn
-fresh_conn vs from = record { vs = vs; from = from; vars = no_scopes; finished = false; queue = [] }
+-- the bytes that its client is to take
+abbrev pub queue_of : Conn → List ℕ
+queue_of conn = conn.host.to_client
 
--- the bytes that the client is to take
+-- how many they are
 abbrev pub pending_in : Option Conn → ℕ
 pending_in None = 0
-pending_in (Some conn) = length conn.queue
+pending_in (Some conn) = length (queue_of conn)
 
-abbrev pub after_taking : ℕ → Option Conn → Option Conn
-after_taking n None = None
-after_taking n (Some conn) = Some (record conn { queue = drop n conn.queue })
+-- it keeps its number and virtual server
+pub record SamePlace (old new : Live) : Type 0 where
+  pub number : new.number ≡ old.number
+  pub vs : new.vs ≡ old.vs
 
--- it has finished, and nothing is left to be taken
-abbrev pub is_over : Option Conn → Bool
-is_over None = false
-is_over (Some conn) = conn.finished && is_empty conn.queue
+-- its client took n bytes more, and whether it is over then
+pub record ConnTakes (n : ℕ) (old new : Conn) (over : Bool) : Type 0 where
+  pub takes : Takes n old new
+  pub queue : queue_of new ≡ drop n (queue_of old)
+  pub settles : Settles new over
+
+abbrev pub LiveTakes : ℕ → Option Conn → Option Conn → Bool → Type 0
+LiveTakes n None None over = over ≡ false
+LiveTakes n None (Some new) over = ⊥
+LiveTakes n (Some old) None over = ⊥
+LiveTakes n (Some old) (Some new) over = ConnTakes n old new over
+
+-- A connection for which no memory was found ends with its Run. Another one gives the items of its
+-- trace from wherever that stands.
+abbrev pub LiveRuns :
+    Setup → ℕ → Option Conn → Option Conn → List Note → ConnTurn → Type 0
+LiveRuns s number None new group t = (group ≡ closing number 0) × (t ≡ turn.Over)
+LiveRuns s number (Some old) None group t = ⊥
+LiveRuns s number (Some old) (Some new) group t = Runs s number old new group t

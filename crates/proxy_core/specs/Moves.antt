@@ -10,11 +10,12 @@ use Rattle.connection_model.specs.Heard.{Accepts, Comes, Ticks, Turns, Runs, Mar
 use Rattle.connection_model.specs.Heard.{hears}
 use Rattle.connection_model.specs.Item.{Item}
 use Rattle.connection_model.specs.State.{TraceState}
+use Rattle.conn.specs.RunsItems.{asks, closing, is_drained, closing_if, Passes, RunsItems}
+use Rattle.conn.specs.RunsItems.{out_of_memory}
+use Rattle.conn.specs.declared.turn.ConnTurn.{ConnTurn}
 use Rattle.proxy_core.specs.Past.{Happened, Past, kind_of, heard}
-use Rattle.proxy_core.specs.Ready.{with_ready, without}
+use Rattle.proxy_core.specs.Ready.{ring_behind, with_ready, without}
 use Rattle.proxy_core.specs.Refusal.{refused}
-use Rattle.proxy_core.specs.RunsItems.{closing, is_drained, closing_if, Passes, RunsItems}
-use Rattle.proxy_core.specs.RunsItems.{out_of_memory}
 use Rattle.proxy_core.specs.Scheduler.{State, no_connections, with_place, untaken_all}
 use Rattle.proxy_core.specs.Setup.{setup_of, stand_of}
 use Rattle.proxy_core.specs.declared.config.Config.{Config}
@@ -67,15 +68,17 @@ abbrev pub ran : ℕ → List ℕ → List Item → State → State
 ran c rest more old =
     record { ring = rest; places = with_place c (old.places c ++ more) old.places }
 
--- The front gives items of its trace until no more may be given.
+-- The front gives items of its trace, until no more may be given or in slices: where it stops in
+-- the middle it goes to the back of the ready queue. No body of today makes a shared call.
 pub record RunsOn (C : Config) (h : Heard) (c : ℕ) (rest : List ℕ) (group : List Note)
     (old new : State) : Type 0 where
   pub more : List Item
   pub at : TraceState
-  pub over : Bool
+  pub turn : ConnTurn
   pub items :
-      RunsItems (setup_of C h) (taken h) (stand_of C h (old.places c)) c more at over group
-  pub state : new ≡ ran c rest more old
+      RunsItems (setup_of C h) (taken h) (stand_of C h (old.places c)) c more at group turn
+  pub no_call : asks turn ≡ false
+  pub state : new ≡ ran c (ring_behind turn c rest) more old
 
 -- The front gives items, finds no memory, and ends: what was sent and not taken is dropped.
 pub record RunsOut (C : Config) (h : Heard) (c : ℕ) (rest : List ℕ) (group : List Note)

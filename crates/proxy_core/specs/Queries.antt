@@ -2,13 +2,14 @@
 use Rattle.std.specs.Prelude.{ℕ, List, [], Option, Some, None, length, take, nat_le, if◌then◌else◌}
 use Rattle.px_bytes.specs.declared.addr.Side.{Side}
 use Rattle.px_bytes.specs.declared.addr.Side.TheVariants.{Client, Server}
+use Rattle.conn.specs.declared.connection.Conn.{Conn}
+use Rattle.proxy_core.specs.Live.{queue_of}
 use Rattle.proxy_core.specs.declared.live.Live.{Live}
-use Rattle.proxy_core.specs.declared.live.Conn.{Conn}
 
 -- the bytes that a side is to take; there is no server connection
 abbrev pub queue_on : Side → Option Conn → List ℕ
 queue_on Client None = []
-queue_on Client (Some conn) = conn.queue
+queue_on Client (Some conn) = queue_of conn
 queue_on Server conn = []
 
 abbrev pub pending_on : Side → Option Conn → ℕ
@@ -21,7 +22,3 @@ front_in n queue = if nat_le n (length queue) then Some (take n queue) else None
 abbrev pub front_of : Side → ℕ → Option Live → Option (List ℕ)
 front_of side n None = None
 front_of side n (Some l) = front_in n (queue_on side l.conn)
-
--- as long as no side sends bytes, each may send as many as may be unread
-abbrev pub wanted : ℕ
-wanted = 65536

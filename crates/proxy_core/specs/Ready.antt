@@ -2,6 +2,8 @@
 use Rattle.std.specs.Prelude.{◌≡◌, ℕ, List, [], ◌∷◌, ◌++◌, Bool, Option, Some, None, map, nat_eq}
 use Rattle.std.specs.Prelude.{if◌then◌else◌}
 use Rattle.std.specs.List.{list_any, position_from}
+use Rattle.conn.specs.declared.turn.ConnTurn.{ConnTurn}
+use Rattle.conn.specs.declared.turn.ConnTurn.TheVariants as turn
 use Rattle.proxy_core.specs.declared.live.Live.{Live}
 
 abbrev pub numbers : List Live → List ℕ
@@ -17,6 +19,11 @@ is_in ns n = list_any (nat_eq n) ns
 -- n at the back, unless it is there
 abbrev pub with_ready : List ℕ → ℕ → List ℕ
 with_ready ring n = if is_in ring n then ring else ring ++ n ∷ []
+
+-- n at the back, where its Run stopped in the middle
+abbrev pub ring_behind : ConnTurn → ℕ → List ℕ → List ℕ
+ring_behind turn.More n ring = with_ready ring n
+ring_behind other n ring = ring
 
 -- the ring without n
 abbrev pub without : ℕ → List ℕ → List ℕ

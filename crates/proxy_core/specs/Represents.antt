@@ -1,27 +1,31 @@
 -- What a core stands for: a configuration, a past and a state of the scheduler.
-use Rattle.std.specs.Prelude.{◌≡◌, ℕ, List, [], true, false, Option, Some, None, drop}
-use Rattle.tcl_vars.specs.Scopes.{no_scopes}
-use Rattle.connection_model.specs.Heard.{taken}
+use Rattle.std.specs.Prelude.{◌≡◌, ℕ, [], true, false, Option, Some, None, drop}
+use Rattle.connection_model.specs.Heard.{Heard, taken}
 use Rattle.connection_model.specs.Item.{client_output}
-use Rattle.proxy_core.specs.Holds.{Serves, Holds}
+use Rattle.conn.specs.Holds.{Around, Holds}
+use Rattle.conn.specs.declared.connection.Conn.{Conn}
+use Rattle.proxy_core.specs.Live.{queue_of}
 use Rattle.proxy_core.specs.Past.{Past, Shared, shared}
 use Rattle.proxy_core.specs.Ready.{numbers}
 use Rattle.proxy_core.specs.Refusals.{live_at}
 use Rattle.proxy_core.specs.Scheduler.{State, Seen, seen}
+use Rattle.proxy_core.specs.Serving.{Serves}
 use Rattle.proxy_core.specs.Setup.{statics_of, setup_of, stand_of}
 use Rattle.proxy_core.specs.Sound.{Sound}
 use Rattle.proxy_core.specs.declared.config.Config.{Config}
 use Rattle.proxy_core.specs.declared.core_state.Core.{Core}
-use Rattle.proxy_core.specs.declared.live.Conn.{Conn}
 use Rattle.proxy_core.specs.declared.live.Live.{Live}
 
--- The connection goes on with its trace from where it stands: its rules are those of its virtual
--- server, and what waits for its client is what was sent and not taken.
+-- what was told of it from outside
+abbrev pub around : Heard → Around
+around h = record { took = taken h }
+
+-- The connection goes on with its trace from where it stands: what waits for its client is what was
+-- sent and not taken.
 pub record Continues (C : Config) (z : Seen) (conn : Conn) : Type 0 where
   pub not_failed : z.heard.failed ≡ false
-  pub serves : Serves C (statics_of C) conn.vs (setup_of C z.heard)
-  pub holds : Holds (setup_of C z.heard) (taken z.heard) (stand_of C z.heard z.place) conn
-  pub queue : conn.queue ≡ drop z.heard.client.took (client_output z.place)
+  pub holds : Holds (setup_of C z.heard) (around z.heard) (stand_of C z.heard z.place) conn
+  pub queue : queue_of conn ≡ drop z.heard.client.took (client_output z.place)
 
 -- no memory was found for it when it was accepted
 pub record NeverBegan (z : Seen) : Type 0 where
@@ -32,9 +36,11 @@ abbrev pub ConnectionContinues : Config → Seen → Option Conn → Type 0
 ConnectionContinues C z None = NeverBegan z
 ConnectionContinues C z (Some conn) = Continues C z conn
 
+-- a live connection's rules are those of its virtual server
 abbrev pub AgreesAt : Config → Seen → Option Live → Type 0
 AgreesAt C z None = z.live ≡ false
 AgreesAt C z (Some l) = (z.live ≡ true) × ConnectionContinues C z l.conn
+    × Serves C (statics_of C) l.vs (setup_of C z.heard)
 
 -- what all connections share, by the core's fields
 abbrev pub shared_of : Core → Shared

@@ -3,8 +3,6 @@
 use Rattle.std.specs.Prelude.{ℕ, List, [], map, length, false, slice_get, option_and_then}
 use Rattle.std.specs.Prelude.{Option, Some, None}
 use Rattle.px_bytes.specs.declared.addr.Addr.{Addr}
-use Rattle.tcl_compile.specs.Procedures.{procs_view}
-use Rattle.tcl_compile.specs.TreeView.{node_view}
 use Rattle.tcl_vars.specs.Scopes.{Level, no_scopes}
 use Rattle.event_order.specs.declared.event.EventName.{EventName}
 use Rattle.event_order.specs.declared.event.EventName.TheVariants.{ClientAccepted}
@@ -14,33 +12,27 @@ use Rattle.connection_model.specs.Item.{Item}
 use Rattle.connection_model.specs.Setup.{Handler, NoTarget, Setup}
 use Rattle.connection_model.specs.State.{TraceState}
 use Rattle.connection_model.specs.Trace.{behind}
+use Rattle.conn.specs.Setups.{handler_of}
+use Rattle.conn.specs.declared.setup.Handler as code
 use Rattle.proxy_core.specs.Refusals.{virtual_place}
 use Rattle.proxy_core.specs.declared.config.Config.{Config}
-use Rattle.proxy_core.specs.declared.config.Rule.{Rule}
 use Rattle.proxy_core.specs.declared.config.Virtual.{Virtual}
 
 -- the rules of the virtual server at a place
-abbrev pub rules_in : Option Virtual → List Rule
+abbrev pub rules_in : Option Virtual → List code.Handler
 rules_in None = []
 rules_in (Some v) = v.rules
 
-abbrev pub rules_of : Config → ℕ → List Rule
+abbrev pub rules_of : Config → ℕ → List code.Handler
 rules_of C place = rules_in (slice_get C.virtuals place)
 
-abbrev pub handler_of : Rule → Handler
-handler_of rule = record {
-  rule = rule.name;
-  procedures = procs_view rule.procs;
-  body = node_view rule.body;
-}
-
 -- the bodies of an event, in order: today's rules have one for CLIENT_ACCEPTED
-abbrev pub handlers_in : List Rule → EventName → List Handler
+abbrev pub handlers_in : List code.Handler → EventName → List Handler
 handlers_in rules ClientAccepted = map handler_of rules
 handlers_in rules event = []
 
 -- the rules of the virtual server of a name
-abbrev pub rules_named : Config → List ℕ → List Rule
+abbrev pub rules_named : Config → List ℕ → List code.Handler
 rules_named C name =
     rules_in (option_and_then (λ place. slice_get C.virtuals place) (virtual_place C name))
 

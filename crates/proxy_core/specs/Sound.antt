@@ -12,9 +12,9 @@ use Rattle.connection_model.specs.Item.{client_output, notes_of}
 use Rattle.connection_model.specs.Setup.{Setup}
 use Rattle.connection_model.specs.State.{TraceState}
 use Rattle.connection_model.specs.Trace.{next_item, Unfolds, GivesNoMore}
+use Rattle.conn.specs.RunsItems.{closing, is_drained}
 use Rattle.proxy_core.specs.Moves.{Leads}
 use Rattle.proxy_core.specs.Past.{Past, heard, shared}
-use Rattle.proxy_core.specs.RunsItems.{closing, is_drained}
 use Rattle.proxy_core.specs.Scheduler.{State, Seen, seen, untaken_all}
 use Rattle.proxy_core.specs.Setup.{setup_of, stand_of}
 use Rattle.proxy_core.specs.declared.config.Config.{Config}

@@ -1,5 +1,5 @@
 -- What one event does to a core, for all that it may stand for.
-use Rattle.std.specs.Prelude.{◌≡◌, List, ◌∷◌, ◌++◌, Some}
+use Rattle.std.specs.Prelude.{◌≡◌, ℕ, List, ◌∷◌, ◌++◌, Some}
 use Rattle.connection_model.specs.declared.note.Note.{Note}
 use Rattle.proxy_core.specs.Changes.{Changes}
 use Rattle.proxy_core.specs.Moves.{Moves}
@@ -24,11 +24,13 @@ abbrev pub KeepsStanding : Core → Core → Happened → Type 0
 KeepsStanding old new x =
     (C : Config) (past : Past) (s : State) → Represents C past s old → StandsAfter C past s x new
 
--- an event that was accepted: its notes, what it changed, and what the core stands for
-pub record Steps (old new : Core) (event : Event) (before after : List Note) : Type 0 where
+-- an event that was accepted: its notes, what it changed by how many steps, and what the core stands
+-- for
+pub record Steps (old new : Core) (event : Event) (before after : List Note) (steps : ℕ)
+    : Type 0 where
   pub group : List Note
   pub notes : after ≡ before ++ group
-  pub changes : Changes old new event group
+  pub changes : Changes old new event group steps
   pub stands : KeepsStanding old new (record { event = event; group = group })
 
 -- Whatever the core stands for, this is the reason for which its scheduler refuses the event.

@@ -6,15 +6,17 @@ ghost use Rattle.std.specs.Str.{bytes_eq};
 ghost use Rattle.connection_model.specs.Heard.{Accepts as Accepted};
 ghost use Rattle.proxy_core.specs.Refusal.{refusal_of};
 ghost use Rattle.proxy_core.specs.Refusals.{virtual_place};
-ghost use Rattle.proxy_core.specs.Changes.{Accepts, Begins};
+ghost use Rattle.connection_model.specs.declared.note.Note.{Note};
+ghost use Rattle.proxy_core.specs.Changes.{Accepts};
 
 use crate::config::{Config, Virtual};
 use crate::core_state::Core;
 use crate::event::BadEvent;
-use crate::live::{Conn, Live};
-use connection_model::{Cause, Note, Notes};
+use crate::live::Live;
+use crate::setup::setup_at;
+use conn::Conn;
+use connection_model::Notes;
 use px_bytes::Addr;
-use std::alloc::Global;
 
 impl Core {
     /// Accepts a connection, which gets the number and goes to the back of the ring.
@@ -43,9 +45,15 @@ impl Core {
         if self.config.connections as usize <= self.live.len() {
             return Err(BadEvent::Full);
         }
-        let conn = begin(self.alloc, number, place, from, notes);
+        let setup = setup_at(&self.config, &self.statics, place);
+        let conn = Some(Conn::new(self.alloc, &setup));
         self.last = number;
-        self.live.push_reserved(Live { number, conn });
+        self.live.push_reserved(Live {
+            number,
+            vs: place,
+            from,
+            conn,
+        });
         self.ring.push_reserved(number);
         Ok(())
     }
@@ -60,22 +68,4 @@ fn place_of(config: &Config, name: &[u8]) -> Option<usize>
         .as_slice()
         .iter()
         .position(|v| v.name.as_bytes() == name)
-}
-
-// A connection that begins, or the note that no memory was found for it.
-fn begin(alloc: Global, number: u32, place: usize, from: Addr, notes: &mut Notes) -> Option<Conn>
-    requires { 1 ≤ notes.old.spare }
-    ensures { (group : List Note) × (notes.new.items ≡ notes.old.items ++ group)
-        × Begins number place from result group }
-{
-    match Conn::new(alloc, place, from) {
-        Ok(conn) => Some(conn),
-        Err(_) => {
-            notes.push_reserved(Note::Finish {
-                conn: number,
-                cause: Cause::Memory,
-            });
-            None
-        }
-    }
 }

@@ -1,22 +1,14 @@
 // What a proxy serves.
 
+use conn::Handler;
 use px_bytes::{Addr, Seq, Text};
-use tcl_compile::{Node, Procs};
 
-/// A rule: its procedures, and the body that it runs at CLIENT_ACCEPTED.
-#[derive(Drop)]
-pub struct Rule {
-    pub name: Text,
-    pub procs: Procs,
-    pub body: Node,
-}
-
-/// A virtual server, with its rules in order.
+/// A virtual server, with the bodies that its rules run at CLIENT_ACCEPTED, in order.
 #[derive(Drop)]
 pub struct Virtual {
     pub name: Text,
     pub listen: Addr,
-    pub rules: Seq<Rule>,
+    pub rules: Seq<Handler>,
 }
 
 /// A configuration that was read.

@@ -2,21 +2,20 @@
 #![tactic(auto)]
 
 mod accept;
-mod bodies;
 mod config;
-mod conn;
 mod core_state;
 mod event;
 mod laws;
 mod live;
 mod queries;
-mod responder;
 mod ring;
 mod run;
+mod setup;
 mod step;
 mod took;
 
-pub use config::{Config, Rule, Virtual};
+pub use config::{Config, Virtual};
+pub use conn::Handler as Rule;
 pub use connection_model::{Cause, Note, Notes};
 pub use core_state::Core;
 pub use event::{BadEvent, Event};

@@ -1,50 +1,26 @@
 // The place of a live connection.
 
-ghost use Rattle.std.specs.Prelude.{◌≡◌, ◌≤◌, [], IfOk};
-ghost use Rattle.proxy_core.specs.Live.{pending_in, after_taking, is_over};
+ghost use Rattle.std.specs.Prelude.{◌≡◌, ◌≤◌, ◌-◌, ◌++◌, List, length};
+ghost use Rattle.connection_model.specs.declared.note.Note.{Note};
+ghost use Rattle.conn.specs.Runs.{IsBounded, IsWhole};
+ghost use Rattle.conn.specs.RunsItems.{closing, closing_if};
+ghost use Rattle.proxy_core.specs.Live.{LiveRuns, LiveTakes, SamePlace, pending_in};
 
-use px_bytes::{Addr, M};
-use seg_buffer::Held;
+use conn::{Conn, ConnTurn, Setup};
+use connection_model::{Note, Notes};
+use px_bytes::{Addr, Steps};
 use std::alloc::Global;
-use tcl_vars::Vars;
+use std::sync::ledger::Ledger;
 
-/// What a live connection keeps.
-#[derive(Drop)]
-pub struct Conn {
-    /// The place of its virtual server in the configuration.
-    pub vs: usize,
-    pub from: Addr,
-    /// The variables of its rules, which all events share.
-    pub vars: Vars,
-    /// Its end was noted: no body that may send starts any more.
-    pub finished: bool,
-    /// The bytes that its client is to take.
-    pub queue: Held,
-}
-
-/// A connection without its Ended note. Where no memory was found for it, there is no connection
-/// behind the number, and the next Run ends it.
+/// A connection without its Ended note, with the place of its virtual server in the configuration.
+/// Where no memory was found for it, there is no connection behind the number, and the next Run ends
+/// it.
 #[derive(Drop)]
 pub struct Live {
     pub number: u32,
+    pub vs: usize,
+    pub from: Addr,
     pub conn: Option<Conn>,
-}
-
-impl Conn {
-    ghost use Rattle.proxy_core.specs.Live.{fresh_conn};
-
-    /// A connection that has done nothing yet.
-    pub fn new(alloc: Global, vs: usize, from: Addr) -> M<Conn>
-        ensures { IfOk result (λ conn. conn ≡ fresh_conn vs from) }
-    {
-        Ok(Conn {
-            vs,
-            from,
-            vars: Vars::new(alloc),
-            finished: false,
-            queue: Held::new(alloc),
-        })
-    }
 }
 
 impl Live {
@@ -53,29 +29,63 @@ impl Live {
         ensures { result ≡ pending_in self.now.conn }
     {
         match &self.conn {
-            Some(conn) => conn.queue.len(),
+            Some(conn) => conn.pending(),
             None => 0,
         }
     }
 
-    /// Whether the connection is over once the client has taken the first `n` bytes.
-    pub fn ends_with(&self, n: usize) -> bool
-        requires { n ≤ pending_in self.now.conn }
-        ensures { result ≡ is_over (after_taking n self.now.conn) }
+    /// The client took the first `n` bytes. Says whether the connection is over, and gives its last
+    /// notes then.
+    pub fn take(&mut self, n: usize, notes: &mut Notes) -> bool
+        requires taken { n ≤ pending_in self.old.conn }
+        requires spare { 2 ≤ notes.old.spare }
+        ensures same { SamePlace self.old self.new }
+        ensures takes { LiveTakes n self.old.conn self.new.conn result }
+        ensures notes { notes.new.items ≡ notes.old.items ++ closing_if result self.old.number }
     {
-        match &self.conn {
-            Some(conn) => conn.finished && n == conn.queue.len(),
+        match &mut self.conn {
+            Some(conn) => {
+                conn.took(n);
+                conn.settle(self.number, notes)
+            }
             None => false,
         }
     }
 
-    /// The client has taken the first `n` bytes.
-    pub fn take(&mut self, n: usize)
-        requires { n ≤ pending_in self.old.conn }
-        ensures { self.new ≡ record self.old { conn = after_taking n self.old.conn } }
+    /// Runs the connection, and says what its Run comes to.
+    pub fn run<L: Ledger>(
+        &mut self,
+        alloc: Global,
+        setup: &Setup<'_>,
+        steps: &mut Steps<L>,
+        notes: &mut Notes,
+    ) -> ConnTurn
+        requires { 68 ≤ notes.old.spare }
+        ensures same { SamePlace self.old self.new }
+        ensures runs { (group : List Note) × (notes.new.items ≡ notes.old.items ++ group)
+            × LiveRuns setup.now self.old.number self.old.conn self.new.conn group result }
+        ensures slice { let given = length notes.new.items - length notes.old.items in
+            IsWhole result (steps.new - steps.old) given }
+        ensures bounded { IsBounded result (steps.new - steps.old) }
     {
-        if let Some(conn) = &mut self.conn {
-            conn.queue.drop_front(n);
+        match &mut self.conn {
+            Some(conn) => conn.run(alloc, setup, self.number, steps, notes),
+            None => {
+                close(self.number, 0, notes);
+                ConnTurn::Over
+            }
         }
     }
+}
+
+// The last notes of a connection, on which so many bytes were dropped.
+fn close(number: u32, dropped: usize, notes: &mut Notes)
+    requires { 2 ≤ notes.old.spare }
+    ensures { notes.new.items ≡ notes.old.items ++ closing number dropped }
+{
+    notes.push_reserved(Note::CloseClient { conn: number });
+    notes.push_reserved(Note::Ended {
+        conn: number,
+        dropped,
+    });
 }

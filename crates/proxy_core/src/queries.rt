@@ -2,14 +2,15 @@
 
 ghost use Rattle.std.specs.Prelude.{◌≡◌, ◌↔◌, [], IsTrue, IfOk, length, option_map};
 ghost use Rattle.proxy_core.specs.Refusals.{live_at};
-ghost use Rattle.proxy_core.specs.Queries.{pending_on, queue_on, wanted, front_of};
+ghost use Rattle.conn.specs.Calls.{wanted};
+ghost use Rattle.proxy_core.specs.Queries.{pending_on, queue_on, front_of};
 
 use crate::core_state::Core;
 use crate::live::Live;
 use crate::took::find;
 use px_bytes::{M, Side, Text};
 
-/// The most bytes of a side that may have arrived and not been read.
+/// The most bytes of a side that may have arrived and not been read, where there is no connection.
 const UNREAD_LIMIT: usize = 65_536;
 
 impl Core {
@@ -59,11 +60,10 @@ impl Core {
     }
 
     /// How many bytes of a side may arrive. None exactly where the connection isn't live.
-    pub fn wants(&self, conn: u32, _side: Side) -> Option<usize>
+    pub fn wants(&self, conn: u32, side: Side) -> Option<usize>
         ensures { result ≡ option_map (λ l. wanted) (live_at self.now.live.items conn) }
     {
-        let _ = self.at(conn)?;
-        Some(UNREAD_LIMIT)
+        Some(self.at(conn)?.wants(side))
     }
 
     // The live connection of a number.
@@ -75,12 +75,22 @@ impl Core {
 }
 
 impl Live {
+    // How many bytes of a side may arrive. There is no server connection.
+    fn wants(&self, side: Side) -> usize
+        ensures { result ≡ wanted }
+    {
+        match (side, &self.conn) {
+            (Side::Client, Some(conn)) => conn.wants(),
+            _ => UNREAD_LIMIT,
+        }
+    }
+
     // The bytes that a side is to take.
     fn queued(&self, side: Side) -> &[u8]
         ensures { result.now ≡ queue_on side self.now.conn }
     {
         match (side, &self.conn) {
-            (Side::Client, Some(conn)) => conn.queue.front(),
+            (Side::Client, Some(conn)) => conn.front(),
             _ => &[],
         }
     }

@@ -2,7 +2,9 @@
 
 ghost use Rattle.std.specs.Prelude.{◌≡◌, false, ◌<◌, nat_eq, IfSome, length, vec_len, vec_capacity};
 ghost use Rattle.std.specs.List.{position_from};
-ghost use Rattle.proxy_core.specs.Ready.{PopsFront, without, with_ready, is_in};
+ghost use Rattle.proxy_core.specs.Ready.{PopsFront, ring_behind, without, with_ready, is_in};
+
+use conn::ConnTurn;
 
 /// Puts a number at the back, unless it is in the ring.
 pub fn make_ready(ring: &mut Vec<u32>, number: u32)
@@ -12,6 +14,17 @@ pub fn make_ready(ring: &mut Vec<u32>, number: u32)
 {
     if !is_ready(ring, number) {
         ring.push_reserved(number);
+    }
+}
+
+/// Puts a number at the back where its Run stopped in the middle.
+pub fn ready_behind(ring: &mut Vec<u32>, number: u32, turn: &ConnTurn)
+    requires { is_in ring.old.items number ≡ false → vec_len ring.old < vec_capacity ring.old }
+    ensures items { ring.new.items ≡ ring_behind turn.now number ring.old.items }
+    ensures room { vec_capacity ring.new ≡ vec_capacity ring.old }
+{
+    if let ConnTurn::More = turn {
+        make_ready(ring, number);
     }
 }
 

@@ -1,20 +1,26 @@
 // The connection that is ready for the longest time goes on.
 
-ghost use Rattle.std.specs.Prelude.{◌≡◌, ◌≤◌, ◌++◌, List};
+ghost use Rattle.std.specs.Prelude.{◌≡◌, ◌≤◌, ◌+◌, ◌-◌, ◌++◌, List, length};
 ghost use Rattle.proxy_core.specs.Changes.{RunsRing};
 ghost use Rattle.connection_model.specs.declared.note.Note.{Note};
 
 use crate::core_state::Core;
-use crate::ring::pop_front;
+use crate::ring::{pop_front, ready_behind};
+use crate::setup::setup_at;
 use crate::took::find;
 use connection_model::Notes;
+use px_bytes::Steps;
+use std::sync::ledger::Ledger;
 
 impl Core {
-    /// Takes the front of the ring and runs its connection. On an empty ring nothing happens.
-    pub(crate) fn run(&mut self, notes: &mut Notes)
+    /// Takes the front of the ring and runs its connection, which goes to the back where there is more
+    /// to do. On an empty ring nothing happens.
+    pub(crate) fn run<L: Ledger>(&mut self, steps: &mut Steps<L>, notes: &mut Notes)
         requires { 68 ≤ notes.old.spare }
-        ensures { (group : List Note) × (notes.new.items ≡ notes.old.items ++ group)
-            × RunsRing self.old self.new self.old.ring.items group }
+        ensures runs { (group : List Note) × (notes.new.items ≡ notes.old.items ++ group)
+            × RunsRing self.old self.new self.old.ring.items group (steps.new - steps.old) }
+        ensures bounded { length self.old.live.items ≤ length self.new.live.items
+            → steps.new ≤ steps.old + 2000 }
     {
         let Some(number) = pop_front(&mut self.ring) else {
             return;
@@ -22,7 +28,10 @@ impl Core {
         let Some(at) = find(&self.live, number) else {
             unreachable!();
         };
-        if self.live[at].run(self.alloc, &self.config, &self.statics, notes) {
+        let setup = setup_at(&self.config, &self.statics, self.live[at].vs);
+        let turn = self.live[at].run(self.alloc, &setup, steps, notes);
+        ready_behind(&mut self.ring, number, &turn);
+        if turn.is_over() {
             let _ = self.live.remove(at);
         }
     }

@@ -1,6 +1,6 @@
 // One event.
 
-ghost use Rattle.std.specs.Prelude.{◌≡◌, ◌≤◌, ◌++◌, Some, None, OnOk, OnErr, IfErr, List};
+ghost use Rattle.std.specs.Prelude.{◌≡◌, ◌≤◌, ◌+◌, ◌-◌, ◌++◌, Some, None, OnOk, OnErr, IfErr, List, length};
 ghost use Rattle.connection_model.specs.declared.note.Note.{Note};
 ghost use Rattle.proxy_core.specs.Changes.{Changes};
 ghost use Rattle.proxy_core.specs.Refusal.{refusal};
@@ -9,35 +9,54 @@ ghost use Rattle.proxy_core.specs.Steps.{Steps, IsRefused};
 use crate::core_state::Core;
 use crate::event::{BadEvent, Event};
 use connection_model::Notes;
+use std::sync::ledger::Ledger;
 
 impl Core {
-    /// Takes an event and adds its notes. A refused event changes nothing and gives no note.
-    pub fn step(&mut self, event: Event, notes: &mut Notes) -> Result<(), BadEvent>
+    /// Takes an event and adds its notes. A refused event changes nothing, gives no note and counts no
+    /// step. One that ends no connection counts 2,000 steps at most.
+    pub fn step<L: Ledger>(
+        &mut self,
+        event: Event,
+        steps: &mut px_bytes::Steps<L>,
+        notes: &mut Notes,
+    ) -> Result<(), BadEvent>
         requires { 68 ≤ notes.old.spare }
         ensures accepted { OnOk result (refusal self.old event ≡ None) }
         ensures refused { IfErr result (λ why. refusal self.old event ≡ Some why) }
         ensures steps { OnOk result
-            (Steps self.old self.new event notes.old.items notes.new.items) }
+            (Steps self.old self.new event notes.old.items notes.new.items
+            (steps.new - steps.old)) }
         ensures scheduled { IfErr result (λ why. IsRefused self.old event why) }
         ensures same { OnErr result ((self.new ≡ self.old) × (notes.new ≡ notes.old)) }
+        ensures uncounted { OnErr result (steps.new ≡ steps.old) }
+        ensures bounded { length self.old.live.items ≤ length self.new.live.items
+            → steps.new ≤ steps.old + 2000 }
     {
-        self.take(event, notes)
+        self.take(event, steps, notes)
     }
 
-    fn take(&mut self, event: Event, notes: &mut Notes) -> Result<(), BadEvent>
+    fn take<L: Ledger>(
+        &mut self,
+        event: Event,
+        steps: &mut px_bytes::Steps<L>,
+        notes: &mut Notes,
+    ) -> Result<(), BadEvent>
         requires { 68 ≤ notes.old.spare }
         ensures accepted { OnOk result (refusal self.old event ≡ None) }
         ensures refused { IfErr result (λ why. refusal self.old event ≡ Some why) }
         ensures changes { OnOk result
             ((group : List Note) × (notes.new.items ≡ notes.old.items ++ group)
-            × Changes self.old self.new event group) }
+            × Changes self.old self.new event group (steps.new - steps.old)) }
         ensures same { OnErr result ((self.new ≡ self.old) × (notes.new ≡ notes.old)) }
+        ensures uncounted { OnErr result (steps.new ≡ steps.old) }
+        ensures bounded { length self.old.live.items ≤ length self.new.live.items
+            → steps.new ≤ steps.old + 2000 }
     {
         match event {
             Event::Accept { conn, vs, from } => self.accept(conn, vs.as_bytes(), from, notes),
             Event::ClientTook { conn, n } => self.took(conn, n, notes),
             Event::Run => {
-                self.run(notes);
+                self.run(steps, notes);
                 Ok(())
             }
         }

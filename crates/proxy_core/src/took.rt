@@ -6,14 +6,14 @@ ghost use Rattle.proxy_core.specs.Ready.{place_of};
 ghost use Rattle.px_bytes.specs.declared.addr.Side.TheVariants.{Client};
 ghost use Rattle.connection_model.specs.Heard.{Comes, Takes as Taking};
 ghost use Rattle.proxy_core.specs.Refusal.{refusal_of};
+ghost use Rattle.connection_model.specs.declared.note.Note.{Note};
 ghost use Rattle.proxy_core.specs.Changes.{Takes};
-ghost use Rattle.proxy_core.specs.RunsItems.{closing};
 
 use crate::core_state::Core;
 use crate::event::BadEvent;
 use crate::live::Live;
 use crate::ring::{make_ready, unlink};
-use connection_model::{Note, Notes};
+use connection_model::Notes;
 
 impl Core {
     /// The client took the first `n` bytes that were pending to it.
@@ -34,12 +34,10 @@ impl Core {
         if self.live[at].pending() < n {
             return Err(BadEvent::TookTooMuch);
         }
-        if self.live[at].ends_with(n) {
+        if self.live[at].take(n, notes) {
             let _ = self.live.remove(at);
             unlink(&mut self.ring, number);
-            close(number, 0, notes);
         } else {
-            self.live[at].take(n);
             make_ready(&mut self.ring, number);
         }
         Ok(())
@@ -52,17 +50,4 @@ pub fn find(live: &[Live], number: u32) -> Option<usize>
     ensures within { IfSome result (λ at. at < length live.now) }
 {
     live.iter().position(|l| l.number == number)
-}
-
-/// The last notes of a connection, on which so many bytes were dropped.
-pub fn close(number: u32, dropped: usize, notes: &mut Notes)
-    requires { 2 ≤ notes.old.spare }
-    ensures items { notes.new.items ≡ notes.old.items ++ closing number dropped }
-    ensures spare { notes.new.spare + 2 ≡ notes.old.spare }
-{
-    notes.push_reserved(Note::CloseClient { conn: number });
-    notes.push_reserved(Note::Ended {
-        conn: number,
-        dropped,
-    });
 }

@@ -1,6 +1,7 @@
-use Rattle.std.proofs.Common.{◌≡◌, ◌+◌, ◌-◌, ℕ, take, drop, subst, arith}
-use Rattle.std.proofs.lemmas.List.{length-drop}
+use Rattle.std.proofs.Common.{◌≡◌, ◌+◌, ◌-◌, ℕ, List, take, drop, subst, arith}
+use Rattle.std.proofs.lemmas.List.{length-drop, take_all}
 use Rattle.proxy.specs.Stops.{StoppedAtLine}
+use Rattle.proxy.specs.Written.{Stands}
 use Rattle.proxy.proofs.LineCuts.{cut}
 use Rattle.proxy.proofs.ScheduleStops.{placed, within_rest, behind_line, stops_there, stops_unended}
 use Rattle.proxy.proofs.replay.Replay.lines.Goals as goal
@@ -44,3 +45,10 @@ loop-at-preserved g c =
       within = omega (arith, h, k, l.invariant.within);
       faults = omega (arith, c.line.ensures.faults_never_fall, l.invariant.faults);
     }
+
+pub returns-clause-goes_on : goal.returns-clause-goes_on
+returns-clause-goes_on g c C told st =
+    let l = c.loop-at in
+    let s = c.args.schedule.now in
+    let P : List ℕ → Type 0 = λ text. Stands C text l.line l.self.core l.self.taken.items l.self.events told (g.K.Sink.written l.out) in
+    (l.line, subst P (take_all l.at s (omega (arith, c.loop-at-test.false))) (l.invariant.stands C told st))

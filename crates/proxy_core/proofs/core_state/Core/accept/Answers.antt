@@ -1,4 +1,4 @@
-use Rattle.std.proofs.Common.{arith}
+use Rattle.std.proofs.Common.{[], Some, append-nil, arith, refl, sym}
 use Rattle.std.proofs.lemmas.List.{length-map}
 use Rattle.proxy_core.specs.Ready.{numbers}
 use Rattle.proxy_core.proofs.ReadyRing.{ring_within, fresh_not_in, distinct_push, accept_within}
@@ -24,3 +24,19 @@ pub invariant_of-self-clause-live_known : goal.invariant_of-self-clause-live_kno
 invariant_of-self-clause-live_known c =
     let s = c.args.self.now in
     rw c.push_reserved.ensures.items (accept_known s.live.items _ s.last s.live_known c.if-number-self.false)
+
+pub returns-clause-accepts : goal.returns-clause-accepts
+returns-clause-accepts c = (
+  [],
+  sym (append-nil _),
+  record {
+    keeps = record { config = refl; statics = refl };
+    last = refl;
+    place = c.in-Some.place;
+    virtual = sym c.in-Some.ensures;
+    conn = Some c.new.result;
+    begins = ((c.setup_at-setup.result, c.setup_at-setup.ensures, c.new.ensures.begins), c.new.ensures.queue, refl);
+    live = c.push_reserved.ensures.items;
+    ring = c.push_reserved-2.ensures.items;
+  },
+)

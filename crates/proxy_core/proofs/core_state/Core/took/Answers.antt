@@ -1,11 +1,9 @@
-use Rattle.std.proofs.Common.{arith, sym, ap, refl, [], append-nil}
+use Rattle.std.proofs.Common.{◌≡◌, ◌++◌, arith, sym, ap, refl, [], ◌∙◌, true, false}
 use Rattle.std.proofs.lemmas.List.{length-map}
-use Rattle.proxy_core.specs.Live.{after_taking}
+use Rattle.conn.specs.RunsItems.{closing, closing_if}
 use Rattle.proxy_core.specs.Ready.{numbers}
-use Rattle.proxy_core.specs.RunsItems.{closing}
-use Rattle.proxy_core.proofs.Places.{read_at, read_again, number_at, in_numbers, numbers_set}
+use Rattle.proxy_core.proofs.Places.{read_at, number_at, in_numbers, numbers_set, remove_set}
 use Rattle.proxy_core.proofs.Places.{in_before, took_accepted}
-use Rattle.proxy_core.proofs.Queues.{not_over}
 use Rattle.proxy_core.proofs.ReadyRing.{ring_room, distinct_without, removed_within, ready_distinct}
 use Rattle.proxy_core.proofs.ReadyRing.{ready_within}
 use Rattle.proxy_core.proofs.core_state.Core.took.Goals as goal
@@ -17,46 +15,27 @@ make_ready-requires c absent =
     let there = rw (number_at c.args.number c.in-Some.at s.live.items c.index.result.now h.0 h.1) at (in_numbers c.in-Some.at s.live.items c.index.result.now h.1) in
     omega (arith, ring_room s.ring.items (numbers s.live.items) c.args.number s.ring_distinct s.ring_live absent there, length-map s.live.items (λ l. l.number), s.ring_room, s.live_limit)
 
-pub returns-then-ends_with-clause-accepted : goal.returns-then-ends_with-clause-accepted
-returns-then-ends_with-clause-accepted c =
+pub returns-then-take-clause-accepted : goal.returns-then-take-clause-accepted
+returns-then-take-clause-accepted c =
     let s = c.args.self.now in
     let h = read_at s.live.items c.deref.result.now c.in-Some.at c.args.number c.index.result.now c.deref.ensures.value c.in-Some.ensures.place c.in-Some.ensures.within c.index.ensures in
     took_accepted s c.args.number c.in-Some.at c.args.n c.index.result.now h (omega (arith, c.if-pending-n.false, c.pending.ensures))
 
-pub returns-else-ends_with-clause-accepted : goal.returns-else-ends_with-clause-accepted
-returns-else-ends_with-clause-accepted c =
+pub returns-else-take-clause-accepted : goal.returns-else-take-clause-accepted
+returns-else-take-clause-accepted c =
     let s = c.args.self.now in
     let h = read_at s.live.items c.deref.result.now c.in-Some.at c.args.number c.index.result.now c.deref.ensures.value c.in-Some.ensures.place c.in-Some.ensures.within c.index.ensures in
     took_accepted s c.args.number c.in-Some.at c.args.n c.index.result.now h (omega (arith, c.if-pending-n.false, c.pending.ensures))
 
-pub returns-then-ends_with-clause-takes : goal.returns-then-ends_with-clause-takes
-returns-then-ends_with-clause-takes c =
-    let s = c.args.self.now in
-    let l = c.index-2.result.now in
-    let h = read_at s.live.items c.deref.result.now c.in-Some.at c.args.number l c.deref.ensures.value c.in-Some.ensures.place c.in-Some.ensures.within c.index-2.ensures in (
-      closing c.args.number 0,
-      c.close.ensures.items,
-      record {
-        keeps = record { config = refl; statics = refl };
-        last = refl;
-        at = c.in-Some.at;
-        place = h.0;
-        before = l;
-        found = h.1;
-        after = record l { conn = after_taking c.args.n l.conn };
-        taken = refl;
-        goes_on = λ e. let f = c.ends_with.ensures in let t = c.if-ends_with.true in (cc);
-        ends = λ e. (refl, (c.remove.ensures.items, rw (number_at c.args.number c.in-Some.at s.live.items l h.0 h.1) c.unlink.ensures.items));
-      },
-    )
-
-pub returns-else-ends_with-clause-takes : goal.returns-else-ends_with-clause-takes
-returns-else-ends_with-clause-takes c =
+pub returns-then-take-clause-takes : goal.returns-then-take-clause-takes
+returns-then-take-clause-takes c =
     let s = c.args.self.now in
     let l = c.index_mut.result.now in
-    let h = read_at s.live.items c.deref.result.now c.in-Some.at c.args.number l c.deref.ensures.value c.in-Some.ensures.place c.in-Some.ensures.within c.index_mut.ensures.value in (
-      [],
-      sym (append-nil _),
+    let h = read_at s.live.items c.deref.result.now c.in-Some.at c.args.number l c.deref.ensures.value c.in-Some.ensures.place c.in-Some.ensures.within c.index_mut.ensures.value in
+    let number = number_at c.args.number c.in-Some.at s.live.items l h.0 h.1 in
+    let before = c.args.notes.now.items in (
+      closing c.args.number 0,
+      c.take.ensures.notes ∙ ap (λ b. before ++ closing_if b l.number) c.if-take.true ∙ ap (λ n. before ++ closing n 0) number,
       record {
         keeps = record { config = refl; statics = refl };
         last = refl;
@@ -65,12 +44,36 @@ returns-else-ends_with-clause-takes c =
         before = l;
         found = h.1;
         after = c.take.new.self;
-        taken = c.take.ensures;
-        goes_on = λ e. (refl, (refl, rw (ap (λ x. x.number) c.take.ensures, number_at c.args.number c.in-Some.at s.live.items l h.0 h.1) c.make_ready.ensures.items));
-        ends = λ e.
-            let k = read_at s.live.items c.deref.result.now c.in-Some.at c.args.number c.index-2.result.now c.deref.ensures.value c.in-Some.ensures.place c.in-Some.ensures.within c.index-2.ensures in
-            let same = read_again s.live.items c.in-Some.at c.index-2.result.now l k.1 h.1 in
-            absurd (not_over c.args.n c.index-2.result.now l c.take.new.self c.ends_with.result same c.ends_with.ensures c.if-ends_with.false c.take.ensures e);
+        same = c.take.ensures.same;
+        over = c.take.result;
+        taken = c.take.ensures.takes;
+        goes_on = λ e. let t : true ≡ false = sym c.if-take.true ∙ e in (cc);
+        ends = λ e. (refl, (c.remove.ensures.items ∙ remove_set c.in-Some.at s.live.items c.take.new.self, rw number c.unlink.ensures.items));
+      },
+    )
+
+pub returns-else-take-clause-takes : goal.returns-else-take-clause-takes
+returns-else-take-clause-takes c =
+    let s = c.args.self.now in
+    let l = c.index_mut.result.now in
+    let h = read_at s.live.items c.deref.result.now c.in-Some.at c.args.number l c.deref.ensures.value c.in-Some.ensures.place c.in-Some.ensures.within c.index_mut.ensures.value in
+    let number = number_at c.args.number c.in-Some.at s.live.items l h.0 h.1 in
+    let before = c.args.notes.now.items in (
+      [],
+      c.take.ensures.notes ∙ ap (λ b. before ++ closing_if b l.number) c.if-take.false,
+      record {
+        keeps = record { config = refl; statics = refl };
+        last = refl;
+        at = c.in-Some.at;
+        place = h.0;
+        before = l;
+        found = h.1;
+        after = c.take.new.self;
+        same = c.take.ensures.same;
+        over = c.take.result;
+        taken = c.take.ensures.takes;
+        goes_on = λ e. (refl, (refl, rw (c.take.ensures.same.number ∙ number) c.make_ready.ensures.items));
+        ends = λ e. let t : true ≡ false = sym e ∙ c.if-take.false in (cc);
       },
     )
 
@@ -81,30 +84,31 @@ invariant_of-self-clause-ring_distinct c =
 pub invariant_of-self-clause-ring_live : goal.invariant_of-self-clause-ring_live
 invariant_of-self-clause-ring_live c =
     let s = c.args.self.now in
-    let l = c.index-2.result.now in
-    let h = read_at s.live.items c.deref.result.now c.in-Some.at c.args.number l c.deref.ensures.value c.in-Some.ensures.place c.in-Some.ensures.within c.index-2.ensures in
+    let l = c.index_mut.result.now in
+    let h = read_at s.live.items c.deref.result.now c.in-Some.at c.args.number l c.deref.ensures.value c.in-Some.ensures.place c.in-Some.ensures.within c.index_mut.ensures.value in
     let w = rw (number_at c.args.number c.in-Some.at s.live.items l h.0 h.1) at (removed_within s.ring.items s.live.items c.in-Some.at l s.ring_distinct s.ring_live h.1) in
-    rw (c.unlink.ensures.items, c.remove.ensures.items) w
+    rw (c.unlink.ensures.items, c.remove.ensures.items, remove_set c.in-Some.at s.live.items c.take.new.self) w
 
 pub invariant_of-self-clause-live_known : goal.invariant_of-self-clause-live_known
 invariant_of-self-clause-live_known c =
-    let s = c.args.self.now in rw c.remove.ensures.items (λ q h. s.live_known q (in_before c.in-Some.at s.live.items q h))
+    let s = c.args.self.now in
+    rw (c.remove.ensures.items, remove_set c.in-Some.at s.live.items c.take.new.self) (λ q h. s.live_known q (in_before c.in-Some.at s.live.items q h))
 
-pub invariant_of-self-else-ends_with-clause-ring_distinct : goal.invariant_of-self-else-ends_with-clause-ring_distinct
-invariant_of-self-else-ends_with-clause-ring_distinct c =
+pub invariant_of-self-else-take-clause-ring_distinct : goal.invariant_of-self-else-take-clause-ring_distinct
+invariant_of-self-else-take-clause-ring_distinct c =
     let s = c.args.self.now in rw c.make_ready.ensures.items (ready_distinct c.args.number s.ring.items s.ring_distinct)
 
-pub invariant_of-self-else-ends_with-clause-ring_live : goal.invariant_of-self-else-ends_with-clause-ring_live
-invariant_of-self-else-ends_with-clause-ring_live c =
+pub invariant_of-self-else-take-clause-ring_live : goal.invariant_of-self-else-take-clause-ring_live
+invariant_of-self-else-take-clause-ring_live c =
     let s = c.args.self.now in
     let l = c.index_mut.result.now in
     let h = read_at s.live.items c.deref.result.now c.in-Some.at c.args.number l c.deref.ensures.value c.in-Some.ensures.place c.in-Some.ensures.within c.index_mut.ensures.value in
     let there = rw (number_at c.args.number c.in-Some.at s.live.items l h.0 h.1) at (in_numbers c.in-Some.at s.live.items l h.1) in
-    rw (c.make_ready.ensures.items, numbers_set c.in-Some.at s.live.items l c.take.new.self h.1 (ap (λ x. x.number) c.take.ensures)) (ready_within c.args.number s.ring.items (numbers s.live.items) s.ring_live there)
+    rw (c.make_ready.ensures.items, numbers_set c.in-Some.at s.live.items l c.take.new.self h.1 c.take.ensures.same.number) (ready_within c.args.number s.ring.items (numbers s.live.items) s.ring_live there)
 
-pub invariant_of-self-else-ends_with-clause-live_known : goal.invariant_of-self-else-ends_with-clause-live_known
-invariant_of-self-else-ends_with-clause-live_known c =
+pub invariant_of-self-else-take-clause-live_known : goal.invariant_of-self-else-take-clause-live_known
+invariant_of-self-else-take-clause-live_known c =
     let s = c.args.self.now in
     let l = c.index_mut.result.now in
     let h = read_at s.live.items c.deref.result.now c.in-Some.at c.args.number l c.deref.ensures.value c.in-Some.ensures.place c.in-Some.ensures.within c.index_mut.ensures.value in
-    rw (numbers_set c.in-Some.at s.live.items l c.take.new.self h.1 (ap (λ x. x.number) c.take.ensures)) s.live_known
+    rw (numbers_set c.in-Some.at s.live.items l c.take.new.self h.1 c.take.ensures.same.number) s.live_known

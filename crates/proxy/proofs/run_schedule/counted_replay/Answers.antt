@@ -1,6 +1,6 @@
 use Rattle.std.proofs.Common.{inr, refl}
 use Rattle.proxy.proofs.Finishing.{done_replayed, text_replayed, event_replayed}
-use Rattle.proxy.proofs.run_schedule.replay.Goals as goal
+use Rattle.proxy.proofs.run_schedule.counted_replay.Goals as goal
 
 pub returns-in-Ok-lines-clause-replayed : goal.returns-in-Ok-lines-clause-replayed
 returns-in-Ok-lines-clause-replayed g c =

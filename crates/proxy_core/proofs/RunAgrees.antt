@@ -1,0 +1,231 @@
+-- A Run: from what changed in a core to what the core stands for.
+use Rattle.std.proofs.Common.{◌≡◌, ◌⊎◌, inl, inr, refl, sym, ap, subst, ◌∙◌, ℕ, ◌+◌, ◌-◌, List, [], ◌∷◌, ◌++◌, length, drop, map, Bool, true, false, ◌||◌, not, Option, Some, None, nat_eq, arith, length-append, if◌then◌else◌, remove, set}
+use Rattle.std.specs.Bool.{MatchBool}
+use Rattle.std.specs.List.{IsDistinct}
+use Rattle.std.proofs.lemmas.List.{length-drop, drop-append-le}
+use Rattle.std.proofs.lemmas.Grind.{flat_map-append}
+use Rattle.px_bytes.specs.declared.addr.Side.TheVariants.{Client, Server}
+use Rattle.tcl_vars.specs.Scopes.{Level}
+use Rattle.connection_model.specs.declared.note.Cause.TheVariants.{Memory}
+use Rattle.connection_model.specs.declared.note.Note.{Note}
+use Rattle.connection_model.specs.declared.note.Note.TheVariants.{Finish}
+use Rattle.connection_model.specs.Gates.{TakenCounts, no_bytes, sent_from, taken_of, to_take}
+use Rattle.connection_model.specs.Heard.{Runs, taken, hears}
+use Rattle.connection_model.specs.Item.{Item, to_client, client_output, notes_of}
+use Rattle.connection_model.specs.Setup.{Setup}
+use Rattle.connection_model.specs.Tellings.{tells, failure_told}
+use Rattle.connection_model.specs.State.{TraceState}
+use Rattle.connection_model.proofs.Hearing.{others_not_heard}
+use Rattle.conn.specs.Holds.{Holds}
+use Rattle.conn.specs.Runs.{GoesOnWith, StopsWithout}
+use Rattle.conn.specs.RunsItems.{closing, closing_if, ends, out_of_memory, Passes}
+use Rattle.conn.specs.Setups as conn
+use Rattle.conn.specs.declared.connection.Conn.{Conn}
+use Rattle.conn.specs.declared.setup.Setup as given
+use Rattle.conn.specs.declared.turn.ConnTurn.{ConnTurn}
+use Rattle.conn.specs.declared.turn.ConnTurn.TheVariants as turn
+use Rattle.conn.proofs.Awake.{never_asks, no_call}
+use Rattle.proxy_core.specs.Changes as code
+use Rattle.proxy_core.specs.Live.{LiveRuns, queue_of}
+use Rattle.proxy_core.specs.Moves.{MovesRing, MovesFront, RunsOn, RunsOut, RunsFailed, ran}
+use Rattle.proxy_core.specs.Past.{Past, heard, ended_in, without_all, shared}
+use Rattle.proxy_core.specs.Ready.{numbers, is_in, ring_behind, without}
+use Rattle.proxy_core.specs.Refusals.{live_at}
+use Rattle.proxy_core.specs.Represents.{around, Continues, NeverBegan, ConnectionContinues, AgreesAt, Represents}
+use Rattle.proxy_core.specs.Scheduler.{State, Seen, seen, seen_after, untaken_all}
+use Rattle.proxy_core.specs.Serving.{Serves, IsSetup}
+use Rattle.proxy_core.specs.Setup.{statics_of, setup_in, setup_of, stand_of}
+use Rattle.proxy_core.specs.Sound.{Served}
+use Rattle.proxy_core.specs.declared.config.Config.{Config}
+use Rattle.proxy_core.specs.declared.core_state.Core.{Core}
+use Rattle.proxy_core.specs.declared.live.Live.{Live}
+use Rattle.proxy_core.proofs.Framing.{about, front}
+use Rattle.proxy_core.proofs.GroupNotes.{of_items, ended_behind, failure_behind}
+use Rattle.proxy_core.proofs.Hearing.{run_told}
+use Rattle.proxy_core.proofs.Members.{eq_self, not_in_without}
+use Rattle.proxy_core.proofs.Places.{number_at, live_there}
+use Rattle.proxy_core.proofs.Setups.{serves_code}
+use Rattle.proxy_core.proofs.SoundEvents.{run_about, run_plain, took_stays, ran_at, behind_closing, behind_memory, failure_closing}
+use Rattle.proxy_core.proofs.SoundPast.{unchanged}
+use Rattle.proxy_core.proofs.Standing.{is_served, none_untaken, all_untaken}
+use Rattle.proxy_core.proofs.Agreeing.{After, assemble, its, distinct_live, one_changed, closing_live, is_live_over, to_standing, serves_still}
+
+record RanConn (C : Config) (past : Past) (s : State) (c : ℕ) (rest : List ℕ) (group : List Note) (t : ConnTurn) (o : Option Conn) : Type 0 where
+  next : State
+  ring : next.ring ≡ ring_behind t c rest
+  moves : MovesFront C (heard c past) c rest group s next
+  live : (seen_after past Runs group next c).live ≡ not (ends t)
+  ended : (live : List ℕ) → without_all (ended_in group) live ≡ (if ends t then without c live else live)
+  setup : ends t ≡ false → setup_of C (hears c (heard c past) Runs group) ≡ setup_of C (heard c past)
+  goes_on : ends t ≡ false → ConnectionContinues C (seen_after past Runs group next c) o
+
+-- those that ended are gone
+gone : (past : Past) (c : ℕ) (over : Bool) (group : List Note) → IsDistinct nat_eq (shared past).live → is_in (shared past).live c ≡ true → ((live : List ℕ) → without_all (ended_in group) live ≡ (if over then without c live else live)) → is_in (without_all (ended_in group) (shared past).live) c ≡ not over
+gone past c over group d live e = ap (λ ns. is_in ns c) (e (shared past).live) ∙ by_over over
+  where
+    by_over : (b : Bool) → is_in (if b then without c (shared past).live else (shared past).live) c ≡ not b
+    by_over true = not_in_without c (shared past).live d
+    by_over false = live
+
+-- one that is over doesn't go on
+over_stays : (t : ConnTurn) → t ≡ turn.Over → ends t ≡ false → ⊥
+over_stays t e f = let y : true ≡ false = sym (ap ends e) ∙ f in cc
+
+front_failed : (C : Config) (past : Past) (s : State) (c : ℕ) (rest : List ℕ) (group : List Note) (t : ConnTurn) (o : Option Conn) → IsDistinct nat_eq (shared past).live → (seen past s c).live ≡ true → NeverBegan (seen past s c) → group ≡ closing c 0 → t ≡ turn.Over
+    → RanConn C past s c rest group t o
+front_failed C past s c rest group t o d live k e f =
+    let h = heard c past in
+    let a = none_untaken (taken h).client in
+    let b = none_untaken (taken_of (taken h).servers 0) in
+    let zero : untaken_all h [] ≡ 0 = omega (arith, a, b) in
+    let left : untaken_all h (s.places c) ≡ 0 = ap (untaken_all h) k.no_items ∙ zero in
+    let moved : RunsFailed h c rest group s (record s { ring = rest }) = record { notes = e ∙ ap (closing c) (sym left); state = refl } in
+    let M : Bool → Type 0 = λ b. MatchBool b (RunsFailed h c rest group s (record s { ring = rest })) (RunsOn C h c rest group s (record s { ring = rest }) ⊎ RunsOut C h c rest group s (record s { ring = rest })) in
+    let gone_all : (ns : List ℕ) → without_all (ended_in group) ns ≡ (if ends t then without c ns else ns) = λ ns. ap (λ g. without_all (ended_in g) ns) e ∙ ap (λ x. if ends x then without c ns else ns) (sym f) in
+    record {
+      next = record s { ring = rest };
+      ring = ap (λ x. ring_behind x c rest) (sym f);
+      moves = subst M (sym k.failed) moved;
+      live = gone past c (ends t) group d live gone_all;
+      ended = gone_all;
+      setup = λ x. absurd (over_stays t f x);
+      goes_on = λ x. absurd (over_stays t f x);
+    }
+
+front_goes : (C : Config) (past : Past) (s : State) (c : ℕ) (rest : List ℕ) (group : List Note) (t : ConnTurn) (old new : Conn) → IsDistinct nat_eq (shared past).live → (seen past s c).live ≡ true → Served C c (seen past s c) → Continues C (seen past s c) old
+    → GoesOnWith (setup_of C (heard c past)) (around (heard c past)) (stand_of C (heard c past) (s.places c)) c old new group t → RanConn C past s c rest group t (Some new)
+front_goes C past s c rest group t old new d live v k w =
+    let z = seen past s c in
+    let h = z.heard in
+    let g = setup_of C h in
+    let over = ends t in
+    let next = ran c (ring_behind t c rest) w.more s in
+    let calls = no_call g (around h) w.at new w.holds t w.items.stops in
+    let moved : RunsOn C h c rest group s next = record { more = w.more; at = w.at; turn = t; items = w.items; no_call = calls; state = refl } in
+    let M : Bool → Type 0 = λ b. MatchBool b (RunsFailed h c rest group s next) (RunsOn C h c rest group s next ⊎ RunsOut C h c rest group s next) in
+    let behind = closing_if over c in
+    let b = behind_closing over c 0 in
+    let notes = notes_of c w.more ++ behind in
+    let gone_all : (ns : List ℕ) → without_all (ended_in group) ns ≡ (if over then without c ns else ns) = λ ns. ap (λ x. without_all (ended_in x) ns) w.items.noted ∙ ap (λ x. without_all x ns) (ended_behind c (notes_of c w.more) behind (of_items c w.more)) ∙ closing_live over c ns in
+    let h' = hears c h Runs notes in
+    let told = run_told c h notes v.plain.connects (run_about c w.more behind b.about) in
+    let plain = run_plain c h w.more behind false over 0 v.plain b w.items.passes.uncut in
+    let took = took_stays h h' v.plain plain told.took in
+    let setup : setup_of C h' ≡ g = ap (setup_in C) told.accepted in
+    let place : (if nat_eq c c then z.place ++ w.more else z.place) ≡ z.place ++ w.more = ap (λ x. if x then z.place ++ w.more else z.place) (eq_self c) in
+    let stands = ran_at C c z w.more w.at behind b.quiet w.items.passes v in
+    let T : TakenCounts → Type 0 = λ x. Holds g (record { took = x }) w.at new in
+    let same : h.client.took ≡ h'.client.took = omega (arith, told.took) in
+    let G : List Note → Type 0 = λ x. Continues C (seen_after past Runs x next c) new in
+    let Z : List Item → Type 0 = λ p. Continues C (record (seen_after past Runs notes next c) { place = p }) new in
+    record {
+      next = next;
+      ring = refl;
+      moves = subst M (sym k.not_failed) (inl moved);
+      live = gone past c over group d live gone_all;
+      ended = gone_all;
+      setup = λ x. ap (λ n. setup_of C (hears c h Runs n)) w.items.noted ∙ setup;
+      goes_on = λ x. subst G (sym w.items.noted) (subst Z (sym place) (record {
+        not_failed = told.failed ∙ ap (λ y. y || failure_told (map tells notes)) k.not_failed ∙ failure_behind c (notes_of c w.more) behind (of_items c w.more) ∙ failure_closing over c;
+        holds = to_standing C h' g (z.place ++ w.more) w.at new setup stands (subst T (sym took) w.holds);
+        queue = w.queue ∙ ap (λ q. q ++ client_output w.more) k.queue ∙ sym (drop-append-le h.client.took (client_output z.place) (client_output w.more) v.within) ∙ ap (drop h.client.took) (sym (flat_map-append to_client z.place w.more)) ∙ ap (λ n. drop n (client_output (z.place ++ w.more))) same;
+      }));
+    }
+
+-- what is dropped was sent and not taken
+dropped_is : (C : Config) (c : ℕ) (z : Seen) (more : List Item) (at : TraceState) (queue : List ℕ) → Served C c z → Passes (setup_of C z.heard) (taken z.heard) (stand_of C z.heard z.place) more at → queue ≡ drop z.heard.client.took (client_output z.place)
+    → length queue + length (client_output more) ≡ untaken_all z.heard (z.place ++ more)
+dropped_is C c z more at queue v p is =
+    let h = z.heard in
+    let all = z.place ++ more in
+    let d = length queue + length (client_output more) in
+    let behind = Finish c Memory ∷ closing c d in
+    let b = behind_memory c d in
+    let notes = notes_of c more ++ behind in
+    let h' = hears c h Runs notes in
+    let told = run_told c h notes v.plain.connects (run_about c more behind b.about) in
+    let plain = run_plain c h more behind true true d v.plain b p.uncut in
+    let took = took_stays h h' v.plain plain told.took in
+    let left = all_untaken (setup_of C h) h' all at (ran_at C c z more at behind b.quiet p v) p.no_server plain in
+    let sent : length (client_output all) ≡ length (client_output z.place) + length (client_output more) = ap length (flat_map-append to_client z.place more) ∙ length-append (client_output z.place) (client_output more) in
+    let waits : length queue ≡ length (client_output z.place) - h.client.took = ap length is ∙ length-drop h.client.took (client_output z.place) in
+    let sum : length queue + length (client_output more) ≡ length (client_output all) - h'.client.took = omega (arith, sent, waits, told.took, v.within) in
+    sum ∙ sym left ∙ ap (untaken_by all) took
+  where
+    untaken_by : List Item → TakenCounts → ℕ
+    untaken_by items t = to_take (sent_from no_bytes items) t Client + to_take (sent_from no_bytes items) t Server
+
+front_stops : (C : Config) (past : Past) (s : State) (c : ℕ) (rest : List ℕ) (group : List Note) (t : ConnTurn) (old : Conn) (o : Option Conn) → IsDistinct nat_eq (shared past).live → (seen past s c).live ≡ true → Served C c (seen past s c) → Continues C (seen past s c) old
+    → StopsWithout (setup_of C (heard c past)) (around (heard c past)) (stand_of C (heard c past) (s.places c)) c old group t → RanConn C past s c rest group t o
+front_stops C past s c rest group t old o d live v k w =
+    let z = seen past s c in
+    let h = z.heard in
+    let next = ran c rest w.more s in
+    let queued = length (queue_of old) + length (client_output w.more) in
+    let behind = Finish c Memory ∷ closing c queued in
+    let left : queued ≡ untaken_all h (z.place ++ w.more) = dropped_is C c z w.more w.at (queue_of old) v w.passes k.queue in
+    let moved : RunsOut C h c rest group s next = record { more = w.more; at = w.at; passes = w.passes; notes = w.noted ∙ ap (λ n. out_of_memory c w.more n) left; state = refl } in
+    let M : Bool → Type 0 = λ b. MatchBool b (RunsFailed h c rest group s next) (RunsOn C h c rest group s next ⊎ RunsOut C h c rest group s next) in
+    let gone_all : (ns : List ℕ) → without_all (ended_in group) ns ≡ (if ends t then without c ns else ns) = λ ns. ap (λ x. without_all (ended_in x) ns) w.noted ∙ ap (λ x. without_all x ns) (ended_behind c (notes_of c w.more) behind (of_items c w.more)) ∙ ap (λ x. if ends x then without c ns else ns) (sym w.over) in
+    record {
+      next = next;
+      ring = ap (λ x. ring_behind x c rest) (sym w.over);
+      moves = subst M (sym k.not_failed) (inr moved);
+      live = gone past c (ends t) group d live gone_all;
+      ended = gone_all;
+      setup = λ x. absurd (over_stays t w.over x);
+      goes_on = λ x. absurd (over_stays t w.over x);
+    }
+
+front_runs : (C : Config) (past : Past) (s : State) (c : ℕ) (rest : List ℕ) (group : List Note) (t : ConnTurn) (S : given.Setup) (o o' : Option Conn) → IsDistinct nat_eq (shared past).live → (seen past s c).live ≡ true → Served C c (seen past s c) → ConnectionContinues C (seen past s c) o
+    → conn.Serves S (setup_of C (heard c past)) → LiveRuns S c o o' group t → RanConn C past s c rest group t o'
+front_runs C past s c rest group t S None o' d live v k serves r = front_failed C past s c rest group t o' d live k r.0 r.1
+front_runs C past s c rest group t S (Some old) None d live v k serves r = absurd r
+front_runs C past s c rest group t S (Some old) (Some new) d live v k serves r = by_end (r g (around (heard c past)) l serves k.holds (never_asks g (around (heard c past)) l old k.holds))
+  where
+    g : Setup
+    g = setup_of C (heard c past)
+
+    l : TraceState
+    l = stand_of C (heard c past) (s.places c)
+
+    by_end : GoesOnWith g (around (heard c past)) l c old new group t ⊎ StopsWithout g (around (heard c past)) l c old group t → RanConn C past s c rest group t (Some new)
+    by_end (inl w) = front_goes C past s c rest group t old new d live v k w
+    by_end (inr w) = front_stops C past s c rest group t old (Some new) d live v k w
+
+runs_front : (C : Config) (past : Past) (s : State) (old new : Core) (c : ℕ) (rest : List ℕ) (group : List Note) (steps : ℕ) → Represents C past s old → s.ring ≡ c ∷ rest → code.RunsFront old new c rest group steps → After C past s Runs group new
+runs_front C past s old new c rest group steps r front_is k =
+    let z = seen past s c in
+    let there = live_there c k.at old.live.items k.before k.place k.found in
+    let i = its C z (live_at old.live.items c) k.before (r.agrees.each c) there in
+    let v = (is_served C c z (λ u. let n : z.live ≡ false = ap (λ y. y.live) u in let m : true ≡ false = sym i.0 ∙ n in cc) (r.sound.each c)).1 in
+    let D : Config → Type 0 = λ x. IsSetup x (statics_of C) k.before.vs k.setup in
+    let L : Level → Type 0 = λ x. IsSetup old.config x k.before.vs k.setup in
+    let serves = serves_code C (statics_of C) k.before.vs k.setup (setup_of C z.heard) (subst D r.agrees.config (subst L r.agrees.statics k.setup_is)) i.2 in
+    let w = front_runs C past s c rest group k.turn k.setup k.before.conn k.after.conn r.sound.distinct i.0 v i.1 serves k.runs in
+    let over = ends k.turn in
+    let number = number_at c k.at old.live.items k.before k.place k.found in
+    let o = one_changed c over old.live.items new.live.items k.at k.before k.after (distinct_live C past s old r) k.found number (k.same.number ∙ number) (live_is over k.goes_on k.over) in
+    let z' = seen_after past Runs group w.next c in
+    let still : over ≡ false → Serves C (statics_of C) k.after.vs (setup_of C z'.heard) = λ e. serves_still C k.before k.after (setup_of C z.heard) (setup_of C z'.heard) k.same (w.setup e) i.2 in
+    let at : about Runs s ≡ c = ap front front_is in
+    let T : List ℕ → Type 0 = λ y. MovesRing C past y group s w.next in
+    let A : ℕ → Type 0 = λ n. AgreesAt C (seen_after past Runs group w.next n) (live_at new.live.items n) in
+    assemble C past s w.next Runs group old new r (subst T (sym front_is) w.moves) k.keeps k.last
+    (o.numbers_are ∙ sym (w.ended (numbers old.live.items))) (k.ring ∙ sym w.ring)
+    (λ q e. o.others q (ap (λ n. nat_eq n q) (sym at) ∙ e))
+    (subst A (sym at) (is_live_over c over old.live.items new.live.items k.after z' C o w.live w.goes_on still))
+  where
+    live_is : (b : Bool) → (b ≡ false → new.live.items ≡ set old.live.items k.at k.after) → (b ≡ true → new.live.items ≡ remove old.live.items k.at) → new.live.items ≡ (if b then remove old.live.items k.at else set old.live.items k.at k.after)
+    live_is true f g = g refl
+    live_is false f g = f refl
+
+pub runs : (C : Config) (past : Past) (s : State) (old new : Core) (ring : List ℕ) (group : List Note) (steps : ℕ) → Represents C past s old → s.ring ≡ ring → code.RunsRing old new ring group steps → After C past s Runs group new
+runs C past s old new [] group steps r e k =
+    let T : List ℕ → Type 0 = λ y. MovesRing C past y group s s in
+    let A : Seen → Type 0 = λ z. AgreesAt C z (live_at new.live.items (about Runs s)) in
+    let B : List Live → Type 0 = λ ls. AgreesAt C (seen past s (about Runs s)) (live_at ls (about Runs s)) in
+    assemble C past s s Runs group old new r (subst T (sym e) (k.notes, refl)) k.keeps k.last
+    (ap numbers k.live ∙ sym (ap (λ g. without_all (ended_in g) (numbers old.live.items)) k.notes)) (k.ring ∙ sym e) (λ q n. ap (λ ls. live_at ls q) k.live)
+    (subst A (sym (unchanged past Runs group s s (about Runs s) (k.notes, refl) (λ h. others_not_heard (about Runs s) h Runs [] refl refl) refl)) (subst B (sym k.live) (r.agrees.each (about Runs s))))
+runs C past s old new (c ∷ rest) group steps r e k = runs_front C past s old new c rest group steps r e k
