@@ -4,6 +4,7 @@ pub mod Failing
 pub mod FirstWord
 pub mod ReadFields
 pub mod OneEvent
+pub mod FaultSpellsNone
 pub mod Spacing
 pub mod Clean
 pub mod Addresses

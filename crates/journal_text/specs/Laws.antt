@@ -5,13 +5,21 @@ use Rattle.px_bytes.specs.Address.{IsAddr}
 use Rattle.journal_text.specs.Form.{Field, Numbered, Bytes, Named, From, At, Up, fields, verb_of}
 use Rattle.journal_text.specs.Form.{forms}
 use Rattle.journal_text.specs.Form.{Form, Number, Hex, Name, Ip, Member, Health}
-use Rattle.journal_text.specs.Line.{SpellsEvent, IsSkipped, event_text, is_blank, longest_line}
+use Rattle.journal_text.specs.Line.{SpellsEvent, IsSkipped, LineFails, event_text, is_blank}
+use Rattle.journal_text.specs.Line.{longest_line}
 use Rattle.journal_text.specs.declared.event.Event.{Event}
+use Rattle.journal_text.specs.declared.line_kind.LineKind.{LineKind}
+use Rattle.journal_text.specs.declared.line_kind.LineKind.TheVariants.{Memory}
 
 -- a line spells one event at most
 abbrev pub OneEvent : Type 0
 OneEvent = (line : List ℕ) (event other : Event) → SpellsEvent line event → SpellsEvent line other
     → event ≡ other
+
+-- a line that has a fault spells no event
+abbrev pub FaultSpellsNone : Type 0
+FaultSpellsNone = (line : List ℕ) (kind : LineKind) → ¬ (kind ≡ Memory) → LineFails line kind
+    → (event : Event) → ¬ SpellsEvent line event
 
 -- a name isn't empty and has no blank; bytes aren't empty; numbers and addresses are in their
 -- ranges, and a member's port isn't 0

@@ -12,7 +12,7 @@ mod verb;
 mod write;
 
 pub use event::Event;
-pub use laws::{one_event, written_is_read};
+pub use laws::{fault_spells_none, one_event, written_is_read};
 pub use line::{LONGEST_LINE, line_event};
 pub use line_kind::LineKind;
 pub use note::{write_note, write_notes};

@@ -4,7 +4,6 @@ pub mod LineCuts
 pub mod ConnectionLines
 pub mod OneEvent
 pub mod ReportRows
-pub mod ScheduleRows
 pub mod DocumentFaults
 pub mod ConfigAnswers
 pub mod OneRun

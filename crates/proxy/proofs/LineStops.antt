@@ -14,7 +14,8 @@ use Rattle.proxy.specs.declared.schedule.LineFault.{LineFault}
 use Rattle.proxy.specs.declared.taken.Taken.{Taken}
 use Rattle.proxy.specs.Lines.{IsLine, Gives, GivesNone, MayFollow, accepted_in, events_of, Reads}
 use Rattle.proxy.specs.Replay.{accepted, taken_of}
-use Rattle.proxy.specs.Schedule.{IsSkipped, SpellsEvent}
+use Rattle.journal_text.specs.Line.{IsSkipped}
+use Rattle.proxy.specs.Schedule.{SpellsEvent}
 use Rattle.proxy.specs.Stops.{with_line, StoppedAtEvent, StoppedAtLine}
 use Rattle.proxy.specs.Taken.{is_second}
 use Rattle.proxy.specs.Written.{Stands}

@@ -24,7 +24,7 @@ use Rattle.proxy.specs.declared.replay.Stop.{Stop}
 use Rattle.proxy.specs.declared.replay.Stop.TheVariants as stop
 use Rattle.proxy.specs.Lines.{IsLine, Gives, Reads, events_of}
 use Rattle.proxy.specs.Replay.{past_text, conn_text, conns_text}
-use Rattle.proxy.specs.Report.{note_lines}
+use Rattle.journal_text.specs.Notes.{note_lines}
 use Rattle.proxy.specs.Stops.{stop_of, with_line}
 use Rattle.proxy.specs.Taken.{took_of, with_took}
 use Rattle.proxy.specs.Written.{Stands, IsFront, WritesNotes, WritesFront, WritesFrontOf}

@@ -6,7 +6,6 @@ use Rattle.std.proofs.lemmas.List.{reverse-append, reverse-reverse}
 use Rattle.proxy_core.specs.declared.event.Event.{Event}
 use Rattle.proxy.specs.Lines.{IsLine, AllLines, lines_text, Gives, GivesNone, Spell, Reads, Faulty}
 use Rattle.proxy.specs.Lines.{Unended, NoEvent}
-use Rattle.proxy.specs.Schedule.{words_of}
 use Rattle.proxy.proofs.OneEvent.{one_event}
 
 -- one line at the front of a text
@@ -71,7 +70,7 @@ longer (l ∷ a) (m ∷ b) rest p q e =
 
 -- the same lines spell the same events
 same_gives : (line : List ℕ) (before : List Event) (a b : Event) → Gives line before a → Gives line before b → a ≡ b
-same_gives line before a b p q = one_event (words_of line) b a q.spells p.spells
+same_gives line before a b p q = one_event line b a q.spells p.spells
 
 same_events : (lines : List (List ℕ)) (a b : List Event) → Spell lines a → Spell lines b → a ≡ b
 same_events [] a b p q = p ∙ sym q

@@ -8,7 +8,8 @@ use Rattle.proxy_core.specs.declared.config.Config.{Config}
 use Rattle.proxy_core.specs.declared.event.Event.{Event}
 use Rattle.proxy_core.specs.declared.event.Event.TheVariants.{Accept, ClientTook, Run}
 use Rattle.proxy_core.specs.declared.event.BadEvent.{BadEvent}
-use Rattle.proxy.specs.Schedule.{IsSkipped, SpellsEvent}
+use Rattle.journal_text.specs.Line.{IsSkipped}
+use Rattle.proxy.specs.Schedule.{SpellsEvent}
 
 -- a line holds no LF
 abbrev pub IsLine : List ℕ → Type 0

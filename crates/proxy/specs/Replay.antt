@@ -12,7 +12,8 @@ use Rattle.proxy_core.specs.declared.config.Config.{Config}
 use Rattle.proxy_core.specs.declared.core_state.Core.{Core}
 use Rattle.proxy_core.specs.declared.live.Live.{Live}
 use Rattle.proxy.specs.declared.taken.Taken.{Taken}
-use Rattle.proxy.specs.Report.{note_lines, client_text, open_text}
+use Rattle.proxy.specs.Report.{client_text, open_text}
+use Rattle.journal_text.specs.Notes.{note_lines}
 
 -- the lines of the notes, the oldest first
 abbrev pub past_text : Past → List ℕ

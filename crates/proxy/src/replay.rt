@@ -6,8 +6,8 @@ ghost use Rattle.px_outside.specs.Outside.{Rose};
 ghost use Rattle.proxy.specs.Written.{Stands};
 ghost use Rattle.proxy.specs.Stops.{GoesOnWith, StopsWith};
 
-use crate::report::notes_text;
 use crate::taken::{Taken, add_took, took_by};
+use journal_text::write_notes;
 use proxy_core::{BadEvent, Config, Core, Event, Notes};
 use px_bytes::{M, Memory, Steps};
 use px_outside::{Failed, Sink, write_all};
@@ -106,7 +106,7 @@ impl Replay {
             return Err(Stop::Event { line, why });
         }
         self.events += 1;
-        write_all(out, notes_text(alloc, self.notes.as_slice())?.as_bytes())?;
+        write_all(out, write_notes(alloc, self.notes.as_slice())?.as_bytes())?;
         add_took(alloc, &mut self.taken, took)?;
         Ok(())
     }
