@@ -13,7 +13,6 @@ pub mod Ending
 pub mod Promises
 pub mod Setups
 pub mod Agreeing
-pub mod AcceptAgrees
 pub mod TookAgrees
 pub mod RunAgrees
 pub mod FrontRuns

@@ -1,7 +1,5 @@
 -- Live connections by their numbers.
-use Rattle.std.proofs.Common.{◌≡◌, ℕ, zero, suc, ◌+◌, ◌-◌, ◌<◌, ◌≤◌, List, [], ◌∷◌, Bool, true}
-use Rattle.std.proofs.Common.{false, ◌||◌, if◌then◌else◌, Some, None, nat_eq, nat_lt, length, refl}
-use Rattle.std.proofs.Common.{sym, ap, ◌∙◌, arith, remove, set, get_or}
+use Rattle.std.proofs.Common.{◌≡◌, ℕ, zero, suc, ◌+◌, ◌-◌, ◌<◌, ◌≤◌, List, [], ◌∷◌, Bool, true, false, ◌||◌, if◌then◌else◌, Some, None, nat_eq, nat_lt, length, refl, sym, ap, ◌∙◌, arith, remove, set, get_or}
 use Rattle.std.proofs.lemmas.Option.{slice_get_read}
 use Rattle.std.specs.List.{position_from, slice_get}
 use Rattle.std.proofs.lemmas.Bool.Decides.{nat_tests}

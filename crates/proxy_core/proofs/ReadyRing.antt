@@ -1,7 +1,5 @@
 -- The ring of ready connections: each number once, each of a live connection.
-use Rattle.std.proofs.Common.{suc, ◌+◌, ◌-◌, Option, Some, None, remove, ◌≡◌, ℕ, ◌<◌, ◌≤◌, List, []}
-use Rattle.std.proofs.Common.{◌∷◌, ◌++◌, Bool, true, false, ◌||◌, if◌then◌else◌, nat_eq, length}
-use Rattle.std.proofs.Common.{refl, sym, ap, ◌∙◌, arith, length-append}
+use Rattle.std.proofs.Common.{suc, ◌+◌, ◌-◌, Option, Some, None, remove, ◌≡◌, ℕ, ◌<◌, ◌≤◌, List, [], ◌∷◌, ◌++◌, Bool, true, false, ◌||◌, if◌then◌else◌, nat_eq, length, refl, sym, ap, ◌∙◌, arith, length-append}
 use Rattle.std.specs.List.{IsDistinct, AllByRecursion, position_from, slice_get}
 use Rattle.std.proofs.lemmas.Bool.Decides.{nat_tests}
 use Rattle.std.proofs.lemmas.Map.Keys.{IsDistinct-cons, IsDistinct-head, IsDistinct-tail}

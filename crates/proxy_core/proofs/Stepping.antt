@@ -24,8 +24,7 @@ use Rattle.proxy_core.specs.declared.event.Event.{Event}
 use Rattle.proxy_core.specs.declared.event.Event.TheVariants.{Accept, ClientTook, Run}
 use Rattle.conn.specs.declared.connection.Conn.{Conn}
 use Rattle.proxy_core.specs.declared.live.Live.{Live}
-use Rattle.proxy_core.proofs.Agreeing.{After}
-use Rattle.proxy_core.proofs.AcceptAgrees.{accepts}
+use Rattle.proxy_core.proofs.Agreeing.{After, accepts}
 use Rattle.proxy_core.proofs.TookAgrees.{takes}
 use Rattle.proxy_core.proofs.RunAgrees.{runs}
 use Rattle.proxy_core.proofs.SoundPast.{sound_start, sound_step}

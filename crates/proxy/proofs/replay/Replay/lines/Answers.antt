@@ -28,6 +28,13 @@ returns-in-Err-clause-stops g c C told st =
     (let P : ℕ → Type 0 = λ m. StoppedAtLine C (take l.at s) (take m (drop l.at s)) l.line (l.line + 1) n.core n.taken.items n.events told (g.K.Sink.written c.line.new.out) c.in-Err.why in
     subst P e (c.in-Err.ensures.stops C told (take l.at s) l.line (l.invariant.stands C told st)))
 
+pub returns-clause-goes_on : goal.returns-clause-goes_on
+returns-clause-goes_on g c C told st =
+    let l = c.loop-at in
+    let s = c.args.schedule.now in
+    let P : List ℕ → Type 0 = λ t. Stands C t l.line l.self.core l.self.taken.items l.self.events told (g.K.Sink.written l.out) in
+    (l.line, subst P (take_all l.at s (omega (arith, c.loop-at-test.false))) (l.invariant.stands C told st))
+
 pub loop-at-preserved : goal.loop-at-preserved
 loop-at-preserved g c =
     let l = c.loop-at in
@@ -45,10 +52,3 @@ loop-at-preserved g c =
       within = omega (arith, h, k, l.invariant.within);
       faults = omega (arith, c.line.ensures.faults_never_fall, l.invariant.faults);
     }
-
-pub returns-clause-goes_on : goal.returns-clause-goes_on
-returns-clause-goes_on g c C told st =
-    let l = c.loop-at in
-    let s = c.args.schedule.now in
-    let P : List ℕ → Type 0 = λ text. Stands C text l.line l.self.core l.self.taken.items l.self.events told (g.K.Sink.written l.out) in
-    (l.line, subst P (take_all l.at s (omega (arith, c.loop-at-test.false))) (l.invariant.stands C told st))

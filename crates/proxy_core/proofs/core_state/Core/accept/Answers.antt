@@ -1,8 +1,7 @@
 use Rattle.std.proofs.Common.{[], Some, append-nil, arith, refl, sym}
 use Rattle.std.proofs.lemmas.List.{length-map}
 use Rattle.proxy_core.specs.Ready.{numbers}
-use Rattle.proxy_core.proofs.ReadyRing.{ring_within, fresh_not_in, distinct_push, accept_within}
-use Rattle.proxy_core.proofs.ReadyRing.{accept_known}
+use Rattle.proxy_core.proofs.ReadyRing.{ring_within, fresh_not_in, distinct_push, accept_within, accept_known}
 use Rattle.proxy_core.proofs.core_state.Core.accept.Goals as goal
 
 pub push_reserved-requires-2 : goal.push_reserved-requires-2

@@ -4,8 +4,7 @@ use Rattle.proxy_core.specs.Ready.{numbers}
 use Rattle.proxy_core.specs.Serving.{IsSetup}
 use Rattle.proxy_core.proofs.FrontRuns.{front_runs, none_popped, idle_runs, behind_distinct, behind_within, behind_over, bounded_on, given_is}
 use Rattle.proxy_core.proofs.Places.{read_at, read_again, number_at, numbers_set, in_before, in_numbers, remove_set}
-use Rattle.proxy_core.proofs.ReadyRing.{popped, front_is_live, rest_distinct, rest_within}
-use Rattle.proxy_core.proofs.ReadyRing.{rest_removed, ring_room}
+use Rattle.proxy_core.proofs.ReadyRing.{popped, front_is_live, rest_distinct, rest_within, rest_removed, ring_room}
 use Rattle.proxy_core.proofs.core_state.Core.run.Goals as goal
 
 pub unreachable-requires : goal.unreachable-requires

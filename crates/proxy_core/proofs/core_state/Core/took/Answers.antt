@@ -2,10 +2,8 @@ use Rattle.std.proofs.Common.{◌≡◌, ◌++◌, arith, sym, ap, refl, [], ◌
 use Rattle.std.proofs.lemmas.List.{length-map}
 use Rattle.conn.specs.RunsItems.{closing, closing_if}
 use Rattle.proxy_core.specs.Ready.{numbers}
-use Rattle.proxy_core.proofs.Places.{read_at, number_at, in_numbers, numbers_set, remove_set}
-use Rattle.proxy_core.proofs.Places.{in_before, took_accepted}
-use Rattle.proxy_core.proofs.ReadyRing.{ring_room, distinct_without, removed_within, ready_distinct}
-use Rattle.proxy_core.proofs.ReadyRing.{ready_within}
+use Rattle.proxy_core.proofs.Places.{read_at, number_at, in_numbers, numbers_set, remove_set, in_before, took_accepted}
+use Rattle.proxy_core.proofs.ReadyRing.{ring_room, distinct_without, removed_within, ready_distinct, ready_within}
 use Rattle.proxy_core.proofs.core_state.Core.took.Goals as goal
 
 pub make_ready-requires : goal.make_ready-requires
