@@ -7,7 +7,7 @@
 
 The bodies are those of bench/language.py at half of their size, since a body of a configuration may spend
 1,000,000 units at most. In a replay each answers its client, which takes the bytes; all answers are compared. Times
-are processor time, the least of nine runs that take turns, less that of a body that answers 0, in milliseconds: first
+are processor time, the least of 25 runs that take turns, less that of a body that answers 0, in milliseconds: first
 of PROXY, then of each other program, tclsh and jimsh, with PROXY's ratio to it; then its ratio to the body of half
 the size.
 """
@@ -20,7 +20,7 @@ import tempfile
 from language import bodies, tcl
 from machine import question, spent
 
-RUNS = 9
+RUNS = 25
 SLICES = 1000
 
 
