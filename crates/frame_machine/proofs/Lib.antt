@@ -23,6 +23,7 @@ mod InSteps
 mod InStills
 mod InSwitches
 mod InTurns
+mod InWalks
 mod LeafViews
 mod NodePlaces
 mod NodeViews

@@ -35,6 +35,7 @@ pub mod Stops
 pub mod Switches
 pub mod TurnParts
 pub mod Turns
+pub mod Walks
 pub mod Went
 pub mod WordMoves
 pub mod Words

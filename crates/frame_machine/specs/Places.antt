@@ -1,9 +1,17 @@
 -- What the frames say of the node above them.
 use Rattle.std.specs.Prelude.{List, [], ◌∷◌, Bool}
-use Rattle.frame_machine.specs.Frames.{wants}
+use Rattle.tcl_compile.specs.Tree.{Tree}
+use Rattle.frame_machine.specs.Children.{node_at, part_at}
+use Rattle.frame_machine.specs.Frames.{places, wants}
 use Rattle.frame_machine.specs.declared.frame.Frame.{Frame}
+use Rattle.frame_machine.specs.declared.frame.Frame.TheVariants as frame
 
 -- whether its value is heard
 abbrev pub wants_above : Bool → List Frame → Bool
 wants_above w [] = w
 wants_above w (f ∷ fs) = wants_above (wants f) fs
+
+-- the child that a frame tells by its place; where it tells another, the tree itself
+abbrev pub inner_tree : Tree → Frame → Tree
+inner_tree t (frame.Words word part done text) = part_at (node_at t (word ∷ [])) part
+inner_tree t f = node_at t (places f)

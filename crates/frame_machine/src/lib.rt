@@ -37,6 +37,7 @@ mod switches;
 mod turn;
 mod turns;
 mod values;
+mod walk;
 mod word_moves;
 mod words;
 
@@ -46,3 +47,4 @@ pub use laws::{machine_equals_evaluator, ticks_are_bounded};
 pub use machine::Machine;
 pub use turn::Turn;
 pub use values::Values;
+pub use walk::Walk;

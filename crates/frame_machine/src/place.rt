@@ -1,15 +1,22 @@
 // Where a frame's child stands, and the node above all frames.
 
-ghost use Rattle.std.specs.Prelude.{true, ◌≡◌};
+ghost use Rattle.std.specs.Prelude.{IfSome, drop, length, ◌≡◌, ◌≤◌};
 ghost use Rattle.tcl_compile.specs.Procedures.{procs_view};
 ghost use Rattle.tcl_compile.specs.Tree.{next_body};
 ghost use Rattle.tcl_compile.specs.TreeView.{node_view};
-ghost use Rattle.frame_machine.specs.Frames.{body_of, inside, room_above, room_in, tree_above, wants};
-ghost use Rattle.frame_machine.specs.Places.{wants_above};
+ghost use Rattle.frame_machine.specs.Frames.{body_of, inside, room_in, wants};
+ghost use Rattle.frame_machine.specs.Places.{inner_tree};
+ghost use Rattle.frame_machine.specs.Walks.{root_spot, spot_above, spot_in, spot_of};
 
 use crate::children::{child_at, part_at};
 use crate::frame::{Frame, Room};
 use tcl_compile::{Node, Procs};
+
+/// The most calls, and the most expressions that are read when they run, inside one another.
+const FULL_ROOM: Room = Room {
+    calls: 100,
+    expressions: 100,
+};
 
 /// A node with what its frames say of it.
 #[derive(Clone, Copy)]
@@ -19,15 +26,19 @@ pub(crate) struct Place<'a> {
     pub(crate) wanted: bool,
 }
 
-/// The child that a frame tells. `none` stands for the body of a procedure that isn't there.
-fn child<'a>(procs: &'a Procs, none: &'a Node, node: &'a Node, frame: &'a Frame) -> &'a Node
-    requires { node_view none.now ≡ next_body }
-    ensures { let procedures = procs_view procs.now in
-        node_view result.now ≡ inside procedures (node_view node.now) frame.now }
+/// A place on the way from the root, behind so many frames.
+#[derive(Clone, Copy)]
+pub(crate) struct Waypoint<'a> {
+    pub(crate) place: Place<'a>,
+    pub(crate) passed: usize,
+}
+
+/// The child that a frame tells by its place in the node.
+fn inner<'a>(node: &'a Node, frame: &Frame) -> &'a Node
+    ensures { node_view result.now ≡ inner_tree (node_view node.now) frame.now }
 {
     match frame {
-        Frame::Called { procedure, .. } => body(procs, none, *procedure),
-        Frame::Read { tree, .. } => tree,
+        Frame::Called { .. } | Frame::Read { .. } => node,
         Frame::Words { word, part, .. } => part_at(child_at(node, *word), *part),
         Frame::Script { at, .. } => child_at(node, *at),
         Frame::Pieces { part, .. } => child_at(node, *part),
@@ -44,6 +55,34 @@ fn child<'a>(procs: &'a Procs, none: &'a Node, node: &'a Node, frame: &'a Frame)
         Frame::Caught => child_at(node, 0),
         Frame::CaughtIn { .. } => child_at(node, 0),
         Frame::Whole => child_at(node, 0),
+    }
+}
+
+/// The child that a frame tells. `none` stands for the body of a procedure that isn't there.
+fn child<'a>(procs: &'a Procs, none: &'a Node, node: &'a Node, frame: &'a Frame) -> &'a Node
+    requires { node_view none.now ≡ next_body }
+    ensures { let procedures = procs_view procs.now in
+        node_view result.now ≡ inside procedures (node_view node.now) frame.now }
+{
+    match frame {
+        Frame::Called { procedure, .. } => body(procs, none, *procedure),
+        Frame::Read { tree, .. } => tree,
+        _ => inner(node, frame),
+    }
+}
+
+/// The same, where neither the frame owns it nor a procedure isn't there.
+fn lasting<'a>(procs: &'a Procs, node: &'a Node, frame: &Frame) -> Option<&'a Node>
+    ensures { let procedures = procs_view procs.now in
+        IfSome result (λ n. node_view n.now ≡ inside procedures (node_view node.now) frame.now) }
+{
+    match frame {
+        Frame::Called { procedure, .. } => match procs.at(*procedure) {
+            Some(procedure) => Some(&procedure.body),
+            None => None,
+        },
+        Frame::Read { .. } => None,
+        _ => Some(inner(node, frame)),
     }
 }
 
@@ -84,25 +123,56 @@ fn room_in(room: Room, frame: &Frame) -> Room
     }
 }
 
-/// The node above all frames.
+/// The root of a body.
+pub(crate) fn root_place(tree: &Node) -> Place<'_>
+    ensures { spot_of result ≡ root_spot (node_view tree.now) }
+{
+    Place {
+        node: tree,
+        room: FULL_ROOM,
+        wanted: true,
+    }
+}
+
+/// The child that a frame tells, where it stays as long as the node.
+pub(crate) fn place_in<'a>(procs: &'a Procs, place: Place<'a>, frame: &Frame) -> Option<Place<'a>>
+    ensures { let procedures = procs_view procs.now in
+        IfSome result (λ p. spot_of p ≡ spot_in procedures (spot_of place.entry) frame.now) }
+{
+    match lasting(procs, place.node, frame) {
+        Some(node) => Some(Place {
+            node,
+            room: room_in(place.room, frame),
+            wanted: wants(frame),
+        }),
+        None => None,
+    }
+}
+
+/// The node above all frames, from a place on the way to it.
 pub(crate) fn locate<'a>(
     procs: &'a Procs,
     none: &'a Node,
-    tree: &'a Node,
-    room: Room,
+    from: Waypoint<'a>,
     frames: &'a [Frame],
 ) -> Place<'a>
-    requires { node_view none.now ≡ next_body }
-    ensures node { let procedures = procs_view procs.now in
-        node_view result.node.now ≡ tree_above procedures (node_view tree.now) frames.now }
-    ensures room { result.room ≡ room_above room frames.now }
-    ensures wanted { result.wanted ≡ wants_above true frames.now }
+    requires none { node_view none.now ≡ next_body }
+    requires passed { from.passed ≤ length frames.now }
+    ensures { let procedures = procs_view procs.now in
+        let above = drop from.entry.passed frames.now in
+        spot_of result ≡ spot_above procedures (spot_of from.entry.place) above }
 {
-    let mut place = Place {
-        node: tree,
-        room,
-        wanted: true,
-    };
+    let (_, above) = frames.split_at(from.passed);
+    climb(procs, none, from.place, above)
+}
+
+// The node above frames that begin at this place.
+fn climb<'a>(procs: &'a Procs, none: &'a Node, from: Place<'a>, frames: &'a [Frame]) -> Place<'a>
+    requires { node_view none.now ≡ next_body }
+    ensures { let procedures = procs_view procs.now in
+        spot_of result ≡ spot_above procedures (spot_of from.entry) frames.now }
+{
+    let mut place = from;
     for frame in frames {
         place = Place {
             node: child(procs, none, place.node, frame),

@@ -8,18 +8,20 @@ ghost use Rattle.frame_machine.specs.Given.{setting, setting_of};
 ghost use Rattle.frame_machine.specs.Moves.{list_of, now};
 ghost use Rattle.frame_machine.specs.Owed.{Heavy, owed};
 ghost use Rattle.frame_machine.specs.Steps.{Stood, told_mode, told_turn};
+ghost use Rattle.frame_machine.specs.Walks.{Follows, Grown, OnTheWay, staying};
 ghost use Rattle.frame_machine.specs.Went.{IsRunning, Went, place};
 
 use crate::begin::begin;
 use crate::context::Context;
-use crate::frame::{Mode, Room};
+use crate::frame::Mode;
 use crate::go_on::go_on;
 use crate::hear::{copied, hear};
 use crate::host::Host;
 use crate::machine::Machine;
 use crate::next::Next;
-use crate::place::{locate, wants};
+use crate::place::{Waypoint, locate, root_place, wants};
 use crate::turn::Turn;
+use crate::walk::Walk;
 use px_bytes::{M, Steps};
 use std::alloc::Global;
 use std::marker::Brand;
@@ -27,12 +29,6 @@ use std::mem;
 use std::sync::ledger::{Blank, Ledger};
 use tcl_compile::{Node, Procs};
 use tcl_vars::Vars;
-
-/// The most calls, and the most expressions that are read when they run, inside one another.
-const FULL_ROOM: Room = Room {
-    calls: 100,
-    expressions: 100,
-};
 
 impl Machine {
     /// Stands where a move leads, and tells what it comes to.
@@ -80,17 +76,22 @@ impl Machine {
         }
     }
 
-    /// One move, with what it costs.
+    /// One move, with what it costs. The node above the frames that stay is found from a place on the
+    /// way to it.
     fn step_with<H: Host, L: Ledger, K: Ledger>(
         &mut self,
         context: &Context<'_, H::Env>,
         tree: &Node,
+        from: Waypoint<'_>,
         vars: &mut Vars,
         host: &mut H,
         steps: &mut Steps<L>,
         paid: &mut Steps<K>,
     ) -> M<Turn>
-        requires { IsRunning self.old.at.mode }
+        requires running { IsRunning self.old.at.mode }
+        requires place { let procedures = procs_view context.now.procs.now in
+            let fs = staying self.old.at.mode self.old.at.frames.items in
+            OnTheWay procedures (node_view tree.now) fs from }
         ensures did { let g = setting_of H.table context.now in
             let t = node_view tree.now in
             let old = now vars.old (H.seen host.old) self.old.at.budget paid.old in
@@ -108,13 +109,15 @@ impl Machine {
             → steps.new + owed self.new.at + 3 * paid.old ≤ most) }
         ensures ticks { OnOk result (steps.old < steps.new) }
         ensures few { OnOk result (steps.new ≤ steps.old + 6) }
+        ensures grown { let fs = staying self.old.at.mode self.old.at.frames.items in
+            OnOk result (Grown fs self.new.at.frames.items) }
     {
         steps.tick();
         let none = Node::NextBody;
         match mem::replace(&mut self.at.mode, Mode::Over) {
             Mode::Begin => {
                 let frames = self.at.frames.as_slice();
-                let place = locate(context.procs, &none, tree, FULL_ROOM, frames);
+                let place = locate(context.procs, &none, from, frames);
                 let (node, room, wanted) = (place.node, place.room, place.wanted);
                 let budget = &mut self.at.budget;
                 let next = begin(context, node, room, wanted, vars, host, budget, steps, paid)?;
@@ -126,7 +129,7 @@ impl Machine {
                 Some(frame) => {
                     let code = hear(context.alloc, wants(&frame), code);
                     let frames = self.at.frames.as_slice();
-                    let place = locate(context.procs, &none, tree, FULL_ROOM, frames);
+                    let place = locate(context.procs, &none, from, frames);
                     let (node, room, wanted) = (place.node, place.room, place.wanted);
                     let budget = &mut self.at.budget;
                     let next = go_on(
@@ -145,6 +148,7 @@ impl Machine {
         &mut self,
         context: &Context<'_, H::Env>,
         tree: &Node,
+        from: Waypoint<'_>,
         vars: &mut Vars,
         host: &mut H,
         steps: &mut Steps<L>,
@@ -154,6 +158,9 @@ impl Machine {
         requires parts { blank.parts ≡ K.parts }
         requires some { 0 < blank.parts }
         requires running { IsRunning self.old.at.mode }
+        requires place { let procedures = procs_view context.now.procs.now in
+            let fs = staying self.old.at.mode self.old.at.frames.items in
+            OnTheWay procedures (node_view tree.now) fs from }
         ensures went { let g = setting_of H.table context.now in
             let t = node_view tree.now in
             let old = place self.old.at vars.old (H.seen host.old) in
@@ -163,9 +170,11 @@ impl Machine {
             IfOk result (λ turn. Went g t old new turn made ticks) }
         ensures ticks { OnOk result (steps.old < steps.new) }
         ensures few { OnOk result (steps.new ≤ steps.old + 6) }
+        ensures grown { let fs = staying self.old.at.mode self.old.at.frames.items in
+            OnOk result (Grown fs self.new.at.frames.items) }
     {
         let mut paid = Steps::<K>::new(blank);
-        let turn = self.step_with(context, tree, vars, host, steps, &mut paid)?;
+        let turn = self.step_with(context, tree, from, vars, host, steps, &mut paid)?;
         Ok(turn)
     }
 
@@ -174,6 +183,7 @@ impl Machine {
         &mut self,
         context: &Context<'_, H::Env>,
         tree: &Node,
+        from: Waypoint<'_>,
         vars: &mut Vars,
         host: &mut H,
         steps: &mut Steps<L>,
@@ -183,6 +193,9 @@ impl Machine {
         requires parts { blank.parts ≡ J.parts }
         requires some { 0 < blank.parts }
         requires running { IsRunning self.old.at.mode }
+        requires place { let procedures = procs_view context.now.procs.now in
+            let fs = staying self.old.at.mode self.old.at.frames.items in
+            OnTheWay procedures (node_view tree.now) fs from }
         ensures went { let g = setting_of H.table context.now in
             let t = node_view tree.now in
             let old = place self.old.at vars.old (H.seen host.old) in
@@ -193,10 +206,13 @@ impl Machine {
         ensures ticked { steps.new ≡ steps.old + self.new.ticked }
         ensures some { OnOk result (0 < self.new.ticked) }
         ensures few { OnOk result (self.new.ticked ≤ 10) }
+        ensures grown { let fs = staying self.old.at.mode self.old.at.frames.items in
+            OnOk result (Grown fs self.new.at.frames.items) }
     {
         let mut ticks = Steps::<J>::new(blank);
         let paid = Blank::new(1);
-        match self.step_counted::<H, J, Brand>(context, tree, vars, host, &mut ticks, paid) {
+        let counted = &mut ticks;
+        match self.step_counted::<H, J, Brand>(context, tree, from, vars, host, counted, paid) {
             Ok(turn) => {
                 self.tell_ticks(ticks.count(), steps);
                 Ok(turn)
@@ -252,6 +268,62 @@ impl Machine {
             procs,
         };
         let blank = Blank::new(1);
-        self.step_ticked::<H, L, Brand>(&context, tree, vars, host, steps, blank)
+        let from = Waypoint {
+            place: root_place(tree),
+            passed: 0,
+        };
+        self.step_ticked::<H, L, Brand>(&context, tree, from, vars, host, steps, blank)
+    }
+
+    /// The nodes on which the body stands.
+    pub fn walk<'a>(&self, alloc: Global, tree: &'a Node, procs: &'a Procs) -> M<Walk<'a>>
+        ensures { let fs = self.now.at.frames.items in
+            IfOk result (λ w. Follows (procs_view procs.now) (node_view tree.now) fs w) }
+    {
+        Walk::along(alloc, procs, tree, self.at.frames.as_slice())
+    }
+
+    /// The same, where a walk follows the machine, which it does then too: no way from the root.
+    pub fn step_along<'a, H: Host, L: Ledger>(
+        &mut self,
+        alloc: Global,
+        walk: &mut Walk<'a>,
+        tree: &'a Node,
+        procs: &'a Procs,
+        statics: Option<&Vars>,
+        vars: &mut Vars,
+        host: &mut H,
+        env: &H::Env,
+        steps: &mut Steps<L>,
+    ) -> M<Turn>
+        requires running { IsRunning self.old.at.mode }
+        requires follows { let fs = self.old.at.frames.items in
+            Follows (procs_view procs.now) (node_view tree.now) fs walk.old }
+        ensures went { let level = option_map (λ v. v.now.statics) statics.entry in
+            let g = setting level (H.table env.now) (procs_view procs.now) in
+            let t = node_view tree.now in
+            let old = place self.old.at vars.old (H.seen host.old) in
+            let new = place self.new.at vars.new (H.seen host.new) in
+            let made : List Effect → Type 0 = λ es. H.made host.old es host.new in
+            let ticks = steps.new - steps.old in
+            IfOk result (λ turn. Went g t old new turn made ticks) }
+        ensures ticked { steps.new ≡ steps.old + self.new.ticked }
+        ensures some { OnOk result (0 < self.new.ticked) }
+        ensures few { OnOk result (self.new.ticked ≤ 10) }
+        ensures follows { let fs = self.new.at.frames.items in
+            OnOk result (Follows (procs_view procs.now) (node_view tree.now) fs walk.new) }
+    {
+        walk.retreat(&self.at);
+        let context = Context {
+            alloc,
+            statics,
+            env,
+            procs,
+        };
+        let blank = Blank::new(1);
+        let from = walk.last();
+        let turn = self.step_ticked::<H, L, Brand>(&context, tree, from, vars, host, steps, blank)?;
+        walk.catch_up(procs, self.at.frames.as_slice())?;
+        Ok(turn)
     }
 }

@@ -26,3 +26,6 @@ returns-in-Ok-clause-few g c =
     let t = c.tell_ticks.ensures.ticked in
     let z = c.new-ticks.ensures in
     omega (arith, n, t, few, z)
+
+pub returns-in-Ok-clause-grown : goal.returns-in-Ok-clause-grown
+returns-in-Ok-clause-grown g c = rw c.tell_ticks.ensures.at (rw c.in-Ok.is at c.step_counted.ensures.grown)
