@@ -1,0 +1,46 @@
+-- What a contract sees of a `Table`.
+use Rattle.std.specs.Prelude.{◌≡◌, refl, ℕ, List, [], ◌∷◌, ◌++◌, Bool, false, Option, Some, nat_eq}
+use Rattle.std.specs.Prelude.{if◌then◌else◌}
+use Rattle.std.specs.Coded.{Coded, code_by, coded×, coded_ℕ, coded_list}
+use Rattle.std.specs.List.{list_any, position_from}
+
+-- the values, by rising number; their numbers; the numbers of those that are ready, the next in
+-- front; and how many values there is room for
+pub record Table (T : Type 0) : Type 0 where
+  pub items : List T
+  pub numbers : List ℕ
+  pub ring : List ℕ
+  pub room : ℕ
+
+-- a table is stored as the tuple of its fields
+abbrev pub table_code : {T : Type 0} → Coded T → Coded (Table T)
+table_code {T} code =
+    code_by
+    (List T × (List ℕ × (List ℕ × ℕ)))
+    (coded× (coded_list code) (coded× (coded_list coded_ℕ) (coded× (coded_list coded_ℕ) coded_ℕ)))
+    (λ s. (s.items, (s.numbers, (s.ring, s.room))))
+    (λ p. record { items = p.0; numbers = p.1.0; ring = p.1.1.0; room = p.1.1.1 })
+    (λ _. refl)
+
+abbrev pub is_in : List ℕ → ℕ → Bool
+is_in ns n = list_any (nat_eq n) ns
+
+-- the ring with n at its back, unless it is there
+abbrev pub with_ready : List ℕ → ℕ → List ℕ
+with_ready ring n = if is_in ring n then ring else ring ++ n ∷ []
+
+-- the ring without n
+abbrev pub without : ℕ → List ℕ → List ℕ
+without n [] = []
+without n (m ∷ ring) = if nat_eq n m then ring else m ∷ without n ring
+
+-- the place of a number
+abbrev pub place_in : List ℕ → ℕ → Option ℕ
+place_in numbers n = position_from (nat_eq n) 0 numbers
+
+-- the front of the ring was taken off, and was there once; this is its place
+pub record Pops {T : Type 0} (old new : Table T) (at : ℕ) : Type 0 where
+  pub number : ℕ
+  pub ring : old.ring ≡ number ∷ new.ring
+  pub once : is_in new.ring number ≡ false
+  pub place : place_in old.numbers number ≡ Some at
