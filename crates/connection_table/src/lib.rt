@@ -1,7 +1,7 @@
 //! Values under rising numbers, found without a scan, and the ring of those that are ready.
 #![tactic(auto)]
 
-ghost use Rattle.std.specs.Prelude.{◌≡◌, ℕ, ◌<◌, ◌↔◌, IsTrue, [], ◌∷◌, ◌++◌, true, Some, IfOk, IfSome, IfNone, length};
+ghost use Rattle.std.specs.Prelude.{◌≡◌, ℕ, ◌+◌, ◌<◌, ◌↔◌, IsTrue, [], ◌∷◌, ◌++◌, true, Some, IfOk, IfSome, IfNone, length};
 ghost use Rattle.std.specs.Prelude.{remove, slice_index, slice_get};
 ghost use Rattle.std.specs.Borrow.{sem};
 ghost use Rattle.std.specs.VecDeque.{deque_capacity};
@@ -98,6 +98,7 @@ impl<T> Table<T> {
         requires room { length self.old.items < self.old.room }
         requires above { (n : ℕ) → is_in self.old.numbers n ≡ true → n < number }
         ensures items { self.new.items ≡ self.old.items ++ value ∷ [] }
+        ensures len { length self.new.items ≡ length self.old.items + 1 }
         ensures numbers { self.new.numbers ≡ self.old.numbers ++ number ∷ [] }
         ensures ring { self.new.ring ≡ self.old.ring ++ number ∷ [] }
         ensures room { self.new.room ≡ self.old.room }
@@ -117,6 +118,7 @@ impl<T> Table<T> {
         requires { at < length self.old.items }
         ensures value { slice_get self.old.items at ≡ Some result }
         ensures items { self.new.items ≡ remove self.old.items at }
+        ensures len { length self.new.items + 1 ≡ length self.old.items }
         ensures numbers { self.new.numbers ≡ remove self.old.numbers at }
         ensures ring { self.new.ring ≡ without (slice_index self.old.numbers at) self.old.ring }
         ensures room { self.new.room ≡ self.old.room }

@@ -47,7 +47,7 @@ pub record After (C : Config) (past : Past) (s : State) (v : EventKind) (group :
 
 -- every event: what its own connection owes is enough
 pub assemble : (C : Config) (past : Past) (s next : State) (v : EventKind) (group : List Note) (old new : Core) → Represents C past s old → MovesBy C past v group s next → code.KeepsConfig old new
-    → new.last ≡ last_after v old.last → numbers new.live.items ≡ without_all (ended_in group) (with_accepted v (numbers old.live.items)) → new.ring.items ≡ next.ring
+    → new.last ≡ last_after v old.last → numbers new.live.items ≡ without_all (ended_in group) (with_accepted v (numbers old.live.items)) → new.live.ring ≡ next.ring
     → ((q : ℕ) → nat_eq (about v s) q ≡ false → live_at new.live.items q ≡ live_at old.live.items q)
     → AgreesAt C (seen_after past v group next (about v s)) (live_at new.live.items (about v s)) → After C past s v group new
 assemble C past s next v group old new r moves keeps last live ring others own =

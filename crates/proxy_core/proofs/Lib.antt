@@ -1,5 +1,6 @@
 pub mod ReadyRing
 pub mod Places
+pub mod Tables
 pub mod Members
 pub mod LiveLookups
 pub mod Entries

@@ -1,8 +1,8 @@
 -- Live connections by their numbers.
 use Rattle.std.proofs.Common.{◌≡◌, ℕ, zero, suc, ◌+◌, ◌-◌, ◌<◌, ◌≤◌, List, [], ◌∷◌, Bool, true, false, ◌||◌, if◌then◌else◌, Some, None, nat_eq, nat_lt, length, refl, sym, ap, ◌∙◌, arith, remove, set, get_or}
-use Rattle.std.proofs.lemmas.Option.{slice_get_read}
 use Rattle.std.specs.List.{position_from, slice_get}
 use Rattle.std.proofs.lemmas.Bool.Decides.{nat_tests}
+use Rattle.connection_table.specs.Table.{place_in}
 use Rattle.proxy_core.specs.declared.live.Live.{Live}
 use Rattle.proxy_core.specs.Ready.{numbers, is_in, place_of}
 use Rattle.proxy_core.specs.Live.{pending_in}
@@ -55,22 +55,7 @@ numbers_set at [] l m h e = refl
 numbers_set zero (x ∷ xs) l m h e = let k : x ≡ l = cc in ap (λ n. n ∷ numbers xs) (e ∙ ap (λ y. y.number) (sym k))
 numbers_set (suc at) (x ∷ xs) l m h e = ap (λ ns. x.number ∷ ns) (numbers_set at xs l m h e)
 
--- the others stay where one goes
-pub in_removed : (at : ℕ) (ls : List Live) (l : Live) (q : ℕ) → slice_get ls at ≡ Some l → nat_eq l.number q ≡ false → is_in (numbers ls) q ≡ true → is_in (numbers (remove ls at)) q ≡ true
-in_removed at [] l q h n g = cc
-in_removed zero (x ∷ xs) l q h n g = by_cases (nat_eq q x.number) refl g
-  where
-    by_cases : (b : Bool) → nat_eq q x.number ≡ b → (b || is_in (numbers xs) q) ≡ true → is_in (numbers xs) q ≡ true
-    by_cases false f k = k
-    by_cases true f k =
-        let e : x ≡ l = cc in
-        let t : nat_eq l.number q ≡ true = grind (arith, nat_tests, ap (λ y. y.number) e, eq_number q x.number f) in cc
-in_removed (suc at) (x ∷ xs) l q h n g = by_cases (nat_eq q x.number) g (in_removed at xs l q h n)
-  where
-    by_cases : (b : Bool) → (b || is_in (numbers xs) q) ≡ true → (is_in (numbers xs) q ≡ true → is_in (numbers (remove xs at)) q ≡ true) → (b || is_in (numbers (remove xs at)) q) ≡ true
-    by_cases true k rest = refl
-    by_cases false k rest = rest k
-
+-- those that are left were there
 pub in_before : (at : ℕ) (ls : List Live) (q : ℕ) → is_in (numbers (remove ls at)) q ≡ true → is_in (numbers ls) q ≡ true
 in_before zero [] q g = g
 in_before (suc at) [] q g = g
@@ -85,9 +70,35 @@ in_before (suc at) (x ∷ xs) q g = by_cases (nat_eq q x.number) g (in_before at
     by_cases true k rest = refl
     by_cases false k rest = rest k
 
--- the element that was read at the place of a number
-pub read_at : (ls ms : List Live) (at number : ℕ) (l : Live) → ms ≡ ls → Some at ≡ place_of ms number → at < length ms → l ≡ get_or ls at l → (place_of ls number ≡ Some at) × (slice_get ls at ≡ Some l)
-read_at ls ms at number l e p w r = (rw e at (sym p), slice_get_read ls (length ls) at l refl (rw e at w) r)
+eq_flipped : (a b : ℕ) → nat_eq a b ≡ nat_eq b a
+eq_flipped a b = by_cases (nat_eq b a) refl
+  where
+    by_cases : (t : Bool) → nat_eq b a ≡ t → nat_eq a b ≡ t
+    by_cases true e = grind (arith, nat_tests)
+    by_cases false e = grind (arith, nat_tests)
+
+placed_from : (number i : ℕ) (ls : List Live) → position_from (nat_eq number) i (numbers ls) ≡ position_from (λ l. nat_eq l.number number) i ls
+placed_from number i [] = refl
+placed_from number i (l ∷ ls) = rw (eq_flipped number l.number, placed_from number (i + 1) ls) refl
+
+-- the place of a number among the numbers is that of its connection
+pub placed : (number : ℕ) (ls : List Live) → place_in (numbers ls) number ≡ place_of ls number
+placed number ls = placed_from number 0 ls
+
+-- the number at a place
+pub number_in : (at : ℕ) (ns : List ℕ) (ls : List Live) (l : Live) → ns ≡ numbers ls → slice_get ls at ≡ Some l → get_or ns at 0 ≡ l.number
+number_in at ns ls l e h = rw e (by_place at ls h)
+  where
+    by_place : (i : ℕ) (ks : List Live) → slice_get ks i ≡ Some l → get_or (numbers ks) i 0 ≡ l.number
+    by_place i [] h = cc
+    by_place zero (x ∷ ks) h = let k : x ≡ l = cc in ap (λ y. y.number) k
+    by_place (suc i) (x ∷ ks) h = by_place i ks h
+
+pub numbers_removed_at : (at : ℕ) (ls : List Live) → numbers (remove ls at) ≡ remove (numbers ls) at
+numbers_removed_at zero [] = refl
+numbers_removed_at (suc at) [] = refl
+numbers_removed_at zero (x ∷ ls) = refl
+numbers_removed_at (suc at) (x ∷ ls) = ap (λ ns. x.number ∷ ns) (numbers_removed_at at ls)
 
 -- what is read twice is the same
 pub read_again : (ls : List Live) (at : ℕ) (l m : Live) → slice_get ls at ≡ Some l → slice_get ls at ≡ Some m → l ≡ m

@@ -58,7 +58,7 @@ refusal_same C past s core v r = ap (λ D. refusal_by D (core_known core v) v) r
 by_event : (C : Config) (past : Past) (s : State) (old new : Core) (e : Event) (group : List Note) (steps : ℕ) → Represents C past s old → refused C past s (kind_of e) ≡ None → Changes old new e group steps → After C past s (kind_of e) group new
 by_event C past s old new (Accept conn vs from) group steps r h k = accepts C past s old new conn vs from group r h k.0
 by_event C past s old new (ClientTook conn n) group steps r h k = takes C past s old new conn n group r h k.0
-by_event C past s old new Run group steps r h k = runs C past s old new old.ring.items group steps r (sym r.agrees.ring) k
+by_event C past s old new Run group steps r h k = runs C past s old new old.live.ring group steps r (sym r.agrees.ring) k
 
 pub keeps_standing : (old new : Core) (e : Event) (group : List Note) (steps : ℕ) → refusal old e ≡ None → Changes old new e group steps → KeepsStanding old new (record { event = e; group = group })
 keeps_standing old new e group steps h k C past s r =

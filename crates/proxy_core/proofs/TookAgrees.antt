@@ -43,15 +43,15 @@ use Rattle.proxy_core.proofs.Agreeing.{After, assemble, its, distinct_live, one_
 record CoreTook (c : ℕ) (over : Bool) (group : List Note) (old new : Core) (at : ℕ) (after : Live) : Type 0 where
   notes : group ≡ closing_if over c
   live : new.live.items ≡ (if over then remove old.live.items at else set old.live.items at after)
-  ring : new.ring.items ≡ (if over then without c old.ring.items else with_ready old.ring.items c)
+  ring : new.live.ring ≡ (if over then without c old.live.ring else with_ready old.live.ring c)
 
 core_took : (c : ℕ) (over : Bool) (group : List Note) (old new : Core) (at : ℕ) (before after : Live) → before.number ≡ c → after.number ≡ c
     → (over ≡ false → (group ≡ []) × code.Stays old new at after) → (over ≡ true → (group ≡ closing c 0) × code.Goes old new at before)
     → CoreTook c over group old new at after
 core_took c true group old new at before after nb na f g =
-    let k = g refl in record { notes = k.0; live = k.1.0; ring = k.1.1 ∙ ap (λ m. without m old.ring.items) nb }
+    let k = g refl in record { notes = k.0; live = k.1.0; ring = k.1.1 ∙ ap (λ m. without m old.live.ring) nb }
 core_took c false group old new at before after nb na f g =
-    let k = f refl in record { notes = k.0; live = k.1.0; ring = k.1.1 ∙ ap (λ m. with_ready old.ring.items m) na }
+    let k = f refl in record { notes = k.0; live = k.1.0; ring = k.1.1 ∙ ap (λ m. with_ready old.live.ring m) na }
 
 -- a took-count brings nothing
 takes_bring : (c n : ℕ) (h : Heard) (group : List Note) → brought c h (Comes c (Takes Client n)) group ≡ brought_nothing
@@ -158,7 +158,7 @@ takes C past s old new c n group r h k =
     let o = one_changed c k.over old.live.items new.live.items k.at k.before k.after d k.found number number' t.live in
     let next = came c k.over s in
     let moves = moves_took C past s c n k.over group t.notes w.judged in
-    let ring : new.ring.items ≡ next.ring = t.ring ∙ ap (λ x. if k.over then without c x else with_ready x c) r.agrees.ring in
+    let ring : new.live.ring ≡ next.ring = t.ring ∙ ap (λ x. if k.over then without c x else with_ready x c) r.agrees.ring in
     let z' = seen_after past v (closing_if k.over c) next c in
     let live : z'.live ≡ not k.over = ended_closing k.over c (shared past).live r.sound.distinct m.live in
     let told = come_told c (heard c past) (Takes Client n) (closing_if k.over c) refl m.served.plain.connects (about_closing_if k.over c) in

@@ -45,18 +45,18 @@ pub record Accepts (old new : Core) (number : ℕ) (vs : List ℕ) (from : Addr)
   pub begins : BeginsAt old.statics.statics old.config number place conn group
   pub live : new.live.items ≡ old.live.items
       ++ record { number = number; vs = place; from = from; conn = conn } ∷ []
-  pub ring : new.ring.items ≡ old.ring.items ++ number ∷ []
+  pub ring : new.live.ring ≡ old.live.ring ++ number ∷ []
 
 -- The connection at a place goes on with this state, and is ready; or it is over, and gone from the
 -- ring too.
 abbrev pub Stays : Core → Core → ℕ → Live → Type 0
 Stays old new at l =
     (new.live.items ≡ slice_set old.live.items at l)
-    × (new.ring.items ≡ with_ready old.ring.items l.number)
+    × (new.live.ring ≡ with_ready old.live.ring l.number)
 
 abbrev pub Goes : Core → Core → ℕ → Live → Type 0
 Goes old new at l =
-    (new.live.items ≡ remove old.live.items at) × (new.ring.items ≡ without l.number old.ring.items)
+    (new.live.items ≡ remove old.live.items at) × (new.live.ring ≡ without l.number old.live.ring)
 
 -- The client took bytes: they leave the queue. Where the connection is over then, it is gone.
 pub record Takes (old new : Core) (number n : ℕ) (group : List Note) : Type 0 where
@@ -91,7 +91,7 @@ pub record RunsFront (old new : Core) (number : ℕ) (rest : List ℕ) (group : 
   pub runs : LiveRuns setup number before.conn after.conn group turn
   pub whole : IsWhole turn steps (length group)
   pub bounded : IsBounded turn steps
-  pub ring : new.ring.items ≡ ring_behind turn number rest
+  pub ring : new.live.ring ≡ ring_behind turn number rest
   pub goes_on : ends turn ≡ false → new.live.items ≡ slice_set old.live.items at after
   pub over : ends turn ≡ true → new.live.items ≡ remove old.live.items at
 
@@ -100,7 +100,7 @@ pub record Idles (old new : Core) (group : List Note) (steps : ℕ) : Type 0 whe
   pub keeps : KeepsConfig old new
   pub last : new.last ≡ old.last
   pub live : new.live.items ≡ old.live.items
-  pub ring : new.ring.items ≡ []
+  pub ring : new.live.ring ≡ []
   pub notes : group ≡ []
   pub no_step : steps ≡ 0
 
@@ -113,4 +113,4 @@ abbrev pub Changes : Core → Core → Event → List Note → (steps : ℕ) →
 Changes old new (Accept conn vs from) group steps =
     Accepts old new conn vs from group × (steps ≡ 0)
 Changes old new (ClientTook conn n) group steps = Takes old new conn n group × (steps ≡ 0)
-Changes old new Run group steps = RunsRing old new old.ring.items group steps
+Changes old new Run group steps = RunsRing old new old.live.ring group steps

@@ -52,7 +52,7 @@ pub record AgreesBy (C : Config) (all : Shared) (each_seen : ℕ → Seen) (s : 
   pub config : core.config ≡ C
   pub statics : core.statics.statics ≡ statics_of C
   pub shared : shared_of core ≡ all
-  pub ring : core.ring.items ≡ s.ring
+  pub ring : core.live.ring ≡ s.ring
   pub each : (c : ℕ) → AgreesAt C (each_seen c) (live_at core.live.items c)
 
 abbrev pub Agrees : Config → Past → State → Core → Type 0

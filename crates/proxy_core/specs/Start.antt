@@ -9,4 +9,4 @@ pub record IsStart (C : Config) (core : Core) : Type 0 where
   pub statics : core.statics ≡ no_scopes
   pub last : core.last ≡ 0
   pub live : core.live.items ≡ []
-  pub ring : core.ring.items ≡ []
+  pub ring : core.live.ring ≡ []

@@ -48,13 +48,13 @@ impl Core {
         let setup = setup_at(&self.config, &self.statics, place);
         let conn = Some(Conn::new(self.alloc, &setup));
         self.last = number;
-        self.live.push_reserved(Live {
+        let live = Live {
             number,
             vs: place,
             from,
             conn,
-        });
-        self.ring.push_reserved(number);
+        };
+        self.live.push(number, live);
         Ok(())
     }
 }

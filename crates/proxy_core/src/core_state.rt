@@ -1,14 +1,13 @@
 // All connections.
 
-ghost use Rattle.std.specs.Prelude.{◌≡◌, ◌≤◌, ℕ, Bool, true, nat_eq, vec_len, vec_capacity, []};
+ghost use Rattle.std.specs.Prelude.{◌≡◌, ◌≤◌, ℕ, true, length, []};
 ghost use Rattle.std.specs.Prelude.{IfOk};
-ghost use Rattle.std.proofs.Props.{props};
-ghost use Rattle.std.specs.List.{IsDistinct};
 ghost use Rattle.proxy_core.specs.Ready.{numbers, is_in};
 
 use crate::config::Config;
 use crate::live::Live;
 use connection_model::Notes;
+use connection_table::Table;
 use px_bytes::M;
 use std::alloc::Global;
 use tcl_vars::Vars;
@@ -22,15 +21,12 @@ pub struct Core {
     pub(crate) statics: Vars,
     /// The greatest number that was accepted.
     pub(crate) last: u32,
-    pub(crate) live: Vec<Live>,
-    /// The numbers of the connections that are ready to run, the next in front.
-    pub(crate) ring: Vec<u32>,
-    ghost ring_distinct: { IsDistinct nat_eq ring.items } by { Prim.hlevel props },
-    ghost ring_live: { (n : ℕ) → is_in ring.items n ≡ true → is_in (numbers live.items) n ≡ true },
+    /// The live connections by their numbers, and the ring of those that are ready to run.
+    pub(crate) live: Table<Live>,
+    ghost numbered: { live.numbers ≡ numbers live.items },
     ghost live_known: { (n : ℕ) → is_in (numbers live.items) n ≡ true → n ≤ last },
-    ghost live_limit: { vec_len live ≤ config.connections },
-    ghost live_room: { config.connections ≤ vec_capacity live },
-    ghost ring_room: { config.connections ≤ vec_capacity ring },
+    ghost live_limit: { length live.items ≤ config.connections },
+    ghost live_room: { config.connections ≤ live.room },
 }
 
 impl Core {
@@ -47,15 +43,13 @@ impl Core {
         ensures notes { IfOk result (λ made. made.1.items ≡ init_notes config) }
     {
         let room = config.connections as usize;
-        let live = Vec::with_capacity(alloc, room)?;
-        let ring = Vec::with_capacity(alloc, room)?;
+        let live = Table::with_capacity(alloc, room)?;
         let core = Core {
             alloc,
             config,
             statics: Vars::new(alloc),
             last: 0,
             live,
-            ring,
         };
         Ok((core, Notes::new(alloc)))
     }

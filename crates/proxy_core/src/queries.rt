@@ -7,7 +7,7 @@ ghost use Rattle.proxy_core.specs.Queries.{pending_on, queue_on, front_of};
 
 use crate::core_state::Core;
 use crate::live::Live;
-use crate::took::find;
+use crate::ring::find;
 use px_bytes::{M, Side, Text};
 
 /// The most bytes of a side that may have arrived and not been read, where there is no connection.
@@ -16,9 +16,9 @@ const UNREAD_LIMIT: usize = 65_536;
 impl Core {
     /// Whether no connection is ready to run.
     pub fn settled(&self) -> bool
-        ensures { IsTrue result ↔ (self.now.ring.items ≡ []) }
+        ensures { IsTrue result ↔ (self.now.live.ring ≡ []) }
     {
-        self.ring.is_empty()
+        self.live.is_idle()
     }
 
     /// How many connections are live.
@@ -70,7 +70,8 @@ impl Core {
     fn at(&self, conn: u32) -> Option<&Live>
         ensures { option_map (λ l. l.now) result ≡ live_at self.now.live.items conn }
     {
-        self.live.get(find(&self.live, conn)?)
+        let at = find(&self.live, conn)?;
+        Some(&self.live[at])
     }
 }
 

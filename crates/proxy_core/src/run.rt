@@ -5,9 +5,8 @@ ghost use Rattle.proxy_core.specs.Changes.{RunsRing};
 ghost use Rattle.connection_model.specs.declared.note.Note.{Note};
 
 use crate::core_state::Core;
-use crate::ring::{pop_front, ready_behind};
+use crate::ring::ready_behind;
 use crate::setup::setup_at;
-use crate::took::find;
 use connection_model::Notes;
 use px_bytes::Steps;
 use std::sync::ledger::Ledger;
@@ -18,19 +17,16 @@ impl Core {
     pub(crate) fn run<L: Ledger>(&mut self, steps: &mut Steps<L>, notes: &mut Notes)
         requires { 68 ≤ notes.old.spare }
         ensures runs { (group : List Note) × (notes.new.items ≡ notes.old.items ++ group)
-            × RunsRing self.old self.new self.old.ring.items group (steps.new - steps.old) }
+            × RunsRing self.old self.new self.old.live.ring group (steps.new - steps.old) }
         ensures bounded { length self.old.live.items ≤ length self.new.live.items
             → steps.new ≤ steps.old + 2000 }
     {
-        let Some(number) = pop_front(&mut self.ring) else {
+        let Some(at) = self.live.pop_ready() else {
             return;
-        };
-        let Some(at) = find(&self.live, number) else {
-            unreachable!();
         };
         let setup = setup_at(&self.config, &self.statics, self.live[at].vs);
         let turn = self.live[at].run(self.alloc, &setup, steps, notes);
-        ready_behind(&mut self.ring, number, &turn);
+        ready_behind(&mut self.live, at, &turn);
         if turn.is_over() {
             let _ = self.live.remove(at);
         }

@@ -1,8 +1,6 @@
 // A client takes bytes.
 
-ghost use Rattle.std.specs.Prelude.{◌≡◌, ◌≤◌, ◌<◌, ◌+◌, ◌++◌, Some, None, OnOk, OnErr, IfErr};
-ghost use Rattle.std.specs.Prelude.{IfSome, List, length};
-ghost use Rattle.proxy_core.specs.Ready.{place_of};
+ghost use Rattle.std.specs.Prelude.{◌≡◌, ◌≤◌, ◌+◌, ◌++◌, Some, None, OnOk, OnErr, IfErr, List};
 ghost use Rattle.px_bytes.specs.declared.addr.Side.TheVariants.{Client};
 ghost use Rattle.connection_model.specs.Heard.{Comes, Takes as Taking};
 ghost use Rattle.proxy_core.specs.Refusal.{refusal_of};
@@ -11,8 +9,7 @@ ghost use Rattle.proxy_core.specs.Changes.{Takes};
 
 use crate::core_state::Core;
 use crate::event::BadEvent;
-use crate::live::Live;
-use crate::ring::{make_ready, unlink};
+use crate::ring::find;
 use connection_model::Notes;
 
 impl Core {
@@ -36,18 +33,9 @@ impl Core {
         }
         if self.live[at].take(n, notes) {
             let _ = self.live.remove(at);
-            unlink(&mut self.ring, number);
         } else {
-            make_ready(&mut self.ring, number);
+            self.live.make_ready(at);
         }
         Ok(())
     }
-}
-
-/// Where the live connection of a number stands.
-pub fn find(live: &[Live], number: u32) -> Option<usize>
-    ensures place { result ≡ place_of live.now number }
-    ensures within { IfSome result (λ at. at < length live.now) }
-{
-    live.iter().position(|l| l.number == number)
 }

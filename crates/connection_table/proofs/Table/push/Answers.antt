@@ -1,4 +1,6 @@
 use Rattle.std.proofs.Common.{arith, refl, true}
+use Rattle.std.proofs.lemmas.List.{length_push}
+use Rattle.connection_table.specs.Layout.{items_of}
 use Rattle.connection_table.specs.declared.Entry.{Entry}
 use Rattle.connection_table.proofs.Entries.{items_push, length_items}
 use Rattle.connection_table.proofs.Numbers.{length_numbers}
@@ -39,3 +41,10 @@ returns-clause-items g c =
     let i = c.insert_reserved-key.ensures in
     let e : Entry = record { number = c.args.number; key = c.insert_reserved-key.result; ready = true } in
     rw (← c.self.view_is, c.push_reserved.ensures.items) (items_push _ _ c.self.inside.entries.items e c.args.value i.updates i.was_vacant c.self.invariant.0.held)
+
+pub returns-clause-len : goal.returns-clause-len
+returns-clause-len g c =
+    let i = c.insert_reserved-key.ensures in
+    let e : Entry = record { number = c.args.number; key = c.insert_reserved-key.result; ready = true } in
+    let same = items_push c.self.inside.values c.insert_reserved-key.new.self c.self.inside.entries.items e c.args.value i.updates i.was_vacant c.self.invariant.0.held in
+    rw (← c.self.view_is, c.push_reserved.ensures.items, same) (length_push (items_of c.self.inside.values c.self.inside.entries.items) c.args.value)

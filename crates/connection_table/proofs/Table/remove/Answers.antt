@@ -1,5 +1,7 @@
 use Rattle.std.proofs.Common.{◌∙◌, arith, length, refl}
 use Rattle.std.proofs.lemmas.Option.{slice_get_read}
+use Rattle.std.proofs.lemmas.List.Edits.{length-remove}
+use Rattle.connection_table.specs.Layout.{items_of}
 use Rattle.connection_table.proofs.Entries.{item_at, items_remove}
 use Rattle.connection_table.proofs.Numbers.{numbers_remove}
 use Rattle.connection_table.proofs.Sounds.{entry_within, sound_remove}
@@ -44,3 +46,13 @@ returns-clause-items g c =
 
 pub returns-clause-numbers : goal.returns-clause-numbers
 returns-clause-numbers g c = rw (← c.self.view_is, c.remove-entry.ensures.items) (numbers_remove c.args.at c.self.inside.entries.items)
+
+pub returns-clause-len : goal.returns-clause-len
+returns-clause-len g c =
+    let es = c.self.inside.entries.items in
+    let z = c.self.invariant.0 in
+    let w = entry_within c.args.at c.self.inside.values es z.held (rw (← c.self.view_is) at c.requires) in
+    let e = c.remove-entry.result in
+    let h = slice_get_read es (length es) c.args.at e refl w c.remove-entry.ensures.value in
+    let same = items_remove c.args.at c.self.inside.values c.remove.new.self es e c.remove.ensures.updates z.apart z.held h in
+    rw (← c.self.view_is, c.remove-entry.ensures.items, same) (length-remove (items_of c.self.inside.values es) c.args.at (rw (← c.self.view_is) at c.requires))
