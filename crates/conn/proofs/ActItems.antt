@@ -6,11 +6,12 @@ use Rattle.rule_model.specs.Outcome.{Act, Did}
 use Rattle.rule_model.specs.Outcome as act
 use Rattle.event_order.specs.declared.event.EventName.{EventName}
 use Rattle.connection_model.specs.Item.{Item, Ran, client_output, notes_of, choices_in}
+use Rattle.connection_model.specs.declared.note.Note.TheVariants as note
 use Rattle.connection_model.specs.HeardLaws.{cut_in}
 use Rattle.connection_model.specs.Gates.{Counts, TakenCounts, Met, sent_after, sent_from}
 use Rattle.connection_model.specs.Bodies.{act_item}
 use Rattle.frame_machine.specs.Went.{effects_in}
-use Rattle.conn.specs.Hosts.{client_bytes, ToClientAlone}
+use Rattle.conn.specs.Hosts.{client_bytes, logs_of, ToClientAlone}
 
 -- items that send and show nothing, and may always be given
 pub record Silent (c : ℕ) (took : TakenCounts) (tail : List Item) : Type 0 where
@@ -39,17 +40,16 @@ module _ (c number : ℕ) (took : TakenCounts) (tail : List Item) (t : Silent c 
 
   pub acts_output : (xs : List Act) → ToClientAlone (effects_in xs) → client_output (items xs) ≡ client_bytes (effects_in xs)
   acts_output [] p = t.output
-  acts_output (Did (effect.Logged text) ∷ xs) p = absurd p
+  acts_output (Did (effect.Logged text) ∷ xs) p = acts_output xs p
   acts_output (Did (effect.Sent Client bytes) ∷ xs) p = ap (λ x. bytes ++ x) (acts_output xs p)
   acts_output (Did (effect.Sent Server bytes) ∷ xs) p = absurd p
   acts_output (act.Called path call ∷ xs) p = acts_output xs p
 
-  pub acts_noted : (xs : List Act) → ToClientAlone (effects_in xs) → notes_of c (items xs) ≡ []
-  acts_noted [] p = t.noted
-  acts_noted (Did (effect.Logged text) ∷ xs) p = absurd p
-  acts_noted (Did (effect.Sent Client bytes) ∷ xs) p = acts_noted xs p
-  acts_noted (Did (effect.Sent Server bytes) ∷ xs) p = absurd p
-  acts_noted (act.Called path call ∷ xs) p = acts_noted xs p
+  pub acts_noted : (xs : List Act) → notes_of c (items xs) ≡ logs_of c (effects_in xs)
+  acts_noted [] = t.noted
+  acts_noted (Did (effect.Logged text) ∷ xs) = ap (λ x. note.Log c text ∷ x) (acts_noted xs)
+  acts_noted (Did (effect.Sent side bytes) ∷ xs) = acts_noted xs
+  acts_noted (act.Called path call ∷ xs) = acts_noted xs
 
   pub acts_choices : (xs : List Act) → choices_in (items xs) ≡ []
   acts_choices [] = t.choices
@@ -65,14 +65,14 @@ module _ (c number : ℕ) (took : TakenCounts) (tail : List Item) (t : Silent c 
 
   pub acts_server : (xs : List Act) → ToClientAlone (effects_in xs) → (sent : Counts) → (sent_from sent (items xs)).server ≡ sent.server
   acts_server [] p sent = ap (λ s. s.server) (t.sent sent)
-  acts_server (Did (effect.Logged text) ∷ xs) p sent = absurd p
+  acts_server (Did (effect.Logged text) ∷ xs) p sent = acts_server xs p (sent_after (act_item number (Did (effect.Logged text))) sent)
   acts_server (Did (effect.Sent Client bytes) ∷ xs) p sent = acts_server xs p (sent_after (act_item number (Did (effect.Sent Client bytes))) sent)
   acts_server (Did (effect.Sent Server bytes) ∷ xs) p sent = absurd p
   acts_server (act.Called path call ∷ xs) p sent = acts_server xs p sent
 
   pub acts_number : (xs : List Act) → ToClientAlone (effects_in xs) → (sent : Counts) → (sent_from sent (items xs)).number ≡ sent.number
   acts_number [] p sent = ap (λ s. s.number) (t.sent sent)
-  acts_number (Did (effect.Logged text) ∷ xs) p sent = absurd p
+  acts_number (Did (effect.Logged text) ∷ xs) p sent = acts_number xs p (sent_after (act_item number (Did (effect.Logged text))) sent)
   acts_number (Did (effect.Sent Client bytes) ∷ xs) p sent = acts_number xs p (sent_after (act_item number (Did (effect.Sent Client bytes))) sent)
   acts_number (Did (effect.Sent Server bytes) ∷ xs) p sent = absurd p
   acts_number (act.Called path call ∷ xs) p sent = acts_number xs p sent

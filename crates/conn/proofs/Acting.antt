@@ -1,5 +1,5 @@
 -- What an action gives, by what it comes to.
-use Rattle.std.proofs.Common.{◌≡◌, sym, ap, ◌∙◌, ℕ, ◌+◌, List, [], ◌++◌, length, map, false, arith, length-append}
+use Rattle.std.proofs.Common.{◌≡◌, sym, ap, ◌∙◌, ℕ, ◌+◌, List, ◌++◌, length, map, false, arith, length-append}
 use Rattle.rule_model.specs.Outcome.{Act}
 use Rattle.connection_model.specs.declared.note.Note.{Note}
 use Rattle.connection_model.specs.Bodies.{act_item}
@@ -11,9 +11,10 @@ use Rattle.connection_model.specs.Trace.{next_item, Unfolds, GivesNoMore}
 use Rattle.connection_model.proofs.Given.{sent_counted, sent_output}
 use Rattle.frame_machine.specs.Went.{effects_in}
 use Rattle.conn.specs.Holds.{Around, Stands, Holds}
-use Rattle.conn.specs.Hosts.{Made}
+use Rattle.conn.specs.Hosts.{AsksNothing, ToClientAlone, client_bytes, logs_of}
 use Rattle.conn.specs.Stages.{is_asking}
 use Rattle.conn.specs.declared.connection.Conn.{Conn}
+use Rattle.conn.specs.declared.host.RuleHost.{RuleHost}
 use Rattle.conn.specs.declared.turn.Act as code
 use Rattle.conn.specs.declared.turn.Act.TheVariants as done
 use Rattle.conn.proofs.ActItems.{Silent, acts_met, acts_output, acts_noted, acts_choices, acts_uncut, acts_server, acts_number}
@@ -30,9 +31,15 @@ pub record ActGave (g : Setup) (a : Around) (l : TraceState) (c : ℕ) (old new 
   pub gave : Gave g a l at c old new group
   pub stops : ActStops g a at new did
 
+-- what the acts of a body made was done
+pub record DoesActs (xs : List Act) (old new : RuleHost) : Type 0 where
+  pub alone : ToClientAlone (effects_in xs)
+  pub queue : new.to_client ≡ old.to_client ++ client_bytes (effects_in xs)
+  pub unasked : AsksNothing new.net
+
 -- acts of a body, and what stands behind them
-pub acts_gave : (g : Setup) (a : Around) (l at : TraceState) (c : ℕ) (old new : Conn) (xs : List Act) (tail : List Item) → Silent c a.took tail → Holds g a l old → Made old.host (effects_in xs) new.host
-    → Unfolds g l (map (act_item 0) xs ++ tail) at → Stands g new.stage at new → at.server ≡ l.server → at.answers.cut ≡ l.answers.cut → Gave g a l at c old new []
+pub acts_gave : (g : Setup) (a : Around) (l at : TraceState) (c : ℕ) (old new : Conn) (xs : List Act) (tail : List Item) → Silent c a.took tail → Holds g a l old → DoesActs xs old.host new.host
+    → Unfolds g l (map (act_item 0) xs ++ tail) at → Stands g new.stage at new → at.server ≡ l.server → at.answers.cut ≡ l.answers.cut → Gave g a l at c old new (logs_of c (effects_in xs))
 acts_gave g a l at c old new xs tail t h made u stands server cut =
     let items = map (act_item 0) xs ++ tail in
     let sent : at.sent ≡ sent_from l.sent items = sent_counted g l at items u in
@@ -44,6 +51,7 @@ acts_gave g a l at c old new xs tail t h made u stands server cut =
       met = acts_met c 0 a.took tail t xs l.sent;
       holds = record {
         stage = stands;
+        unasked = made.unasked;
         taken = h.taken;
         not_reset = h.not_reset;
         untaken =
@@ -56,7 +64,7 @@ acts_gave g a l at c old new xs tail t h made u stands server cut =
         no_cut = cut ∙ h.no_cut;
       };
       queue = queue;
-      noted = sym (acts_noted c 0 a.took tail t xs made.alone);
+      noted = sym (acts_noted c 0 a.took tail t xs);
       choices = acts_choices c 0 a.took tail t xs;
       uncut = acts_uncut c 0 a.took tail t xs;
     }

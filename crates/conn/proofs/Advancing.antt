@@ -14,10 +14,12 @@ use Rattle.connection_model.specs.Places.{at as put, after_fault, closed, enter,
 use Rattle.connection_model.specs.Setup.{Handler, Setup}
 use Rattle.connection_model.specs.State.{Cut, Gated, Running, Failing, InEvent, Finishing, Absent, link_of, TraceState, Next, Does}
 use Rattle.connection_model.specs.Trace.{next_item, GivesNoMore}
-use Rattle.conn.specs.Acts.{StartsBody, PassesGate, Chooses, Closes, BehindFault, BodyMovedBy, BodyMoved, ActedAt, Acted}
+use Rattle.conn.specs.Acts.{PassesGate, Chooses, Closes, BehindFault, ActedAt, Acted}
+use Rattle.conn.specs.Changes.{StartsBody}
+use Rattle.conn.specs.Steps.{BodyMovedBy}
 use Rattle.conn.specs.Events.{event_of}
 use Rattle.conn.specs.Holds.{Around, Between, BodyGoesOn, GatedBefore, RunsFirst, Stands, Holds}
-use Rattle.conn.specs.Hosts.{seen_host}
+use Rattle.conn.specs.Hosts.{AsksNothing, seen_host, unselected_host}
 use Rattle.conn.specs.Setups.{handler_of, bodies_at, Serves}
 use Rattle.conn.specs.Stages.{reason_for, cause_for, entered_by, is_asking}
 use Rattle.conn.specs.declared.connection.Conn.{Conn}
@@ -32,7 +34,8 @@ use Rattle.conn.specs.declared.stage.Stage.TheVariants as stage
 use Rattle.conn.specs.declared.turn.Act as step_act
 use Rattle.conn.specs.declared.turn.Act.TheVariants as done
 use Rattle.conn.proofs.Acting.{ActGave}
-use Rattle.conn.proofs.BodyMoves.{next_awake, next_host, body_gives}
+use Rattle.conn.proofs.BodyMoves.{next_awake, next_host, body_gives, step_notes}
+use Rattle.conn.proofs.Doing.{begun_unasked, same_unasked, unselected_unasked}
 use Rattle.conn.proofs.Giving.{gave_none, OneItem, gave_one}
 use Rattle.conn.proofs.Places.{handlers_are, body_begins, next_stands, entered_stands}
 use Rattle.conn.proofs.Resting.{next_at, gate_is, choosing_item, over_next}
@@ -47,6 +50,11 @@ stays g a l c old new a' h rests same stops =
     let P : Conn → Type 0 = λ x. ActGave g a l c old x [] a' in
     let Q : step_act.Act → Type 0 = λ x. ActGave g a l c old old [] x in
     subst P (sym same) (subst Q (sym rests) (record { at = l; gave = gave_none g a l c old h; stops = stops }))
+
+-- the notes of a body that moved
+abbrev moved_notes : (s : code_setup.Setup) (c : ℕ) (at : At) (number : ℕ) (old new : Conn) (before after : List Note) (did : step_act.Act) (v : Option code.Handler) → BodyMovedBy s v c at number old new before after did → List Note
+moved_notes s c at number old new before after did None k = []
+moved_notes s c at number old new before after did (Some b) k = step_notes k
 
 module _ (s : code_setup.Setup) (g : Setup) (serves : Serves s g) (a : Around) (l : TraceState) (c : ℕ) (old new : Conn) (h : Holds g a l old) where
   gate_opens : (at : At) (hs : List Handler) → g.handlers (event_of at) ≡ hs → GatedBefore (event_of at) hs l.phase → Between l old → StartsBody s at 0 old new → nat_lt (length old.host.to_client) room_limit ≡ true → ActGave g a l c old new [] done.Goes
@@ -70,6 +78,7 @@ module _ (s : code_setup.Setup) (g : Setup) (serves : Serves s g) (a : Around) (
         server = refl;
         cut = refl;
         queue = ap (λ x. x.to_client) starts.host;
+        unasked = same_unasked old.host new.host starts.host h.unasked;
       }) (ap is_asking starts.there)
 
   gate_shut : (at : At) (hs : List Handler) → GatedBefore (event_of at) hs l.phase → nat_lt (length old.host.to_client) room_limit ≡ false → GivesNoMore false l.sent a.took (next_item g l)
@@ -93,15 +102,13 @@ module _ (s : code_setup.Setup) (g : Setup) (serves : Serves s g) (a : Around) (
   none_here (x ∷ hs) zero e = absurd (cc)
   none_here (x ∷ hs) (suc n) e = none_here hs n e
 
-  runs : (at : At) (number : ℕ) (did : step_act.Act) → old.stage ≡ stage.Running at number → Stands g (stage.Running at number) l old → BodyMoved s at number old new did → ActGave g a l c old new [] did
-  runs at number did is st k = by_handler (slice_get (bodies_at s at) number) refl k
-    where
-      by_handler : (v : Option code.Handler) → slice_get (bodies_at s at) number ≡ v → BodyMovedBy s v at number old new did → ActGave g a l c old new [] did
-      by_handler None e m =
-          let R : List Handler → Type 0 = λ hs. RunsFirst g (event_of at) hs 0 l old in
-          let none : drop number (g.handlers (event_of at)) ≡ [] = ap (drop number) (handlers_are s g serves at) ∙ none_here (bodies_at s at) number e in
-          absurd (subst R none st.0)
-      by_handler (Some b) e m = body_gives s g serves a l c old new at number b did e m is h
+  runs : (at : At) (number : ℕ) (before after : List Note) (did : step_act.Act) (v : Option code.Handler) → slice_get (bodies_at s at) number ≡ v → old.stage ≡ stage.Running at number → Stands g (stage.Running at number) l old
+      → (k : BodyMovedBy s v c at number old new before after did) → ActGave g a l c old new (moved_notes s c at number old new before after did v k) did
+  runs at number before after did None e is st k =
+      let R : List Handler → Type 0 = λ hs. RunsFirst g (event_of at) hs 0 l old in
+      let none : drop number (g.handlers (event_of at)) ≡ [] = ap (drop number) (handlers_are s g serves at) ∙ none_here (bodies_at s at) number e in
+      absurd (subst R none st.0)
+  runs at number before after did (Some b) e is st k = body_gives s g serves a l c old new at number b before after did e k is h
 
   -- behind a fault
   fault_stands : (at : At) (n : ℕ) (kind : FaultKind) → Between l old → BehindFault s at n kind old new
@@ -112,7 +119,7 @@ module _ (s : code_setup.Setup) (g : Setup) (serves : Serves s g) (a : Around) (
   fault_stands Failed n kind b k =
       let P : Stage → Type 0 = λ st. Stands g st (record l { phase = Finishing (reason_for (finish.Fault kind)); host = seen_host old.host }) new in
       (subst P (sym k.there) (refl, record { vars = b.vars ∙ sym k.vars; host = ap seen_host (sym k.host); replies = b.replies }), ap is_asking k.there, k.host)
-  fault_stands Closed n kind b k = (next_stands s g serves Closed n old new k l b.vars b.replies l.finished, next_awake s Closed n old new k, next_host s Closed n old new k)
+  fault_stands Closed n kind b k = (next_stands s g serves Closed n old new k l b.vars b.replies h.unasked l.finished, next_awake s Closed n old new k, next_host s Closed n old new k)
 
   logs : (at : At) (n : ℕ) (kind : FaultKind) (line : List ℕ) → Stands g (stage.Failing at n kind line) l old → BehindFault s at n kind old new → ActGave g a l c old new (note.Log c line ∷ []) done.Goes
   logs at n kind line st k =
@@ -133,23 +140,26 @@ module _ (s : code_setup.Setup) (g : Setup) (serves : Serves s g) (a : Around) (
         server = refl;
         cut = refl;
         queue = ap (λ x. x.to_client) f.2;
+        unasked = same_unasked old.host new.host f.2 h.unasked;
       }) f.1
 
   chooses : Stands g stage.Choosing l old → Chooses s old new → ActGave g a l c old new [] done.Goes
   chooses st k =
       let P : HostState → Type 0 = λ host. Stands g new.stage (put (entered g LbFailed Absent (g.handlers LbFailed) host) l) new in
+      let unasked : AsksNothing new.host.net = begun_unasked Failed (unselected_host old.host) new.host k.host (unselected_unasked old.host h.unasked) in
       goes g a l c old new Resumed h (record {
-        at = put (enter g LbFailed Absent (seen_host old.host)) l;
-        step = choosing_item g l old st.1 h.no_cut h.no_server st.0;
+        at = put (enter g LbFailed Absent (seen_host (unselected_host old.host))) l;
+        step = choosing_item g l old st.1 h.unasked h.no_cut h.no_server st.0;
         open_now = refl;
         silent = refl;
         choice = refl;
         uncut = λ t later. refl;
-        stands = subst P (ap seen_host k.host) (entered_stands s g serves Failed new k.there l (st.1.vars ∙ sym k.vars) st.1.replies);
+        stands = subst P (ap seen_host k.host) (entered_stands s g serves Failed new k.there l (st.1.vars ∙ sym k.vars) st.1.replies unasked);
         sent = refl;
         server = refl;
         cut = refl;
         queue = ap (λ x. x.to_client) k.host;
+        unasked = unasked;
       }) (ap is_asking k.there ∙ entered_awake (bodies_at s Failed))
     where
       entered_awake : (hs : List code.Handler) → is_asking (entered_by Failed hs) ≡ false
@@ -170,6 +180,7 @@ module _ (s : code_setup.Setup) (g : Setup) (serves : Serves s g) (a : Around) (
       let l' : TraceState = record l { finished = true } in
       let P : HostState → Type 0 = λ host. Stands g new.stage (put (next_body g ClientClosed true Absent (g.handlers ClientClosed) host) l') new in
       let N : List Note → Type 0 = λ x. ActGave g a l c old new x done.Goes in
+      let unasked : AsksNothing k.mid.host.net = begun_unasked Closed old.host k.mid.host k.host h.unasked in
       subst N (ap (λ x. note.Finish c x ∷ []) (cause_is f)) (goes g a l c old new (Finished (reason_for f)) h (record {
         at = put (closed g Absent (seen_host old.host)) l';
         step = next_at g l (Finishing (reason_for f)) h.no_cut st.0
@@ -179,11 +190,12 @@ module _ (s : code_setup.Setup) (g : Setup) (serves : Serves s g) (a : Around) (
         silent = refl;
         choice = refl;
         uncut = λ t later. uncut_by f t later;
-        stands = subst P (ap seen_host k.host) (next_stands s g serves Closed 0 k.mid new k.begins l' (b.vars ∙ sym k.vars) b.replies true);
+        stands = subst P (ap seen_host k.host) (next_stands s g serves Closed 0 k.mid new k.begins l' (b.vars ∙ sym k.vars) b.replies unasked true);
         sent = refl;
         server = refl;
         cut = refl;
         queue = ap (λ x. x.to_client) (next_host s Closed 0 k.mid new k.begins ∙ k.host);
+        unasked = same_unasked k.mid.host new.host (next_host s Closed 0 k.mid new k.begins) unasked;
       }) (next_awake s Closed 0 k.mid new k.begins))
 
   drains : (did : step_act.Act) → Stands g stage.Draining l old → did ≡ done.Rests → new ≡ old → ActGave g a l c old new [] did
@@ -211,7 +223,15 @@ acted_well s c old new before after did k = by_stage old.stage refl k
 
     by_stage : (st : Stage) → old.stage ≡ st → ActedAt st s c old new before after did → ActedWell s c old new before after did
     by_stage (stage.Gated at) is (k, notes) = record { group = []; notes = none notes; along = λ g a l serves h awake. gate s g serves a l c old new h at did (here (stage.Gated at) is g a l h) k }
-    by_stage (stage.Running at n) is (k, notes) = record { group = []; notes = none notes; along = λ g a l serves h awake. runs s g serves a l c old new h at n did is (here (stage.Running at n) is g a l h) k }
+    by_stage (stage.Running at n) is k = by_handler (slice_get (bodies_at s at) n) refl k
+      where
+        by_handler : (v : Option code.Handler) → slice_get (bodies_at s at) n ≡ v → BodyMovedBy s v c at n old new before after did → ActedWell s c old new before after did
+        by_handler None e m = record { group = []; notes = none m; along = λ g a l serves h awake. runs s g serves a l c old new h at n before after did None e is (here (stage.Running at n) is g a l h) m }
+        by_handler (Some b) e m = record {
+          group = step_notes m;
+          notes = m.does.noted;
+          along = λ g a l serves h awake. runs s g serves a l c old new h at n before after did (Some b) e is (here (stage.Running at n) is g a l h) m;
+        }
     by_stage (stage.Asking at n) is (rests, same, notes) = record { group = []; notes = none notes; along = λ g a l serves h awake. absurd (let e = sym awake ∙ ap is_asking is in cc) }
     by_stage (stage.Failing at n kind line) is (e, k, notes) = record { group = note.Log c line ∷ []; notes = notes; along = λ g a l serves h awake. as_goes e g a l (note.Log c line ∷ []) (logs s g serves a l c old new h at n kind line (here (stage.Failing at n kind line) is g a l h) k) }
     by_stage stage.Choosing is (e, k, notes) = record { group = []; notes = none notes; along = λ g a l serves h awake. as_goes e g a l [] (chooses s g serves a l c old new h (here stage.Choosing is g a l h) k) }

@@ -1,8 +1,7 @@
 -- No body of today makes a shared call.
-use Rattle.std.proofs.Common.{◌≡◌, refl, sym, ap, ◌∙◌, ℕ, ◌+◌, List, [], ◌∷◌, ◌++◌, length, drop, Bool, true, false, Option, Some, None, nat_lt, codes, if◌then◌else◌}
+use Rattle.std.proofs.Common.{◌≡◌, refl, sym, ap, ◌∙◌, ℕ, ◌+◌, List, [], ◌∷◌, ◌++◌, length, drop, Bool, true, false, Option, Some, None}
 use Rattle.std.specs.Prelude.{slice_get}
-use Rattle.std.specs.Str.{bytes_eq}
-use Rattle.px_bytes.specs.Host.{HostStep}
+use Rattle.px_bytes.specs.Host.{HostStep, Gives, Faults, Asks}
 use Rattle.px_bytes.specs.declared.fault.Reply.{Reply}
 use Rattle.event_order.specs.declared.event.EventName.{EventName}
 use Rattle.tcl_vars.specs.Scopes.{Scopes}
@@ -12,7 +11,7 @@ use Rattle.rule_model.specs.Outcome.{Act, state, Outcome, Ends, Waits as Stops}
 use Rattle.rule_model.proofs.Facts.{never_waits}
 use Rattle.connection_model.specs.Bodies.{run_body, act_next, ended_next}
 use Rattle.connection_model.specs.Gates.{Counts}
-use Rattle.connection_model.specs.Host.{HostState, body_setting, respond, respond_table, respond_limit}
+use Rattle.connection_model.specs.Host.{HostState, body_setting, commands}
 use Rattle.connection_model.specs.Setup.{Handler, Setup}
 use Rattle.connection_model.specs.State.{Phase, Gated, Running, Failing, InEvent, Finishing, ForReply, TraceState, Next, Does, Waits, Over, WaitKind}
 use Rattle.connection_model.specs.Trace.{counted, phase_next, next_item}
@@ -28,25 +27,18 @@ use Rattle.conn.specs.declared.stage.Stage.TheVariants as stage
 use Rattle.conn.specs.declared.turn.ConnTurn.{ConnTurn}
 use Rattle.conn.specs.declared.turn.ConnTurn.TheVariants as turn
 use Rattle.conn.proofs.Asking.{asking_waits}
+use Rattle.conn.proofs.Quick.{QuickHost, commands_quick}
 use Rattle.conn.proofs.Replying.{asked_mode}
 use Rattle.conn.proofs.Resting.{next_at, choosing_item, over_next}
 
-if_asks : (b : Bool) (x y : HostStep HostState) → asks_step x ≡ false → asks_step y ≡ false → asks_step (if b then x else y) ≡ false
-if_asks true x y h k = h
-if_asks false x y h k = k
-
-respond_answers : (h : HostState) (words : List (List ℕ)) → asks_step (respond h words) ≡ false
-respond_answers h [] = refl
-respond_answers h (t ∷ []) = if_asks (nat_lt respond_limit (h.sent + length t)) _ _ refl refl
-respond_answers h (t ∷ u ∷ words) = refl
-
-table_answers : (h : HostState) (words : List (List ℕ)) → asks_step (respond_table h words) ≡ false
-table_answers h [] = refl
-table_answers h (name ∷ words) = if_asks (bytes_eq name (codes "TCP::respond")) _ _ (respond_answers h words) refl
+step_answers : (h : HostState) (step : HostStep HostState) → QuickHost h step → asks_step step ≡ false
+step_answers h (Gives v t es) q = refl
+step_answers h (Faults f t es) q = refl
+step_answers h (Asks call t) q = absurd q
 
 body_moves : (g : Setup) (b : Handler) (vars : Scopes) (host : HostState) (replies : List Reply) → waits (evaluate (body_setting g b.procedures) b.body vars host replies g.budget) ≡ false
 unfolding evaluate
-body_moves g b vars host replies = never_waits (body_setting g b.procedures) table_answers inner_limit inner_limit b.body [] (state vars host replies g.budget 0 [])
+body_moves g b vars host replies = never_waits (body_setting g b.procedures) (λ h words. step_answers h (commands g.groups h words) (commands_quick g.groups h words)) inner_limit inner_limit b.body [] (state vars host replies g.budget 0 [])
 
 body_asks : (g : Setup) (e : EventName) (b : Handler) (bs : List Handler) (l : TraceState) (c : Conn) → BodyGoesOn g e b bs 1 l c → is_asked c.body.machine.at.mode ≡ true → ⊥
 body_asks g e b bs l c k asked =
@@ -109,7 +101,7 @@ module _ (g : Setup) (a : Around) (l : TraceState) (c : Conn) (h : Holds g a l c
   no_reply (stage.Running at n) k = first_goes (event_of at) (drop n (g.handlers (event_of at))) 0 k.0
   no_reply (stage.Asking at n) k = first_goes (event_of at) (drop n (g.handlers (event_of at))) 1 k.0
   no_reply (stage.Failing at n kind line) k = by_phase (InEvent (event_of at) (Failing kind line (drop n (g.handlers (event_of at))))) k.0 refl
-  no_reply stage.Choosing k = ap asks_now (choosing_item g l c k.1 h.no_cut h.no_server k.0)
+  no_reply stage.Choosing k = ap asks_now (choosing_item g l c k.1 h.unasked h.no_cut h.no_server k.0)
   no_reply (stage.Finishing f) k = by_phase (Finishing (reason_for f)) k.0 refl
   no_reply stage.Draining k = ap asks_now (over_next g a l c h k.0)
   no_reply stage.OutOfMemory k = absurd k

@@ -8,6 +8,7 @@ use Rattle.px_bytes.specs.declared.fault.TclFault.{TclFault}
 use Rattle.tcl_compile.specs.Procedures.{procs_view}
 use Rattle.tcl_compile.specs.TreeView.{node_view}
 use Rattle.tcl_vars.specs.Scopes.{Level}
+use Rattle.irule_net.specs.declared.groups.Groups.{Groups}
 use Rattle.rule_model.specs.Evaluator.{evaluate}
 use Rattle.rule_model.specs.Host.{Effect}
 use Rattle.rule_model.specs.Laws.{state_after}
@@ -18,7 +19,7 @@ use Rattle.rule_model.specs.declared.code.Code.{Code}
 use Rattle.event_order.specs.declared.event.EventName.{EventName}
 use Rattle.connection_model.specs.Bodies.{run_body, act_item}
 use Rattle.connection_model.specs.Gates.{Counts, sent_from}
-use Rattle.connection_model.specs.Host.{HostState, body_setting, respond_table}
+use Rattle.connection_model.specs.Host.{HostState, body_setting, commands}
 use Rattle.connection_model.specs.Item.{Ran}
 use Rattle.connection_model.specs.Places.{at as put, after_body, next_body}
 use Rattle.connection_model.specs.Setup.{Handler, Setup, uncaught_line}
@@ -26,16 +27,18 @@ use Rattle.connection_model.specs.State.{Absent, Failing, InEvent, TraceState, l
 use Rattle.connection_model.specs.Trace.{next_item, Unfolds}
 use Rattle.connection_model.proofs.BodyItems.{running, ended, body_waits}
 use Rattle.connection_model.proofs.Unfolding.{unfolds_on, unfolds_one}
+use Rattle.connection_model.specs.declared.note.Note.{Note}
 use Rattle.frame_machine.specs.Frames.{comes_to, path_of}
 use Rattle.frame_machine.specs.Given.{setting}
 use Rattle.frame_machine.specs.Went.{Went, place, comes_by, effects_in, TurnIs}
 use Rattle.frame_machine.specs.declared.turn.Turn.{Turn}
 use Rattle.frame_machine.specs.declared.turn.Turn.TheVariants as turn
-use Rattle.conn.specs.Acts.{GoesTo, StartsBody, NextBody, Ended, Turned, BodySteps}
+use Rattle.conn.specs.Changes.{GoesTo, StartsBody, NextBody}
+use Rattle.conn.specs.Steps.{BodySteps, GoesOn, ended_of, one_of, said_of}
 use Rattle.conn.specs.Bodies.{SaidIs}
 use Rattle.conn.specs.Events.{event_of}
 use Rattle.conn.specs.Holds.{Around, BodyGoesOn, RunsFirst, Stands, Holds}
-use Rattle.conn.specs.Hosts.{Made, seen_host}
+use Rattle.conn.specs.Hosts.{Made, cleared_host, logs_of, seen_host}
 use Rattle.conn.specs.Setups.{handler_of, bodies_at, Serves}
 use Rattle.conn.specs.Stages.{after_stage, is_asking}
 use Rattle.conn.specs.declared.connection.Conn.{Conn}
@@ -47,7 +50,9 @@ use Rattle.conn.specs.declared.stage.Stage.{Stage}
 use Rattle.conn.specs.declared.stage.Stage.TheVariants as stage
 use Rattle.conn.specs.declared.turn.Act as step_act
 use Rattle.conn.specs.declared.turn.Act.TheVariants as done
-use Rattle.conn.proofs.Acting.{ActGave, acts_gave}
+use Rattle.conn.proofs.Acting.{ActGave, DoesActs, acts_gave}
+use Rattle.conn.proofs.Doing.{acts_done, calls_too, made_done, said_same, went_same}
+use Rattle.conn.proofs.Giving.{Gave}
 use Rattle.conn.proofs.ActItems.{no_tail, end_tail, called_is_none}
 use Rattle.conn.proofs.Asking.{asking_waits}
 use Rattle.conn.proofs.BodyActs.{acts_come, end_comes}
@@ -76,8 +81,12 @@ next_host s at n mid new k = by_test (nat_lt n (length (bodies_at s at))) k
 
 -- a step of the body of which the state of the trace tells
 module _ (s : code_setup.Setup) (g : Setup) (serves : Serves s g) (a : Around) (l : TraceState) (c : ℕ) (old mid : Conn) (at : At) (number : ℕ) (h : code.Handler) (bs : List Handler)
-    (holds : Holds g a l old) (k : BodyGoesOn g (event_of at) (handler_of h) bs 0 l old) (said : Turn) (ticks : ℕ)
-    (w : Went (body_setting g (procs_view h.procs)) (node_view h.body) (place old.body.machine.at old.vars (seen_host old.host)) (place mid.body.machine.at mid.vars (seen_host mid.host)) said (λ es. Made old.host es mid.host) ticks) where
+    (holds : Holds g a l old) (k : BodyGoesOn g (event_of at) (handler_of h) bs 0 l old) (said : Turn) (ticks : ℕ) (made : List Effect → Type 0)
+    (w : Went (body_setting g (procs_view h.procs)) (node_view h.body) (place old.body.machine.at old.vars (seen_host old.host)) (place mid.body.machine.at mid.vars (seen_host mid.host)) said made ticks)
+    (done_acts : DoesActs w.acts old.host mid.host) where
+  abbrev group : List Note
+  group = logs_of c (effects_in w.acts)
+
   abbrev e : EventName
   e = event_of at
 
@@ -112,7 +121,7 @@ module _ (s : code_setup.Setup) (g : Setup) (serves : Serves s g) (a : Around) (
   with_tail : (xs : List Act) (at : TraceState) → Unfolds g l (map (act_item 0) xs) at → Unfolds g l (map (act_item 0) xs ++ []) at
   with_tail xs at u = subst (λ x. Unfolds g l x at) (sym (append-nil (map (act_item 0) xs))) u
 
-  goes_on : said ≡ turn.More → mid.body.runs ≡ true → drop number (g.handlers e) ≡ b ∷ bs → mid.stage ≡ stage.Running at number → ActGave g a l c old mid [] done.Goes
+  goes_on : said ≡ turn.More → mid.body.runs ≡ true → drop number (g.handlers e) ≡ b ∷ bs → mid.stage ≡ stage.Running at number → ActGave g a l c old mid group done.Goes
   goes_on more runs left there =
       let o = comes_to S b.body mid.body.machine.at mid.vars (seen_host mid.host) [] (k.cost + w.spent) acts in
       let Q : Turn → Type 0 = λ t. comes_by t S b.body mid.body.machine.at mid.vars (seen_host mid.host) [] (k.cost + w.spent) acts ≡ o in
@@ -126,14 +135,14 @@ module _ (s : code_setup.Setup) (g : Setup) (serves : Serves s g) (a : Around) (
       let R : Stage → Type 0 = λ st. Stands g st at' mid in
       record {
         at = at';
-        gave = acts_gave g a l at' c old mid w.acts [] (no_tail c a.took) holds w.by (with_tail w.acts at' u) (subst R (sym there) (subst P (sym left) now, runs)) refl refl;
+        gave = acts_gave g a l at' c old mid w.acts [] (no_tail c a.took) holds done_acts (with_tail w.acts at' u) (subst R (sym there) (subst P (sym left) now, runs)) refl refl;
         stops = ap is_asking there;
       }
 
   abbrev asked : Conn
   asked = record mid { stage = stage.Asking at number }
 
-  asks : (call : List (List ℕ)) → said ≡ turn.Asks call → mid.body.asks ≡ true → drop number (g.handlers e) ≡ b ∷ bs → ActGave g a l c old asked [] (done.Asks call)
+  asks : (call : List (List ℕ)) → said ≡ turn.Asks call → mid.body.asks ≡ true → drop number (g.handlers e) ≡ b ∷ bs → ActGave g a l c old asked group (done.Asks call)
   asks call is_ask waits left =
       let m = mid.body.machine.at in
       let path = path_of m.frames.items in
@@ -149,21 +158,21 @@ module _ (s : code_setup.Setup) (g : Setup) (serves : Serves s g) (a : Around) (
       let u = come o xs [] (length acts + 1) is all (omega (arith, length-append k.acts w.acts, length-append w.acts calls)) in
       let now : BodyGoesOn g e b bs 1 at' asked = record { acts = acts; cost = k.cost + w.spent; phase = refl; same = subst T is_ask same } in
       let R : List Handler → Type 0 = λ hs. RunsFirst g e hs 1 at' asked in
-      let M : List Effect → Type 0 = λ es. Made old.host es mid.host in
+      let G : List Effect → Type 0 = λ es. Gave g a l at' c old asked (logs_of c es) in
       record {
         at = at';
-        gave = acts_gave g a l at' c old asked xs [] (no_tail c a.took) holds (subst M (sym (called_is_none w.acts path call)) w.by) (with_tail xs at' u) (subst R (sym left) now, waits) refl refl;
+        gave = subst G (called_is_none w.acts path call) (acts_gave g a l at' c old asked xs [] (no_tail c a.took) holds (calls_too w.acts path call old.host mid.host done_acts) (with_tail xs at' u) (subst R (sym left) now, waits) refl refl);
         stops = ap (λ n. next_item g (running e b bs n (sent_by xs) l)) (sym (length-append acts calls))
             ∙ body_waits g e b bs l path call (state mid.vars (seen_host mid.host) [] m.budget (k.cost + w.spent) (acts ++ calls)) (sent_by xs) holds.no_cut is;
       }
 
   -- where a body that ended leaves it
-  ended_stands : (L : TraceState) → L.vars ≡ mid.vars → L.answers.replies ≡ [] → drop (number + 1) (g.handlers e) ≡ bs → (new : Conn) (f : Option TclFault) → Ended s h at number f mid new
+  ended_stands : (L : TraceState) → L.vars ≡ mid.vars → L.answers.replies ≡ [] → drop (number + 1) (g.handlers e) ≡ bs → (new : Conn) (f : Option TclFault) (did : step_act.Act) → GoesOn s at number (ended_of h at f) mid new did
       → Stands g new.stage (put (after_body g e l.finished Absent b bs f (seen_host mid.host)) L) new × (is_asking new.stage ≡ false)
-  ended_stands L vars none behind new None n =
+  ended_stands L vars none behind new None did (goes, n) =
       let P : List Handler → Type 0 = λ hs. Stands g new.stage (put (next_body g e l.finished Absent hs (seen_host mid.host)) L) new in
-      (subst P behind (next_stands s g serves at (number + 1) mid new n L vars none l.finished), next_awake s at (number + 1) mid new n)
-  ended_stands L vars none behind new (Some fault) n =
+      (subst P behind (next_stands s g serves at (number + 1) mid new n L vars none done_acts.unasked l.finished), next_awake s at (number + 1) mid new n)
+  ended_stands L vars none behind new (Some fault) did (goes, n) =
       let line = uncaught_line h.name e fault.text in
       let L' = record L { phase = InEvent e (Failing fault.kind line bs); host = seen_host mid.host } in
       let P : Stage → Type 0 = λ st. Stands g st L' new in
@@ -171,12 +180,12 @@ module _ (s : code_setup.Setup) (g : Setup) (serves : Serves s g) (a : Around) (
       (ap (λ hs. InEvent e (Failing fault.kind line hs)) (sym behind), record { vars = vars ∙ sym n.vars; host = ap seen_host (sym n.host); replies = none }) in
       (subst P (sym n.there) there, ap is_asking n.there)
 
-  ended_host : (new : Conn) (f : Option TclFault) → Ended s h at number f mid new → new.host ≡ mid.host
-  ended_host new None n = next_host s at (number + 1) mid new n
-  ended_host new (Some fault) n = n.host
+  ended_host : (new : Conn) (f : Option TclFault) (did : step_act.Act) → GoesOn s at number (ended_of h at f) mid new did → (new.host ≡ mid.host) × (did ≡ done.Goes)
+  ended_host new None did (goes, n) = (next_host s at (number + 1) mid new n, goes)
+  ended_host new (Some fault) did (goes, n) = (n.host, goes)
 
-  over : (code : Code) → said ≡ turn.Done code → (new : Conn) → Ended s h at number (uncaught_of code) mid new → drop (number + 1) (g.handlers e) ≡ bs → ActGave g a l c old new [] done.Goes
-  over code is_done new n behind =
+  over : (code : Code) → said ≡ turn.Done code → (new : Conn) (did : step_act.Act) → GoesOn s at number (ended_of h at (uncaught_of code)) mid new did → drop (number + 1) (g.handlers e) ≡ bs → ActGave g a l c old new group did
+  over code is_done new did n behind =
       let m = mid.body.machine.at in
       let st = state mid.vars (seen_host mid.host) [] m.budget (k.cost + w.spent) acts in
       let o : Outcome HostState = Ends code st in
@@ -187,36 +196,41 @@ module _ (s : code_setup.Setup) (g : Setup) (serves : Serves s g) (a : Around) (
       let u = come o w.acts [] (length acts) is (ap (λ x. k.acts ++ x) (sym (append-nil w.acts))) (length-append k.acts w.acts) in
       let last = end_comes g e b bs l code st (length acts) (sent_by w.acts) holds.no_cut is refl in
       let L = with_replies [] (record l { vars = mid.vars; sent = sent_by w.acts }) in
-      let ends = ended_stands L refl refl behind new (uncaught_of code) n in
+      let ends = ended_stands L refl refl behind new (uncaught_of code) did n in
+      let host = ended_host new (uncaught_of code) did n in
+      let D : step_act.Act → Type 0 = λ d. ActGave g a l c old new group d in
       let P : Link → Type 0 = λ k'. Stands g new.stage (put (after_body g e l.finished k' b bs (uncaught_of code) (seen_host mid.host)) L) new in
-      record {
+      subst D (sym host.1) (record {
         at = at2;
-        gave = acts_gave g a l at2 c old new w.acts (Ran e st.cost ∷ []) (end_tail c a.took e st.cost) holds (subst (λ x. Made old.host (effects_in w.acts) x) (sym (ended_host new (uncaught_of code) n)) w.by)
+        gave = acts_gave g a l at2 c old new w.acts (Ran e st.cost ∷ []) (end_tail c a.took e st.cost) holds (subst (λ x. DoesActs w.acts old.host x) (sym host.0) done_acts)
             (unfolds_on g l at1 at2 (map (act_item 0) w.acts) (Ran e st.cost ∷ []) u (unfolds_one g at1 at2 (Ran e st.cost) last))
             (subst P (sym (ap link_of holds.no_server)) ends.0) refl refl;
         stops = ends.1;
-      }
+      })
 
 -- what the step said decides
-turned_gives : (s : code_setup.Setup) (g : Setup) (serves : Serves s g) (a : Around) (l : TraceState) (c : ℕ) (old mid new : Conn) (at : At) (number : ℕ) (h : code.Handler) (bs : List Handler)
-    → Holds g a l old → BodyGoesOn g (event_of at) (handler_of h) bs 0 l old → drop number (g.handlers (event_of at)) ≡ handler_of h ∷ bs → drop (number + 1) (g.handlers (event_of at)) ≡ bs → mid.stage ≡ stage.Running at number
-    → (said : Turn) (ticks : ℕ) → Went (body_setting g (procs_view h.procs)) (node_view h.body) (place old.body.machine.at old.vars (seen_host old.host)) (place mid.body.machine.at mid.vars (seen_host mid.host)) said (λ es. Made old.host es mid.host) ticks
-    → SaidIs said mid.body → (did : step_act.Act) → Turned s h at number said mid new did → ActGave g a l c old new [] did
-turned_gives s g serves a l c old mid new at number h bs holds k left behind there turn.More ticks w is did t =
-    let P : Conn → Type 0 = λ x. ActGave g a l c old x [] did in
-    let Q : step_act.Act → Type 0 = λ x. ActGave g a l c old mid [] x in
-    subst P (sym t.1) (subst Q (sym t.0) (goes_on s g serves a l c old mid at number h bs holds k turn.More ticks w refl is left there))
-turned_gives s g serves a l c old mid new at number h bs holds k left behind there (turn.Asks call) ticks w is did t =
-    let P : Conn → Type 0 = λ x. ActGave g a l c old x [] did in
-    let Q : step_act.Act → Type 0 = λ x. ActGave g a l c old (record mid { stage = stage.Asking at number }) [] x in
-    subst P (sym t.1) (subst Q (sym t.0) (asks s g serves a l c old mid at number h bs holds k (turn.Asks call) ticks w call refl is left))
-turned_gives s g serves a l c old mid new at number h bs holds k left behind there (turn.Done code) ticks w is did t =
-    let Q : step_act.Act → Type 0 = λ x. ActGave g a l c old new [] x in
-    subst Q (sym t.0) (over s g serves a l c old mid at number h bs holds k (turn.Done code) ticks w code refl new t.1 behind)
+module _ (s : code_setup.Setup) (g : Setup) (serves : Serves s g) (a : Around) (l : TraceState) (c : ℕ) (old mid new : Conn) (at : At) (number : ℕ) (h : code.Handler) (bs : List Handler)
+    (holds : Holds g a l old) (k : BodyGoesOn g (event_of at) (handler_of h) bs 0 l old) (left : drop number (g.handlers (event_of at)) ≡ handler_of h ∷ bs) (behind : drop (number + 1) (g.handlers (event_of at)) ≡ bs)
+    (there : mid.stage ≡ stage.Running at number) (ticks : ℕ) (made : List Effect → Type 0) where
+  said_gives : (said : Turn) (w : Went (body_setting g (procs_view h.procs)) (node_view h.body) (place old.body.machine.at old.vars (seen_host old.host)) (place mid.body.machine.at mid.vars (seen_host mid.host)) said made ticks)
+      → DoesActs w.acts old.host mid.host → SaidIs said mid.body → (did : step_act.Act) → GoesOn s at number (said_of h at said) mid new did → ActGave g a l c old new (logs_of c (effects_in w.acts)) did
+  said_gives turn.More w d is did t =
+      let P : Conn → Type 0 = λ x. ActGave g a l c old x (logs_of c (effects_in w.acts)) did in
+      let Q : step_act.Act → Type 0 = λ x. ActGave g a l c old mid (logs_of c (effects_in w.acts)) x in
+      subst P (sym t.1) (subst Q (sym t.0) (goes_on s g serves a l c old mid at number h bs holds k turn.More ticks made w d refl is left there))
+  said_gives (turn.Asks call) w d is did t =
+      let P : Conn → Type 0 = λ x. ActGave g a l c old x (logs_of c (effects_in w.acts)) did in
+      let Q : step_act.Act → Type 0 = λ x. ActGave g a l c old (record mid { stage = stage.Asking at number }) (logs_of c (effects_in w.acts)) x in
+      subst P (sym t.1) (subst Q (sym t.0) (asks s g serves a l c old mid at number h bs holds k (turn.Asks call) ticks made w d call refl is left))
+  said_gives (turn.Done code) w d is did t = over s g serves a l c old mid at number h bs holds k (turn.Done code) ticks made w d code refl new did t behind
 
-pub body_gives : (s : code_setup.Setup) (g : Setup) → Serves s g → (a : Around) (l : TraceState) (c : ℕ) (old new : Conn) (at : At) (number : ℕ) (h : code.Handler) (did : step_act.Act) → slice_get (bodies_at s at) number ≡ Some h
-    → BodySteps s h at number old new did → old.stage ≡ stage.Running at number → Holds g a l old → ActGave g a l c old new [] did
-body_gives s g serves a l c old new at number h did got k is holds =
+-- the notes of a body's step
+abbrev pub step_notes : {s : code_setup.Setup} {h : code.Handler} {c : ℕ} {at : At} {number : ℕ} {old new : Conn} {before after : List Note} {did : step_act.Act} → BodySteps s h c at number old new before after did → List Note
+step_notes {c = c} k = logs_of c (one_of k.stepped.host.made)
+
+pub body_gives : (s : code_setup.Setup) (g : Setup) → Serves s g → (a : Around) (l : TraceState) (c : ℕ) (old new : Conn) (at : At) (number : ℕ) (h : code.Handler) (before after : List Note) (did : step_act.Act) → slice_get (bodies_at s at) number ≡ Some h
+    → (k : BodySteps s h c at number old new before after did) → old.stage ≡ stage.Running at number → Holds g a l old → ActGave g a l c old new (step_notes k) did
+body_gives s g serves a l c old new at number h before after did got k is holds =
     let e = event_of at in
     let all = handlers_are s g serves at in
     let bs = drop (number + 1) (map handler_of (bodies_at s at)) in
@@ -226,5 +240,13 @@ body_gives s g serves a l c old new at number h did got k is holds =
     let here = subst P is holds.stage in
     let R : List Handler → Type 0 = λ hs. RunsFirst g e hs 0 l old in
     let goes : BodyGoesOn g e (handler_of h) bs 0 l old = subst R left here.0 in
-    let W : Level → Type 0 = λ lv. Went (setting (Some lv) respond_table (procs_view h.procs)) (node_view h.body) (place old.body.machine.at old.vars (seen_host old.host)) (place k.mid.body.machine.at k.mid.vars (seen_host k.mid.host)) k.said (λ es. Made old.host es k.mid.host) k.ticks in
-    turned_gives s g serves a l c old k.mid new at number h bs holds goes left behind (k.there ∙ is) k.said k.ticks (subst W (sym serves.statics) (k.went here.1)) (k.said_is here.1) did k.turned
+    let made : List Effect → Type 0 = λ es. Made (cleared_host old.host) es k.stepped.host in
+    let W : given.Setting HostState → Conn → Type 0 = λ x y. Went x (node_view h.body) (place old.body.machine.at old.vars (seen_host old.host)) (place y.body.machine.at y.vars (seen_host y.host)) k.turned made k.ticks in
+    let S : Level → Groups → given.Setting HostState = λ lv gs. setting (Some lv) (commands gs) (procs_view h.procs) in
+    let same : S s.statics.now.statics s.groups.now ≡ body_setting g (procs_view h.procs) = ap (λ lv. S lv s.groups.now) (sym serves.statics) ∙ ap (λ gs. S g.statics gs) (sym serves.groups) in
+    let w0 : W (body_setting g (procs_view h.procs)) k.stepped = subst (λ x. W x k.stepped) same (k.went here.1) in
+    let moved = made_done c k.stepped k.mid before after k.does in
+    let w : W (body_setting g (procs_view h.procs)) k.mid = went_same (body_setting g (procs_view h.procs)) (node_view h.body) (place old.body.machine.at old.vars (seen_host old.host)) k.stepped k.mid k.turned made k.ticks moved w0 in
+    let acted = acts_done g.groups (body_setting g (procs_view h.procs)) refl c old k.stepped k.mid before after k.does holds.unasked w.acts w.called w.once w.by in
+    let N : List Effect → Type 0 = λ es. ActGave g a l c old new (logs_of c es) did in
+    subst N acted.taken (said_gives s g serves a l c old k.mid new at number h bs holds goes left behind (k.does.there ∙ k.there ∙ is) k.ticks made k.turned w acted.acts (said_same k.turned k.stepped.body k.mid.body (sym k.does.body) (k.said_is here.1)) did k.goes_on)

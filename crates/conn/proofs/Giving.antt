@@ -15,6 +15,7 @@ use Rattle.connection_model.proofs.Given.{sent_counted}
 use Rattle.connection_model.proofs.Querying.{met_joins}
 use Rattle.connection_model.proofs.Unfolding.{unfolds_on, unfolds_one}
 use Rattle.conn.specs.Holds.{Around, Stands, Holds}
+use Rattle.conn.specs.Hosts.{AsksNothing}
 use Rattle.conn.specs.declared.connection.Conn.{Conn}
 
 -- the connection went on by these items, with these notes
@@ -59,6 +60,7 @@ pub record OneItem (g : Setup) (a : Around) (l : TraceState) (old new : Conn) (i
   pub server : at.server ≡ l.server
   pub cut : at.answers.cut ≡ l.answers.cut
   pub queue : new.host.to_client ≡ old.host.to_client
+  pub unasked : AsksNothing new.host.net
 
 pub gave_one : (g : Setup) (a : Around) (l : TraceState) (c : ℕ) (old new : Conn) (i : Item) → Holds g a l old → (o : OneItem g a l old new i) → Gave g a l o.at c old new (note_of c i)
 gave_one g a l c old new i h o = record {
@@ -67,6 +69,7 @@ gave_one g a l c old new i h o = record {
   met = (o.open_now, tt);
   holds = record {
     stage = o.stands;
+    unasked = o.unasked;
     taken = h.taken;
     not_reset = h.not_reset;
     untaken = ap (λ q. length q + h.taken) o.queue ∙ h.untaken ∙ ap (λ s. s.client) (sym o.sent);

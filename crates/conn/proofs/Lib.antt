@@ -5,6 +5,9 @@ pub mod Giving
 pub mod Places
 pub mod ActItems
 pub mod Acting
+pub mod Quick
+pub mod Calling
+pub mod Doing
 pub mod Asking
 pub mod BodyActs
 pub mod BodyMoves

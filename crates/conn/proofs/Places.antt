@@ -1,5 +1,5 @@
 -- Where a connection goes stands for where its trace goes.
-use Rattle.std.proofs.Common.{◌≡◌, refl, sym, ap, subst, ◌∙◌, ℕ, zero, suc, ◌+◌, ◌<◌, List, [], ◌∷◌, ◌++◌, map, drop, length, Bool, true, false, nat_lt, arith, ◌≤◌, Some}
+use Rattle.std.proofs.Common.{◌≡◌, refl, sym, ap, subst, ◌∙◌, ℕ, zero, suc, ◌+◌, ◌<◌, List, [], ◌∷◌, ◌++◌, map, drop, length, Bool, true, false, nat_lt, arith, ◌≤◌, Some, if◌then◌else◌}
 use Rattle.std.specs.Bool.{MatchBool}
 use Rattle.std.specs.Prelude.{slice_get}
 use Rattle.std.proofs.lemmas.Bool.Decides.{nat_tests}
@@ -11,23 +11,25 @@ use Rattle.rule_model.specs.Evaluator.{evaluate}
 use Rattle.rule_model.specs.Outcome.{Outcome, state}
 use Rattle.rule_model.specs.Setting as given
 use Rattle.connection_model.specs.Host.{HostState, body_setting}
-use Rattle.connection_model.specs.Places.{at as put, after_event, next_body, entered}
+use Rattle.connection_model.specs.Item.{Unselected}
+use Rattle.connection_model.specs.Places.{at as put, after_event, behind_accepted, next_body, entered, unless_ended}
 use Rattle.connection_model.specs.Setup.{Handler, Setup}
-use Rattle.connection_model.specs.State.{Absent, Gated, Running, InEvent, TraceState}
+use Rattle.connection_model.specs.State.{Absent, Choosing, Finishing, Gated, Running, InEvent, TraceState}
 use Rattle.frame_machine.specs.Frames.{full_room, meaning, comes_to}
 use Rattle.frame_machine.specs.declared.frame.Frame.{Frame}
 use Rattle.frame_machine.specs.declared.frame.Mode.{Mode}
 use Rattle.frame_machine.specs.declared.frame.Mode.TheVariants as mode
 use Rattle.frame_machine.specs.declared.frame.Standing.{Standing}
-use Rattle.conn.specs.Acts.{GoesTo, StartsBody, NextBody}
+use Rattle.conn.specs.Changes.{GoesTo, StartsBody, NextBody}
 use Rattle.conn.specs.Events.{event_of}
 use Rattle.conn.specs.Holds.{BodyGoesOn, GatedBefore, RunsFirst, Stands}
-use Rattle.conn.specs.Hosts.{seen_host}
+use Rattle.conn.specs.Hosts.{AsksNothing, seen_host}
 use Rattle.conn.specs.Setups.{handler_of, bodies_at, Serves}
 use Rattle.conn.specs.Stages.{after_stage, entered_by, entered_stage}
 use Rattle.conn.specs.declared.connection.Conn.{Conn}
 use Rattle.conn.specs.declared.events.At.{At}
 use Rattle.conn.specs.declared.events.At.TheVariants.{Accepted, Failed, Closed}
+use Rattle.conn.specs.declared.host.RuleHost.{RuleHost}
 use Rattle.conn.specs.declared.setup.Handler as code
 use Rattle.conn.specs.declared.setup.Setup as code_setup
 use Rattle.conn.specs.declared.stage.Stage.{Stage}
@@ -89,16 +91,19 @@ body_begins s g serves e b bs mid new at n k l vars none =
     }
 
 -- behind an event
-after_stands : (g : Setup) (at : At) (fin : Bool) (new : Conn) (l : TraceState) → l.vars ≡ new.vars → l.answers.replies ≡ []
+after_stands : (g : Setup) (at : At) (fin : Bool) (new : Conn) (l : TraceState) → l.vars ≡ new.vars → l.answers.replies ≡ [] → AsksNothing new.host.net
     → Stands g (after_stage at) (put (after_event g (event_of at) fin Absent (seen_host new.host)) l) new
-after_stands g Accepted fin new l vars none = (refl, record { vars = vars; host = refl; replies = none })
-after_stands g Failed fin new l vars none = (refl, record { vars = vars; host = refl; replies = none })
-after_stands g Closed fin new l vars none = (refl, record { vars = vars; host = refl; replies = none })
+after_stands g Accepted fin new l vars none q =
+    (ap (λ x. unless_ended x (behind_accepted new.host.net.client.asks)) q.ends ∙ ap behind_accepted q.collect, record { vars = vars; host = refl; replies = none })
+after_stands g Failed fin new l vars none q =
+    let w = new.host.net.wishes in
+    (ap (λ x. unless_ended x (if w.reselects then Choosing else Finishing Unselected)) q.ends ∙ ap (λ b. if b then Choosing else Finishing Unselected) q.again, record { vars = vars; host = refl; replies = none })
+after_stands g Closed fin new l vars none q = (refl, record { vars = vars; host = refl; replies = none })
 
 -- behind a body
-pub next_stands : (s : code_setup.Setup) (g : Setup) → Serves s g → (at : At) (n : ℕ) (mid new : Conn) → NextBody s at n mid new → (l : TraceState) → l.vars ≡ mid.vars → l.answers.replies ≡ [] → (fin : Bool)
+pub next_stands : (s : code_setup.Setup) (g : Setup) → Serves s g → (at : At) (n : ℕ) (mid new : Conn) → NextBody s at n mid new → (l : TraceState) → l.vars ≡ mid.vars → l.answers.replies ≡ [] → AsksNothing mid.host.net → (fin : Bool)
     → Stands g new.stage (put (next_body g (event_of at) fin Absent (drop n (g.handlers (event_of at))) (seen_host mid.host)) l) new
-next_stands s g serves at n mid new k l vars none fin = by_test (nat_lt n (length (bodies_at s at))) refl k
+next_stands s g serves at n mid new k l vars none q fin = by_test (nat_lt n (length (bodies_at s at))) refl k
   where
     by_test : (b : Bool) → nat_lt n (length (bodies_at s at)) ≡ b → MatchBool b (StartsBody s at n mid new) (GoesTo (after_stage at) mid new) → Stands g new.stage (put (next_body g (event_of at) fin Absent (drop n (g.handlers (event_of at))) (seen_host mid.host)) l) new
     by_test true e c =
@@ -112,18 +117,18 @@ next_stands s g serves at n mid new k l vars none fin = by_test (nat_lt n (lengt
         let P : List Handler → Type 0 = λ hs. Stands g (after_stage at) (put (next_body g (event_of at) fin Absent hs (seen_host mid.host)) l) new in
         let Q : Stage → Type 0 = λ st. Stands g st (put (next_body g (event_of at) fin Absent (drop n (g.handlers (event_of at))) (seen_host mid.host)) l) new in
         let H : HostState → Type 0 = λ h. Stands g (after_stage at) (put (after_event g (event_of at) fin Absent h) l) new in
-        subst Q (sym c.there) (subst P (sym is) (subst H (ap seen_host c.host) (after_stands g at fin new l (vars ∙ sym c.vars) none)))
+        subst Q (sym c.there) (subst P (sym is) (subst H (ap seen_host c.host) (after_stands g at fin new l (vars ∙ sym c.vars) none (let A : RuleHost → Type 0 = λ h. AsksNothing h.net in subst A (sym c.host) q))))
 
 -- where an event is entered
-pub entered_stands : (s : code_setup.Setup) (g : Setup) → Serves s g → (at : At) (new : Conn) → new.stage ≡ entered_stage s at → (l : TraceState) → l.vars ≡ new.vars → l.answers.replies ≡ []
+pub entered_stands : (s : code_setup.Setup) (g : Setup) → Serves s g → (at : At) (new : Conn) → new.stage ≡ entered_stage s at → (l : TraceState) → l.vars ≡ new.vars → l.answers.replies ≡ [] → AsksNothing new.host.net
     → Stands g new.stage (put (entered g (event_of at) Absent (g.handlers (event_of at)) (seen_host new.host)) l) new
-entered_stands s g serves at new there l vars none =
+entered_stands s g serves at new there l vars none q =
     let P : List Handler → Type 0 = λ hs. Stands g (entered_stage s at) (put (entered g (event_of at) Absent hs (seen_host new.host)) l) new in
     let Q : Stage → Type 0 = λ st. Stands g st (put (entered g (event_of at) Absent (g.handlers (event_of at)) (seen_host new.host)) l) new in
     subst Q (sym there) (subst P (sym (handlers_are s g serves at)) (by_bodies (bodies_at s at) (handlers_are s g serves at)))
   where
     by_bodies : (hs : List code.Handler) → g.handlers (event_of at) ≡ map handler_of hs → Stands g (entered_by at hs) (put (entered g (event_of at) Absent (map handler_of hs) (seen_host new.host)) l) new
-    by_bodies [] e = after_stands g at false new l vars none
+    by_bodies [] e = after_stands g at false new l vars none q
     by_bodies (h ∷ hs) e =
         let P : List Handler → Type 0 = λ ms. GatedBefore (event_of at) ms (InEvent (event_of at) (Gated (handler_of h) (map handler_of hs))) in
         (subst P (sym e) refl, record { vars = vars; host = refl; replies = none })

@@ -19,10 +19,11 @@ use Rattle.conn.specs.Bodies.{Heard}
 use Rattle.conn.specs.Calls.{Replies}
 use Rattle.conn.specs.Events.{event_of}
 use Rattle.conn.specs.Holds.{BodyGoesOn, RunsFirst, Stands}
-use Rattle.conn.specs.Hosts.{seen_host}
+use Rattle.conn.specs.Hosts.{AsksNothing, seen_host}
 use Rattle.conn.specs.Modes.{is_asked}
 use Rattle.conn.specs.declared.connection.Conn.{Conn}
 use Rattle.conn.specs.declared.events.At.{At}
+use Rattle.conn.specs.declared.host.RuleHost.{RuleHost}
 use Rattle.conn.specs.declared.stage.Stage.{Stage}
 use Rattle.conn.specs.declared.stage.Stage.TheVariants as stage
 
@@ -72,6 +73,7 @@ replies reply old new at n was is hears vars host g a l h =
     let here = subst P was h.stage in
     let heard = hears here.1 in
     record {
+      unasked = (let P' : RuleHost → Type 0 = λ x. AsksNothing x.net in subst P' (sym host) h.unasked);
       stage = subst Q (sym is) (first_hears g e (drop n (g.handlers e)) l old new reply here.0 (old.body.asking here.1) heard vars host, heard.runs);
       taken = h.taken;
       not_reset = h.not_reset;

@@ -9,18 +9,18 @@ use Rattle.rule_model.specs.Outcome.{Act, Outcome, Ends, Waits as Stops}
 use Rattle.rule_model.specs.Laws.{state_after}
 use Rattle.connection_model.specs.Bodies.{run_body, act_next, ended_next}
 use Rattle.connection_model.specs.Gates.{Counts, untaken, taken_of, to_take, room_limit, is_open, has_room}
-use Rattle.connection_model.specs.Host.{HostState}
+use Rattle.connection_model.specs.Host.{HostState, with_selected}
 use Rattle.connection_model.specs.Setup.{Handler, Setup}
 use Rattle.connection_model.specs.State.{Phase, Gated, Running, Failing, InEvent, Choosing, Finishing, Draining, NoServer, Absent, link_of, TraceState, Does, Over}
 use Rattle.connection_model.specs.Item.{BeforeBodies, Resumed}
 use Rattle.connection_model.specs.Places.{at as put, enter}
-use Rattle.connection_model.specs.Trace.{choosing_next, counted, phase_next, next_item}
+use Rattle.connection_model.specs.Trace.{choosing_next, default_next, counted, phase_next, next_item}
 use Rattle.connection_model.proofs.Longer.{plain_next}
 use Rattle.std.specs.Prelude.{slice_get}
 use Rattle.conn.specs.Calls.{over_in, Settles}
 use Rattle.conn.specs.Events.{event_of}
 use Rattle.conn.specs.Holds.{Around, Between, GatedBefore, RunsFirst, Stands, Holds}
-use Rattle.conn.specs.Hosts.{seen_host}
+use Rattle.conn.specs.Hosts.{AsksNothing, seen_host, unselected_host}
 use Rattle.conn.specs.RunsItems.{is_over, is_drained}
 use Rattle.conn.specs.Stages.{dropped_in, is_draining, reason_for}
 use Rattle.conn.specs.declared.connection.Conn.{Conn}
@@ -54,12 +54,15 @@ gate_is g a l c h =
     ∙ and_true (nat_lt (length c.host.to_client) room_limit)
 
 -- no server is found
-pub choosing_item : (g : Setup) (l : TraceState) (c : Conn) → Between l c → l.answers.cut ≡ None → l.server ≡ NoServer → l.phase ≡ Choosing
-    → next_item g l ≡ Does Resumed (put (enter g LbFailed Absent (seen_host c.host)) l)
-choosing_item g l c b none no_server is =
+pub choosing_item : (g : Setup) (l : TraceState) (c : Conn) → Between l c → AsksNothing c.host.net → l.answers.cut ≡ None → l.server ≡ NoServer → l.phase ≡ Choosing
+    → next_item g l ≡ Does Resumed (put (enter g LbFailed Absent (seen_host (unselected_host c.host))) l)
+choosing_item g l c b q none no_server is =
+    let h' = seen_host (unselected_host c.host) in
     next_at g l Choosing none is
-    ∙ ap (λ h. counted l.sent (choosing_next g l (record h { selected = None }) h.target)) b.host
-    ∙ ap (λ k. Does Resumed (put (enter g LbFailed (link_of k) (seen_host c.host)) l)) no_server
+    ∙ ap (λ h. counted l.sent (choosing_next g l (with_selected None h) h.net.target)) b.host
+    ∙ ap (λ t. counted l.sent (choosing_next g l h' t)) q.target
+    ∙ ap (λ p. counted l.sent (default_next g l h' p)) q.pool
+    ∙ ap (λ k. Does Resumed (put (enter g LbFailed (link_of k) h') l)) no_server
 
 body_goes : (g : Setup) (e : EventName) (b : Handler) (bs : List Handler) (n : ℕ) (l : TraceState) (sent : Counts) (v : Option Act) (o : Outcome HostState)
     → is_over (counted sent (act_next e b bs n l v (ended_next g e b bs l o))) ≡ false
@@ -86,7 +89,7 @@ module _ (g : Setup) (a : Around) (l : TraceState) (c : Conn) (h : Holds g a l c
   not_over (stage.Running at n) k e = first_goes (event_of at) (drop n (g.handlers (event_of at))) 0 k.0
   not_over (stage.Asking at n) k e = first_goes (event_of at) (drop n (g.handlers (event_of at))) 1 k.0
   not_over (stage.Failing at n kind line) k e = by_phase (InEvent (event_of at) (Failing kind line (drop n (g.handlers (event_of at))))) k.0 refl
-  not_over stage.Choosing k e = ap is_over (choosing_item g l c k.1 h.no_cut h.no_server k.0)
+  not_over stage.Choosing k e = ap is_over (choosing_item g l c k.1 h.unasked h.no_cut h.no_server k.0)
   not_over (stage.Finishing f) k e = by_phase (Finishing (reason_for f)) k.0 refl
   not_over stage.Draining k e = cc
   not_over stage.OutOfMemory k e = absurd k

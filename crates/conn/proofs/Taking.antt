@@ -1,9 +1,11 @@
 -- A connection of which more is taken, and one that begins.
-use Rattle.std.proofs.Common.{◌≡◌, refl, sym, ap, subst, ◌∙◌, ℕ, ◌+◌, ◌-◌, ◌≤◌, List, [], ◌∷◌, length, drop, arith, false, option_map}
+use Rattle.std.proofs.Common.{◌≡◌, refl, sym, ap, subst, ◌∙◌, ℕ, ◌+◌, ◌-◌, ◌≤◌, List, [], ◌∷◌, length, drop, arith, Bool, false, option_map}
 use Rattle.std.proofs.lemmas.List.{length-drop}
 use Rattle.event_order.specs.declared.event.EventName.{EventName}
 use Rattle.event_order.specs.declared.event.EventName.TheVariants.{ClientAccepted}
 use Rattle.tcl_vars.specs.Scopes.{no_scopes}
+use Rattle.px_bytes.specs.declared.addr.Addr.{Addr}
+use Rattle.irule_net.specs.State.{new_state}
 use Rattle.connection_model.specs.Gates.{no_bytes}
 use Rattle.connection_model.specs.Host.{HostState, first_host}
 use Rattle.connection_model.specs.Places.{at as put, begun, entered}
@@ -13,10 +15,11 @@ use Rattle.connection_model.specs.Trace.{start}
 use Rattle.conn.specs.Calls.{Begins, Takes}
 use Rattle.conn.specs.Events.{event_of}
 use Rattle.conn.specs.Holds.{Between, RunsFirst, Stands}
-use Rattle.conn.specs.Hosts.{fresh_host, seen_host}
+use Rattle.conn.specs.Hosts.{AsksNothing, fresh_host, seen_host}
 use Rattle.conn.specs.Stages.{entered_stage}
 use Rattle.conn.specs.declared.connection.Conn.{Conn}
 use Rattle.conn.specs.declared.events.At.TheVariants.{Accepted}
+use Rattle.conn.specs.declared.host.RuleHost.{RuleHost}
 use Rattle.conn.specs.declared.setup.Setup as code
 use Rattle.conn.specs.declared.stage.Stage.{Stage}
 use Rattle.conn.specs.declared.stage.Stage.TheVariants as stage
@@ -48,6 +51,7 @@ same_stands g (stage.Dropped n) l c q k = k
 pub takes : (n : ℕ) (old : Conn) (q : List ℕ) → n ≤ length old.host.to_client → q ≡ drop n old.host.to_client → Takes n old (with_queue q old)
 takes n old q within is g a l h = record {
   stage = same_stands g old.stage l old q h.stage;
+  unasked = h.unasked;
   taken = h.taken + n;
   not_reset = ap (option_map (λ k. k + n)) h.not_reset;
   untaken = (let s : length q ≡ length old.host.to_client - n = ap length is ∙ length-drop n old.host.to_client in let u = h.untaken in omega (arith, s, u, within));
@@ -58,13 +62,19 @@ takes n old q within is g a l h = record {
 }
 
 -- a connection that begins stands where its trace does
-pub begins : (s : code.Setup) (new : Conn) → new.stage ≡ entered_stage s Accepted → new.vars ≡ no_scopes → new.host ≡ fresh_host → Begins s new
-begins s new there vars host g serves =
+pub begins : (s : code.Setup) (from : Addr) (new : Conn) → new.stage ≡ entered_stage s Accepted → new.vars ≡ no_scopes → new.host ≡ fresh_host (new_state from s.port [] false) → Begins s from new
+begins s from new there vars host g serves came =
     let l0 : TraceState = record { phase = Draining; vars = no_scopes; host = first_host g; finished = false; client = no_stream; server = NoServer; sent = no_bytes; answers = no_answers } in
-    let first : begun ClientAccepted Absent (first_host g) ≡ seen_host new.host = ap (λ t. begun ClientAccepted Absent (record (first_host g) { target = t })) serves.target ∙ ap seen_host (sym host) in
+    let S : Addr → ℕ → List ℕ → Bool → HostState = λ a n p b. record { event = ClientAccepted; net = new_state a n p b } in
+    let first : begun ClientAccepted Absent (first_host g) ≡ seen_host new.host =
+    ap (λ a. S a g.port g.pool g.http) came ∙ ap (λ n. S from n g.pool g.http) serves.port ∙ ap (λ p. S from s.port p g.http) serves.pool ∙ ap (λ b. S from s.port [] b) serves.http
+    ∙ ap seen_host (sym host) in
+    let Q : RuleHost → Type 0 = λ h. AsksNothing h.net in
+    let unasked = subst Q (sym host) (record { target = refl; pool = refl; collect = refl; ends = refl; again = refl }) in
     let P : HostState → Type 0 = λ h. Stands g new.stage (put (entered g ClientAccepted Absent (g.handlers ClientAccepted) h) l0) new in
     record {
-      stage = subst P (sym first) (entered_stands s g serves Accepted new there l0 (sym vars) refl);
+      stage = subst P (sym first) (entered_stands s g serves Accepted new there l0 (sym vars) refl unasked);
+      unasked = unasked;
       taken = 0;
       not_reset = refl;
       untaken = sent_none;

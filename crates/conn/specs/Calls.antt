@@ -1,5 +1,6 @@
 -- What the calls of a connection make of it, for each state that its trace may stand at.
 use Rattle.std.specs.Prelude.{◌≡◌, ℕ, ◌+◌, [], ◌∷◌, Bool, ◌&&◌, option_map}
+use Rattle.px_bytes.specs.declared.addr.Addr.{Addr}
 use Rattle.px_bytes.specs.declared.addr.Side.TheVariants.{Client}
 use Rattle.px_bytes.specs.declared.fault.Reply.{Reply}
 use Rattle.connection_model.specs.Further.{longer, replies_only}
@@ -25,8 +26,10 @@ Wants c n =
     (g : model.Setup) (a : Around) (l : TraceState) → Holds g a l c → l.client.unread ≡ []
     → n ≡ query.wanted Client l
 
-abbrev pub Begins : Setup → Conn → Type 0
-Begins s new = (g : model.Setup) → Serves s g → Holds g fresh (start g no_stream no_answers) new
+-- its client is at this address
+abbrev pub Begins : Setup → Addr → Conn → Type 0
+Begins s from new =
+    (g : model.Setup) → Serves s g → g.from ≡ from → Holds g fresh (start g no_stream no_answers) new
 
 -- n bytes more are taken
 abbrev pub took_more : ℕ → Around → Around

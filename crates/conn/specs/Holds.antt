@@ -15,7 +15,7 @@ use Rattle.conn.specs.declared.connection.Conn.{Conn}
 use Rattle.conn.specs.declared.stage.Stage.{Stage}
 use Rattle.conn.specs.declared.stage.Stage.TheVariants as stage
 use Rattle.conn.specs.Events.{event_of}
-use Rattle.conn.specs.Hosts.{seen_host}
+use Rattle.conn.specs.Hosts.{AsksNothing, seen_host}
 use Rattle.conn.specs.Stages.{reason_for}
 
 -- what was told of it from outside
@@ -75,6 +75,7 @@ Stands g (stage.Dropped n) l c = ⊥
 -- taken. Nothing was sent to a server, and no cut was heard.
 pub record Holds (g : Setup) (a : Around) (l : TraceState) (c : Conn) : Type 0 where
   pub stage : Stands g c.stage l c
+  pub unasked : AsksNothing c.host.net
   pub taken : ℕ
   pub not_reset : a.took.client ≡ Some taken
   pub untaken : length c.host.to_client + taken ≡ l.sent.client

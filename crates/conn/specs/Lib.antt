@@ -5,6 +5,8 @@ pub mod Modes
 pub mod Hosts
 pub mod Making
 pub mod Bodies
+pub mod Changes
+pub mod Steps
 pub mod Acts
 pub mod Holds
 pub mod RunsItems

@@ -1,11 +1,11 @@
 -- What a connection of the code runs on, and the setup of a trace.
-use Rattle.std.specs.Prelude.{◌≡◌, List, [], map}
+use Rattle.std.specs.Prelude.{◌≡◌, List, [], map, false}
 use Rattle.tcl_compile.specs.Procedures.{procs_view}
 use Rattle.tcl_compile.specs.TreeView.{node_view}
 use Rattle.event_order.specs.declared.event.EventName.{EventName}
 use Rattle.event_order.specs.declared.event.EventName.TheVariants.{ClientAccepted, LbFailed}
 use Rattle.event_order.specs.declared.event.EventName.TheVariants.{ClientClosed}
-use Rattle.connection_model.specs.Setup.{Handler, NoTarget, Setup}
+use Rattle.connection_model.specs.Setup.{Handler, Setup}
 use Rattle.conn.specs.declared.events.At.{At}
 use Rattle.conn.specs.declared.events.At.TheVariants.{Accepted, Failed, Closed}
 use Rattle.conn.specs.declared.setup.Handler as code
@@ -27,9 +27,12 @@ handlers_at s LbFailed = map handler_of s.failed.now
 handlers_at s ClientClosed = map handler_of s.closed.now
 handlers_at s other = []
 
--- it is the setup of a trace, of a virtual server that names no server
+-- it is the setup of a trace, of a virtual server without HTTP that has no pool
 pub record Serves (s : given.Setup) (g : Setup) : Type 0 where
+  pub port : g.port ≡ s.port
+  pub pool : g.pool ≡ []
+  pub http : g.http ≡ false
   pub budget : g.budget ≡ s.budget
   pub statics : g.statics ≡ s.statics.now.statics
-  pub target : g.target ≡ NoTarget
+  pub groups : g.groups ≡ s.groups.now
   pub handlers : (e : EventName) → g.handlers e ≡ handlers_at s e

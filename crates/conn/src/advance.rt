@@ -45,8 +45,8 @@ impl Conn {
             ≡ notes.old.spare + length notes.old.items }
     {
         match self.stage {
-            Stage::Running { at, number } => {
-                self.step_body(alloc, setup, at, number, steps, spent)
+            Stage::Running { at, number: body } => {
+                self.step_body(alloc, setup, number, at, body, steps, spent, notes)
             },
             Stage::Failing { .. } => {
                 steps.tick();
@@ -130,6 +130,7 @@ impl Conn {
     fn choose(&mut self, setup: &Setup<'_>)
         ensures { Chooses setup.now self.old self.new }
     {
+        self.host.unselect();
         self.host.begin(At::Failed);
         self.stage = setup.enter(At::Failed);
     }

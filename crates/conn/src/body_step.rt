@@ -1,9 +1,10 @@
 // A body goes on, begins or ends.
 
-ghost use Rattle.std.specs.Prelude.{◌≡◌, ◌+◌, ◌<◌, ◌≤◌, length, IfOk, OnOk};
+ghost use Rattle.std.specs.Prelude.{◌≡◌, ◌+◌, ◌<◌, ◌≤◌, length, IfOk, OnErr, OnOk};
 ghost use Rattle.conn.specs.Setups.{bodies_at};
 ghost use Rattle.conn.specs.Stages.{entered_stage};
-ghost use Rattle.conn.specs.Acts.{NextBody, Ended, StartsBody, BodyMoved, Turned};
+ghost use Rattle.conn.specs.Changes.{NextBody, StartsBody};
+ghost use Rattle.conn.specs.Steps.{BodyMoved, GoesOn, said_of};
 
 use crate::connection::Conn;
 use crate::events::At;
@@ -11,10 +12,9 @@ use crate::setup::{Handler, Setup};
 use crate::stage::Stage;
 use crate::turn::Act;
 use crate::uncaught::uncaught;
-use connection_model::uncaught_line;
+use connection_model::{Notes, uncaught_line};
 use frame_machine::Turn;
-use px_bytes::{M, Steps, TclFault};
-use rule_model::Code;
+use px_bytes::{FaultKind, M, Steps, Text, Texts};
 use std::alloc::Global;
 use std::sync::ledger::Ledger;
 
@@ -50,94 +50,102 @@ impl Conn {
         self.body.begin(setup.budget);
     }
 
-    /// The body goes on by one step.
+    /// The body goes on by one step, and what its command made is done. Where memory is refused nothing
+    /// is noted.
     pub(crate) fn step_body<L: Ledger>(
         &mut self,
         alloc: Global,
         setup: &Setup<'_>,
+        number: u32,
         at: At,
-        number: usize,
+        body: usize,
         steps: &mut Steps<L>,
         spent: &mut u64,
+        notes: &mut Notes,
     ) -> M<Act>
-        requires { spent.old < 2000 }
-        ensures moved { IfOk result
-            (λ act. BodyMoved setup.now at number self.old self.new act) }
+        requires room { 1 ≤ notes.old.spare }
+        requires spent { spent.old < 2000 }
+        ensures moved { IfOk result (λ act.
+            BodyMoved setup.now number at body self.old self.new notes.old.items notes.new.items act) }
+        ensures err { OnErr result (notes.new ≡ notes.old) }
         ensures ticks { OnOk result (steps.old < steps.new) }
         ensures few { OnOk result (steps.new ≤ steps.old + 10) }
         ensures counted { OnOk result (spent.new + steps.old ≡ spent.old + steps.new) }
+        ensures spare { notes.old.spare ≤ notes.new.spare + 1 }
+        ensures grows { length notes.old.items ≤ length notes.new.items }
+        ensures room { notes.new.spare + length notes.new.items
+            ≡ notes.old.spare + length notes.old.items }
     {
-        let Some(handler) = setup.body(at, number) else {
+        let Some(handler) = setup.body(at, body) else {
             steps.tick();
             *spent += 1;
             return Ok(Act::Rests);
         };
+        self.host.made.clear();
         let turn = self.body.step(
             alloc,
             handler,
             setup.statics,
             &mut self.vars,
             &mut self.host,
-            &(),
+            setup.groups,
             steps,
             spent,
         )?;
-        let act = self.turned(alloc, setup, handler, at, number, turn)?;
-        Ok(act)
+        let said = said_of(alloc, handler, at, turn)?;
+        self.do_made(number, notes)?;
+        Ok(self.go_on(setup, at, body, said))
     }
 
-    fn turned(
-        &mut self,
-        alloc: Global,
-        setup: &Setup<'_>,
-        handler: &Handler,
-        at: At,
-        number: usize,
-        turn: Turn,
-    ) -> M<Act>
-        requires { number < length (bodies_at setup.now at) }
-        ensures { IfOk result (λ act. Turned setup.now handler.now at number turn self.old self.new act) }
-    {
-        match turn {
-            Turn::More => Ok(Act::Goes),
-            Turn::Asks(call) => {
-                self.stage = Stage::Asking { at, number };
-                Ok(Act::Asks(call))
-            }
-            Turn::Done(code) => {
-                let fault = uncaught(alloc, code)?;
-                self.ended(alloc, setup, handler, at, number, fault)?;
-                Ok(Act::Goes)
-            }
-        }
-    }
-
-    // The body ended, with this fault uncaught.
-    fn ended(
-        &mut self,
-        alloc: Global,
-        setup: &Setup<'_>,
-        handler: &Handler,
-        at: At,
-        number: usize,
-        fault: Option<TclFault>,
-    ) -> M<()>
-        requires { number < length (bodies_at setup.now at) }
-        ensures { OnOk result (Ended setup.now handler.now at number fault self.old self.new) }
+    // What the step said decides.
+    fn go_on(&mut self, setup: &Setup<'_>, at: At, body: usize, said: Said) -> Act
+        requires { body < length (bodies_at setup.now at) }
+        ensures { GoesOn setup.now at body said self.old self.new result }
     {
         let _bodies = setup.bodies(at).len();
-        match fault {
-            None => self.next_body(setup, at, number + 1),
-            Some(fault) => {
-                let line = uncaught_line(alloc, &handler.name, at.name(), &fault.text)?;
+        match said {
+            Said::More => Act::Goes,
+            Said::Asks(call) => {
+                self.stage = Stage::Asking { at, number: body };
+                Act::Asks(call)
+            }
+            Said::Over => {
+                self.next_body(setup, at, body + 1);
+                Act::Goes
+            }
+            Said::Fails(kind, line) => {
                 self.stage = Stage::Failing {
                     at,
-                    next: number + 1,
-                    kind: fault.kind,
+                    next: body + 1,
+                    kind,
                     line,
                 };
+                Act::Goes
             }
         }
-        Ok(())
     }
+}
+
+/// What a step of a body said, with the line of a fault that it left uncaught.
+#[derive(Drop)]
+pub(crate) enum Said {
+    More,
+    Asks(Texts),
+    Over,
+    Fails(FaultKind, Text),
+}
+
+fn said_of(alloc: Global, handler: &Handler, at: At, turn: Turn) -> M<Said>
+    ensures { IfOk result (λ said. said ≡ said_of handler.now at turn) }
+{
+    let code = match turn {
+        Turn::More => return Ok(Said::More),
+        Turn::Asks(call) => return Ok(Said::Asks(call)),
+        Turn::Done(code) => code,
+    };
+    let Some(fault) = uncaught(alloc, code)? else {
+        return Ok(Said::Over);
+    };
+    let line = uncaught_line(alloc, &handler.name, at.name(), &fault.text)?;
+    Ok(Said::Fails(fault.kind, line))
 }

@@ -11,7 +11,8 @@ use crate::host::RuleHost;
 use crate::setup::Setup;
 use crate::stage::Stage;
 use connection_model::{Note, Notes};
-use px_bytes::{M, Reply, Text};
+use irule_net::NetState;
+use px_bytes::{Addr, M, Reply, Text};
 use std::alloc::Global;
 use tcl_vars::Vars;
 
@@ -29,16 +30,17 @@ pub struct Conn {
 }
 
 impl Conn {
-    /// A connection that was accepted and has done nothing yet.
-    pub fn new(alloc: Global, setup: &Setup<'_>) -> Conn
-        ensures begins { Begins setup.now result }
+    /// A connection from an address that was accepted and has done nothing yet.
+    pub fn new(alloc: Global, setup: &Setup<'_>, from: Addr) -> Conn
+        ensures begins { Begins setup.now from result }
         ensures queue { result.host.to_client ≡ [] }
     {
+        let net = NetState::new(alloc, from, setup.port, Text::empty(alloc), false);
         Conn {
             stage: setup.enter(At::Accepted),
             body: Body::new(alloc),
             vars: Vars::new(alloc),
-            host: RuleHost::new(alloc),
+            host: RuleHost::new(alloc, net),
         }
     }
 

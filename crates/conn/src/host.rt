@@ -1,74 +1,65 @@
 // The host of a connection's rules.
 
-ghost use Rattle.std.specs.Prelude.{◌≡◌, ◌+◌, ◌∷◌, [], codes, nat_lt, MatchResult};
-ghost use Rattle.std.specs.Str.{bytes_eq};
-ghost use Rattle.px_bytes.specs.Answered.{DidStep};
-ghost use Rattle.connection_model.specs.Host.{respond, respond_limit};
-ghost use Rattle.conn.specs.Hosts.{Made, begun_host, fresh_host, seen_host};
+ghost use Rattle.std.specs.Prelude.{◌≡◌, [], MatchResult};
+ghost use Rattle.connection_model.specs.Host.{first_word};
+ghost use Rattle.conn.specs.Hosts.{begun_host, fresh_host, unselected_host};
 
 use crate::events::At;
+use connection_model::is_there;
 use frame_machine::Host;
-use px_bytes::{HostAnswer, M, TclFault, Text, Texts};
+use irule_net::{Effects, Groups, NetState, net_command};
+use px_bytes::{HostAnswer, M, TclFault, Texts};
 use seg_buffer::Held;
 use std::alloc::Global;
-
-/// The most bytes that the bodies of one event may send by `TCP::respond`.
-const RESPOND_LIMIT: usize = 1_114_112;
 
 /// What the commands of a connection's rules read and leave.
 #[derive(Drop)]
 pub struct RuleHost {
     /// The event whose bodies run.
     pub event: At,
-    /// How many bytes they sent.
-    pub sent: usize,
+    /// What network commands leave.
+    pub net: NetState,
+    /// What commands did outside the script, and wasn't done yet.
+    pub made: Effects,
     /// The bytes that the client is to take.
     pub to_client: Held,
 }
 
 impl RuleHost {
-    pub fn new(alloc: Global) -> RuleHost
-        ensures { result ≡ fresh_host }
+    pub fn new(alloc: Global, net: NetState) -> RuleHost
+        ensures { result ≡ fresh_host net }
     {
         RuleHost {
             event: At::Accepted,
-            sent: 0,
+            net,
+            made: Effects::new(alloc),
             to_client: Held::new(alloc),
         }
     }
 
-    /// An event begins.
+    /// An event begins, and there is no server.
     pub fn begin(&mut self, event: At)
         ensures { self.new ≡ begun_host event self.old }
     {
         self.event = event;
-        self.sent = 0;
+        self.net.begin();
+        self.net.relays = false;
     }
 
-    // `TCP::respond TEXT`.
-    fn respond(&mut self, alloc: Global, text: &Text) -> HostAnswer
-        ensures { DidStep (respond (seen_host self.old) (text.now ∷ [])) result
-            (seen_host self.new) (λ es. Made self.old es self.new) }
+    /// No server is selected.
+    pub fn unselect(&mut self)
+        ensures { self.new ≡ unselected_host self.old }
     {
-        if is_too_long(self.sent, text.len()) {
-            return raised(TclFault::too_long(alloc));
-        }
-        match self.to_client.push(text.as_bytes()) {
-            Ok(()) => {
-                self.sent += text.len();
-                HostAnswer::Value(Text::empty(alloc))
-            }
-            Err(_) => HostAnswer::Memory,
-        }
+        self.net.selected = None;
     }
 }
 
 impl Host for RuleHost {
-    ghost use Rattle.connection_model.specs.Host.{HostState, respond_table};
+    ghost use Rattle.connection_model.specs.Host.{HostState, commands};
     ghost use Rattle.conn.specs.Hosts.{Made, seen_host};
     ghost use Rattle.conn.specs.Making.{made_none, made_both};
 
-    type Env = ();
+    type Env = Groups;
 
     ghost Seen = { HostState };
 
@@ -76,15 +67,15 @@ impl Host for RuleHost {
 
     ghost made = { λ a es b. Made a es b };
 
-    ghost table = { λ env. respond_table };
+    ghost table = { commands };
 
-    fn call(&mut self, alloc: Global, _env: &(), words: &Texts) -> HostAnswer {
-        match words.as_slice() {
-            [name, text] if is_respond(name) => self.respond(alloc, text),
-            [name, ..] if is_respond(name) => raised(TclFault::wrong_arity(alloc, name.as_bytes())),
-            [name, ..] => raised(TclFault::no_command(alloc, name.as_bytes())),
-            [] => raised(TclFault::no_command(alloc, b"")),
+    fn call(&mut self, alloc: Global, groups: &Groups, words: &Texts) -> HostAnswer {
+        let name = first_word(words);
+        if !is_there(name) {
+            return raised(TclFault::no_command(alloc, name));
         }
+        let event = self.event.name();
+        net_command(alloc, &mut self.net, groups, event, words, &mut self.made)
     }
 
     ghost made_none = { made_none };
@@ -92,16 +83,13 @@ impl Host for RuleHost {
     ghost made_both = { made_both };
 }
 
-fn is_too_long(sent: usize, more: usize) -> bool
-    ensures { result ≡ nat_lt respond_limit (sent + more) }
+fn first_word(words: &Texts) -> &[u8]
+    ensures { result.now ≡ first_word words.now }
 {
-    more > RESPOND_LIMIT || sent > RESPOND_LIMIT - more
-}
-
-fn is_respond(name: &Text) -> bool
-    ensures { result ≡ bytes_eq name.now (codes "TCP::respond") }
-{
-    name.as_bytes() == b"TCP::respond".as_slice()
+    match words.as_slice() {
+        [name, ..] => name.as_bytes(),
+        [] => b"",
+    }
 }
 
 fn raised(fault: M<TclFault>) -> HostAnswer

@@ -8,6 +8,7 @@ mod connection;
 mod events;
 mod host;
 mod laws;
+mod made;
 mod run;
 mod setup;
 mod stage;

@@ -4,6 +4,7 @@ ghost use Rattle.std.specs.Prelude.{◌≡◌, option_map, slice_get};
 ghost use Rattle.conn.specs.Setups.{bodies_at};
 
 use crate::events::At;
+use irule_net::Groups;
 use px_bytes::Text;
 use tcl_compile::{Node, Procs};
 use tcl_vars::Vars;
@@ -16,12 +17,15 @@ pub struct Handler {
     pub body: Node,
 }
 
-/// What a connection only reads: how many units each body may spend, the static variables that
-/// RULE_INIT left, and the bodies of each event in their order.
+/// What a connection only reads: the port of its virtual server, how many units each body may spend,
+/// the static variables that RULE_INIT left, the data groups and pools that rules name, and the bodies
+/// of each event in their order.
 #[derive(Clone, Copy)]
 pub struct Setup<'a> {
+    pub port: u16,
     pub budget: u32,
     pub statics: &'a Vars,
+    pub groups: &'a Groups,
     pub accepted: &'a [Handler],
     pub failed: &'a [Handler],
     pub closed: &'a [Handler],

@@ -12,8 +12,12 @@ use Rattle.rule_model.specs.Laws.{state_after}
 use Rattle.event_order.specs.declared.event.EventName.{EventName}
 use Rattle.connection_model.specs.Item.{Item, Peer, ToClient, ToServer, Sending, shown}
 use Rattle.connection_model.specs.Gates.{other}
-use Rattle.connection_model.specs.Setup.{Handler, Setup, Target, NoTarget, NodeAt, PoolOf}
-use Rattle.connection_model.specs.Host.{HostState, Asks, NotAsked, Stated}
+use Rattle.irule_net.specs.declared.state.Asks.{Asks}
+use Rattle.irule_net.specs.declared.state.Asks.TheVariants.{NotAsked, Stated}
+use Rattle.irule_net.specs.declared.state.Target.{Target}
+use Rattle.irule_net.specs.declared.state.Target.TheVariants.{Default, PoolOf, MemberOf, NodeAt}
+use Rattle.connection_model.specs.Setup.{Handler, Setup}
+use Rattle.connection_model.specs.Host.{HostState, with_selected}
 use Rattle.connection_model.specs.Selected.{addr_of}
 use Rattle.connection_model.specs.State.{Bodies, Gated, Running, Failing, Fate, Forwards, Drops}
 use Rattle.connection_model.specs.State.{Phase, Carrying, InEvent, Choosing, Selecting, Connecting}
@@ -24,7 +28,7 @@ use Rattle.connection_model.specs.Bodies.{act_item, peer_of, run_body, ended_nex
 use Rattle.connection_model.specs.Bodies.{bodies_next}
 use Rattle.connection_model.specs.Relay.{incoming, RelayAct, BothDone, Passing, Firing, Resting}
 use Rattle.connection_model.specs.Relay.{relay_act, collect_act, behind_fires}
-use Rattle.connection_model.specs.Trace.{unit_item, unit_next, carrying_next, choosing_next}
+use Rattle.connection_model.specs.Trace.{unit_item, unit_next, carrying_next, choosing_next, default_next}
 use Rattle.connection_model.specs.Trace.{selected_next, selecting_next, answering_next, relay_next}
 use Rattle.connection_model.specs.Trace.{collect_next, collecting_next, phase_next}
 
@@ -79,9 +83,13 @@ bodies_fair g e (Running b bs n) l = act_fair e b bs n l (slice_get (state_after
 bodies_fair g e (Failing kind line bs) l = record { cut = refl; sends = tt; reads = refl }
 
 choosing_fair : (g : Setup) (l : TraceState) (h : HostState) (target : Target) → FairNext l.answers.cut l.sent.number l.client (choosing_next g l h target)
-choosing_fair g l h NoTarget = record { cut = refl; sends = tt; reads = refl }
-choosing_fair g l h (NodeAt a) = record { cut = refl; sends = tt; reads = refl }
+choosing_fair g l h Default = by_pool h.net.pool where
+  by_pool : (pool : List ℕ) → FairNext l.answers.cut l.sent.number l.client (default_next g l h pool)
+  by_pool [] = record { cut = refl; sends = tt; reads = refl }
+  by_pool (b ∷ bs) = record { cut = refl; sends = tt; reads = refl }
 choosing_fair g l h (PoolOf pool) = record { cut = refl; sends = tt; reads = refl }
+choosing_fair g l h (MemberOf pool a) = record { cut = refl; sends = tt; reads = refl }
+choosing_fair g l h (NodeAt a) = record { cut = refl; sends = tt; reads = refl }
 
 selected_fair : (g : Setup) (l : TraceState) (more : List Reply) (a : Option Addr) → FairNext l.answers.cut l.sent.number l.client (selected_next g l more a)
 selected_fair g l more None = record { cut = refl; sends = tt; reads = refl }
@@ -149,12 +157,12 @@ carrying_fair g l fate side (suc left) s = by_unread s.ended s.unread where
 pub phase_fair : (g : Setup) (p : Phase) (l : TraceState) → FairNext l.answers.cut l.sent.number l.client (phase_next g p l)
 phase_fair g (InEvent e bodies) l = bodies_fair g e bodies l
 phase_fair g (Carrying fate side left) l = carrying_fair g l fate side left (stream_of side l)
-phase_fair g Choosing l = choosing_fair g l (record l.host { selected = None }) l.host.target
+phase_fair g Choosing l = choosing_fair g l (with_selected None l.host) l.host.net.target
 phase_fair g (Selecting call) l = selecting_fair g call l l.answers.replies
 phase_fair g (Connecting a) l = record { cut = refl; sends = tt; reads = refl }
 phase_fair g (Answering a) l = answering_fair g l l.answers.connects
 phase_fair g Releasing l = record { cut = refl; sends = refl; reads = refl }
 phase_fair g Relaying l = relay_fair g l (relay_act (incoming Client l) (incoming Server l) l.answers.choices)
-phase_fair g Collecting l = collecting_fair g l l.host.client.asks
+phase_fair g Collecting l = collecting_fair g l l.host.net.client.asks
 phase_fair g (Finishing r) l = record { cut = refl; sends = tt; reads = refl }
 phase_fair g Draining l = tt

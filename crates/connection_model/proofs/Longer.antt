@@ -17,8 +17,13 @@ use Rattle.event_order.specs.declared.event.EventName.TheVariants.{LbSelected, L
 use Rattle.connection_model.specs.Item.{Reason, Closed, Rejected, Ran, Logged, Resumed, Passed}
 use Rattle.connection_model.specs.Item.{Fired, Finished}
 use Rattle.connection_model.specs.Gates.{Counts, other}
-use Rattle.connection_model.specs.Setup.{Handler, Setup, Target, NoTarget, NodeAt, PoolOf}
-use Rattle.connection_model.specs.Host.{HostState, Asks, NotAsked, Stated, body_setting}
+use Rattle.irule_net.specs.declared.state.Asks.{Asks}
+use Rattle.irule_net.specs.declared.state.Asks.TheVariants.{NotAsked, Stated}
+use Rattle.irule_net.specs.declared.state.Target.{Target}
+use Rattle.irule_net.specs.declared.state.Target.TheVariants.{Default, PoolOf, MemberOf, NodeAt}
+use Rattle.irule_net.specs.Steps.{target_pool}
+use Rattle.connection_model.specs.Setup.{Handler, Setup}
+use Rattle.connection_model.specs.Host.{HostState, body_setting, with_selected}
 use Rattle.connection_model.specs.Selected.{addr_of}
 use Rattle.connection_model.specs.State.{Bodies, Gated, Running, Failing, Fate, Phase, Carrying}
 use Rattle.connection_model.specs.State.{InEvent, Choosing, Selecting, Connecting, Answering}
@@ -31,7 +36,7 @@ use Rattle.connection_model.specs.Bodies.{run_body, ended_next, act_next, body_n
 use Rattle.connection_model.specs.Bodies.{peer_of}
 use Rattle.connection_model.specs.Relay.{incoming, ready_of, RelayAct, BothDone, Passing, Firing}
 use Rattle.connection_model.specs.Relay.{Resting, relay_act, fired_host, collect_act, behind_fires}
-use Rattle.connection_model.specs.Trace.{unit_item, unit_next, carrying_next, finish, choosing_next}
+use Rattle.connection_model.specs.Trace.{unit_item, unit_next, carrying_next, finish, choosing_next, default_next}
 use Rattle.connection_model.specs.Trace.{selected_next, selecting_next, answering_next, relay_next}
 use Rattle.connection_model.specs.Trace.{fired_next, collect_next, collecting_next, phase_next}
 use Rattle.connection_model.specs.Trace.{cut_next, counted, next_item}
@@ -88,16 +93,21 @@ bodies_same f g e (Failing kind line bs) l =
     ap (λ k. Does (Logged line) (at (after_fault g e l.finished k kind bs l.host) (longer f l))) (link_same f l)
 
 choosing_same : (f : Further) (g : Setup) (l : TraceState) (h : HostState) (target : Target) → Same f (choosing_next g l h target) (choosing_next g (longer f l) h target)
-choosing_same f g l h NoTarget = ap (λ k. Does Resumed (at (enter g LbFailed k h) (longer f l))) (link_same f l)
-choosing_same f g l h (NodeAt a) =
-    ap (λ k. Does Resumed (at (enter g LbSelected k (record h { selected = Some a })) (longer f l))) (link_same f l)
+choosing_same f g l h Default = by_pool h.net.pool where
+  by_pool : (pool : List ℕ) → Same f (default_next g l h pool) (default_next g (longer f l) h pool)
+  by_pool [] = ap (λ k. Does Resumed (at (enter g LbFailed k h) (longer f l))) (link_same f l)
+  by_pool (b ∷ bs) = refl
 choosing_same f g l h (PoolOf pool) = refl
+choosing_same f g l h (MemberOf pool a) = refl
+choosing_same f g l h (NodeAt a) =
+    ap (λ k. Does Resumed (at (enter g LbSelected k (with_selected (Some (record { pool = []; addr = a })) h)) (longer f l))) (link_same f l)
 
 selected_same : (f : Further) (g : Setup) (l : TraceState) (more : List Reply) (a : Option Addr) → Same f (selected_next g l more a) (selected_next g (longer f l) (more ++ f.replies) a)
 selected_same f g l more None =
     ap (λ k. Does Resumed (at (enter g LbFailed k l.host) (with_replies (more ++ f.replies) (longer f l)))) (link_same f l)
 selected_same f g l more (Some a) =
-    ap (λ k. Does Resumed (at (enter g LbSelected k (record l.host { selected = Some a })) (with_replies (more ++ f.replies) (longer f l)))) (link_same f l)
+    let h = with_selected (Some (record { pool = target_pool l.host.net.pool l.host.net.target; addr = a })) l.host in
+    ap (λ k. Does Resumed (at (enter g LbSelected k h) (with_replies (more ++ f.replies) (longer f l)))) (link_same f l)
 
 selecting_same : (f : Further) (g : Setup) (call : List (List ℕ)) (l : TraceState) (replies : List Reply) → Same f (selecting_next g call l replies) (selecting_next g call (longer f l) (replies ++ f.replies))
 selecting_same f g call l [] = λ idle. ap (selecting_next g call (longer f l)) (none_of f.replies idle)
@@ -127,8 +137,8 @@ quiet_of f l idle =
     let first = or_parts (comes f.client) (comes f.server || is_some_of f.choices) idle in
     let second = or_parts (comes f.server) (is_some_of f.choices) first.1 in
     record {
-      client = ap (side_in l.host.client.asks) (nothing_stream f.client l.client first.0);
-      server = ap (λ v. side_in l.host.server.asks (server_stream v)) (nothing_server f.server l.answers.connects l.server second.0);
+      client = ap (side_in l.host.net.client.asks) (nothing_stream f.client l.client first.0);
+      server = ap (λ v. side_in l.host.net.server.asks (server_stream v)) (nothing_server f.server l.answers.connects l.server second.0);
       choices = λ choices. ap (λ more. choices ++ more) (none_of f.choices second.1) ∙ append-nil choices;
     }
 
@@ -200,13 +210,13 @@ carrying_same f g l fate side (suc left) = unit_same f g l fate side left (strea
 pub phase_same : (f : Further) (g : Setup) (phase : Phase) (l : TraceState) → Same f (phase_next g phase l) (phase_next g phase (longer f l))
 phase_same f g (InEvent e bodies) l = bodies_same f g e bodies l
 phase_same f g (Carrying fate side left) l = carrying_same f g l fate side left
-phase_same f g Choosing l = choosing_same f g l (record l.host { selected = None }) l.host.target
+phase_same f g Choosing l = choosing_same f g l (with_selected None l.host) l.host.net.target
 phase_same f g (Selecting call) l = selecting_same f g call l l.answers.replies
 phase_same f g (Connecting a) l = refl
 phase_same f g (Answering a) l = answering_same f g l l.answers.connects
 phase_same f g Releasing l = refl
 phase_same f g Relaying l = relaying_same f g l
-phase_same f g Collecting l = collecting_same f g l l.host.client.asks
+phase_same f g Collecting l = collecting_same f g l l.host.net.client.asks
 phase_same f g (Finishing r) l = finish_same f g r l
 phase_same f g Draining l = refl
 

@@ -5,10 +5,14 @@ use Rattle.event_order.specs.declared.phase.Phase.{Phase as Name}
 use Rattle.event_order.specs.declared.phase.Phase.TheVariants as name
 use Rattle.event_order.specs.declared.event.EventName.{EventName}
 use Rattle.event_order.specs.declared.event.EventName.TheVariants.{ClientAccepted, ClientData, ClientClosed, ServerConnected, ServerData, ServerClosed, LbSelected, LbFailed}
-use Rattle.px_bytes.specs.declared.addr.Addr.{Addr}
 use Rattle.connection_model.specs.Item.{Unselected}
 use Rattle.connection_model.specs.Setup.{Handler, Setup}
-use Rattle.connection_model.specs.Host.{HostState, Asks, NotAsked, Stated, Ending, Rejects, Closes}
+use Rattle.irule_net.specs.declared.state.Asks.{Asks}
+use Rattle.irule_net.specs.declared.state.Asks.TheVariants.{NotAsked, Stated}
+use Rattle.irule_net.specs.declared.state.Ending.{Ending}
+use Rattle.irule_net.specs.declared.state.Ending.TheVariants.{Rejects, Closes}
+use Rattle.irule_net.specs.declared.state.Selected.{Selected}
+use Rattle.connection_model.specs.Host.{HostState}
 use Rattle.connection_model.specs.State.{Phase, Choosing, Finishing, Draining, Link, Absent, Asked}
 use Rattle.connection_model.specs.State.{Up, GivenUp}
 use Rattle.connection_model.specs.Places.{Place, place, is_up, is_closing, begun, bodies_left}
@@ -67,7 +71,7 @@ data_ok Asked h false = record { orderly = (refl, refl); follows = same name.Col
 data_ok GivenUp h true = record { orderly = refl; follows = inr (inl (1, omega arith, refl)) }
 data_ok GivenUp h false = record { orderly = (refl, refl); follows = same name.Collect }
 
-connecting_ok : (link : Link) (h : HostState) (a : Option Addr) → PlaceOk false link name.Select (place (connecting a) h)
+connecting_ok : (link : Link) (h : HostState) (a : Option Selected) → PlaceOk false link name.Select (place (connecting a) h)
 connecting_ok link h None = record { orderly = refl; follows = finishing name.Select refl }
 connecting_ok link h (Some a) = record { orderly = refl; follows = inr (inl (0, omega arith, refl)) }
 
@@ -83,16 +87,16 @@ released_ok link h (b ∷ bs) fits = record { orderly = (refl, fits); follows = 
 after_open : (g : Setup) (e : EventName) (link : Link) (h : HostState) → RunsIn e false → Fits e link → PlaceOk false link (event_phase e false link) (after_event g e false link h)
 after_open g ServerClosed link h runs fits = record { orderly = refl; follows = same name.Select }
 after_open g ClientClosed link h runs fits = absurd (true≢false (sym runs))
-after_open g ClientAccepted link h runs fits = unless_ok link name.Accepted _ h h.ends refl (accepted_ok link h h.client.asks fits)
-after_open g ClientData Up h runs fits = unless_ok Up name.Relay _ h h.ends refl (data_ok Up h h.released)
-after_open g ClientData Absent h runs fits = unless_ok Absent name.Collect _ h h.ends refl (data_ok Absent h h.released)
-after_open g ClientData Asked h runs fits = unless_ok Asked name.Collect _ h h.ends refl (data_ok Asked h h.released)
-after_open g ClientData GivenUp h runs fits = unless_ok GivenUp name.Collect _ h h.ends refl (data_ok GivenUp h h.released)
-after_open g LbSelected link h runs fits = unless_ok link name.Select _ h h.ends refl (connecting_ok link h h.selected)
-after_open g LbFailed link h runs fits = unless_ok link name.Select _ h h.ends refl (failed_ok link h h.reselects)
-after_open g ServerConnected link h runs fits = unless_ok link name.Connect _ h h.ends refl (released_ok link h h.loose fits)
-after_open g ServerData link h runs fits = unless_ok link name.Relay _ h h.ends refl (record { orderly = (refl, fits); follows = same name.Relay })
-after_open g other link h runs fits = unless_ok link name.Accepted _ h h.ends refl (record { orderly = refl; follows = finishing name.Accepted refl })
+after_open g ClientAccepted link h runs fits = unless_ok link name.Accepted _ h h.net.wishes.ends refl (accepted_ok link h h.net.client.asks fits)
+after_open g ClientData Up h runs fits = unless_ok Up name.Relay _ h h.net.wishes.ends refl (data_ok Up h h.net.wishes.released)
+after_open g ClientData Absent h runs fits = unless_ok Absent name.Collect _ h h.net.wishes.ends refl (data_ok Absent h h.net.wishes.released)
+after_open g ClientData Asked h runs fits = unless_ok Asked name.Collect _ h h.net.wishes.ends refl (data_ok Asked h h.net.wishes.released)
+after_open g ClientData GivenUp h runs fits = unless_ok GivenUp name.Collect _ h h.net.wishes.ends refl (data_ok GivenUp h h.net.wishes.released)
+after_open g LbSelected link h runs fits = unless_ok link name.Select _ h h.net.wishes.ends refl (connecting_ok link h h.net.selected)
+after_open g LbFailed link h runs fits = unless_ok link name.Select _ h h.net.wishes.ends refl (failed_ok link h h.net.wishes.reselects)
+after_open g ServerConnected link h runs fits = unless_ok link name.Connect _ h h.net.wishes.ends refl (released_ok link h h.net.loose fits)
+after_open g ServerData link h runs fits = unless_ok link name.Relay _ h h.net.wishes.ends refl (record { orderly = (refl, fits); follows = same name.Relay })
+after_open g other link h runs fits = unless_ok link name.Accepted _ h h.net.wishes.ends refl (record { orderly = refl; follows = finishing name.Accepted refl })
 
 after_finish : (g : Setup) (e : EventName) (link : Link) (h : HostState) → RunsIn e true → PlaceOk true link (event_phase e true link) (after_event g e true link h)
 after_finish g ServerClosed link h runs = closed_client_ok g link h

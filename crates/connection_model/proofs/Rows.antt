@@ -18,8 +18,14 @@ use Rattle.connection_model.specs.declared.note.CutReason.TheVariants.{ClientRes
 use Rattle.connection_model.specs.Item.{Item, BeforeBodies, ToClient, ToServer, Closed, Tcl, Unselected, CutBy, PassesOn, Fires}
 use Rattle.connection_model.specs.Item.{Opened, Resumed, Answered, Moved, Passed, Fired, Called, Connected, Logged, Sent, Ran, Finished, client_output, server_output}
 use Rattle.connection_model.specs.Gates.{TakenCounts}
-use Rattle.connection_model.specs.Setup.{Handler, Setup, Target, NoTarget, NodeAt, PoolOf}
-use Rattle.connection_model.specs.Host.{Stated, Collected, first_host}
+use Rattle.irule_net.specs.declared.groups.Groups.{Groups}
+use Rattle.irule_net.specs.declared.state.Asks.TheVariants.{Stated}
+use Rattle.irule_net.specs.declared.state.Collected.{Collected}
+use Rattle.irule_net.specs.declared.state.NetState.{NetState}
+use Rattle.irule_net.specs.declared.state.Target.{Target}
+use Rattle.irule_net.specs.declared.state.Target.TheVariants.{MemberOf, NodeAt}
+use Rattle.connection_model.specs.Setup.{Handler, Setup}
+use Rattle.connection_model.specs.Host.{HostState, first_host, commands}
 use Rattle.connection_model.specs.Selected.{addr_of}
 use Rattle.connection_model.specs.State.{Collecting, Connecting, Stream, Answers, TraceState, Nothing, ForReply, ForRelay, ForCut, Waits, Over, no_stream, no_answers}
 use Rattle.connection_model.specs.Trace.{next_item, trace, behind, start}
@@ -56,9 +62,23 @@ unknown = handler (script (tree.command verb.Named (trees_of (plain (codes "nope
 abbrev pub node_at : Addr
 node_at = record { ip = 2 ^ 24 * 10 + 1; port = 80 }
 
-abbrev pub setup : Level → Target → (EventName → List Handler) → Setup
-setup statics target handlers =
-    record { name = codes "v"; from = record { ip = 2 ^ 24 * 10 + 9; port = 4000 }; budget = 20000; statics = statics; target = target; http = false; handlers = handlers }
+abbrev pub no_groups : Groups
+no_groups = record { classes = []; pools = [] }
+
+abbrev pub client_at : Addr
+client_at = record { ip = 2 ^ 24 * 10 + 9; port = 4000 }
+
+abbrev pub setup : Level → (pool : List ℕ) → (EventName → List Handler) → Setup
+setup statics pool handlers =
+    record { name = codes "v"; port = 9000; pool = pool; http = false; from = client_at; budget = 20000; statics = statics; groups = no_groups; handlers = handlers }
+
+-- what the network commands left
+abbrev pub with_net : (NetState → NetState) → HostState → HostState
+with_net f h = record h { net = f h.net }
+
+-- the rules chose this
+abbrev pub towards : Target → TraceState → TraceState
+towards target l = record l { host = with_net (λ s. record s { target = target }) l.host }
 
 abbrev pub no_handlers : EventName → List Handler
 no_handlers e = []
@@ -87,9 +107,9 @@ greet ClientAccepted = greets ∷ []
 greet other = []
 
 -- whatever the static variables are, and however many items are asked for
-greet_row : (statics : Level) (n : ℕ) → trace (suc (suc (suc (suc (suc n))))) (setup statics NoTarget greet) (start (setup statics NoTarget greet) no_stream no_answers)
+greet_row : (statics : Level) (n : ℕ) → trace (suc (suc (suc (suc (suc n))))) (setup statics [] greet) (start (setup statics [] greet) no_stream no_answers)
     ≡ Opened BeforeBodies ∷ Sent ToClient (codes "hi 7") ∷ Ran ClientAccepted 8 ∷ Resumed ∷ Finished Unselected ∷ []
-unfolding next_item evaluate
+unfolding next_item evaluate commands
 greet_row statics zero = refl
 greet_row statics (suc n) = refl
 
@@ -98,26 +118,35 @@ abbrev in_turn : Handler → EventName → List Handler
 in_turn first ClientAccepted = first ∷ responds (codes "a") ∷ []
 in_turn first other = []
 
-return_row : trace 9 (setup no_level NoTarget (in_turn returns)) (start (setup no_level NoTarget (in_turn returns)) no_stream no_answers)
+return_row : trace 9 (setup no_level [] (in_turn returns)) (start (setup no_level [] (in_turn returns)) no_stream no_answers)
     ≡ Opened BeforeBodies ∷ Ran ClientAccepted 2 ∷ Sent ToClient (codes "a") ∷ Ran ClientAccepted 3 ∷ Resumed ∷ Finished Unselected ∷ []
-unfolding next_item evaluate
+unfolding next_item evaluate commands
 return_row = refl
 
 -- an uncaught fault is logged, skips the next body and finishes the connection
-fault_row : trace 9 (setup no_level NoTarget (in_turn unknown)) (start (setup no_level NoTarget (in_turn unknown)) no_stream no_answers)
+fault_row : trace 9 (setup no_level [] (in_turn unknown)) (start (setup no_level [] (in_turn unknown)) no_stream no_answers)
     ≡ Opened BeforeBodies ∷ Ran ClientAccepted 2 ∷ Logged (codes "TCL error: row <CLIENT_ACCEPTED> - invalid command name \"nope\"") ∷ Finished (Tcl NoCommand) ∷ []
-unfolding next_item evaluate
+unfolding next_item evaluate commands
 fault_row = refl
+
+-- a line is logged where it comes
+abbrev logs : Handler
+logs = handler (script (tree.command verb.Named (trees_of (plain (codes "log") ∷ plain (codes "local0.") ∷ plain (codes "a") ∷ [])) ∷ says_x ∷ []))
+
+log_row : trace 4 (setup no_level [] (in_turn logs)) (start (setup no_level [] (in_turn logs)) no_stream no_answers)
+    ≡ Opened BeforeBodies ∷ Logged (codes "a") ∷ Ran ClientAccepted 8 ∷ Logged (codes "TCL error: row <CLIENT_ACCEPTED> - can't read \"x\": no such variable") ∷ []
+unfolding next_item evaluate commands
+log_row = refl
 
 -- a relay that passes bytes both ways; the client has ended
 abbrev pub relay_setup : Setup
-relay_setup = setup no_level (NodeAt node_at) no_handlers
+relay_setup = setup no_level [] no_handlers
 
 abbrev pub relay_start : Bool → TraceState
-relay_start ended = start relay_setup (stream (codes "abc") true) (record no_answers {
+relay_start ended = towards (NodeAt node_at) (start relay_setup (stream (codes "abc") true) (record no_answers {
   connects = Some (stream (codes "welcome") ended) ∷ [];
   choices = PassesOn Client 2 ∷ PassesOn Server 7 ∷ PassesOn Client 1 ∷ [];
-})
+}))
 
 abbrev relayed : List Item
 relayed = Resumed ∷ Connected node_at ∷ Answered true ∷ Passed Client (ToServer 1) (codes "ab") ∷ Passed Server ToClient (codes "welcome")
@@ -157,7 +186,7 @@ half_close_rows = (refl, refl, refl)
 abbrev reset_recorded : Answers
 reset_recorded = record no_answers { cut = Some (record { reason = ClientReset; took = record { client = None; servers = [] } }) }
 
-cut_row : trace 9 relay_setup (start relay_setup (stream (codes "abc") false) reset_recorded) ≡ Resumed ∷ Connected node_at ∷ Finished (CutBy ClientReset) ∷ []
+cut_row : trace 9 relay_setup (towards (NodeAt node_at) (start relay_setup (stream (codes "abc") false) reset_recorded)) ≡ Resumed ∷ Connected node_at ∷ Finished (CutBy ClientReset) ∷ []
 unfolding next_item
 cut_row = refl
 
@@ -165,30 +194,33 @@ cut_row = refl
 abbrev pub stated : ℕ → Collected
 stated n = record { asks = Stated n; held = [] }
 
+abbrev pub collects : Collected → HostState → HostState
+collects c h = with_net (λ s. record s { client = c }) h
+
 abbrev answers_data : EventName → List Handler
 answers_data ClientData = responds (codes "ok") ∷ []
 answers_data ServerData = responds (codes "no") ∷ []
 answers_data other = []
 
 abbrev pub collect_setup : Setup
-collect_setup = setup no_level (NodeAt node_at) answers_data
+collect_setup = setup no_level [] answers_data
 
 abbrev pub collect_start : TraceState
 collect_start = record (start collect_setup (stream (codes "hello") false) (record no_answers { choices = Fires Client ∷ [] })) {
   phase = Collecting;
-  host = record (first_host collect_setup) { client = stated 3 };
+  host = collects (stated 3) (first_host collect_setup);
 }
 
 collect_row : trace 20 collect_setup collect_start ≡ Fired Client 3 ∷ Opened BeforeBodies ∷ Sent ToClient (codes "ok") ∷ Ran ClientData 3 ∷ []
-unfolding next_item evaluate
+unfolding next_item evaluate commands
 collect_row = refl
 
 collect_waits : next_item collect_setup (behind 4 collect_setup collect_start) ≡ Waits ForCut
-unfolding next_item evaluate
+unfolding next_item evaluate commands
 collect_waits = refl
 
 -- one that needs more bytes waits for them
-collect_lacks : next_item collect_setup (record collect_start { host = record collect_start.host { client = stated 6 } }) ≡ Waits (ForRelay Nothing Nothing)
+collect_lacks : next_item collect_setup (record collect_start { host = collects (stated 6) collect_start.host }) ≡ Waits (ForRelay Nothing Nothing)
 unfolding next_item
 collect_lacks = refl
 
@@ -207,13 +239,13 @@ connect_start = record (start collect_setup (stream (codes "lo") false) (record 
   choices = Fires Server ∷ PassesOn Client 2 ∷ PassesOn Server 2 ∷ [];
 })) {
   phase = Connecting node_at;
-  host = record (first_host collect_setup) { server = stated 2; loose = codes "hel" };
+  host = with_net (λ s. record s { server = stated 2; loose = codes "hel" }) (first_host collect_setup);
 }
 
 connect_row : trace 20 collect_setup connect_start
     ≡ Connected node_at ∷ Answered true ∷ Moved Client 0 (ToServer 1) (codes "hel") ∷ Fired Server 2 ∷ Opened BeforeBodies ∷ Sent (ToServer 1) (codes "no") ∷ Ran ServerData 3
     ∷ Passed Client (ToServer 1) (codes "lo") ∷ Passed Server ToClient (codes "cd") ∷ []
-unfolding next_item evaluate
+unfolding next_item evaluate commands
 connect_row = refl
 
 -- a pool's member is selected by a shared call, and no cut ends that wait; the closing events' bodies run behind the cut, and a
@@ -224,7 +256,7 @@ closes ClientClosed = returns ∷ []
 closes other = []
 
 abbrev pool_setup : Setup
-pool_setup = setup no_level (PoolOf (codes "p")) closes
+pool_setup = setup no_level (codes "p") closes
 
 abbrev pool_start : List Reply → TraceState
 pool_start replies = start pool_setup (stream [] false) (record reset_recorded { replies = replies })
@@ -243,15 +275,20 @@ asks_waits = refl
 answered_row : trace 20 pool_setup (pool_start (reply.Ok (codes "10.0.0.1:80") ∷ []))
     ≡ Called asked ∷ Resumed ∷ Connected node_at ∷ Finished (CutBy ClientReset)
     ∷ Ran ServerClosed 2 ∷ Logged (codes "TCL error: row <SERVER_CLOSED> - invalid command name \"nope\"") ∷ Ran ClientClosed 2 ∷ []
-unfolding next_item evaluate digits
+unfolding next_item evaluate commands digits
 answered_row = refl
 
+-- a member alone
+member_row : trace 20 pool_setup (towards (MemberOf (codes "q") node_at) (pool_start [])) ≡ Called (codes "select" ∷ codes "v" ∷ codes "q" ∷ codes "10.0.0.9" ∷ codes "only" ∷ codes "10.0.0.1:80" ∷ []) ∷ []
+unfolding next_item digits
+member_row = refl
+
 unselected_row : trace 20 pool_setup (pool_start (reply.Ok [] ∷ [])) ≡ Called asked ∷ Resumed ∷ Finished Unselected ∷ Ran ClientClosed 2 ∷ []
-unfolding next_item evaluate digits
+unfolding next_item evaluate commands digits
 unselected_row = refl
 
 -- a refused connect
-refused_row : trace 20 relay_setup (start relay_setup no_stream (record no_answers { connects = None ∷ [] })) ≡ Resumed ∷ Connected node_at ∷ Answered false ∷ Finished Unselected ∷ []
+refused_row : trace 20 relay_setup (towards (NodeAt node_at) (start relay_setup no_stream (record no_answers { connects = None ∷ [] }))) ≡ Resumed ∷ Connected node_at ∷ Answered false ∷ Finished Unselected ∷ []
 unfolding next_item
 refused_row = refl
 

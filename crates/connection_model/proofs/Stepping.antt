@@ -19,8 +19,13 @@ use Rattle.event_order.specs.declared.event.EventName.TheVariants.{ClientAccepte
 use Rattle.connection_model.specs.Item.{Item, Reason, Closed, Rejected, Tcl, CutBy, Choice, Resumed}
 use Rattle.connection_model.specs.Item.{Answered, Logged, Fired, Ran, shown, reasons_in, listed}
 use Rattle.connection_model.specs.Gates.{Counts, may_give}
-use Rattle.connection_model.specs.Setup.{Handler, Setup, Target, NoTarget, NodeAt, PoolOf}
-use Rattle.connection_model.specs.Host.{HostState, Asks, NotAsked, Stated, first_host}
+use Rattle.irule_net.specs.declared.state.Asks.{Asks}
+use Rattle.irule_net.specs.declared.state.Asks.TheVariants.{NotAsked, Stated}
+use Rattle.irule_net.specs.declared.state.Target.{Target}
+use Rattle.irule_net.specs.declared.state.Target.TheVariants.{Default, PoolOf, MemberOf, NodeAt}
+use Rattle.irule_net.specs.Steps.{target_pool}
+use Rattle.connection_model.specs.Setup.{Handler, Setup}
+use Rattle.connection_model.specs.Host.{HostState, first_host, with_selected}
 use Rattle.connection_model.specs.Selected.{addr_of}
 use Rattle.connection_model.specs.State.{Bodies, Gated, Running, Failing, Fate, Forwards, Drops}
 use Rattle.connection_model.specs.State.{Phase, Carrying, InEvent, Choosing, Selecting, Connecting}
@@ -34,7 +39,7 @@ use Rattle.connection_model.specs.Places.{after_body, data_event}
 use Rattle.connection_model.specs.Bodies.{run_body, act_item, ended_next, act_next, bodies_next}
 use Rattle.connection_model.specs.Relay.{incoming, RelayAct, BothDone, Passing, Firing, Resting}
 use Rattle.connection_model.specs.Relay.{relay_act, fired_host, collect_act, behind_fires}
-use Rattle.connection_model.specs.Trace.{unit_item, unit_next, carrying_next, finish, choosing_next}
+use Rattle.connection_model.specs.Trace.{unit_item, unit_next, carrying_next, finish, choosing_next, default_next}
 use Rattle.connection_model.specs.Trace.{selected_next, selecting_next, answering_next, relay_next}
 use Rattle.connection_model.specs.Trace.{fired_next, collect_next, collecting_next, phase_next}
 use Rattle.connection_model.specs.Trace.{cut_takes, uncut, cut_open, cut_next, counted, next_item}
@@ -124,18 +129,21 @@ bodies_ok g e (Running b bs n) l was = body_ok g e b bs n l (slice_get (state_af
 bodies_ok g e (Failing kind line bs) l was = failing_ok g e kind line bs l was
 
 choosing_ok : (g : Setup) (l : TraceState) (h : HostState) (target : Target) → l.finished ≡ false → NextOk Choosing l (choosing_next g l h target)
-choosing_ok g l h NoTarget was =
-    quiet_step Choosing l _ Resumed false (enter g LbFailed (link_of l.server) h) refl was refl refl (enter_ok g LbFailed (link_of l.server) h refl tt)
-choosing_ok g l h (NodeAt a) was =
-    let h' = record h { selected = Some a } in
-    quiet_step Choosing l _ Resumed false (enter g LbSelected (link_of l.server) h') refl was refl refl (enter_ok g LbSelected (link_of l.server) h' refl tt)
+choosing_ok g l h Default was = by_pool h.net.pool where
+  by_pool : (pool : List ℕ) → NextOk Choosing l (default_next g l h pool)
+  by_pool [] = quiet_step Choosing l _ Resumed false (enter g LbFailed (link_of l.server) h) refl was refl refl (enter_ok g LbFailed (link_of l.server) h refl tt)
+  by_pool (b ∷ bs) = record { orderly = was; phases = same _; finished = refl; once = λ is. never is }
 choosing_ok g l h (PoolOf pool) was = record { orderly = was; phases = same _; finished = refl; once = λ is. never is }
+choosing_ok g l h (MemberOf pool a) was = record { orderly = was; phases = same _; finished = refl; once = λ is. never is }
+choosing_ok g l h (NodeAt a) was =
+    let h' = with_selected (Some (record { pool = []; addr = a })) h in
+    quiet_step Choosing l _ Resumed false (enter g LbSelected (link_of l.server) h') refl was refl refl (enter_ok g LbSelected (link_of l.server) h' refl tt)
 
 selected_ok : (g : Setup) (call : List (List ℕ)) (l : TraceState) (more : List Reply) (a : Option Addr) → l.finished ≡ false → NextOk (Selecting call) l (selected_next g l more a)
 selected_ok g call l more None was =
     quiet_step (Selecting call) l _ Resumed false (enter g LbFailed (link_of l.server) l.host) refl was refl refl (enter_ok g LbFailed (link_of l.server) l.host refl tt)
 selected_ok g call l more (Some a) was =
-    let h' = record l.host { selected = Some a } in
+    let h' = with_selected (Some (record { pool = target_pool l.host.net.pool l.host.net.target; addr = a })) l.host in
     quiet_step (Selecting call) l _ Resumed false (enter g LbSelected (link_of l.server) h') refl was refl refl (enter_ok g LbSelected (link_of l.server) h' refl tt)
 
 selecting_ok : (g : Setup) (call : List (List ℕ)) (l : TraceState) (replies : List Reply) → l.finished ≡ false → NextOk (Selecting call) l (selecting_next g call l replies)
@@ -215,13 +223,13 @@ carrying_ok g l fate side (suc left) s was = by_unread s.ended s.unread where
 phase_ok : (g : Setup) (p : Phase) (l : TraceState) → OrderlyIn p l.finished (link_of l.server) → NextOk p l (phase_next g p l)
 phase_ok g (InEvent e bodies) l was = bodies_ok g e bodies l was
 phase_ok g (Carrying fate side left) l was = carrying_ok g l fate side left (stream_of side l) was
-phase_ok g Choosing l was = choosing_ok g l (record l.host { selected = None }) l.host.target was
+phase_ok g Choosing l was = choosing_ok g l (with_selected None l.host) l.host.net.target was
 phase_ok g (Selecting call) l was = selecting_ok g call l l.answers.replies was
 phase_ok g (Connecting a) l was = record { orderly = was; phases = same _; finished = refl; once = λ is. never is }
 phase_ok g (Answering a) l was = answering_ok g a l l.answers.connects was
 phase_ok g Releasing l was = record { orderly = was; phases = same _; finished = refl; once = λ is. never is }
 phase_ok g Relaying l was = relay_ok g l (relay_act (incoming Client l) (incoming Server l) l.answers.choices) was.0 was.1
-phase_ok g Collecting l was = collecting_ok g l l.host.client.asks was.0 was.1
+phase_ok g Collecting l was = collecting_ok g l l.host.net.client.asks was.0 was.1
 phase_ok g (Finishing r) l was = finish_ok g r (Finishing r) l was (same name.Finish)
 phase_ok g Draining l was = tt
 

@@ -1,5 +1,8 @@
 -- Rows of the tables: gates, waits, cuts, where events lead, the phases by name.
 use Rattle.std.proofs.Common.{◌≡◌, refl, ℕ, List, [], ◌∷◌, map, true, false, Some, None, codes}
+use Rattle.std.specs.Fmt.{digits}
+use Rattle.px_bytes.specs.FaultText.{no_command}
+use Rattle.px_bytes.specs.Host.{Gives, Faults, Logged as Noted}
 use Rattle.px_bytes.specs.declared.addr.Side.TheVariants.{Client, Server}
 use Rattle.px_bytes.specs.declared.fault.FaultKind.TheVariants.{TooLong}
 use Rattle.tcl_vars.specs.Scopes.{no_level}
@@ -12,13 +15,18 @@ use Rattle.connection_model.specs.declared.note.CutReason.TheVariants.{ClientRes
 use Rattle.connection_model.specs.Item.{BeforeBodies, BeforePassing, BeforeConnect, ToClient, ToServer, Closed, Rejected, Tcl, PassesOn, cost_in, calls_in}
 use Rattle.connection_model.specs.Item.{Opened, Resumed, Passed, Fired, Called, Connected, Logged, Sent, Ran, Finished}
 use Rattle.connection_model.specs.Gates.{Counts, TakenCounts, is_open, may_give}
-use Rattle.connection_model.specs.Setup.{Handler, Setup, NoTarget, NodeAt}
-use Rattle.connection_model.specs.Host.{HostState, Ending, Rejects, Closes, NotAsked, first_host}
+use Rattle.irule_net.specs.FaultText.{not_here}
+use Rattle.irule_net.specs.declared.state.Asks.TheVariants.{NotAsked}
+use Rattle.irule_net.specs.declared.state.Ending.{Ending}
+use Rattle.irule_net.specs.declared.state.Ending.TheVariants.{Rejects, Closes}
+use Rattle.irule_net.specs.declared.state.Wishes.{Wishes}
+use Rattle.connection_model.specs.Setup.{Handler, Setup}
+use Rattle.connection_model.specs.Host.{HostState, commands, first_host, with_loose, with_selected}
 use Rattle.connection_model.specs.State.{Running, InEvent, Relaying, Choosing, Collecting, TraceState, Nothing, Passable, IsMet, ForBytes, ForConnect, ForReply, ForRelay, ForReuse, Waits, no_stream, no_answers}
 use Rattle.connection_model.specs.Trace.{next_item, trace, behind, start, cut_takes, rests}
 use Rattle.connection_model.specs.Phases.{phase_of}
 use Rattle.connection_model.specs.Queries.{half_close_due}
-use Rattle.connection_model.proofs.Rows.{closing_bodies, sets, reads, connect_start, responds, setup, node_at, relay_setup, relay_start, collect_setup, collect_start, stated}
+use Rattle.connection_model.proofs.Rows.{closing_bodies, sets, reads, connect_start, responds, setup, node_at, relay_setup, relay_start, collect_setup, collect_start, stated, collects, no_groups, with_net}
 
 -- 65,535 bytes not taken leave room, 65,536 leave none; a reset leaves all of it
 abbrev sent : ℕ → ℕ → Counts
@@ -57,13 +65,32 @@ cut_rows :
     × (cut_takes false Idle (Some (ForReply [])) ≡ false) × (cut_takes false Idle (Some ForReuse) ≡ false)
 cut_rows = (refl, refl, refl, refl, refl, refl, refl, refl)
 
+-- what commands give: told of the client, of a group that isn't there, in an event that hasn't the command, and those that aren't there yet
+abbrev accepted : HostState
+accepted = first_host relay_setup
+
+abbrev closing_host : HostState
+closing_host = record accepted { event = ClientClosed }
+
+command_rows :
+    (commands no_groups accepted (codes "IP::client_addr" ∷ []) ≡ Gives (codes "10.0.0.9") accepted [])
+    × (commands no_groups accepted (codes "TCP::client_port" ∷ []) ≡ Gives (codes "4000") accepted [])
+    × (commands no_groups accepted (codes "LB::server" ∷ codes "pool" ∷ []) ≡ Gives [] accepted [])
+    × (commands no_groups closing_host (codes "log" ∷ codes "a" ∷ []) ≡ Gives [] closing_host (Noted (codes "a") ∷ []))
+    × (commands no_groups closing_host (codes "class" ∷ codes "exists" ∷ codes "g" ∷ []) ≡ Gives (codes "0") closing_host [])
+    × (commands no_groups closing_host (codes "TCP::respond" ∷ codes "a" ∷ []) ≡ Faults (not_here (codes "TCP::respond")) closing_host [])
+    × (commands no_groups accepted (codes "pool" ∷ codes "p" ∷ []) ≡ Faults (no_command (codes "pool")) accepted [])
+    × (commands no_groups accepted [] ≡ Faults (no_command []) accepted [])
+unfolding commands digits
+command_rows = (refl, refl, refl, refl, refl, refl, refl, refl)
+
 -- a body of an event runs, where the host's state is so
 abbrev answers : EventName → List Handler
 answers LbFailed = responds (codes "x") ∷ []
 answers other = []
 
 abbrev answer_setup : Setup
-answer_setup = setup no_level NoTarget answers
+answer_setup = setup no_level [] answers
 
 abbrev in_body : EventName → HostState → TraceState
 in_body e h = record (start answer_setup no_stream no_answers) { phase = InEvent e (Running (responds (codes "x")) [] 0); host = record h { event = e } }
@@ -71,38 +98,50 @@ in_body e h = record (start answer_setup no_stream no_answers) { phase = InEvent
 abbrev first : HostState
 first = first_host answer_setup
 
+-- what its bodies did and asked for
+abbrev wishing : (Wishes → Wishes) → HostState
+wishing f = with_net (λ s. record s { wishes = f s.wishes }) first
+
 -- the bodies of one event may send 1,114,112 bytes together; the next event begins anew
-limit_row : trace 3 answer_setup (in_body ClientAccepted (record first { sent = 1114112 }))
+limit_row : trace 3 answer_setup (in_body ClientAccepted (wishing (λ w. record w { sent = 1114112 })))
     ≡ Ran ClientAccepted 3 ∷ Logged (codes "TCL error: row <CLIENT_ACCEPTED> - text too long") ∷ Finished (Tcl TooLong) ∷ []
-unfolding next_item evaluate
+unfolding next_item evaluate commands
 limit_row = refl
 
-anew_row : trace 5 answer_setup (in_body ClientAccepted (record first { sent = 1114111 }))
-    ≡ Sent ToClient (codes "x") ∷ Ran ClientAccepted 3 ∷ Resumed ∷ Opened BeforeBodies ∷ Sent ToClient (codes "x") ∷ []
-unfolding next_item evaluate
-anew_row = refl
+anew_row : (trace 4 answer_setup (in_body ClientAccepted (wishing (λ w. record w { sent = 1114111 }))) ≡ Sent ToClient (codes "x") ∷ Ran ClientAccepted 3 ∷ Resumed ∷ Opened BeforeBodies ∷ [])
+    × ((behind 3 answer_setup (in_body ClientAccepted (wishing (λ w. record w { sent = 1114111 })))).host.net.wishes.sent ≡ 0)
+unfolding next_item evaluate commands
+anew_row = (refl, refl)
+
+-- a command that its event hasn't: no text is sent there
+elsewhere_row : trace 2 answer_setup (in_body LbFailed first) ≡ Ran LbFailed 3 ∷ Logged (codes "TCL error: row <LB_FAILED> - TCP::respond: not allowed here") ∷ []
+unfolding next_item evaluate commands
+elsewhere_row = refl
 
 -- what a body asked for decides where its event leads
 abbrev ending : Ending → TraceState
-ending e = in_body ClientAccepted (record first { ends = Some e })
+ending e = in_body ClientAccepted (wishing (λ w. record w { ends = Some e }))
 
 ends_rows :
     (trace 3 answer_setup (ending Rejects) ≡ Sent ToClient (codes "x") ∷ Ran ClientAccepted 3 ∷ Finished Rejected ∷ [])
     × (trace 3 answer_setup (ending Closes) ≡ Sent ToClient (codes "x") ∷ Ran ClientAccepted 3 ∷ Finished Closed ∷ [])
-unfolding next_item evaluate
+unfolding next_item evaluate commands
 ends_rows = (refl, refl)
 
+abbrev in_quiet_body : EventName → HostState → TraceState
+in_quiet_body e h = record (in_body e h) { phase = InEvent e (Running sets [] 0) }
+
 leads_rows :
-    ((behind 2 answer_setup (in_body LbFailed (record first { reselects = true }))).phase ≡ Choosing)
-    × ((behind 2 answer_setup (in_body ClientData (record first { released = true }))).phase ≡ Choosing)
-    × ((behind 2 answer_setup (in_body ClientData first)).phase ≡ Collecting)
-    × ((behind 2 answer_setup (in_body ClientAccepted (record first { client = stated 1 }))).phase ≡ Collecting)
-unfolding next_item evaluate
+    ((behind 1 answer_setup (in_quiet_body LbFailed (wishing (λ w. record w { reselects = true })))).phase ≡ Choosing)
+    × ((behind 1 answer_setup (in_quiet_body ClientData (wishing (λ w. record w { released = true })))).phase ≡ Choosing)
+    × ((behind 1 answer_setup (in_quiet_body ClientData first)).phase ≡ Collecting)
+    × ((behind 1 answer_setup (in_quiet_body ClientAccepted (collects (stated 1) first))).phase ≡ Collecting)
+unfolding next_item evaluate commands
 leads_rows = (refl, refl, refl, refl)
 
 -- a collect is met by just as many bytes; nothing is passed of no bytes, nor more than there are
 exact_rows :
-    (trace 1 collect_setup (record collect_start { host = record collect_start.host { client = stated 5 } }) ≡ Fired Client 5 ∷ [])
+    (trace 1 collect_setup (record collect_start { host = collects (stated 5) collect_start.host }) ≡ Fired Client 5 ∷ [])
     × (next_item relay_setup (record (behind 3 relay_setup (relay_start false)) { answers = record no_answers { choices = PassesOn Client 0 ∷ [] } }) ≡ Waits (ForRelay Passable Passable))
     × (next_item relay_setup (record (behind 3 relay_setup (relay_start false)) { answers = record no_answers { choices = PassesOn Client 4 ∷ [] } }) ≡ Waits (ForRelay Passable Passable))
 unfolding next_item
@@ -119,11 +158,11 @@ phase_rows = refl
 
 -- SERVER_CLOSED where there is a server
 abbrev closing_setup : Setup
-closing_setup = setup no_level (NodeAt node_at) closing_bodies
+closing_setup = setup no_level [] closing_bodies
 
 closing_row : trace 9 closing_setup (record (behind 6 relay_setup (relay_start true)) { phase = Relaying })
     ≡ Finished Closed ∷ Ran ServerClosed 2 ∷ Ran ClientClosed 2 ∷ []
-unfolding next_item evaluate
+unfolding next_item evaluate commands
 closing_row = refl
 
 -- the next body of an event reads what the one before set
@@ -131,21 +170,23 @@ abbrev sets_and_reads : EventName → List Handler
 sets_and_reads ClientAccepted = sets ∷ reads ∷ []
 sets_and_reads other = []
 
-variables_row : trace 4 (setup no_level NoTarget sets_and_reads) (start (setup no_level NoTarget sets_and_reads) no_stream no_answers)
+variables_row : trace 4 (setup no_level [] sets_and_reads) (start (setup no_level [] sets_and_reads) no_stream no_answers)
     ≡ Opened BeforeBodies ∷ Ran ClientAccepted 4 ∷ Sent ToClient (codes "hi 7") ∷ Ran ClientAccepted 4 ∷ []
-unfolding next_item evaluate
+unfolding next_item evaluate commands
 variables_row = refl
 
 -- what an event begins with, and what a connection keeps
 abbrev released_before : TraceState
-released_before = record collect_start { host = record collect_start.host { released = true; reselects = true; client = record (stated 3) { held = codes "ha" } } }
+released_before = record collect_start {
+  host = with_net (λ s. record s { wishes = record s.wishes { released = true; reselects = true }; client = record (stated 3) { held = codes "ha" } }) collect_start.host;
+}
 
 begins_rows :
-    ((behind 1 collect_setup released_before).host.released ≡ false) × ((behind 1 collect_setup released_before).host.reselects ≡ false)
-    × ((behind 1 collect_setup released_before).host.client ≡ record { asks = NotAsked; held = codes "hahel" })
-    × ((behind 1 collect_setup released_before).host.relays ≡ false) × ((behind 3 relay_setup (relay_start false)).host.relays ≡ true)
-    × ((behind 1 answer_setup (record (in_body ClientAccepted (record first { selected = Some node_at })) { phase = Choosing })).host.selected ≡ None)
-    × ((behind 3 collect_setup connect_start).host.loose ≡ [])
+    ((behind 1 collect_setup released_before).host.net.wishes.released ≡ false) × ((behind 1 collect_setup released_before).host.net.wishes.reselects ≡ false)
+    × ((behind 1 collect_setup released_before).host.net.client ≡ record { asks = NotAsked; held = codes "hahel" })
+    × ((behind 1 collect_setup released_before).host.net.relays ≡ false) × ((behind 3 relay_setup (relay_start false)).host.net.relays ≡ true)
+    × ((behind 1 answer_setup (record (in_body ClientAccepted (with_selected (Some (record { pool = []; addr = node_at })) first)) { phase = Choosing })).host.net.selected ≡ None)
+    × ((behind 3 collect_setup connect_start).host.net.loose ≡ [])
 unfolding next_item
 begins_rows = (refl, refl, refl, refl, refl, refl, refl)
 
@@ -155,8 +196,8 @@ holding h = record (behind 6 relay_setup (relay_start false)) { host = h }
 
 owed_rows :
     (half_close_due (holding (first_host relay_setup)) (took 0 3) Server ≡ true)
-    × (half_close_due (holding (record (first_host relay_setup) { client = record { asks = NotAsked; held = codes "a" } })) (took 0 3) Server ≡ false)
-    × (half_close_due (holding (record (first_host relay_setup) { loose = codes "a" })) (took 0 3) Server ≡ false)
+    × (half_close_due (holding (collects (record { asks = NotAsked; held = codes "a" }) (first_host relay_setup))) (took 0 3) Server ≡ false)
+    × (half_close_due (holding (with_loose (codes "a") (first_host relay_setup))) (took 0 3) Server ≡ false)
     × (half_close_due (holding (first_host relay_setup)) (record { client = Some 0; servers = None ∷ [] }) Server ≡ false)
 unfolding next_item
 owed_rows = (refl, refl, refl, refl)

@@ -1,107 +1,83 @@
--- What the host's commands of a connection read and leave, and the commands of today (iRules:
--- TCP::respond sends to the side on which the event runs).
-use Rattle.std.specs.Prelude.{ℕ, ◌+◌, List, [], ◌∷◌, codes, length, nat_lt, Bool, false}
-use Rattle.std.specs.Prelude.{Option, Some, None, if◌then◌else◌}
-use Rattle.std.specs.Str.{bytes_eq}
-use Rattle.px_bytes.specs.FaultText.{no_command, wrong_arity, too_long}
-use Rattle.px_bytes.specs.Host.{HostStep, Gives, Faults, Sent}
-use Rattle.px_bytes.specs.declared.addr.Addr.{Addr}
+-- The state of a connection's host, and what the host's commands give: the network commands of
+-- irule_net, in the event that runs.
+use Rattle.std.specs.Prelude.{ℕ, List, [], ◌∷◌, Bool, true, false, Option, Some, None}
+use Rattle.std.specs.Prelude.{if◌then◌else◌}
+use Rattle.px_bytes.specs.FaultText.{no_command}
+use Rattle.px_bytes.specs.Host.{HostStep, Gives, Faults, Asks}
 use Rattle.px_bytes.specs.declared.addr.Side.{Side}
-use Rattle.px_bytes.specs.declared.addr.Side.TheVariants.{Client, Server}
 use Rattle.tcl_compile.specs.Procedures.{Procedure}
+use Rattle.event_order.specs.declared.command.HostCommand.{HostCommand}
+use Rattle.event_order.specs.declared.command.HostCommand.TheVariants.{Log, Class, TcpRespond}
+use Rattle.event_order.specs.declared.command.HostCommand.TheVariants.{IpClientAddr, IpServerAddr}
+use Rattle.event_order.specs.declared.command.HostCommand.TheVariants.{TcpClientPort, LbServer}
 use Rattle.event_order.specs.declared.event.EventName.{EventName}
 use Rattle.event_order.specs.declared.event.EventName.TheVariants.{ClientAccepted}
-use Rattle.event_order.specs.declared.event.EventName.TheVariants.{ServerConnected, ServerData}
+use Rattle.irule_net.specs.Checks.{command_of}
+use Rattle.irule_net.specs.Commands.{net_step}
+use Rattle.irule_net.specs.State.{new_state, with_collected}
+use Rattle.irule_net.specs.declared.groups.Groups.{Groups}
+use Rattle.irule_net.specs.declared.state.Collected.{Collected}
+use Rattle.irule_net.specs.declared.state.NetState.{NetState}
+use Rattle.irule_net.specs.declared.state.Selected.{Selected}
 use Rattle.rule_model.specs.Setting.{Setting}
-use Rattle.connection_model.specs.Setup.{Target, Setup}
+use Rattle.connection_model.specs.Setup.{Setup}
 
--- what a side's collect asks for: nothing, or so many bytes
-pub data Asks : Type 0 where
-  NotAsked : Asks
-  Stated : ℕ → Asks
-
--- the collect of a side, and the bytes that it holds
-pub record Collected : Type 0 where
-  pub asks : Asks
-  pub held : List ℕ
-
--- how a body ends the connection
-pub data Ending : Type 0 where
-  Rejects : Ending
-  Closes : Ending
-
--- What the host's commands read and leave: the event that runs, where a server comes from and the
--- one that was selected, and the collects of both sides. `loose` are bytes of the client that were
--- released before there was a server. The last four say what the bodies of this event sent and
--- asked for.
+-- what the host's commands read and leave: the event that runs, and what network commands leave
 pub record HostState : Type 0 where
   pub event : EventName
-  pub target : Target
-  pub selected : Option Addr
-  pub client : Collected
-  pub server : Collected
-  pub loose : List ℕ
-  -- there is a server: the client's released bytes go to it at once
-  pub relays : Bool
-  pub sent : ℕ
-  pub released : Bool
-  pub reselects : Bool
-  pub ends : Option Ending
-
-abbrev pub no_collect : Collected
-no_collect = record { asks = NotAsked; held = [] }
+  pub net : NetState
 
 -- the host's state of an accepted connection
 abbrev pub first_host : Setup → HostState
-first_host g = record {
-  event = ClientAccepted;
-  target = g.target;
-  selected = None;
-  client = no_collect;
-  server = no_collect;
-  loose = [];
-  relays = false;
-  sent = 0;
-  released = false;
-  reselects = false;
-  ends = None;
-}
+first_host g = record { event = ClientAccepted; net = new_state g.from g.port g.pool g.http }
 
--- the side on which an event runs whose bodies may send
-abbrev pub side_of : EventName → Side
-side_of ServerConnected = Server
-side_of ServerData = Server
-side_of other = Client
+-- the same with this server selected, with this collect of a side, with these bytes that wait
+abbrev pub with_selected : Option Selected → HostState → HostState
+with_selected selected h = record h { net = record h.net { selected = selected } }
 
-abbrev pub collected : Side → HostState → Collected
-collected Client h = h.client
-collected Server h = h.server
+abbrev pub with_collect : Side → Collected → HostState → HostState
+with_collect side c h = record h { net = with_collected side c h.net }
 
-abbrev pub with_collected : Side → Collected → HostState → HostState
-with_collected Client c h = record h { client = c }
-with_collected Server c h = record h { server = c }
+abbrev pub with_loose : List ℕ → HostState → HostState
+with_loose loose h = record h { net = record h.net { loose = loose } }
 
--- the most bytes that the bodies of one event may send by TCP::respond
-abbrev pub respond_limit : ℕ
-respond_limit = 1114112
+-- The commands that there are today. Those that ask a shared call, choose a server, collect bytes
+-- or end the connection aren't there yet.
+abbrev pub is_there : HostCommand → Bool
+is_there Log = true
+is_there Class = true
+is_there IpClientAddr = true
+is_there IpServerAddr = true
+is_there TcpClientPort = true
+is_there LbServer = true
+is_there TcpRespond = true
+is_there other = false
 
--- `TCP::respond TEXT`: the text goes to the event's side behind what was sent, the value is empty
-abbrev pub respond : HostState → List (List ℕ) → HostStep HostState
-respond h (text ∷ []) =
-    if nat_lt respond_limit (h.sent + length text) then Faults too_long h []
-    else Gives [] (record h { sent = h.sent + length text }) (Sent (side_of h.event) text ∷ [])
-respond h words = Faults (wrong_arity (codes "TCP::respond")) h []
+-- the name is that of one of them
+abbrev pub names_one : Option HostCommand → Bool
+names_one None = false
+names_one (Some command) = is_there command
 
--- what a host command gives; no other command is there
-abbrev pub respond_table : HostState → List (List ℕ) → HostStep HostState
-respond_table h [] = Faults (no_command []) h []
-respond_table h (name ∷ words) =
-    if bytes_eq name (codes "TCP::respond") then respond h words
-    else Faults (no_command name) h []
+-- what a network command gives, of the host's state
+abbrev pub host_step : HostState → HostStep NetState → HostStep HostState
+host_step h (Gives v s effects) = Gives v (record h { net = s }) effects
+host_step h (Faults f s effects) = Faults f (record h { net = s }) effects
+host_step h (Asks call s) = Asks call (record h { net = s })
+
+abbrev pub first_word : List (List ℕ) → List ℕ
+first_word [] = []
+first_word (name ∷ words) = name
+
+-- what a command with these words gives; a name of no command that is there is no command
+unfoldable pub commands : Groups → HostState → List (List ℕ) → HostStep HostState
+commands groups h words =
+    if names_one (command_of (first_word words))
+    then host_step h (net_step groups h.event h.net words)
+    else Faults (no_command (first_word words)) h []
 
 -- the host's commands on this setup; no law of the trace looks into them
 abbrev pub host_table : Setup → HostState → List (List ℕ) → HostStep HostState
-host_table g = respond_table
+host_table g = commands g.groups
 
 -- a body reads the static variables, uses the host's commands and calls its rule's procedures
 abbrev pub body_setting : Setup → List Procedure → Setting HostState

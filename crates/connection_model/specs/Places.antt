@@ -3,7 +3,6 @@
 -- stream.
 use Rattle.std.specs.Prelude.{ℕ, List, [], ◌∷◌, Bool, true, false, Option, Some, None}
 use Rattle.std.specs.Prelude.{if◌then◌else◌}
-use Rattle.px_bytes.specs.declared.addr.Addr.{Addr}
 use Rattle.px_bytes.specs.declared.addr.Side.{Side}
 use Rattle.px_bytes.specs.declared.addr.Side.TheVariants.{Client, Server}
 use Rattle.px_bytes.specs.declared.fault.FaultKind.{FaultKind}
@@ -15,8 +14,13 @@ use Rattle.event_order.specs.declared.event.EventName.TheVariants.{ServerData, S
 use Rattle.event_order.specs.declared.event.EventName.TheVariants.{LbSelected, LbFailed}
 use Rattle.connection_model.specs.Item.{Closed, Tcl, Unselected, Rejected}
 use Rattle.connection_model.specs.Setup.{Handler, Setup, uncaught_line}
-use Rattle.connection_model.specs.Host.{HostState, Asks, NotAsked, Stated}
-use Rattle.connection_model.specs.Host.{Ending, Rejects, Closes}
+use Rattle.irule_net.specs.State as network
+use Rattle.irule_net.specs.declared.state.Asks.{Asks}
+use Rattle.irule_net.specs.declared.state.Asks.TheVariants.{NotAsked, Stated}
+use Rattle.irule_net.specs.declared.state.Ending.{Ending}
+use Rattle.irule_net.specs.declared.state.Ending.TheVariants.{Rejects, Closes}
+use Rattle.irule_net.specs.declared.state.Selected.{Selected}
+use Rattle.connection_model.specs.Host.{HostState}
 use Rattle.connection_model.specs.State.{Gated, Running, Failing, Link, Absent, Asked, Up, GivenUp}
 use Rattle.connection_model.specs.State.{TraceState, Phase, InEvent, Choosing, Connecting}
 use Rattle.connection_model.specs.State.{Releasing, Relaying, Collecting, Finishing, Draining}
@@ -42,16 +46,10 @@ abbrev pub is_up : Link → Bool
 is_up Up = true
 is_up other = false
 
--- an event begins: nothing is sent in it or asked by it
+-- an event begins: its bodies have done nothing yet
 abbrev pub begun : EventName → Link → HostState → HostState
-begun e link h = record h {
-  event = e;
-  relays = is_up link;
-  sent = 0;
-  released = false;
-  reselects = false;
-  ends = None;
-}
+begun e link h =
+    record { event = e; net = record (network.begun h.net) { relays = is_up link } }
 
 -- the bodies of an event one after another, and then this
 abbrev pub bodies_left : EventName → List Handler → HostState → Place → Place
@@ -76,9 +74,9 @@ closed g Asked h = closed_server g Asked h
 closed g Up h = closed_server g Up h
 closed g GivenUp h = closed_client g GivenUp h
 
-abbrev pub connecting : Option Addr → Phase
+abbrev pub connecting : Option Selected → Phase
 connecting None = Finishing Unselected
-connecting (Some a) = Connecting a
+connecting (Some s) = Connecting s.addr
 
 abbrev pub behind_accepted : Asks → Phase
 behind_accepted NotAsked = Choosing
@@ -95,11 +93,11 @@ behind_connected (b ∷ bs) = Releasing
 
 -- the phase after an event that nothing ended
 abbrev pub goes_on : EventName → Link → HostState → Phase
-goes_on ClientAccepted link h = behind_accepted h.client.asks
-goes_on ClientData link h = behind_data link h.released
-goes_on LbSelected link h = connecting h.selected
-goes_on LbFailed link h = if h.reselects then Choosing else Finishing Unselected
-goes_on ServerConnected link h = behind_connected h.loose
+goes_on ClientAccepted link h = behind_accepted h.net.client.asks
+goes_on ClientData link h = behind_data link h.net.wishes.released
+goes_on LbSelected link h = connecting h.net.selected
+goes_on LbFailed link h = if h.net.wishes.reselects then Choosing else Finishing Unselected
+goes_on ServerConnected link h = behind_connected h.net.loose
 goes_on ServerData link h = Relaying
 goes_on other link h = Finishing Closed
 
@@ -118,7 +116,7 @@ after_server g false link h = place Choosing h
 abbrev pub after_event : Setup → EventName → (finished : Bool) → Link → HostState → Place
 after_event g ServerClosed finished link h = after_server g finished link h
 after_event g ClientClosed finished link h = place Draining h
-after_event g e finished link h = place (unless_ended h.ends (goes_on e link h)) h
+after_event g e finished link h = place (unless_ended h.net.wishes.ends (goes_on e link h)) h
 
 abbrev pub entered : Setup → EventName → Link → List Handler → HostState → Place
 entered g e link [] h = after_event g e false link h

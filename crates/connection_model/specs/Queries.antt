@@ -7,7 +7,9 @@ use Rattle.px_bytes.specs.declared.addr.Side.TheVariants.{Client, Server}
 use Rattle.event_order.specs.declared.event.EventName.TheVariants.{ClientAccepted, ClientData}
 use Rattle.event_order.specs.declared.event.EventName.TheVariants.{ServerConnected, ServerData}
 use Rattle.connection_model.specs.Gates.{Counts, TakenCounts, other, taken_of, to_take}
-use Rattle.connection_model.specs.Host.{Asks, NotAsked, Stated, collected}
+use Rattle.irule_net.specs.State.{collected}
+use Rattle.irule_net.specs.declared.state.Asks.{Asks}
+use Rattle.irule_net.specs.declared.state.Asks.TheVariants.{NotAsked, Stated}
 use Rattle.connection_model.specs.State.{Phase, InEvent, Relaying, Stream, ServerSide, NoServer}
 use Rattle.connection_model.specs.State.{Sought, There, Retired, TraceState, stream_of, link_of}
 use Rattle.connection_model.specs.State.{Link, Up}
@@ -54,7 +56,7 @@ held_under (Stated n) unread = min n unread
 abbrev pub counted_held : Side → TraceState → ℕ
 counted_held side l =
     if in_event_of side l.phase then 0
-    else held_under (collected side l.host).asks (length (unread_at (arriving side l)))
+    else held_under (collected side l.host.net).asks (length (unread_at (arriving side l)))
 
 -- the most bytes that may lie unread of a side
 abbrev pub unread_limit : ℕ
@@ -85,7 +87,7 @@ is_reset sent took Server = is_none (taken_of took.servers sent.number)
 abbrev pub is_spent : Stream → TraceState → Side → Bool
 is_spent s l side =
     (s.ended && is_empty s.unread)
-    && (is_empty (collected (other side) l.host).held && is_empty l.host.loose)
+    && (is_empty (collected (other side) l.host.net).held && is_empty l.host.net.loose)
 
 abbrev pub took_all : TraceState → TakenCounts → Side → Bool
 took_all l took side = nat_eq (to_take l.sent took side) 0 && not (is_reset l.sent took side)

@@ -7,6 +7,7 @@ use Rattle.tcl_compile.specs.Tree.{Tree}
 use Rattle.tcl_vars.specs.Scopes.{Level}
 use Rattle.event_order.specs.Event.{event_text}
 use Rattle.event_order.specs.declared.event.EventName.{EventName}
+use Rattle.irule_net.specs.declared.groups.Groups.{Groups}
 
 -- a body that a rule has for an event, with the rule's name and procedures
 pub record Handler : Type 0 where
@@ -14,23 +15,19 @@ pub record Handler : Type 0 where
   pub procedures : List Procedure
   pub body : Tree
 
--- where a connection's server comes from: nowhere, an address, or a pool of this name
-pub data Target : Type 0 where
-  NoTarget : Target
-  NodeAt : Addr → Target
-  PoolOf : List ℕ → Target
-
--- What a connection runs on: the name of its virtual server and the address of its client; how many
--- units each body may spend, and the static variables that RULE_INIT left; where its server comes
--- from unless a rule chooses one; whether the virtual server speaks HTTP; and the bodies of each
--- event in their order.
+-- What a connection runs on: the name of its virtual server, its port, its default pool (empty
+-- where it has none) and whether it speaks HTTP; the address of its client; how many units each
+-- body may spend, and the static variables that RULE_INIT left; the data groups and pools that
+-- rules name; and the bodies of each event in their order.
 pub record Setup : Type 0 where
   pub name : List ℕ
+  pub port : ℕ
+  pub pool : List ℕ
+  pub http : Bool
   pub from : Addr
   pub budget : ℕ
   pub statics : Level
-  pub target : Target
-  pub http : Bool
+  pub groups : Groups
   pub handlers : EventName → List Handler
 
 -- the line that an uncaught fault logs: the rule, the event and the fault's text

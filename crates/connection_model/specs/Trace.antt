@@ -18,9 +18,14 @@ use Rattle.connection_model.specs.Item.{Resumed, Answered, Read, Moved, Passed, 
 use Rattle.connection_model.specs.Item.{Connected, Finished}
 use Rattle.connection_model.specs.Gates.{Counts, no_bytes, TakenCounts, other, has_room, may_give}
 use Rattle.connection_model.specs.Gates.{sent_after}
-use Rattle.connection_model.specs.Setup.{Setup, Target, NoTarget, NodeAt, PoolOf}
-use Rattle.connection_model.specs.Host.{HostState, Asks, NotAsked, Stated, first_host}
-use Rattle.connection_model.specs.Selected.{select_call, addr_of}
+use Rattle.irule_net.specs.Steps.{target_pool}
+use Rattle.irule_net.specs.declared.state.Asks.{Asks}
+use Rattle.irule_net.specs.declared.state.Asks.TheVariants.{NotAsked, Stated}
+use Rattle.irule_net.specs.declared.state.Target.{Target}
+use Rattle.irule_net.specs.declared.state.Target.TheVariants.{Default, PoolOf, MemberOf, NodeAt}
+use Rattle.connection_model.specs.Setup.{Setup}
+use Rattle.connection_model.specs.Host.{HostState, first_host, with_loose, with_selected}
+use Rattle.connection_model.specs.Selected.{any_member, only_member, select_call, addr_of}
 use Rattle.connection_model.specs.State.{Fate, Forwards, Drops, Phase, Carrying, InEvent, Choosing}
 use Rattle.connection_model.specs.State.{Selecting, Connecting, Answering, Releasing, Relaying}
 use Rattle.connection_model.specs.State.{Collecting, Finishing, Draining, Stream, NoServer, Sought}
@@ -39,22 +44,39 @@ abbrev pub finish : Setup → Reason → TraceState → Next
 finish g r l =
     Does (Finished r) (at (closed g (link_of l.server) l.host) (record l { finished = true }))
 
--- a server is selected by what the rules chose last
-abbrev pub choosing_next : Setup → TraceState → HostState → Target → Next
-choosing_next g l h NoTarget = Does Resumed (at (enter g LbFailed (link_of l.server) h) l)
-choosing_next g l h (NodeAt a) =
-    let chosen = record h { selected = Some a } in
+-- no server is selected, or this one, of a pool or by itself
+abbrev pub failed_next : Setup → TraceState → HostState → Next
+failed_next g l h = Does Resumed (at (enter g LbFailed (link_of l.server) h) l)
+
+abbrev pub chosen_next : Setup → TraceState → HostState → (pool : List ℕ) → Addr → Next
+chosen_next g l h pool a =
+    let chosen = with_selected (Some (record { pool = pool; addr = a })) h in
     Does Resumed (at (enter g LbSelected (link_of l.server) chosen) l)
-choosing_next g l h (PoolOf pool) =
-    let call = select_call g pool in
+
+-- it is asked which member of a pool is selected
+abbrev pub asking_next :
+    Setup → TraceState → HostState → (pool : List ℕ) → (wanted : List (List ℕ)) → Next
+asking_next g l h pool wanted =
+    let call = select_call g pool wanted in
     Does (Called call) (record l { phase = Selecting call; host = h })
 
+-- where no rule chose, by the pool of the virtual server, if it has one
+abbrev pub default_next : Setup → TraceState → HostState → (pool : List ℕ) → Next
+default_next g l h [] = failed_next g l h
+default_next g l h (b ∷ bs) = asking_next g l h (b ∷ bs) any_member
+
+-- a server is selected by what the rules chose last
+abbrev pub choosing_next : Setup → TraceState → HostState → Target → Next
+choosing_next g l h Default = default_next g l h h.net.pool
+choosing_next g l h (PoolOf pool) = asking_next g l h pool any_member
+choosing_next g l h (MemberOf pool a) = asking_next g l h pool (only_member a)
+choosing_next g l h (NodeAt a) = chosen_next g l h [] a
+
 abbrev pub selected_next : Setup → TraceState → List Reply → Option Addr → Next
-selected_next g l more None =
-    Does Resumed (at (enter g LbFailed (link_of l.server) l.host) (with_replies more l))
+selected_next g l more None = failed_next g (with_replies more l) l.host
 selected_next g l more (Some a) =
-    let chosen = record l.host { selected = Some a } in
-    Does Resumed (at (enter g LbSelected (link_of l.server) chosen) (with_replies more l))
+    let pool = target_pool l.host.net.pool l.host.net.target in
+    chosen_next g (with_replies more l) l.host pool a
 
 -- a reply that is no address, or a fault, selects nothing
 abbrev pub selecting_next : Setup → List (List ℕ) → TraceState → List Reply → Next
@@ -119,14 +141,14 @@ carrying_next g l fate side (suc left) s = unit_next g l fate side left s.ended 
 -- the client's released bytes go to the server before any that it sends later
 abbrev pub releasing_next : TraceState → Next
 releasing_next l =
-    Does (Moved Client 0 (ToServer l.sent.number) l.host.loose)
-    (record l { phase = Relaying; host = record l.host { loose = [] } })
+    Does (Moved Client 0 (ToServer l.sent.number) l.host.net.loose)
+    (record l { phase = Relaying; host = with_loose [] l.host })
 
 abbrev pub phase_next : Setup → Phase → TraceState → Next
 phase_next g (InEvent e bodies) l = bodies_next g e bodies l
 phase_next g (Carrying fate side left) l =
     carrying_next g l fate side left (stream_of side l)
-phase_next g Choosing l = choosing_next g l (record l.host { selected = None }) l.host.target
+phase_next g Choosing l = choosing_next g l (with_selected None l.host) l.host.net.target
 phase_next g (Selecting call) l = selecting_next g call l l.answers.replies
 phase_next g (Connecting a) l =
     Does (Connected a) (record l { phase = Answering a; server = Sought })
@@ -134,7 +156,7 @@ phase_next g (Answering a) l = answering_next g l l.answers.connects
 phase_next g Releasing l = releasing_next l
 phase_next g Relaying l =
     relay_next g l (relay_act (incoming Client l) (incoming Server l) l.answers.choices)
-phase_next g Collecting l = collecting_next g l l.host.client.asks
+phase_next g Collecting l = collecting_next g l l.host.net.client.asks
 phase_next g (Finishing r) l = finish g r l
 phase_next g Draining l = Over
 

@@ -1,10 +1,12 @@
 //! What one connection does, from its streams and recorded answers: the definition and its laws.
 #![tactic(auto)]
 
+mod host;
 mod laws;
 mod note;
 mod uncaught;
 
+pub use host::is_there;
 pub use laws::{
     choices_join, client_is_read, comes_where_it_arrives, cut_ends, cut_keeps_given, cut_waits,
     each_event_lengthens, event_stands, finished_stands, finishes_once, further_keeps_trace,

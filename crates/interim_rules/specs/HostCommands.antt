@@ -1,6 +1,6 @@
 -- The host commands that a tree names.
-use Rattle.std.specs.Prelude.{◌≡◌, ℕ, List, [], ◌∷◌, ◌++◌, codes, Bool, ◌||◌, not, find, is_some}
-use Rattle.std.specs.List.{All, list_all}
+use Rattle.std.specs.Prelude.{ℕ, List, [], ◌∷◌, ◌++◌, codes, Bool, ◌||◌, not, find, is_some, Contains}
+use Rattle.std.specs.List.{All, list_all, list_any}
 use Rattle.std.specs.Str.{bytes_eq}
 use Rattle.event_order.specs.Command.{IsHostCommand, command_row, every_command}
 use Rattle.tcl_compile.specs.Tree.{Tree, plain, variable, element, word, script, command, expr}
@@ -73,13 +73,16 @@ abbrev mutual
 unfoldable pub is_host_name : List ℕ → Bool
 is_host_name name = is_some (find (λ c. bytes_eq (command_row c).name name) every_command)
 
--- the host command that can be run today
-abbrev pub built_name : List ℕ
-built_name = codes "TCP::respond"
+-- the host commands that can be run today
+abbrev pub built_names : List (List ℕ)
+built_names = codes "log" ∷ codes "class" ∷ codes "TCP::respond" ∷ []
+
+abbrev pub is_built_name : List ℕ → Bool
+is_built_name name = list_any (bytes_eq name) built_names
 
 -- a name may stand in a rule; one that nothing has is a fault when it runs
 abbrev pub may_stand : List ℕ → Bool
-may_stand name = bytes_eq name built_name || not (is_host_name name)
+may_stand name = is_built_name name || not (is_host_name name)
 
 abbrev pub may_all_stand : List (List ℕ) → Bool
 may_all_stand names = list_all may_stand names
@@ -90,4 +93,4 @@ is_built t = may_all_stand (names_in t)
 
 -- the same, name by name
 abbrev pub NamesBuilt : Tree → Type 0
-NamesBuilt t = All (λ name. IsHostCommand name → name ≡ built_name) (names_in t)
+NamesBuilt t = All (λ name. IsHostCommand name → Contains built_names name) (names_in t)

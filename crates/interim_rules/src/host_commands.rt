@@ -1,7 +1,8 @@
 // The host commands that a tree names.
 
 ghost use Rattle.std.specs.Prelude.{◌≡◌, ◌↔◌, IsTrue};
-ghost use Rattle.interim_rules.specs.HostCommands.{NamesBuilt, is_built, is_host_name};
+ghost use Rattle.interim_rules.specs.HostCommands.{NamesBuilt, is_built, is_built_name};
+ghost use Rattle.interim_rules.specs.HostCommands.{is_host_name};
 ghost use Rattle.interim_rules.specs.HostCommands.{names_in_all, names_in_operands, names_in_values};
 ghost use Rattle.interim_rules.specs.HostCommands.{literal, may_all_stand, may_stand, name_of};
 ghost use Rattle.interim_rules.specs.HostCommands.{only_text, plain_text};
@@ -19,12 +20,19 @@ fn is_host_name(name: &[u8]) -> bool
     is_host_command(name)
 }
 
+// Whether it is the name of a host command that can be run.
+fn is_built_name(name: &[u8]) -> bool
+    ensures { result ≡ is_built_name name.now }
+{
+    name == b"log".as_slice() || name == b"class".as_slice() || name == b"TCP::respond".as_slice()
+}
+
 // Whether the name of a command may stand in a rule: it is no host command's, or that of one that
 // can be run.
 fn may_stand(name: &[u8]) -> bool
     ensures { result ≡ may_stand name.now }
 {
-    name == b"TCP::respond".as_slice() || !is_host_name(name)
+    is_built_name(name) || !is_host_name(name)
 }
 
 // The same of a part of a word; any that isn't plain may stand.

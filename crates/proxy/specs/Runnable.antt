@@ -1,7 +1,7 @@
 -- Which of the configurations that load can be run today, and what the core runs for them: one
 -- virtual server without HTTP, pool and persistence, with one rule, which has one body of
 -- CLIENT_ACCEPTED, none of another event and no procedures, and names no command of the host but
--- `TCP::respond`.
+-- `log`, `class` and `TCP::respond`.
 use Rattle.std.specs.Prelude.{◌≡◌, ℕ, List, [], ◌∷◌, length, map, Bool, true, false, not, ◌&&◌}
 use Rattle.std.specs.Prelude.{◌==◌, Option, Some, None, option_and_then, option_map, is_none}
 use Rattle.std.specs.Prelude.{if◌then◌else◌}
@@ -22,6 +22,7 @@ use Rattle.event_order.specs.declared.event.EventName.TheVariants.{LbFailed, Htt
 use Rattle.event_order.specs.declared.event.EventName.TheVariants.{HttpRequestData, HttpResponse}
 use Rattle.event_order.specs.declared.event.EventName.TheVariants.{HttpResponseData}
 use Rattle.interim_rules.specs.HostCommands.{is_built}
+use Rattle.irule_net.specs.declared.groups.Groups.{Groups}
 use Rattle.proxy_core.specs.declared.config.Config as core
 use Rattle.px_bytes.specs.declared.addr.Addr.{Addr}
 use Rattle.rule_loader.specs.Handlers.{Handled, handler_view, handlers_at}
@@ -30,6 +31,7 @@ use Rattle.tcl_compile.specs.Procedures.{procs_view}
 use Rattle.tcl_compile.specs.Tree.{Tree}
 use Rattle.tcl_compile.specs.TreeView.{node_view}
 use Rattle.tcl_compile.specs.declared.node.Node.{Node}
+use Rattle.proxy.specs.Groups.{made_groups}
 
 -- the item of a list that has just one
 abbrev pub only : {A : Type 0} → List A → Option A
@@ -100,15 +102,17 @@ serves v rule = is_plain v && names_only rule (only v.rules)
 pub record Run : Type 0 where
   pub budget : ℕ
   pub connections : ℕ
+  pub groups : Groups
   pub name : List ℕ
   pub listen : Addr
   pub rule : List ℕ
   pub body : Tree
 
-abbrev pub run_with : Settings → Virtual → List ℕ → Tree → Run
-run_with settings v rule body = record {
+abbrev pub run_with : Settings → Virtual → List ℕ → Tree → Groups → Run
+run_with settings v rule body groups = record {
   budget = settings.budget;
   connections = settings.connections;
+  groups = groups;
   name = v.name;
   listen = v.listen;
   rule = rule;
@@ -117,7 +121,10 @@ run_with settings v rule body = record {
 
 abbrev pub run_for : Settings → Option Virtual → Option Seen → Option Run
 run_for settings (Some v) (Some r) =
-    if serves v r.name then option_map (run_with settings v r.name) (body_of r) else None
+    if serves v r.name
+    then option_and_then (λ body. option_map (run_with settings v r.name body)
+    (made_groups settings)) (body_of r)
+    else None
 run_for settings (Some v) None = None
 run_for settings None r = None
 
@@ -130,6 +137,7 @@ abbrev pub core_of : Run → Node → core.Config
 core_of r body = record {
   budget = r.budget;
   connections = r.connections;
+  groups = r.groups;
   virtuals = record {
     name = r.name;
     listen = r.listen;

@@ -1,6 +1,6 @@
 -- The lines of a schedule whose events the core of today takes: `accept C NAME A.B.C.D P`,
 -- `client-took C N` and `run`.
-use Rattle.std.specs.Prelude.{◌≡◌, ℕ, ◌<◌, List}
+use Rattle.std.specs.Prelude.{ℕ, ◌<◌, List}
 use Rattle.proxy_core.specs.declared.event.Event.{Event}
 use Rattle.proxy_core.specs.declared.event.Event.TheVariants.{Accept, ClientTook, Run}
 use Rattle.journal_text.specs.Line.{SpellsEvent as Spells}

@@ -4,6 +4,7 @@
 mod command;
 mod end;
 mod finish;
+mod groups;
 mod lines;
 mod offline;
 mod replay;

@@ -9,9 +9,11 @@ ghost use Rattle.proxy.specs.Runnable.{is_plain, keeps_none, names_only, only, o
 ghost use Rattle.proxy.specs.Runnable.{run_with, seen, serves};
 ghost use Rattle.event_order.specs.declared.event.EventName.TheVariants.{ClientAccepted as Accepted};
 
+use crate::groups::core_groups;
 use config::{Config as Loaded, LoadedRule, Persist, Settings, Virtual};
 use event_order::EventName;
 use interim_rules::{copy_tree, is_built};
+use irule_net::Groups;
 use proxy_core::{Config, Rule as CoreRule, Virtual as CoreVirtual};
 use px_bytes::{M, Seq, Text};
 use rule_loader::{Handler, Rule};
@@ -146,10 +148,11 @@ fn core_of(
     settings: &Settings,
     server: &Virtual,
     rule: &Text,
+    groups: Groups,
     body: Node,
 ) -> M<Config>
     ensures { IfOk result (λ K. K ≡ core_of
-        (run_with settings.now server.now rule.now (node_view body)) body) }
+        (run_with settings.now server.now rule.now (node_view body) groups) body) }
 {
     let mut rules = Seq::new(alloc);
     rules.push(CoreRule {
@@ -166,6 +169,7 @@ fn core_of(
     Ok(Config {
         budget: settings.budget,
         connections: settings.connections,
+        groups,
         virtuals,
     })
 }
@@ -187,6 +191,10 @@ pub fn core_config(alloc: Global, loaded: &Loaded) -> M<Option<Config>>
     let Some(body) = body_of(rule) else {
         return Ok(None);
     };
+    let Some(groups) = core_groups(alloc, &loaded.settings)? else {
+        return Ok(None);
+    };
     let body = copy_tree(alloc, body)?;
-    Ok(Some(core_of(alloc, &loaded.settings, server, &rule.rule.name, body)?))
+    let name = &rule.rule.name;
+    Ok(Some(core_of(alloc, &loaded.settings, server, name, groups, body)?))
 }

@@ -20,7 +20,7 @@ use Rattle.proxy_core.specs.Refusals.{live_at, virtual_place}
 use Rattle.proxy_core.specs.Represents.{around, ConnectionContinues, AgreesAt, AgreesBy, Represents}
 use Rattle.proxy_core.specs.Scheduler.{State, Seen, seen_after}
 use Rattle.proxy_core.specs.Serving.{Serves}
-use Rattle.proxy_core.specs.Setup.{statics_of, setup_of, stand_of, rules_in, handlers_in, setup_in}
+use Rattle.proxy_core.specs.Setup.{statics_of, setup_of, stand_of, rules_in, handlers_in, setup_in, port_in}
 use Rattle.proxy_core.specs.declared.config.Config.{Config}
 use Rattle.proxy_core.specs.declared.core_state.Core.{Core}
 use Rattle.proxy_core.specs.declared.live.Live.{Live}
@@ -117,18 +117,21 @@ serves_still C old new g g' same e k =
 
 serves_named : (C : Config) (vs : List ℕ) (from : Addr) (place : ℕ) → virtual_place C vs ≡ Some place → Serves C (statics_of C) place (setup_in C (Some (record { virtual = vs; from = from })))
 serves_named C vs from place e = record {
+  port = ap (λ o. port_in (option_and_then (λ p. slice_get C.virtuals p) o)) e;
+  pool = refl;
+  http = refl;
   budget = refl;
   statics = refl;
-  target = refl;
+  groups = refl;
   handlers = λ x. ap (λ o. handlers_in (rules_in (option_and_then (λ p. slice_get C.virtuals p) o)) x) e;
 }
 
-begun : (C : Config) (c place : ℕ) (vs : List ℕ) (from : Addr) (conn : Option Conn) (group : List Note) → virtual_place C vs ≡ Some place → code.BeginsAt (statics_of C) C c place conn group
+begun : (C : Config) (c place : ℕ) (vs : List ℕ) (from : Addr) (conn : Option Conn) (group : List Note) → virtual_place C vs ≡ Some place → code.BeginsAt (statics_of C) C c place from conn group
     → (group ≡ first_notes c (not (is_some conn))) × ConnectionContinues C (fresh c (record { virtual = vs; from = from }) (not (is_some conn))) conn
 begun C c place vs from None group e b = (b, record { failed = refl; no_items = refl })
 begun C c place vs from (Some conn) group e b =
     let g = setup_in C (Some (record { virtual = vs; from = from })) in
-    (b.2, record { not_failed = refl; holds = b.0.2 g (serves_code C (statics_of C) place b.0.0 g b.0.1 (serves_named C vs from place e)); queue = b.1 })
+    (b.2, record { not_failed = refl; holds = b.0.2 g (serves_code C (statics_of C) place b.0.0 g b.0.1 (serves_named C vs from place e)) refl; queue = b.1 })
 
 accept_moves : (c : ℕ) (failed : Bool) (group : List Note) → group ≡ first_notes c failed → (group ≡ []) ⊎ (group ≡ Finish c Memory ∷ [])
 accept_moves c true group e = inr e
@@ -147,8 +150,8 @@ accepts C past s old new c vs from group r h k =
     let l : Live = record { number = c; vs = k.place; from = from; conn = k.conn } in
     let next : State = record s { ring = s.ring ++ c ∷ [] } in
     let place_is : virtual_place C vs ≡ Some k.place = ap (λ D. virtual_place D vs) (sym r.agrees.config) ∙ k.virtual in
-    let D : Config → Type 0 = λ x. code.BeginsAt (statics_of C) x c k.place k.conn group in
-    let L : Level → Type 0 = λ x. code.BeginsAt x old.config c k.place k.conn group in
+    let D : Config → Type 0 = λ x. code.BeginsAt (statics_of C) x c k.place from k.conn group in
+    let L : Level → Type 0 = λ x. code.BeginsAt x old.config c k.place from k.conn group in
     let b = begun C c k.place vs from k.conn group place_is (subst D r.agrees.config (subst L r.agrees.statics k.begins)) in
     let moves : MovesBy C past v group s next = record { notes = accept_moves c failed group b.0; state = refl } in
     let absent : is_in (numbers old.live.items) c ≡ false = ap (λ y. is_in y.live c) r.agrees.shared ∙ ap (λ z. z.live) u in

@@ -11,14 +11,18 @@ use Rattle.rule_model.specs.Laws.{state_after}
 use Rattle.event_order.specs.declared.event.EventName.{EventName}
 use Rattle.connection_model.specs.Bodies.{act_item, run_body, ended_next, act_next}
 use Rattle.connection_model.specs.Gates.{Counts, TakenCounts, to_take, may_give}
-use Rattle.connection_model.specs.Host.{HostState, Asks, NotAsked, Stated}
+use Rattle.irule_net.specs.declared.state.Asks.{Asks}
+use Rattle.irule_net.specs.declared.state.Asks.TheVariants.{NotAsked, Stated}
+use Rattle.irule_net.specs.declared.state.Target.{Target}
+use Rattle.irule_net.specs.declared.state.Target.TheVariants.{Default, PoolOf, MemberOf, NodeAt}
+use Rattle.connection_model.specs.Host.{HostState, with_selected}
 use Rattle.connection_model.specs.Item.{BeforeBodies, Item, Opened, Logged, Ran, Rejected}
 use Rattle.connection_model.specs.Phases.{Orderly, OrderlyIn}
 use Rattle.connection_model.specs.Relay.{RelayAct, BothDone, Passing, Firing, Resting, incoming, relay_act, behind_fires, collect_act}
 use Rattle.connection_model.specs.Selected.{addr_of}
-use Rattle.connection_model.specs.Setup.{Handler, Target, NoTarget, NodeAt, PoolOf, Setup}
+use Rattle.connection_model.specs.Setup.{Handler, Setup}
 use Rattle.connection_model.specs.State.{Gated, Running, Failing, Fate, Stream, ForBytes, stream_of, Phase, Carrying, InEvent, Choosing, Selecting, Connecting, Answering, Releasing, Relaying, Collecting, Finishing, Draining, TraceState, Next, Does, Waits, Over, link_of}
-use Rattle.connection_model.specs.Trace.{finish, choosing_next, selected_next, selecting_next, answering_next, relay_next, collect_next, collecting_next, unit_next, carrying_next, phase_next, counted, next_item, GivesNoMore}
+use Rattle.connection_model.specs.Trace.{finish, choosing_next, default_next, selected_next, selecting_next, answering_next, relay_next, collect_next, collecting_next, unit_next, carrying_next, phase_next, counted, next_item, GivesNoMore}
 use Rattle.connection_model.proofs.Longer.{plain_next}
 use Rattle.connection_model.proofs.Taking.{taken_all_opens}
 
@@ -67,9 +71,14 @@ act_goes g e b bs n l None (Ends code st) = tt
 act_goes g e b bs n l None (Stops path call st) = tt
 
 choosing_goes : (g : Setup) (l : TraceState) (h : HostState) (t : Target) → NotOver (choosing_next g l h t)
-choosing_goes g l h NoTarget = tt
-choosing_goes g l h (NodeAt a) = tt
+choosing_goes g l h Default = by_pool h.net.pool
+  where
+    by_pool : (pool : List ℕ) → NotOver (default_next g l h pool)
+    by_pool [] = tt
+    by_pool (b ∷ bs) = tt
 choosing_goes g l h (PoolOf pool) = tt
+choosing_goes g l h (MemberOf pool a) = tt
+choosing_goes g l h (NodeAt a) = tt
 
 selecting_goes : (g : Setup) (call : List (List ℕ)) (l : TraceState) (rs : List Reply) → NotOver (selecting_next g call l rs)
 selecting_goes g call l [] = tt
@@ -123,13 +132,13 @@ over_finished g (InEvent e (Gated b bs)) l o k = absurd (not_over (phase_next g 
 over_finished g (InEvent e (Running b bs n)) l o k = absurd (not_over (phase_next g (InEvent e (Running b bs n)) l) l.sent (act_goes g e b bs n l (slice_get (state_after (run_body g b l)).acts n) (run_body g b l)) k)
 over_finished g (InEvent e (Failing kind line bs)) l o k = absurd (not_over (phase_next g (InEvent e (Failing kind line bs)) l) l.sent tt k)
 over_finished g (Carrying fate side left) l o k = absurd (not_over (phase_next g (Carrying fate side left) l) l.sent (carrying_goes g l fate side left (stream_of side l)) k)
-over_finished g Choosing l o k = absurd (not_over (phase_next g Choosing l) l.sent (choosing_goes g l (record l.host { selected = None }) l.host.target) k)
+over_finished g Choosing l o k = absurd (not_over (phase_next g Choosing l) l.sent (choosing_goes g l (with_selected None l.host) l.host.net.target) k)
 over_finished g (Selecting call) l o k = absurd (not_over (phase_next g (Selecting call) l) l.sent (selecting_goes g call l l.answers.replies) k)
 over_finished g (Connecting a) l o k = absurd (not_over (phase_next g (Connecting a) l) l.sent tt k)
 over_finished g (Answering a) l o k = absurd (not_over (phase_next g (Answering a) l) l.sent (answering_goes g l l.answers.connects) k)
 over_finished g Releasing l o k = absurd (not_over (phase_next g Releasing l) l.sent tt k)
 over_finished g Relaying l o k = absurd (not_over (phase_next g Relaying l) l.sent (relay_goes g l (relay_act (incoming Client l) (incoming Server l) l.answers.choices)) k)
-over_finished g Collecting l o k = absurd (not_over (phase_next g Collecting l) l.sent (collecting_goes g l l.host.client.asks) k)
+over_finished g Collecting l o k = absurd (not_over (phase_next g Collecting l) l.sent (collecting_goes g l l.host.net.client.asks) k)
 over_finished g (Finishing r) l o k = absurd (not_over (phase_next g (Finishing r) l) l.sent tt k)
 over_finished g Draining l o k = o
 

@@ -29,8 +29,11 @@ handlers_same s rules a f c event.HttpResponseData = refl
 
 pub serves_code : (C : Config) (level : Level) (vs : ℕ) (s : code.Setup) (g : Setup) → IsSetup C level vs s → Serves C level vs g → conn.Serves s g
 serves_code C level vs s g i k = record {
+  port = k.port ∙ sym i.port;
+  pool = k.pool;
+  http = k.http;
   budget = k.budget ∙ sym i.budget;
   statics = k.statics ∙ sym i.statics;
-  target = k.target;
+  groups = k.groups ∙ sym i.groups;
   handlers = λ e. k.handlers e ∙ handlers_same s (rules_of C vs) i.accepted i.failed i.closed e;
 }

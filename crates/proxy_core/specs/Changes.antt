@@ -28,11 +28,11 @@ pub record KeepsConfig (old new : Core) : Type 0 where
   pub statics : new.statics ≡ old.statics
 
 -- the connection begins; where no memory was found for it, it has finished with that cause
-abbrev pub BeginsAt : Level → Config → ℕ → ℕ → Option Conn → List Note → Type 0
-BeginsAt statics C number place (Some conn) group =
-    ((s : Setup) × IsSetup C statics place s × Begins s conn)
+abbrev pub BeginsAt : Level → Config → ℕ → ℕ → Addr → Option Conn → List Note → Type 0
+BeginsAt statics C number place from (Some conn) group =
+    ((s : Setup) × IsSetup C statics place s × Begins s from conn)
     × (queue_of conn ≡ []) × (group ≡ [])
-BeginsAt statics C number place None group = group ≡ Finish number Memory ∷ []
+BeginsAt statics C number place from None group = group ≡ Finish number Memory ∷ []
 
 -- an accepted connection goes to the back of the ring
 pub record Accepts (old new : Core) (number : ℕ) (vs : List ℕ) (from : Addr)
@@ -42,7 +42,7 @@ pub record Accepts (old new : Core) (number : ℕ) (vs : List ℕ) (from : Addr)
   pub place : ℕ
   pub virtual : virtual_place old.config vs ≡ Some place
   pub conn : Option Conn
-  pub begins : BeginsAt old.statics.statics old.config number place conn group
+  pub begins : BeginsAt old.statics.statics old.config number place from conn group
   pub live : new.live.items ≡ old.live.items
       ++ record { number = number; vs = place; from = from; conn = conn } ∷ []
   pub ring : new.live.ring ≡ old.live.ring ++ number ∷ []

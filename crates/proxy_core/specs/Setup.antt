@@ -9,7 +9,7 @@ use Rattle.event_order.specs.declared.event.EventName.TheVariants.{ClientAccepte
 use Rattle.connection_model.specs.declared.note.Note.{Note}
 use Rattle.connection_model.specs.Heard.{Accepted, Heard, start_of}
 use Rattle.connection_model.specs.Item.{Item}
-use Rattle.connection_model.specs.Setup.{Handler, NoTarget, Setup}
+use Rattle.connection_model.specs.Setup.{Handler, Setup}
 use Rattle.connection_model.specs.State.{TraceState}
 use Rattle.connection_model.specs.Trace.{behind}
 use Rattle.conn.specs.Setups.{handler_of}
@@ -26,15 +26,22 @@ rules_in (Some v) = v.rules
 abbrev pub rules_of : Config → ℕ → List code.Handler
 rules_of C place = rules_in (slice_get C.virtuals place)
 
+-- its port
+abbrev pub port_in : Option Virtual → ℕ
+port_in None = 0
+port_in (Some v) = v.listen.port
+
+abbrev pub port_of : Config → ℕ → ℕ
+port_of C place = port_in (slice_get C.virtuals place)
+
 -- the bodies of an event, in order: today's rules have one for CLIENT_ACCEPTED
 abbrev pub handlers_in : List code.Handler → EventName → List Handler
 handlers_in rules ClientAccepted = map handler_of rules
 handlers_in rules event = []
 
--- the rules of the virtual server of a name
-abbrev pub rules_named : Config → List ℕ → List code.Handler
-rules_named C name =
-    rules_in (option_and_then (λ place. slice_get C.virtuals place) (virtual_place C name))
+-- the virtual server of a name
+abbrev pub virtual_named : Config → List ℕ → Option Virtual
+virtual_named C name = option_and_then (λ place. slice_get C.virtuals place) (virtual_place C name)
 
 -- What the rules' RULE_INIT leave in the static variables, and the notes of it: today's rules have
 -- none.
@@ -44,16 +51,19 @@ statics_of C = no_scopes.statics
 abbrev pub init_notes : Config → List Note
 init_notes C = []
 
--- the setup of a connection that the virtual server of this name accepts from an address
+-- the setup of a connection that the virtual server of this name accepts from an address; those of
+-- today have no pool and no HTTP
 abbrev pub setup_for : Config → List ℕ → Addr → Setup
 setup_for C name from = record {
   name = name;
+  port = port_in (virtual_named C name);
+  pool = [];
+  http = false;
   from = from;
   budget = C.budget;
   statics = statics_of C;
-  target = NoTarget;
-  http = false;
-  handlers = handlers_in (rules_named C name);
+  groups = C.groups;
+  handlers = handlers_in (rules_in (virtual_named C name));
 }
 
 abbrev pub setup_in : Config → Option Accepted → Setup

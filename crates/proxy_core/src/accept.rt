@@ -46,7 +46,7 @@ impl Core {
             return Err(BadEvent::Full);
         }
         let setup = setup_at(&self.config, &self.statics, place);
-        let conn = Some(Conn::new(self.alloc, &setup));
+        let conn = Some(Conn::new(self.alloc, &setup, from));
         self.last = number;
         let live = Live {
             number,

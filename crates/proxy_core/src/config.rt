@@ -1,6 +1,7 @@
 // What a proxy serves.
 
 use conn::Handler;
+use irule_net::Groups;
 use px_bytes::{Addr, Seq, Text};
 
 /// A virtual server, with the bodies that its rules run at CLIENT_ACCEPTED, in order.
@@ -18,5 +19,7 @@ pub struct Config {
     pub budget: u32,
     /// How many connections may be live at once.
     pub connections: u32,
+    /// The data groups and pools that rules name.
+    pub groups: Groups,
     pub virtuals: Seq<Virtual>,
 }

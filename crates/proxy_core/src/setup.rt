@@ -2,7 +2,7 @@
 
 ghost use Rattle.std.specs.Prelude.{◌≡◌};
 ghost use Rattle.proxy_core.specs.Serving.{IsSetup};
-ghost use Rattle.proxy_core.specs.Setup.{rules_of};
+ghost use Rattle.proxy_core.specs.Setup.{port_of, rules_of};
 
 use crate::config::Config;
 use conn::{Handler, Setup};
@@ -14,11 +14,22 @@ pub fn setup_at<'a>(config: &'a Config, statics: &'a Vars, place: usize) -> Setu
     ensures { IsSetup config.now statics.now.statics place result }
 {
     Setup {
+        port: port_at(config, place),
         budget: config.budget,
         statics,
+        groups: &config.groups,
         accepted: rules_at(config, place),
         failed: &[],
         closed: &[],
+    }
+}
+
+fn port_at(config: &Config, place: usize) -> u16
+    ensures { result ≡ port_of config.now place }
+{
+    match config.virtuals.get(place) {
+        Some(server) => server.listen.port,
+        None => 0,
     }
 }
 

@@ -4,7 +4,7 @@ use Rattle.journal_text.specs.declared.line_kind.LineKind.{LineKind}
 use Rattle.journal_text.specs.declared.line_kind.LineKind.TheVariants as kind
 use Rattle.journal_text.proofs.FaultSpellsNone.{fault_spells_none}
 use Rattle.journal_text.proofs.OneEvent as lines
-use Rattle.proxy.specs.Schedule.{SpellsEvent, as_lined, line_fault}
+use Rattle.proxy.specs.Schedule.{as_lined, line_fault}
 use Rattle.proxy.specs.declared.schedule.LineFault.TheVariants as fault
 use Rattle.proxy.proofs.OneEvent.{one_event}
 use Rattle.proxy.proofs.schedule.line_event.Goals as goal

@@ -1,0 +1,80 @@
+// The data groups and pools that rules name.
+
+ghost use Rattle.std.specs.Prelude.{◌≡◌, IfOk, map};
+ghost use Rattle.proxy.specs.Groups.{made_class, made_classes, made_groups, members_of};
+
+use config::{NamedGroup as LoadedGroup, NamedPool, Settings};
+use data_groups::{Group, GroupFault, GroupRows};
+use irule_net::{Groups, NamedGroup, PoolMembers};
+use pools::Member;
+use px_bytes::{Addr, M, Memory, Seq, Text};
+use std::alloc::Global;
+
+/// The data groups and pools of a configuration, if each key is of its group's kind.
+pub fn core_groups(alloc: Global, settings: &Settings) -> M<Option<Groups>>
+    ensures { IfOk result (λ groups. groups ≡ made_groups settings.now) }
+{
+    let Some(classes) = classes_of(alloc, settings.groups.as_slice())? else {
+        return Ok(None);
+    };
+    let pools = pools_of(alloc, settings.pools.as_slice())?;
+    Ok(Some(Groups { classes, pools }))
+}
+
+fn classes_of(alloc: Global, groups: &[LoadedGroup]) -> M<Option<Seq<NamedGroup>>>
+    ensures { IfOk result (λ classes. classes ≡ made_classes groups.now) }
+{
+    let mut classes = Seq::new(alloc);
+    for group in groups {
+        let Some(class) = class_of(alloc, group)? else {
+            return Ok(None);
+        };
+        classes.push(class)?;
+    }
+    Ok(Some(classes))
+}
+
+fn class_of(alloc: Global, named: &LoadedGroup) -> M<Option<NamedGroup>>
+    ensures { IfOk result (λ class. class ≡ made_class named.now) }
+{
+    let name = named.name.copy()?;
+    let rows = copied(alloc, named.rows.as_slice())?;
+    match Group::new(alloc, named.kind, rows) {
+        Ok(group) => Ok(Some(NamedGroup { name, group })),
+        Err(GroupFault::BadKey(_)) => Ok(None),
+        Err(GroupFault::Memory) => Err(Memory),
+    }
+}
+
+fn copied(alloc: Global, rows: &[(Text, Text)]) -> M<GroupRows>
+    ensures { IfOk result (λ copy. copy ≡ rows.now) }
+{
+    let mut copy = Seq::new(alloc);
+    for row in rows {
+        copy.push((row.0.copy()?, row.1.copy()?))?;
+    }
+    Ok(copy)
+}
+
+fn pools_of(alloc: Global, pools: &[NamedPool]) -> M<Seq<PoolMembers>>
+    ensures { IfOk result (λ made. made ≡ map members_of pools.now) }
+{
+    let mut made = Seq::new(alloc);
+    for pool in pools {
+        made.push(PoolMembers {
+            name: pool.name.copy()?,
+            members: addresses(alloc, pool.members.as_slice())?,
+        })?;
+    }
+    Ok(made)
+}
+
+fn addresses(alloc: Global, members: &[Member]) -> M<Seq<Addr>>
+    ensures { IfOk result (λ made. made ≡ map (λ m. m.addr) members.now) }
+{
+    let mut made = Seq::new(alloc);
+    for member in members {
+        made.push(member.addr)?;
+    }
+    Ok(made)
+}
