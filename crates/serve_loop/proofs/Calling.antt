@@ -1,0 +1,219 @@
+-- Calls, and what became of their answers.
+use Rattle.std.proofs.Common.{◌≡◌, ℕ, ◌<◌, ◌≤◌, List, [], ◌∷◌, ◌++◌, length, take, Bool, true, false, Option, Some, None, refl, sym, subst, inl, inr, arith}
+use Rattle.std.specs.Prelude.{if◌then◌else◌, ◌==◌}
+use Rattle.std.proofs.lemmas.List.{append-nil}
+use Rattle.std.proofs.lemmas.Grind.{common_steps}
+use Rattle.px_bytes.specs.declared.addr.Side.{Side}
+use Rattle.px_outside.specs.declared.answers.ReadyAt.{ReadyAt}
+use Rattle.px_outside.specs.declared.answers.ReadAnswer.{ReadAnswer}
+use Rattle.px_outside.specs.declared.answers.ReadAnswer.TheVariants as read
+use Rattle.px_outside.specs.declared.answers.WriteAnswer.{WriteAnswer}
+use Rattle.px_outside.specs.declared.answers.WriteAnswer.TheVariants as write
+use Rattle.px_outside.specs.Net.{Call, Chain, Write, got, ReadsWithin, WritesWithin}
+use Rattle.journal_text.specs.declared.event.Event.{Event}
+use Rattle.served_links.specs.declared.links.Links.{Links}
+use Rattle.served_links.specs.Links.{link_in}
+use Rattle.serve_loop.specs.declared.asked.Asked.TheVariants as is
+use Rattle.serve_loop.specs.declared.serving.Serving.{Serving}
+use Rattle.serve_loop.specs.Carrying.{Known}
+use Rattle.serve_loop.specs.Events.{Tells, read_event, write_event, group_text}
+use Rattle.serve_loop.specs.Face.{Face, MayCome, MayTake}
+use Rattle.serve_loop.specs.Walk.{Around, Given, Step, Asked as Asks, Own, MayCall, AfterCall, Calls}
+use Rattle.serve_loop.specs.Part.{stand, Part, IsGiven}
+use Rattle.serve_loop.specs.Asking.{IsOn, takes_back, OneCall, IsUnknown, AskedOnce}
+use Rattle.serve_loop.specs.Writing.{NothingToWrite, WroteOnce, asked_of}
+use Rattle.serve_loop.specs.Running.{OwnStep}
+use Rattle.serve_loop.proofs.Chains.{chain_append}
+use Rattle.serve_loop.proofs.Compose.{part_less, part_at, part_nothing, tells_nothing}
+
+-- a call, and what became of its answer
+pub record CallStep {C : Type 0} (face : Face C) (conns : ℕ) (call : Call) (a : Around C) (steps : List Step) (b : Around C) : Type 0 where
+  pub given : Option Given
+  pub steps_are : steps ≡ Asks call given ∷ []
+  pub calls : Calls face conns a call given b
+
+-- a call whose answer becomes no event
+pub call_quiet : {C S : Type 0} {face : Face C} {did : S → Call → S → Type 0} {gave : S → ℕ → Type 0} {conns : ℕ}
+    (x : Serving C) (n m : S) (call : Call) → did n call m → ((l : ℕ) → gave n l → gave m l)
+    → MayCall face conns (stand x) call None → AfterCall face (stand x) call x.links
+    → Part face did gave (CallStep face conns call) x x n m
+call_quiet x n m call d lasts may after = record {
+  from = λ s. record {
+    steps = Asks call None ∷ [];
+    chain = (m, d, refl);
+    leads = record {
+      given = None;
+      steps_are = refl;
+      calls = record { event = None; may = may; links = x.links; after = after; becomes = refl };
+    };
+    ready = record { stands = s.stands; known = λ l r e. lasts l (s.known l r e) };
+    told = tells_nothing x.journal;
+    conns = refl;
+  };
+}
+
+-- a call whose answer is given to the core
+pub call_heard : {C S : Type 0} {face : Face C} {did : S → Call → S → Type 0} {gave : S → ℕ → Type 0} {conns : ℕ}
+    (x : Serving C) (t : Links) (y : Serving C) (n m k : S) (call : Call) (e : Event)
+    → did n call m → (Known (gave n) x.links → Known (gave m) t)
+    → MayCall face conns (stand x) call (Some e) → AfterCall face (stand x) call t → face.takes x.core e
+    → IsGiven face did gave e (record x { links = t }) y m k → Part face did gave (CallStep face conns call) x y n k
+call_heard {C} {S} {face} {did} x t y n m k call e d known may after takes given = record {
+  from = λ s.
+      let it = given.from (record { stands = s.stands; known = known s.known }) takes in record {
+        steps = Asks call (Some it.given) ∷ [];
+        chain = chain_append did (call ∷ it.given.calls) [] n k k (m, d, it.chain) refl;
+        leads = record {
+          given = Some it.given;
+          steps_are = refl;
+          calls = record { event = Some e; may = may; links = t; after = after; becomes = it.gives };
+        };
+        ready = it.ready;
+        told = subst (λ (l : List ℕ). Tells x.journal y.journal l)
+            (sym (append-nil (group_text it.given.event it.given.group))) it.told;
+        conns = it.conns;
+      };
+}
+
+one_call : {C : Type 0} (face : Face C) (conns : ℕ) (at : ReadyAt) (call : Call) → IsOn at call → (a : Around C) (steps : List Step) (b : Around C)
+    → CallStep face conns call a steps b → OneCall face conns at (takes_back call) a steps b
+one_call face conns at call on a steps b r =
+    record { call = call; given = r.given; steps_are = r.steps_are; on = on; over_is = refl; calls = r.calls }
+
+pub part_quiet : {C S : Type 0} {face : Face C} {did : S → Call → S → Type 0} {gave : S → ℕ → Type 0} {conns : ℕ}
+    (at : ReadyAt) (x : Serving C) (n m : S) (call : Call) → did n call m → ((l : ℕ) → gave n l → gave m l) → IsOn at call
+    → MayCall face conns (stand x) call None → AfterCall face (stand x) call x.links
+    → Part face did gave (OneCall face conns at (takes_back call)) x x n m
+part_quiet {face = face} {conns = conns} at x n m call d lasts on may after =
+    part_less (one_call face conns at call on) (call_quiet x n m call d lasts may after)
+
+pub part_heard : {C S : Type 0} {face : Face C} {did : S → Call → S → Type 0} {gave : S → ℕ → Type 0} {conns : ℕ}
+    (at : ReadyAt) (x : Serving C) (t : Links) (y : Serving C) (n m k : S) (call : Call) (e : Event)
+    → did n call m → (Known (gave n) x.links → Known (gave m) t) → IsOn at call
+    → MayCall face conns (stand x) call (Some e) → AfterCall face (stand x) call t → face.takes x.core e
+    → IsGiven face did gave e (record x { links = t }) y m k
+    → Part face did gave (OneCall face conns at (takes_back call)) x y n k
+part_heard {face = face} {conns = conns} at x t y n m k call e d known on may after takes given =
+    part_less (one_call face conns at call on) (call_heard x t y n m k call e d known may after takes given)
+
+pub part_again : {C S : Type 0} {face : Face C} {did : S → Call → S → Type 0} {gave : S → ℕ → Type 0} {conns : ℕ} {at : ReadyAt}
+    {x y : Serving C} {n m : S} → Part face did gave (OneCall face conns at false) x y n m
+    → Part face did gave (AskedOnce face conns at is.Again) x y n m
+part_again p = part_less (λ a steps b r. r) p
+
+pub part_over : {C S : Type 0} {face : Face C} {did : S → Call → S → Type 0} {gave : S → ℕ → Type 0} {conns : ℕ} {at : ReadyAt}
+    {x y : Serving C} {n m : S} → Part face did gave (OneCall face conns at true) x y n m
+    → Part face did gave (AskedOnce face conns at is.Over) x y n m
+part_over p = part_less (λ a steps b r. inl r) p
+
+pub part_unknown : {C S : Type 0} {face : Face C} {did : S → Call → S → Type 0} {gave : S → ℕ → Type 0} (conns : ℕ) (at : ReadyAt)
+    (x : Serving C) (n : S) → IsUnknown face (stand x) at → Part face did gave (AskedOnce face conns at is.Over) x x n n
+part_unknown conns at x n why =
+    part_nothing (AskedOnce _ conns at is.Over) x n (inr (record { none = refl; same = refl; because = why }))
+
+pub part_read : {C S : Type 0} {face : Face C} {did : S → Call → S → Type 0} {gave : S → ℕ → Type 0} {conns : ℕ} {at : ReadyAt}
+    {x y : Serving C} {n m : S} (b : Bool) → Part face did gave (OneCall face conns at b) x y n m
+    → Part face did gave (AskedOnce face conns at (if b then is.Over else is.Again)) x y n m
+part_read true p = part_over p
+part_read false p = part_again p
+
+take_within : (k n : ℕ) (bytes : List ℕ) → k ≤ n → length (take k bytes) ≤ n
+take_within k n bytes le = grind (arith, common_steps)
+
+some_same : (x y : Event) → Some x ≡ Some y → x ≡ y
+some_same x y e = cc
+
+within_both : (k n m : ℕ) → k ≤ n → n ≤ m → k ≤ m
+within_both k n m x y = omega arith
+
+-- the event of a read isn't refused
+pub takes_read : {takes : Event → Type 0} (c : ℕ) (side : Side) (wanted n : ℕ) (answer : ReadAnswer) (room : List ℕ) (e : Event)
+    → MayCome takes c side wanted → ReadsWithin n answer → n ≤ wanted → read_event c side answer (got answer room) ≡ Some e → takes e
+takes_read {takes} c side wanted n (read.Got k) room e may within le is =
+    subst takes (some_same _ e is) (may.bytes (take k room) (take_within k wanted room (within_both k n wanted within.1 le)))
+takes_read {takes} c side wanted n read.NotYet room e may within le is = cc
+takes_read {takes} c side wanted n read.End room e may within le is = subst takes (some_same _ e is) may.ended
+takes_read {takes} c side wanted n read.Reset room e may within le is = subst takes (some_same _ e is) may.reset
+
+pub got_whole : (answer : ReadAnswer) (n m : ℕ) (xs ys : List ℕ) → ReadsWithin n answer → n ≡ length xs → n ≤ m
+    → got answer xs ≡ got answer (take m (xs ++ ys))
+got_whole (read.Got k) n m xs ys within is le = grind (arith, common_steps)
+got_whole read.NotYet n m xs ys within is le = refl
+got_whole read.End n m xs ys within is le = refl
+got_whole read.Reset n m xs ys within is le = refl
+
+pub nothing_to_write : {C S : Type 0} {face : Face C} {did : S → Call → S → Type 0} {gave : S → ℕ → Type 0} (conns c : ℕ) (side : Side)
+    (x : Serving C) (n : S) → NothingToWrite face c side (stand x) → Part face did gave (WroteOnce face conns c side is.Over) x x n n
+nothing_to_write {face = face} conns c side x n why =
+    part_nothing (WroteOnce face conns c side is.Over) x n (inr (record { none = refl; same = refl; because = why }))
+
+wrote_one : {C : Type 0} (face : Face C) (conns c : ℕ) (side : Side) (link : ℕ) (bytes : List ℕ) (answer : WriteAnswer) (a : Around C)
+    (steps : List Step) (b : Around C) → link_in a.links c side ≡ Some link → face.queue a.core c side bytes
+    → CallStep face conns (Write link bytes answer) a steps b → WroteOnce face conns c side (asked_of answer) a steps b
+wrote_one face conns c side link bytes (write.Took k) a steps b linked queued r = record {
+  link = link;
+  bytes = bytes;
+  answer = write.Took k;
+  given = r.given;
+  steps_are = r.steps_are;
+  linked = linked;
+  queued = queued;
+  asked_is = refl;
+  calls = r.calls;
+}
+wrote_one face conns c side link bytes write.NotYet a steps b linked queued r = record {
+  link = link;
+  bytes = bytes;
+  answer = write.NotYet;
+  given = r.given;
+  steps_are = r.steps_are;
+  linked = linked;
+  queued = queued;
+  asked_is = refl;
+  calls = r.calls;
+}
+wrote_one face conns c side link bytes write.Reset a steps b linked queued r = inl (record {
+  link = link;
+  bytes = bytes;
+  answer = write.Reset;
+  given = r.given;
+  steps_are = r.steps_are;
+  linked = linked;
+  queued = queued;
+  asked_is = refl;
+  calls = r.calls;
+})
+
+pub part_wrote : {C S : Type 0} {face : Face C} {did : S → Call → S → Type 0} {gave : S → ℕ → Type 0} {conns : ℕ} (c : ℕ) (side : Side)
+    (link : ℕ) (bytes : List ℕ) (answer : WriteAnswer) {x y : Serving C} {n m : S} → link_in x.links c side ≡ Some link → face.queue x.core c side bytes
+    → Part face did gave (CallStep face conns (Write link bytes answer)) x y n m → Part face did gave (WroteOnce face conns c side (asked_of answer)) x y n m
+part_wrote {face = face} {conns = conns} c side link bytes answer {x} {y} linked queued p =
+    part_at (λ steps r. wrote_one face conns c side link bytes answer (stand x) steps (stand y) linked queued r) p
+
+pub takes_write : {takes : Event → Type 0} (c : ℕ) (side : Side) (len : ℕ) (answer : WriteAnswer) (e : Event)
+    → MayTake takes c side len → WritesWithin len answer → write_event c side answer ≡ Some e → takes e
+takes_write {takes} c side len (write.Took k) e may within is = subst takes (some_same _ e is) (may.took k within.1)
+takes_write {takes} c side len write.NotYet e may within is = cc
+takes_write {takes} c side len write.Reset e may within is = subst takes (some_same _ e is) may.broken
+
+-- an event of the loop's own
+pub part_own : {C S : Type 0} {face : Face C} {did : S → Call → S → Type 0} {gave : S → ℕ → Type 0} (e : Event) {x y : Serving C} {n m : S}
+    → (face.stands x.core → face.takes x.core e) → IsGiven face did gave e x y n m → Part face did gave (OwnStep face e) x y n m
+part_own {C} {S} {face} {did} e {x} {y} {n} {m} takes given = record {
+  from = λ s.
+      let it = given.from s (takes s.stands) in record {
+        steps = Own it.given ∷ [];
+        chain = subst (λ cs. Chain did n cs m) (sym (append-nil it.given.calls)) it.chain;
+        leads = record { given = it.given; steps_are = refl; gives = it.gives };
+        ready = it.ready;
+        told = subst (λ (l : List ℕ). Tells x.journal y.journal l)
+            (sym (append-nil (group_text it.given.event it.given.group))) it.told;
+        conns = it.conns;
+      };
+}
+
+pub is_nothing : (xs : List ℕ) → true ≡ (length xs == 0) → xs ≡ []
+is_nothing xs e = grind (arith, common_steps)
+
+pub is_some : (xs : List ℕ) → false ≡ (length xs == 0) → 0 < length xs
+is_some xs e = grind (arith, common_steps)

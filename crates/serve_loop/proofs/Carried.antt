@@ -1,0 +1,148 @@
+-- Calls that notes ask for.
+use Rattle.std.proofs.Common.{◌≡◌, ℕ, List, [], ◌∷◌, ◌++◌, drop, Bool, true, false, Option, Some, None, refl, ap, sym, ◌∙◌, subst, append_assoc, inl, inr}
+use Rattle.std.specs.Prelude.{nat_eq, if◌then◌else◌, Ok}
+use Rattle.std.proofs.lemmas.List.{append-nil}
+use Rattle.std.proofs.lemmas.Bool.Decides.{eqb_tells}
+use Rattle.px_bytes.specs.declared.addr.Addr.{Addr}
+use Rattle.px_bytes.specs.declared.addr.Side.{Side}
+use Rattle.px_bytes.specs.declared.addr.Side.TheVariants as side
+use Rattle.px_outside.specs.Net.{Call, Connect, Finish, Close}
+use Rattle.connection_model.specs.declared.note.Note.{Note}
+use Rattle.served_links.specs.declared.links.Links.{Links}
+use Rattle.served_links.specs.declared.row.Row.{Row}
+use Rattle.served_links.specs.Links.{owner_in, link_in, Opens, Closes}
+use Rattle.serve_loop.specs.declared.carry.Action.TheVariants as does
+use Rattle.serve_loop.specs.Carrying.{action, finish_calls, CloseLink, CarriesOne, Carries, Known, Carried}
+use Rattle.serve_loop.proofs.Chains.{chain_append}
+
+-- a link that was given is known with its owner
+known_with : (gave : ℕ → Type 0) (link l : ℕ) (b : Bool) (o : Option Row) (r : Row) (v : Option Row)
+    → nat_eq link l ≡ b → (b ≡ true → v ≡ Some r → gave l) → (o ≡ Some r → gave l)
+    → (if nat_eq link l then v else o) ≡ Some r → gave l
+known_with gave link l true o r v is here there e =
+    here refl (sym (ap (λ t. if t then v else o) is) ∙ e)
+known_with gave link l false o r v is here there e =
+    there (sym (ap (λ t. if t then v else o) is) ∙ e)
+
+not_both : (b : Bool) → b ≡ true → b ≡ false → ⊥
+not_both b x y = cc
+
+none_is_some : (r : Row) → None ≡ Some r → ⊥
+none_is_some r e = cc
+
+same_number : (link l : ℕ) → nat_eq link l ≡ true → link ≡ l
+same_number link l e = elim (eqb_tells link l) [ inl eq ↦ eq.1 | inr ne ↦ absurd (not_both (nat_eq link l) e ne.0) ]
+
+pub known_open : (gave gave' : ℕ → Type 0) (a b : Links) (link c : ℕ) (s : Side) → ((l : ℕ) → gave l → gave' l)
+    → gave' link → Opens a b link c s → Known gave a → Known gave' b
+known_open gave gave' a b link c s lasts now opens known l r e =
+    known_with gave' link l (nat_eq link l) (owner_in a l) r _ refl
+    (λ is _. subst gave' (same_number link l is) now) (λ o. lasts l (known l r o)) (sym (opens.owner l) ∙ e)
+
+pub known_close : (gave gave' : ℕ → Type 0) (a b : Links) (link c : ℕ) (s : Side) → ((l : ℕ) → gave l → gave' l)
+    → Closes a b link c s → Known gave a → Known gave' b
+known_close gave gave' a b link c s lasts closes known l r e =
+    known_with gave' link l (nat_eq link l) (owner_in a l) r None refl
+    (λ _ none. absurd (none_is_some r none)) (λ o. lasts l (known l r o)) (sym (closes.owner l) ∙ e)
+
+pub carried_nothing : {S : Type 0} {did : S → Call → S → Type 0} {gave : S → ℕ → Type 0} (a : Links) (n : S)
+    → Carried did gave (CarriesOne does.Nothing) a a n n
+carried_nothing a n = record { calls = []; chain = refl; carried = (refl, refl); lasts = λ l g. g; known = λ k. k }
+
+pub carried_connect : {S : Type 0} {did : S → Call → S → Type 0} {gave : S → ℕ → Type 0} (a b : Links) (n m : S)
+    (c link : ℕ) (to : Addr) → did n (Connect to (Ok link)) m → ((l : ℕ) → gave n l → gave m l) → gave m link
+    → Opens a b link c side.Server → Carried did gave (CarriesOne (does.Connects c to)) a b n m
+carried_connect {S} {did} {gave} a b n m c link to d lasts now opens = record {
+  calls = Connect to (Ok link) ∷ [];
+  chain = (m, d, refl);
+  carried = (link, refl, opens);
+  lasts = lasts;
+  known = known_open (gave n) (gave m) a b link c side.Server lasts now opens;
+}
+
+pub carried_finish : {S : Type 0} {did : S → Call → S → Type 0} {gave : S → ℕ → Type 0} (a : Links) (n m : S)
+    (c link : ℕ) (s : Side) → link_in a c s ≡ Some link → did n (Finish link) m → ((l : ℕ) → gave n l → gave m l)
+    → Carried did gave (CarriesOne (does.Finishes c s)) a a n m
+carried_finish a n m c link s is d lasts = record {
+  calls = Finish link ∷ [];
+  chain = (m, d, refl);
+  carried = (sym (ap finish_calls is), refl);
+  lasts = lasts;
+  known = λ k l r e. lasts l (k l r e);
+}
+
+pub carried_no_finish : {S : Type 0} {did : S → Call → S → Type 0} {gave : S → ℕ → Type 0} (a : Links) (n : S)
+    (c : ℕ) (s : Side) → link_in a c s ≡ None → Carried did gave (CarriesOne (does.Finishes c s)) a a n n
+carried_no_finish a n c s is = record {
+  calls = [];
+  chain = refl;
+  carried = (sym (ap finish_calls is), refl);
+  lasts = λ l g. g;
+  known = λ k. k;
+}
+
+pub carried_close : {S : Type 0} {did : S → Call → S → Type 0} {gave : S → ℕ → Type 0} (a b : Links) (n m : S)
+    (c link : ℕ) (s : Side) → link_in a c s ≡ Some link → did n (Close link) m → ((l : ℕ) → gave n l → gave m l)
+    → Closes a b link c s → Carried did gave (CarriesOne (does.Closes c s)) a b n m
+carried_close {S} {did} {gave} a b n m c link s is d lasts closes = record {
+  calls = Close link ∷ [];
+  chain = (m, d, refl);
+  carried = subst (λ o. CloseLink o c s a (Close link ∷ []) b) (sym is) (refl, closes);
+  lasts = lasts;
+  known = known_close (gave n) (gave m) a b link c s lasts closes;
+}
+
+pub carried_no_close : {S : Type 0} {did : S → Call → S → Type 0} {gave : S → ℕ → Type 0} (a : Links) (n : S)
+    (c : ℕ) (s : Side) → link_in a c s ≡ None → Carried did gave (CarriesOne (does.Closes c s)) a a n n
+carried_no_close a n c s is = record {
+  calls = [];
+  chain = refl;
+  carried = subst (λ o. CloseLink o c s a [] a) (sym is) (refl, refl);
+  lasts = λ l g. g;
+  known = λ k. k;
+}
+
+-- the first of the notes: what carries the rest from there on, carries all
+abbrev pub CarriesFirst : List Note → ℕ → Links → List Call → Links → Type 0
+CarriesFirst notes i a calls b =
+    (rest : List Call) (d : Links) → Carries (drop i notes) b rest d → Carries notes a (calls ++ rest) d
+
+pub carries_start : {S : Type 0} {did : S → Call → S → Type 0} {gave : S → ℕ → Type 0} (notes : List Note) (a : Links) (n : S)
+    → Carried did gave (CarriesFirst notes 0) a a n n
+carries_start notes a n = record {
+  calls = [];
+  chain = refl;
+  carried = λ rest d c. c;
+  lasts = λ l g. g;
+  known = λ k. k;
+}
+
+first_then : (notes : List Note) (i j : ℕ) (note : Note) → drop i notes ≡ note ∷ drop j notes → (a : Links) (xs : List Call)
+    (b : Links) (ys : List Call) (c : Links) → CarriesFirst notes i a xs b → CarriesOne (action note) b ys c
+    → CarriesFirst notes j a (xs ++ ys) c
+first_then notes i j note front a xs b ys c first one rest d it =
+    subst (λ (l : List Call). Carries notes a l d) (sym (append_assoc xs ys rest))
+    (first (ys ++ rest) d (subst (λ (l : List Note). Carries l b (ys ++ rest) d) (sym front) (c, ys, rest, refl, one, it)))
+
+pub carries_next : {S : Type 0} {did : S → Call → S → Type 0} {gave : S → ℕ → Type 0} (notes : List Note) (i j : ℕ) (note : Note)
+    (a b c : Links) (n m k : S) → drop i notes ≡ note ∷ drop j notes
+    → Carried did gave (CarriesFirst notes i) a b n m → Carried did gave (CarriesOne (action note)) b c m k
+    → Carried did gave (CarriesFirst notes j) a c n k
+carries_next {S} {did} {gave} notes i j note a b c n m k front p q = record {
+  calls = p.calls ++ q.calls;
+  chain = chain_append did p.calls q.calls n m k p.chain q.chain;
+  carried = first_then notes i j note front a p.calls b q.calls c p.carried q.carried;
+  lasts = λ l g. q.lasts l (p.lasts l g);
+  known = λ x. q.known (p.known x);
+}
+
+pub carries_all : {S : Type 0} {did : S → Call → S → Type 0} {gave : S → ℕ → Type 0} (notes : List Note) (i : ℕ) (a b : Links) (n m : S)
+    → drop i notes ≡ [] → Carried did gave (CarriesFirst notes i) a b n m → Carried did gave (Carries notes) a b n m
+carries_all {S} {did} {gave} notes i a b n m all p = record {
+  calls = p.calls;
+  chain = p.chain;
+  carried = subst (λ (l : List Call). Carries notes a l b) (append-nil p.calls)
+      (p.carried [] b (subst (λ (l : List Note). Carries l b [] b) (sym all) (refl, refl)));
+  lasts = p.lasts;
+  known = p.known;
+}

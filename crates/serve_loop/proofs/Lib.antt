@@ -1,0 +1,9 @@
+pub mod Chains
+pub mod Carried
+pub mod Compose
+pub mod Giving
+pub mod Calling
+pub mod Trying
+pub mod Anyone
+pub mod Listing
+pub mod Turning

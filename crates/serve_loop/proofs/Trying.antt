@@ -1,0 +1,131 @@
+-- Things that are tried until they give no more, and each of a list.
+use Rattle.std.proofs.Common.{◌≡◌, ℕ, zero, suc, ◌+◌, ◌≤◌, List, [], ◌∷◌, ◌++◌, drop, Bool, true, false, Some, refl, ap, sym, ◌∙◌, subst, append_assoc, inl, inr, add-one}
+use Rattle.std.specs.List.{slice_get}
+use Rattle.std.proofs.lemmas.List.{append-nil}
+use Rattle.px_outside.specs.Net.{Call, Chain}
+use Rattle.serve_loop.specs.declared.asked.Asked.{Asked}
+use Rattle.serve_loop.specs.declared.asked.Asked.TheVariants as is
+use Rattle.serve_loop.specs.declared.serving.Serving.{Serving}
+use Rattle.serve_loop.specs.Events.{Tells}
+use Rattle.serve_loop.specs.Face.{Face}
+use Rattle.serve_loop.specs.Often.{GaveOften, Tried, staying, Each}
+use Rattle.serve_loop.specs.Walk.{Around, Step, calls_in, Then}
+use Rattle.serve_loop.specs.Part.{stand, Part}
+use Rattle.serve_loop.proofs.Chains.{chain_append}
+use Rattle.serve_loop.proofs.Compose.{part_less, part_nothing, calls_append, text_append, tells_then}
+
+-- one part after another, where the second is said by how many connections may be accepted
+pub part_next : {C S : Type 0} {face : Face C} {did : S → Call → S → Type 0} {gave : S → ℕ → Type 0}
+    {R : Around C → List Step → Around C → Type 0} (Q : ℕ → Around C → List Step → Around C → Type 0) {x y z : Serving C} {n m k : S}
+    → Part face did gave R x y n m → Part face did gave (Q y.conns) y z m k → Part face did gave (Then R (Q x.conns)) x z n k
+part_next {C} {S} {face} {did} {gave} {R} Q {x} {y} {z} {n} {m} {k} p q = record {
+  from = λ s.
+      let one = p.from s in
+      let two = q.from one.ready in record {
+        steps = one.steps ++ two.steps;
+        chain = subst (λ cs. Chain did n cs k) (sym (calls_append one.steps two.steps))
+            (chain_append did (calls_in one.steps) (calls_in two.steps) n m k one.chain two.chain);
+        leads = (
+          stand y,
+          one.steps,
+          two.steps,
+          refl,
+          one.leads,
+          subst (λ t. Q t (stand y) two.steps (stand z)) one.conns two.leads,
+        );
+        ready = two.ready;
+        told = subst (λ t. Tells x.journal z.journal t) (sym (text_append one.steps two.steps))
+            (tells_then one.told two.told);
+        conns = two.conns ∙ one.conns;
+      };
+}
+
+pub often_none : {C S : Type 0} {face : Face C} {did : S → Call → S → Type 0} {gave : S → ℕ → Type 0}
+    (Once : Asked → Around C → List Step → Around C → Type 0) (x : Serving C) (n : S) → Part face did gave (GaveOften Once 0) x x n n
+often_none Once x n = part_nothing (GaveOften Once 0) x n (refl, refl)
+
+pub often_next : {C S : Type 0} {face : Face C} {did : S → Call → S → Type 0} {gave : S → ℕ → Type 0}
+    (Once : ℕ → Asked → Around C → List Step → Around C → Type 0) (often : ℕ) {x y z : Serving C} {n m k : S}
+    → Part face did gave (GaveOften (Once x.conns) often) x y n m → Part face did gave (Once y.conns is.Again) y z m k
+    → Part face did gave (GaveOften (Once x.conns) (often + 1)) x z n k
+often_next {face = face} {did = did} {gave = gave} Once often {x} {y} {z} {n} {m} {k} p q =
+    subst (λ t. Part face did gave (GaveOften (Once x.conns) t) x z n k) (sym (add-one often))
+    (part_less (λ a steps b r. r) (part_next (λ conns. Once conns is.Again) p q))
+
+pub tried_stays : {C S : Type 0} {face : Face C} {did : S → Call → S → Type 0} {gave : S → ℕ → Type 0}
+    (Once : ℕ → Asked → Around C → List Step → Around C → Type 0) (often times : ℕ) {x y z : Serving C} {n m k : S} → often ≤ times
+    → Part face did gave (GaveOften (Once x.conns) often) x y n m → Part face did gave (Once y.conns is.Stays) y z m k
+    → Part face did gave (Tried (Once x.conns) times true) x z n k
+tried_stays Once often times within p q =
+    part_less (λ a steps b r. record { often = often; within = within; tries = (r.0, r.1, r.2, r.3, r.4, inl r.5) })
+    (part_next (λ conns. Once conns is.Stays) p q)
+
+pub tried_over : {C S : Type 0} {face : Face C} {did : S → Call → S → Type 0} {gave : S → ℕ → Type 0}
+    (Once : ℕ → Asked → Around C → List Step → Around C → Type 0) (often times : ℕ) {x y z : Serving C} {n m k : S} → often ≤ times
+    → Part face did gave (GaveOften (Once x.conns) often) x y n m → Part face did gave (Once y.conns is.Over) y z m k
+    → Part face did gave (Tried (Once x.conns) times false) x z n k
+tried_over Once often times within p q =
+    part_less (λ a steps b r. record { often = often; within = within; tries = (r.0, r.1, r.2, r.3, r.4, r.5) })
+    (part_next (λ conns. Once conns is.Over) p q)
+
+pub tried_all : {C S : Type 0} {face : Face C} {did : S → Call → S → Type 0} {gave : S → ℕ → Type 0}
+    (Once : ℕ → Asked → Around C → List Step → Around C → Type 0) (often times : ℕ) {x y : Serving C} {n m : S} → often ≤ times → often ≡ times
+    → Part face did gave (GaveOften (Once x.conns) often) x y n m → Part face did gave (Tried (Once x.conns) times true) x y n m
+tried_all Once often times within all p =
+    part_less (λ a steps b r. record {
+      often = often;
+      within = within;
+      tries = (b, steps, [], sym (append-nil steps), r, inr (record { none = refl; same = refl; because = all }));
+    }) p
+
+-- the first of a list: who goes on with the rest from there, goes on with all
+abbrev pub EachFirst : {C : Type 0} → (ℕ → Bool → Around C → List Step → Around C → Type 0)
+    → List ℕ → ℕ → List ℕ → Around C → List Step → Around C → Type 0
+EachFirst {C} At order i stay a steps b = (more : List Step) (c : Around C) (rest : List ℕ)
+    → Each At (drop i order) rest b more c → Each At order (stay ++ rest) a (steps ++ more) c
+
+pub each_none : {C S : Type 0} {face : Face C} {did : S → Call → S → Type 0} {gave : S → ℕ → Type 0}
+    (At : ℕ → Bool → Around C → List Step → Around C → Type 0) (order : List ℕ) (x : Serving C) (n : S)
+    → Part face did gave (EachFirst At order 0 []) x x n n
+each_none At order x n = part_nothing (EachFirst At order 0 []) x n (λ more c rest e. e)
+
+each_then : {C : Type 0} (At : ℕ → Bool → Around C → List Step → Around C → Type 0) (order : List ℕ) (i j number : ℕ)
+    (stay : List ℕ) (stays : Bool) → drop i order ≡ number ∷ drop j order → (a : Around C) (steps : List Step) (b : Around C)
+    → Then (EachFirst At order i stay) (At number stays) a steps b → EachFirst At order j (stay ++ staying stays number) a steps b
+each_then At order i j number stay stays front a steps b t more c rest e =
+    subst (λ (l : List Step). Each At order ((stay ++ staying stays number) ++ rest) a l c) (sym (ap (λ l. l ++ more) t.3 ∙ append_assoc t.1 t.2 more))
+    (subst (λ (l : List ℕ). Each At order l a (t.1 ++ (t.2 ++ more)) c) (sym (append_assoc stay (staying stays number) rest))
+    (t.4 (t.2 ++ more) c (staying stays number ++ rest)
+    (subst (λ (l : List ℕ). Each At l (staying stays number ++ rest) t.0 (t.2 ++ more) c) (sym front)
+    (stays, rest, refl, (b, t.2, more, refl, t.5, e)))))
+
+pub each_next : {C S : Type 0} {face : Face C} {did : S → Call → S → Type 0} {gave : S → ℕ → Type 0}
+    (At : ℕ → ℕ → Bool → Around C → List Step → Around C → Type 0) (order : List ℕ) (i j number : ℕ) (stay : List ℕ) (stays : Bool)
+    {x y z : Serving C} {n m k : S} → drop i order ≡ number ∷ drop j order
+    → Part face did gave (EachFirst (At x.conns) order i stay) x y n m → Part face did gave (At y.conns number stays) y z m k
+    → Part face did gave (EachFirst (At x.conns) order j (stay ++ staying stays number)) x z n k
+each_next At order i j number stay stays {x} front p q =
+    part_less (each_then (At x.conns) order i j number stay stays front) (part_next (λ conns. At conns number stays) p q)
+
+each_done : {C : Type 0} (At : ℕ → Bool → Around C → List Step → Around C → Type 0) (order : List ℕ) (i : ℕ) (stay : List ℕ)
+    → drop i order ≡ [] → (a : Around C) (steps : List Step) (b : Around C) → EachFirst At order i stay a steps b → Each At order stay a steps b
+each_done At order i stay all a steps b it =
+    subst (λ (l : List Step). Each At order stay a l b) (append-nil steps)
+    (subst (λ (l : List ℕ). Each At order l a (steps ++ []) b) (append-nil stay)
+    (it [] b [] (subst (λ (l : List ℕ). Each At l [] b [] b) (sym all) (refl, refl, refl))))
+
+pub each_all : {C S : Type 0} {face : Face C} {did : S → Call → S → Type 0} {gave : S → ℕ → Type 0}
+    (At : ℕ → Bool → Around C → List Step → Around C → Type 0) (order : List ℕ) (i : ℕ) (stay : List ℕ) {x y : Serving C} {n m : S}
+    → drop i order ≡ [] → Part face did gave (EachFirst At order i stay) x y n m → Part face did gave (Each At order stay) x y n m
+each_all At order i stay all p = part_less (each_done At order i stay all) p
+
+some_number : (j k : ℕ) → Some j ≡ Some k → j ≡ k
+some_number j k e = cc
+
+front_suc : (xs : List ℕ) (i x : ℕ) → slice_get xs i ≡ Some x → drop i xs ≡ x ∷ drop (suc i) xs
+front_suc [] i x e = cc
+front_suc (y ∷ ys) zero x e = ap (λ t. t ∷ ys) (some_number y x e)
+front_suc (y ∷ ys) (suc i) x e = front_suc ys i x e
+
+pub slice_front : (xs : List ℕ) (i x : ℕ) → slice_get xs i ≡ Some x → drop i xs ≡ x ∷ drop (i + 1) xs
+slice_front xs i x e = front_suc xs i x e ∙ ap (λ k. x ∷ drop k xs) (sym (add-one i))

@@ -1,0 +1,57 @@
+use Rattle.std.proofs.Common.{ℕ, List, [], ◌++◌, refl, ap, ◌∙◌, subst}
+use Rattle.px_outside.specs.declared.answers.ReadyAt.{ReadyAt}
+use Rattle.served_links.specs.Added.{added}
+use Rattle.serve_loop.specs.Often.{Each}
+use Rattle.serve_loop.specs.Part.{Part, stand}
+use Rattle.serve_loop.specs.Server.{Round, RunsAndWrites, AsksLinks, AsksAll, WaitsAndAsks}
+use Rattle.serve_loop.specs.Turn.{IsUntil, listed_slots, listed_links, due_now, ListenerAt, LinkAt, WritesAt}
+use Rattle.serve_loop.proofs.Compose.{part_at}
+use Rattle.serve_loop.proofs.Trying.{part_next}
+use Rattle.serve_loop.proofs.server.Server.round.Goals as goal
+
+pub returns : goal.returns
+returns g c =
+    let face = g.C.Core.face in
+    let slots = c.args.self.now.slots in
+    let links = c.args.self.now.links in
+    let listed = c.wait.new.listed in
+    let all_slots = c.in_ok-ask_listeners.ensures in
+    let all_links = c.in_ok-ask_links.ensures.all in
+    let all_writes = c.in_ok-write_all.ensures in
+    let r : Round = record {
+      now = c.args.now;
+      slots = slots;
+      links = links;
+      until = c.until-until.result;
+      listed = listed;
+      slots_stay = all_slots.stay;
+      links_stay = all_links.stay;
+      ready = c.in_ok-run_pairs.field-0;
+      writers = c.run_pairs.new.writers;
+      writers_stay = all_writes.stay;
+    } in
+    let until = subst (λ (l : List ℕ). IsUntil face c.tick.new.self.conns (stand c.tick.new.self) slots l c.until-until.result) c.as_slice-2.ensures
+    (subst (λ (l : List ℕ). IsUntil face c.tick.new.self.conns (stand c.tick.new.self) l c.as_slice-2.result.now c.until-until.result) c.as_slice.ensures c.until-until.ensures) in
+    let slots_due = c.in_ok-slots.ensures ∙ ap (λ (l : List ℕ). due_now l (listed_slots c.as_slice-4.result.now)) c.as_slice-3.ensures
+    ∙ ap (λ (l : List ReadyAt). due_now slots (listed_slots l)) c.as_slice-4.ensures in
+    let links_due = c.in_ok-links.ensures ∙ ap (λ (l : List ℕ). due_now l (listed_links c.as_slice-6.result.now)) c.as_slice-5.ensures
+    ∙ ap (λ (l : List ReadyAt). due_now links (listed_links l)) c.as_slice-6.ensures in
+    let asks_slots = subst (λ (o : List ℕ). Part face g.N.Net.did g.N.Net.gave (Each (ListenerAt face c.wait.new.self.conns) o all_slots.stay) c.wait.new.self c.ask_listeners.new.self c.wait.new.net c.ask_listeners.new.net) slots_due all_slots.did in
+    let asks_links = subst (λ (o : List ℕ). Part face g.N.Net.did g.N.Net.gave (Each (LinkAt face c.ask_listeners.new.self.conns) o all_links.stay) c.ask_listeners.new.self c.ask_links.new.self c.ask_listeners.new.net c.ask_links.new.net) links_due all_links.did in
+    let waits = part_at (λ steps w. record { until = until; waits = w }) c.in_ok-wait.ensures.part in record {
+      turned = record {
+        round = r;
+        now_is = refl;
+        part = part_next (λ (conns : ℕ). WaitsAndAsks face r conns) c.in_ok-tick.ensures.part
+            (part_next (λ (conns : ℕ). AsksAll face r conns) waits
+            (part_next (λ (conns : ℕ). AsksLinks face r conns) asks_slots
+            (part_next (λ (conns : ℕ). RunsAndWrites face r conns) asks_links
+            (part_next (λ (conns : ℕ). Each (WritesAt face conns) r.writers r.writers_stay) c.in_ok-run_pairs.ensures.part all_writes.did))));
+        slots_were = refl;
+        links_were = refl;
+        slots_are = all_slots.kept ∙ ap (λ (l : List ℕ). l ++ all_slots.stay) c.clear.ensures;
+        links_are = all_links.kept ∙ ap (λ (l : List ℕ). l ++ all_links.stay) c.clear-2.ensures;
+        writers_are = c.in_ok-add_all.ensures ∙ ap (λ (l : List ℕ). added l c.as_slice-7.result.now) c.clear-3.ensures
+            ∙ ap (λ (l : List ℕ). added [] l) (c.as_slice-7.ensures ∙ all_writes.kept ∙ ap (λ (l : List ℕ). l ++ all_writes.stay) c.new-later.ensures);
+      };
+    }

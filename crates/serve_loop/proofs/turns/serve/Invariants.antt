@@ -1,0 +1,8 @@
+use Rattle.serve_loop.specs.Server.{Turns}
+use Rattle.serve_loop.proofs.turns.serve.Given as goal
+
+abbrev pub invariant-loop-turn : goal.invariant-loop-turn
+invariant-loop-turn g l =
+    Turns g.C.Core.face g.N.Net.did g.N.Net.gave g.T.Clock.gave l.turn
+    (record { server = l.initial.server; net = l.initial.net; clock = l.initial.clock; written = g.K.Sink.written l.initial.journal })
+    (record { server = l.server; net = l.net; clock = l.clock; written = g.K.Sink.written l.journal })

@@ -1,0 +1,55 @@
+-- The calls that notes ask for, in order.
+use Rattle.std.specs.Prelude.{◌≡◌, ℕ, List, [], ◌∷◌, ◌++◌, Option, Some, None, Ok}
+use Rattle.px_bytes.specs.declared.addr.Side.{Side}
+use Rattle.px_bytes.specs.declared.addr.Side.TheVariants as side
+use Rattle.connection_model.specs.declared.note.Note.{Note}
+use Rattle.connection_model.specs.declared.note.Note.TheVariants as note
+use Rattle.px_outside.specs.Net.{Call, Connect, Finish, Close, Chain}
+use Rattle.served_links.specs.declared.links.Links.{Links}
+use Rattle.served_links.specs.declared.row.Row.{Row}
+use Rattle.served_links.specs.Links.{owner_in, link_in, Opens, Closes}
+use Rattle.serve_loop.specs.declared.carry.Action.{Action}
+use Rattle.serve_loop.specs.declared.carry.Action.TheVariants as does
+
+-- what a note asks for
+abbrev pub action : Note → Action
+action (note.Connect c to) = does.Connects c to
+action (note.HalfClose c s) = does.Finishes c s
+action (note.CloseClient c) = does.Closes c side.Client
+action (note.CloseServer c) = does.Closes c side.Server
+action other = does.Nothing
+
+-- the link of the side, if it has one, sends no more
+abbrev pub finish_calls : Option ℕ → List Call
+finish_calls None = []
+finish_calls (Some link) = Finish link ∷ []
+
+-- the link of the side, if it has one, is closed
+abbrev pub CloseLink : Option ℕ → ℕ → Side → Links → List Call → Links → Type 0
+CloseLink None c s a calls b = (calls ≡ []) × (b ≡ a)
+CloseLink (Some link) c s a calls b = (calls ≡ Close link ∷ []) × Closes a b link c s
+
+abbrev pub CarriesOne : Action → Links → List Call → Links → Type 0
+CarriesOne does.Nothing a calls b = (calls ≡ []) × (b ≡ a)
+CarriesOne (does.Connects c to) a calls b =
+    (link : ℕ) × (calls ≡ Connect to (Ok link) ∷ []) × Opens a b link c side.Server
+CarriesOne (does.Finishes c s) a calls b = (calls ≡ finish_calls (link_in a c s)) × (b ≡ a)
+CarriesOne (does.Closes c s) a calls b = CloseLink (link_in a c s) c s a calls b
+
+abbrev pub Carries : List Note → Links → List Call → Links → Type 0
+Carries [] a calls b = (calls ≡ []) × (b ≡ a)
+Carries (n ∷ notes) a calls b = (mid : Links) × (first rest : List Call) × (calls ≡ first ++ rest)
+    × CarriesOne (action n) a first mid × Carries notes mid rest b
+
+-- each link that has an owner was given by the net
+abbrev pub Known : (ℕ → Type 0) → Links → Type 0
+Known gave links = (l : ℕ) (r : Row) → owner_in links l ≡ Some r → gave l
+
+-- what a call on the net asks for became of table and net
+pub record Carried {S : Type 0} (did : S → Call → S → Type 0) (gave : S → ℕ → Type 0)
+    (R : Links → List Call → Links → Type 0) (old new : Links) (net net' : S) : Type 0 where
+  pub calls : List Call
+  pub chain : Chain did net calls net'
+  pub carried : R old calls new
+  pub lasts : (l : ℕ) → gave net l → gave net' l
+  pub known : Known (gave net) old → Known (gave net') new

@@ -1,0 +1,13 @@
+pub mod Faults
+pub mod Face
+pub mod Carrying
+pub mod Events
+pub mod Walk
+pub mod Part
+pub mod Often
+pub mod Asking
+pub mod Writing
+pub mod Running
+pub mod Turn
+pub mod Listing
+pub mod Server

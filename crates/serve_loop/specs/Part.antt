@@ -1,0 +1,50 @@
+-- What a part of the loop did, from where it stood to where it stands then.
+use Rattle.std.specs.Prelude.{◌≡◌, ℕ, List}
+use Rattle.px_outside.specs.Net.{Call, Chain}
+use Rattle.journal_text.specs.declared.event.Event.{Event}
+use Rattle.serve_loop.specs.declared.serving.Serving.{Serving}
+use Rattle.serve_loop.specs.Carrying.{Known}
+use Rattle.serve_loop.specs.Events.{Tells, group_text}
+use Rattle.serve_loop.specs.Face.{Face}
+use Rattle.serve_loop.specs.Walk.{Around, Given, Step, Gives, calls_in, text_in}
+
+-- where the loop stands
+abbrev pub stand : {C : Type 0} → Serving C → Around C
+stand s = record { core = s.core; links = s.links }
+
+-- the core stands, and each link was given by the net
+pub record Ready {C : Type 0} (face : Face C) (gave : ℕ → Type 0) (s : Serving C) : Type 0 where
+  pub stands : face.stands s.core
+  pub known : Known gave s.links
+
+-- The steps that were made: their calls are the net's, in order; they lead from there to here; their
+-- events' lines were written down.
+pub record Happens {C : Type 0} (face : Face C) {S : Type 0} (did : S → Call → S → Type 0)
+    (gave : S → ℕ → Type 0) (R : Around C → List Step → Around C → Type 0)
+    (old new : Serving C) (net net' : S) : Type 0 where
+  pub steps : List Step
+  pub chain : Chain did net (calls_in steps) net'
+  pub leads : R (stand old) steps (stand new)
+  pub ready : Ready face (gave net') new
+  pub told : Tells old.journal new.journal (text_in steps)
+  pub conns : new.conns ≡ old.conns
+
+-- wherever the loop stood
+pub record Part {C : Type 0} (face : Face C) {S : Type 0} (did : S → Call → S → Type 0)
+    (gave : S → ℕ → Type 0) (R : Around C → List Step → Around C → Type 0)
+    (old new : Serving C) (net net' : S) : Type 0 where
+  pub from : Ready face (gave net) old → Happens face did gave R old new net net'
+
+-- an event was given to the core, and its notes' calls were made
+pub record Gave {C : Type 0} (face : Face C) {S : Type 0} (did : S → Call → S → Type 0)
+    (gave : S → ℕ → Type 0) (e : Event) (old new : Serving C) (net net' : S) : Type 0 where
+  pub given : Given
+  pub gives : Gives face e (stand old) given (stand new)
+  pub chain : Chain did net given.calls net'
+  pub ready : Ready face (gave net') new
+  pub told : Tells old.journal new.journal (group_text given.event given.group)
+  pub conns : new.conns ≡ old.conns
+
+pub record IsGiven {C : Type 0} (face : Face C) {S : Type 0} (did : S → Call → S → Type 0)
+    (gave : S → ℕ → Type 0) (e : Event) (old new : Serving C) (net net' : S) : Type 0 where
+  pub from : Ready face (gave net) old → face.takes old.core e → Gave face did gave e old new net net'

@@ -1,0 +1,165 @@
+-- What a server does in a turn, and in a run of turns.
+use Rattle.std.specs.Prelude.{◌≡◌, ℕ, ◌≤◌, zero, suc, List, [], ◌∷◌, ◌++◌, Bool, false, Option, Some, None, Ok}
+use Rattle.px_outside.specs.declared.answers.ReadyAt.{ReadyAt}
+use Rattle.px_outside.specs.Net.{Call, Chain, Listen}
+use Rattle.served_links.specs.Added.{added}
+use Rattle.served_links.specs.Links.{IsEmpty}
+use Rattle.px_bytes.specs.declared.addr.Addr.{Addr}
+use Rattle.px_outside.specs.Outside.{told_more}
+use Rattle.serve_loop.specs.declared.fault.ServeEnd.{ServeEnd}
+use Rattle.serve_loop.specs.declared.fault.ServeEnd.TheVariants as ending
+use Rattle.serve_loop.specs.declared.server.Server.{Server}
+use Rattle.serve_loop.specs.declared.serving.Serving.{Serving}
+use Rattle.serve_loop.specs.Face.{Face}
+use Rattle.serve_loop.specs.Often.{Tried, Each}
+use Rattle.serve_loop.specs.Part.{Part, Ready, stand}
+use Rattle.serve_loop.specs.Running.{PairOnce}
+use Rattle.serve_loop.specs.Turn.{Ticks, Waits, CanAccept, IsUntil, listed_slots, listed_links, due_now}
+use Rattle.serve_loop.specs.Turn.{ListenerAt, LinkAt, WritesAt}
+use Rattle.serve_loop.specs.Walk.{Around, Step, calls_in, text_in, Then}
+
+-- what a turn found and left: how long it waited, what was listed, which listeners and links stay due,
+-- to which connections it wrote, on which something is pending still, and whether something is ready
+pub record Round : Type 0 where
+  pub now : ℕ
+  pub slots : List ℕ
+  pub links : List ℕ
+  pub until : ℕ
+  pub listed : List ReadyAt
+  pub slots_stay : List ℕ
+  pub links_stay : List ℕ
+  pub ready : Bool
+  pub writers : List ℕ
+  pub writers_stay : List ℕ
+
+-- one wait, no longer than until something can be done
+pub record WaitsFor {C : Type 0} (face : Face C) (conns : ℕ) (r : Round) (a : Around C) (steps : List Step)
+    (b : Around C) : Type 0 where
+  pub until : IsUntil face conns a r.slots r.links r.until
+  pub waits : Waits r.until r.listed a steps b
+
+-- what is ready is run, then what is pending is written
+abbrev pub RunsAndWrites : {C : Type 0} → Face C → Round → ℕ → Around C → List Step → Around C → Type 0
+RunsAndWrites face r conns a steps b =
+    Then (Tried (PairOnce face) 2048 r.ready) (Each (WritesAt face conns) r.writers r.writers_stay) a steps b
+
+-- each due link is asked before
+abbrev pub AsksLinks : {C : Type 0} → Face C → Round → ℕ → Around C → List Step → Around C → Type 0
+AsksLinks face r conns a steps b =
+    Then (Each (LinkAt face conns) (due_now r.links (listed_links r.listed)) r.links_stay)
+    (RunsAndWrites face r conns) a steps b
+
+-- and each due listener before
+abbrev pub AsksAll : {C : Type 0} → Face C → Round → ℕ → Around C → List Step → Around C → Type 0
+AsksAll face r conns a steps b =
+    Then (Each (ListenerAt face conns) (due_now r.slots (listed_slots r.listed)) r.slots_stay)
+    (AsksLinks face r conns) a steps b
+
+abbrev pub WaitsAndAsks : {C : Type 0} → Face C → Round → ℕ → Around C → List Step → Around C → Type 0
+WaitsAndAsks face r conns a steps b = Then (WaitsFor face conns r) (AsksAll face r conns) a steps b
+
+-- the five things of a turn, in order
+abbrev pub Rounds : {C : Type 0} → Face C → Round → ℕ → Around C → List Step → Around C → Type 0
+Rounds face r conns a steps b = Then (Ticks face r.now) (WaitsAndAsks face r conns) a steps b
+
+-- one turn at this moment of the clock
+pub record Turned {C : Type 0} (face : Face C) {S : Type 0} (did : S → Call → S → Type 0) (gave : S → ℕ → Type 0)
+    (now : ℕ) (old new : Server C) (net net' : S) : Type 0 where
+  pub round : Round
+  pub now_is : round.now ≡ now
+  pub part : Part face did gave (Rounds face round old.serving.conns) old.serving new.serving net net'
+  pub slots_were : round.slots ≡ old.slots
+  pub links_were : round.links ≡ old.links
+  pub slots_are : new.slots ≡ round.slots_stay
+  pub links_are : new.links ≡ round.links_stay
+  pub writers_are : new.writers ≡ added [] round.writers_stay
+
+-- the steps of a part, where the lines of their events were written too
+pub record Done {C : Type 0} (face : Face C) {S : Type 0} (did : S → Call → S → Type 0) (gave : S → ℕ → Type 0)
+    (R : Around C → List Step → Around C → Type 0) (old new : Serving C) (net net' : S)
+    (before after : Option (List ℕ)) : Type 0 where
+  pub steps : List Step
+  pub chain : Chain did net (calls_in steps) net'
+  pub leads : R (stand old) steps (stand new)
+  pub ready : Ready face (gave net') new
+  pub told : after ≡ told_more before (text_in steps)
+  pub no_line_waits : new.journal.text ≡ []
+  pub conns : new.conns ≡ old.conns
+
+-- One turn at a moment of the clock, from wherever the server stood with no line that waits.
+pub record OneTurn {C : Type 0} (face : Face C) {S : Type 0} (did : S → Call → S → Type 0) (gave : S → ℕ → Type 0)
+    (now : ℕ) (old new : Server C) (net net' : S) (before after : Option (List ℕ)) : Type 0 where
+  pub round : Round
+  pub now_is : round.now ≡ now
+  pub done : Ready face (gave net) old.serving → old.serving.journal.text ≡ []
+      → Done face did gave (Rounds face round old.serving.conns) old.serving new.serving net net' before after
+  pub slots_were : round.slots ≡ old.slots
+  pub links_were : round.links ≡ old.links
+  pub slots_are : new.slots ≡ round.slots_stay
+  pub links_are : new.links ≡ round.links_stay
+  pub writers_are : new.writers ≡ added [] round.writers_stay
+
+-- a server, with its net, its clock, and what was written of its journal
+pub record Running (C S T : Type 0) : Type 0 where
+  pub server : Server C
+  pub net : S
+  pub clock : T
+  pub written : Option (List ℕ)
+
+-- one turn after another, each at the moment that the clock gave then
+abbrev pub Turns : {C S T : Type 0} → Face C → (S → Call → S → Type 0) → (S → ℕ → Type 0) → (T → ℕ → T → Type 0)
+    → ℕ → Running C S T → Running C S T → Type 0
+Turns face did gave ticked zero old new = new ≡ old
+Turns {C} {S} {T} face did gave ticked (suc n) old new =
+    (mid : Running C S T) × Turns face did gave ticked n old mid
+    × ((now : ℕ) × ticked mid.clock now new.clock
+    × OneTurn face did gave now mid.server new.server mid.net new.net mid.written new.written)
+
+-- as many connections were accepted as may be, and none is live
+pub record IsOver {C : Type 0} (face : Face C) (s : Serving C) : Type 0 where
+  pub none_more : CanAccept face s.conns (stand s) false
+  pub none_live : face.live s.core 0
+
+-- so many turns were made, and then every connection was over; or all turns
+abbrev pub EndsAs : {C : Type 0} → Face C → (turns made : ℕ) → Serving C → ServeEnd → Type 0
+EndsAs face turns made s ending.Conns = (made ≤ turns) × IsOver face s
+EndsAs face turns made s ending.Turns = made ≡ turns
+
+pub record Served {C S T : Type 0} (face : Face C) (did : S → Call → S → Type 0) (gave : S → ℕ → Type 0)
+    (ticked : T → ℕ → T → Type 0) (turns : ℕ) (old new : Running C S T) (end : ServeEnd) : Type 0 where
+  pub made : ℕ
+  pub turned : Turns face did gave ticked made old new
+  pub ends : EndsAs face turns made new.server.serving end
+
+-- a listener for each virtual server that has an address
+abbrev pub listen_calls : ℕ → Option Addr → List Call
+listen_calls slot None = []
+listen_calls slot (Some at) = Listen slot at (Ok tt) ∷ []
+
+-- the listeners of the first n slots, in order
+abbrev pub ListensTo : {C : Type 0} → Face C → C → ℕ → List Call → Type 0
+ListensTo face core zero calls = calls ≡ []
+ListensTo face core (suc n) calls = (before : List Call) × (at : Option Addr) × ListensTo face core n before
+    × face.listens core n at × (calls ≡ before ++ listen_calls n at)
+
+-- A server before its first turn: it listens, no link is known, nothing is due, and no line waits.
+pub record Begins {C : Type 0} (face : Face C) {S : Type 0} (did : S → Call → S → Type 0) (core : C)
+    (conns : ℕ) (net net' : S) (server : Server C) : Type 0 where
+  pub count : ℕ
+  pub slots : face.slots core count
+  pub calls : List Call
+  pub listens : ListensTo face core count calls
+  pub chain : Chain did net calls net'
+  pub core_is : server.serving.core ≡ core
+  pub conns_is : server.serving.conns ≡ conns
+  pub no_link : IsEmpty server.serving.links
+  pub no_line_waits : server.serving.journal.text ≡ []
+  pub none_due : (server.slots ≡ []) × (server.links ≡ [])
+  pub none_pending : server.writers ≡ []
+
+-- the listeners of a core
+pub record ListensAll {C : Type 0} (face : Face C) {S : Type 0} (did : S → Call → S → Type 0) (core : C)
+    (n : ℕ) (net net' : S) : Type 0 where
+  pub calls : List Call
+  pub listens : ListensTo face core n calls
+  pub chain : Chain did net calls net'

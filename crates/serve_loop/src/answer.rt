@@ -1,0 +1,46 @@
+// A link is asked for the answer to its connect.
+
+ghost use Rattle.std.specs.Prelude.{◌≡◌, IfOk, Some, true};
+ghost use Rattle.px_bytes.specs.declared.addr.Side.TheVariants.{Server};
+ghost use Rattle.px_outside.specs.declared.answers.ReadyAt.TheVariants as ready;
+ghost use Rattle.served_links.specs.Links.{owner_in};
+ghost use Rattle.serve_loop.specs.Asking.{AskedOnce};
+ghost use Rattle.serve_loop.specs.Face.{MayAnswer};
+ghost use Rattle.serve_loop.specs.Part.{Part};
+
+use crate::serving::Serving;
+use crate::{Asked, Core, ServeFault};
+use journal_text::Event;
+use px_outside::{ConnectAnswer, Net};
+use served_links::Row;
+
+impl<C: Core + Drop> Serving<C> {
+    /// Asks what became of a connect. The net has closed a link that is refused.
+    pub(crate) fn answer<N: Net>(
+        &mut self,
+        net: &mut N,
+        link: u32,
+        row: Row,
+    ) -> Result<Asked, ServeFault>
+        requires owned { owner_in self.old.links link ≡ Some row }
+        requires server { row.side ≡ Server }
+        requires waits { C.face.connecting self.old.core row.conn true }
+        requires may { MayAnswer (C.face.takes self.old.core) row.conn }
+        ensures part { IfOk result (λ asked. Part C.face N.did N.gave
+            (AskedOnce C.face self.old.conns (ready.Link link) asked)
+            self.old self.new net.old net.new) }
+    {
+        match net.connect_answer(link) {
+            ConnectAnswer::NotYet => Ok(Asked::Over),
+            ConnectAnswer::Connected => {
+                self.give(net, Event::Connected { conn: row.conn })?;
+                Ok(Asked::Again)
+            }
+            ConnectAnswer::Refused => {
+                self.links.close(link, row.conn, row.side);
+                self.give(net, Event::Refused { conn: row.conn })?;
+                Ok(Asked::Over)
+            }
+        }
+    }
+}

@@ -1,0 +1,105 @@
+// Listeners and links are asked.
+
+ghost use Rattle.std.specs.Prelude.{◌≡◌, ◌<◌, ◌≤◌, IfOk, Some, vec_len};
+ghost use Rattle.px_bytes.specs.declared.addr.Addr.{Addr};
+ghost use Rattle.journal_text.specs.declared.event.Event.TheVariants as event;
+ghost use Rattle.px_outside.specs.declared.answers.ReadyAt.TheVariants as ready;
+ghost use Rattle.serve_loop.specs.Asking.{AskedOnce};
+ghost use Rattle.serve_loop.specs.Part.{Part};
+
+use crate::serving::Serving;
+use crate::{Asked, Core, ServeFault};
+use journal_text::Event;
+use px_bytes::{M, Side, Text};
+use px_outside::{Accepted, Net};
+
+impl<C: Core + Drop> Serving<C> {
+    /// Asks a listener for a connection, if one may be accepted.
+    pub(crate) fn accept<N: Net>(&mut self, net: &mut N, slot: u32) -> Result<Asked, ServeFault>
+        ensures part { IfOk result (λ asked. Part C.face N.did N.gave
+            (AskedOnce C.face self.old.conns (ready.Listener slot) asked)
+            self.old self.new net.old net.new) }
+    {
+        let Some(number) = self.core.next() else {
+            return Ok(Asked::Stays);
+        };
+        if number > self.conns {
+            return Ok(Asked::Stays);
+        }
+        match self.name(slot)? {
+            None => Ok(Asked::Over),
+            Some(vs) => self.accept_as(net, slot, number, vs),
+        }
+    }
+
+    // Asks a listener for this connection.
+    fn accept_as<N: Net>(
+        &mut self,
+        net: &mut N,
+        slot: u32,
+        number: u32,
+        vs: Text,
+    ) -> Result<Asked, ServeFault>
+        requires next { C.face.next self.old.core (Some number) }
+        requires within { number ≤ self.old.conns }
+        requires named { C.face.name self.old.core slot (Some vs) }
+        requires may { (from : Addr) → C.face.takes self.old.core (event.Accept number vs from) }
+        ensures part { IfOk result (λ asked. Part C.face N.did N.gave
+            (AskedOnce C.face self.old.conns (ready.Listener slot) asked)
+            self.old self.new net.old net.new) }
+    {
+        match net.accept(slot)? {
+            Accepted::NotYet => Ok(Asked::Over),
+            Accepted::One { link, from } => {
+                self.links.open(link, number, Side::Client)?;
+                self.give(
+                    net,
+                    Event::Accept {
+                        conn: number,
+                        vs,
+                        from,
+                    },
+                )?;
+                Ok(Asked::Again)
+            }
+        }
+    }
+
+    // The name of the virtual server of a slot.
+    fn name(&self, slot: u32) -> M<Option<Text>>
+        ensures { IfOk result (λ name. C.face.name self.now.core slot name) }
+    {
+        match self.core.name(slot) {
+            Some(name) => Ok(Some(Text::new(self.alloc, name)?)),
+            None => Ok(None),
+        }
+    }
+
+    /// Asks a link for the answer to its connect, or for bytes, if any are wanted.
+    pub(crate) fn ask_link<N: Net>(
+        &mut self,
+        net: &mut N,
+        link: u32,
+        room: &mut Vec<u8>,
+    ) -> Result<Asked, ServeFault>
+        requires { 0 < vec_len room.old }
+        ensures part { IfOk result (λ asked. Part C.face N.did N.gave
+            (AskedOnce C.face self.old.conns (ready.Link link) asked)
+            self.old self.new net.old net.new) }
+        ensures room { vec_len room.new ≡ vec_len room.old }
+    {
+        let Some(row) = self.links.owner(link) else {
+            return Ok(Asked::Over);
+        };
+        match row.side {
+            Side::Client => self.read(net, link, row, room),
+            Side::Server => {
+                if self.core.connecting(row.conn) {
+                    self.answer(net, link, row)
+                } else {
+                    self.read(net, link, row, room)
+                }
+            }
+        }
+    }
+}

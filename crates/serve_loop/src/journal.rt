@@ -1,0 +1,70 @@
+// Lines of the journal that wait to be written.
+
+ghost use Rattle.std.specs.Prelude.{◌≡◌, OnOk, []};
+ghost use Rattle.px_outside.specs.Outside.{told_more};
+ghost use Rattle.journal_text.specs.Line.{event_line};
+ghost use Rattle.journal_text.specs.Notes.{note_lines};
+ghost use Rattle.serve_loop.specs.Events.{Tells};
+
+use crate::ServeFault;
+use connection_model::Note;
+use journal_text::{Event, write_event, write_notes};
+use px_bytes::{M, Text};
+use px_outside::{Failed, Sink, write_all};
+use std::alloc::Global;
+
+/// The lines that wait, where anything is kept of them.
+#[derive(Drop)]
+pub struct Journal {
+    alloc: Global,
+    pub text: Text,
+    pub recording: bool,
+}
+
+impl Journal {
+    pub fn new(alloc: Global) -> Journal
+        ensures { result.text ≡ [] }
+    {
+        Journal {
+            alloc,
+            text: Text::empty(alloc),
+            recording: false,
+        }
+    }
+
+    /// Writes down an event.
+    pub fn event(&mut self, event: &Event) -> M<()>
+        ensures { OnOk result (Tells self.old self.new (event_line event.now)) }
+    {
+        if self.recording {
+            self.text.push(write_event(self.alloc, event)?.as_bytes())?;
+        }
+        Ok(())
+    }
+
+    /// Writes down notes.
+    pub fn notes(&mut self, notes: &[Note]) -> M<()>
+        ensures { OnOk result (Tells self.old self.new (note_lines notes.now)) }
+    {
+        if self.recording {
+            self.text.push(write_notes(self.alloc, notes)?.as_bytes())?;
+        }
+        Ok(())
+    }
+
+    /// Writes the lines that wait.
+    pub fn flush<K: Sink>(&mut self, sink: &mut K) -> Result<(), ServeFault>
+        ensures written { OnOk result
+            (K.written sink.new ≡ told_more (K.written sink.old) self.old.text) }
+        ensures none_waits { OnOk result (self.new.text ≡ []) }
+    {
+        match write_all(sink, self.text.as_bytes()) {
+            Err(Failed::Failed) => Err(ServeFault::Write),
+            Err(Failed::Memory) => Err(ServeFault::Memory),
+            Ok(()) => {
+                self.text = Text::empty(self.alloc);
+                Ok(())
+            }
+        }
+    }
+}

@@ -1,0 +1,73 @@
+// A link is asked for bytes.
+
+ghost use Rattle.std.specs.Prelude.{◌≡◌, ◌<◌, ◌≤◌, IfOk, Some, length, vec_len};
+ghost use Rattle.px_outside.specs.declared.answers.ReadyAt.TheVariants as ready;
+ghost use Rattle.served_links.specs.Links.{owner_in};
+ghost use Rattle.serve_loop.specs.Asking.{AskedOnce, IsWanted, NotConnecting};
+ghost use Rattle.serve_loop.specs.Part.{Part, stand};
+
+use crate::asked::{asked_by, read_to_event};
+use crate::serving::Serving;
+use crate::{Asked, Core, ServeFault};
+use px_outside::Net;
+use served_links::Row;
+
+impl<C: Core + Drop> Serving<C> {
+    /// Reads from a link as much as is wanted, and no more than the room holds.
+    pub(crate) fn read<N: Net>(
+        &mut self,
+        net: &mut N,
+        link: u32,
+        row: Row,
+        room: &mut Vec<u8>,
+    ) -> Result<Asked, ServeFault>
+        requires owned { owner_in self.old.links link ≡ Some row }
+        requires waits { NotConnecting C.face (stand self.old) row.conn row.side }
+        requires some { 0 < vec_len room.old }
+        ensures part { IfOk result (λ asked. Part C.face N.did N.gave
+            (AskedOnce C.face self.old.conns (ready.Link link) asked)
+            self.old self.new net.old net.new) }
+        ensures room { vec_len room.new ≡ vec_len room.old }
+    {
+        let wanted = self.core.wants(row.conn, row.side);
+        if wanted == 0 {
+            return Ok(Asked::Stays);
+        }
+        let n = least(wanted, room.len());
+        self.read_into(net, link, row, &mut room[..n])
+    }
+
+    fn read_into<N: Net>(
+        &mut self,
+        net: &mut N,
+        link: u32,
+        row: Row,
+        room: &mut [u8],
+    ) -> Result<Asked, ServeFault>
+        requires owned { owner_in self.old.links link ≡ Some row }
+        requires some { 0 < length room.old }
+        requires wanted { IsWanted C.face self.old.core row.conn row.side (length room.old) }
+        ensures { IfOk result (λ asked. Part C.face N.did N.gave
+            (AskedOnce C.face self.old.conns (ready.Link link) asked)
+            self.old self.new net.old net.new) }
+    {
+        let answer = net.read(link, room);
+        match read_to_event(self.alloc, row, answer, room)? {
+            None => Ok(asked_by(answer)),
+            Some(event) => {
+                self.give(net, event)?;
+                Ok(asked_by(answer))
+            }
+        }
+    }
+}
+
+fn least(a: usize, b: usize) -> usize
+    requires first { 0 < a }
+    requires second { 0 < b }
+    ensures some { 0 < result }
+    ensures within_first { result ≤ a }
+    ensures within_second { result ≤ b }
+{
+    if a < b { a } else { b }
+}

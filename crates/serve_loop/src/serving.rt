@@ -1,0 +1,42 @@
+// What is served.
+
+ghost use Rattle.std.specs.Prelude.{◌≡◌, OnOk};
+ghost use Rattle.serve_loop.specs.Part.{IsGiven};
+
+use crate::carry::carry;
+use crate::journal::Journal;
+use crate::{Core, ServeFault};
+use connection_model::Notes;
+use journal_text::Event;
+use px_outside::Net;
+use served_links::Links;
+use std::alloc::Global;
+
+/// A core, and the links that it is served by.
+#[derive(Drop)]
+pub struct Serving<C> {
+    pub(crate) alloc: Global,
+    pub(crate) core: C,
+    /// How many connections may be accepted.
+    pub(crate) conns: u32,
+    pub(crate) links: Links,
+    /// The notes of the event that is given.
+    pub(crate) notes: Notes,
+    pub(crate) journal: Journal,
+}
+
+impl<C: Core + Drop> Serving<C> {
+    /// Gives an event to the core, and makes the calls that its notes ask for.
+    pub(crate) fn give<N: Net>(&mut self, net: &mut N, event: Event) -> Result<(), ServeFault>
+        ensures gives { OnOk result
+            (IsGiven C.face N.did N.gave event self.old self.new net.old net.new) }
+    {
+        self.notes.clear();
+        self.notes.reserve(68)?;
+        self.journal.event(&event)?;
+        self.core.step(event, &mut self.notes);
+        carry(&mut self.links, net, self.notes.as_slice())?;
+        self.journal.notes(self.notes.as_slice())?;
+        Ok(())
+    }
+}

@@ -1,0 +1,110 @@
+// The clock, and how long to wait.
+
+ghost use Rattle.std.specs.Prelude.{◌≡◌, IsTrue, OnOk, min};
+ghost use Rattle.serve_loop.specs.Server.{IsOver};
+ghost use Rattle.serve_loop.specs.Part.{Part, stand};
+ghost use Rattle.serve_loop.specs.Turn.{Ticks, Waits, CanAccept, CanAsk, AnyAsks, IsUntil, tick_limit};
+
+use crate::serving::Serving;
+use crate::{Core, ServeFault};
+use journal_text::Event;
+use px_bytes::Side;
+use px_outside::{Net, ReadyList};
+
+/// The greatest moment of a Tick.
+const TICK_LIMIT: u64 = 9_007_199_254_740_992;
+
+impl<C: Core + Drop> Serving<C> {
+    /// Gives the present moment to the core, where it is above the last one.
+    pub(crate) fn tick<N: Net>(&mut self, net: &mut N, now: u64) -> Result<(), ServeFault>
+        ensures part { OnOk result (Part C.face N.did N.gave
+            (Ticks C.face now) self.old self.new net.old net.new) }
+    {
+        let moment = limited(now);
+        if moment <= self.core.moment() {
+            return Ok(());
+        }
+        self.give(net, Event::Tick { moment })?;
+        Ok(())
+    }
+
+    /// Waits until something may be ready.
+    pub(crate) fn wait<N: Net>(
+        &mut self,
+        net: &mut N,
+        until: u64,
+        listed: &mut ReadyList,
+    ) -> Result<(), ServeFault>
+        ensures part { OnOk result (Part C.face N.did N.gave
+            (Waits until listed.new) self.old self.new net.old net.new) }
+    {
+        net.wait(until, listed)?;
+        Ok(())
+    }
+
+    /// Until when to wait, where these listeners and links are due.
+    pub(crate) fn until(&self, slots: &[u32], links: &[u32]) -> u64
+        ensures { IsUntil C.face self.now.conns (stand self.now) slots.now links.now result }
+    {
+        if !self.core.settled() {
+            return self.core.moment();
+        }
+        if !slots.is_empty() && self.can_accept() {
+            return self.core.moment();
+        }
+        if self.any_asks(links) {
+            return self.core.moment();
+        }
+        self.core.due()
+    }
+
+    /// Whether as many connections were accepted as may be, and none is live.
+    pub(crate) fn is_over(&self) -> bool
+        ensures { IsTrue result → IsOver C.face self.now }
+    {
+        self.core.live() == 0 && !self.can_accept()
+    }
+
+    fn can_accept(&self) -> bool
+        ensures { CanAccept C.face self.now.conns (stand self.now) result }
+    {
+        match self.core.next() {
+            Some(number) => number <= self.conns,
+            None => false,
+        }
+    }
+
+    fn any_asks(&self, links: &[u32]) -> bool
+        ensures { AnyAsks C.face self.now.conns (stand self.now) links.now result }
+    {
+        for link in links {
+            if self.can_ask(*link) {
+                return true;
+            }
+        }
+        false
+    }
+
+    fn can_ask(&self, link: u32) -> bool
+        ensures { CanAsk C.face self.now.conns (stand self.now) link result }
+    {
+        let Some(row) = self.links.owner(link) else {
+            return false;
+        };
+        match row.side {
+            Side::Client => self.core.wants(row.conn, row.side) > 0,
+            Side::Server => {
+                if self.core.connecting(row.conn) {
+                    return true;
+                }
+                self.core.wants(row.conn, row.side) > 0
+            }
+        }
+    }
+}
+
+fn limited(now: u64) -> u64
+    ensures { result ≡ min now tick_limit }
+{
+    if now < TICK_LIMIT { now } else { TICK_LIMIT }
+}

@@ -1,0 +1,56 @@
+// One turn, and turns.
+
+ghost use Rattle.std.specs.Prelude.{◌≡◌, ℕ, IfOk, OnOk};
+ghost use Rattle.serve_loop.specs.Server.{OneTurn, Turned};
+
+use crate::due::{due_links, due_slots};
+use crate::server::Server;
+use crate::{Core, ServeFault};
+use px_bytes::Seq;
+use px_outside::{Clock, Net, Sink};
+
+impl<C: Core + Drop> Server<C> {
+    /// One turn: a Tick where time went on, one wait, each due listener and link in order, pairs of a
+    /// Run and a Turn, and what is pending; then the lines of the journal are written.
+    pub fn turn<N: Net, T: Clock, K: Sink>(
+        &mut self,
+        net: &mut N,
+        clock: &mut T,
+        journal: &mut K,
+    ) -> Result<(), ServeFault>
+        ensures turned { OnOk result ((now : ℕ) × T.gave clock.old now clock.new
+            × OneTurn C.face N.did N.gave now self.old self.new net.old net.new
+            (K.written journal.old) (K.written journal.new)) }
+    {
+        self.serving.journal.recording = journal.keeps();
+        let now = clock.now();
+        let end = self.round(net, now);
+        self.serving.journal.flush(journal)?;
+        end
+    }
+
+    // One turn at this moment.
+    pub(crate) fn round<N: Net>(&mut self, net: &mut N, now: u64) -> Result<(), ServeFault>
+        ensures turned { OnOk result (Turned C.face N.did N.gave now self.old self.new net.old net.new) }
+    {
+        self.serving.tick(net, now)?;
+        let until = self
+            .serving
+            .until(self.slots.as_slice(), self.links.as_slice());
+        self.serving.wait(net, until, &mut self.listed)?;
+        let alloc = self.serving.alloc;
+        let slots = due_slots(alloc, self.slots.as_slice(), self.listed.as_slice())?;
+        let links = due_links(alloc, self.links.as_slice(), self.listed.as_slice())?;
+        self.slots.clear();
+        self.links.clear();
+        self.serving.ask_listeners(net, &slots, &mut self.slots)?;
+        self.serving
+            .ask_links(net, &links, &mut self.room, &mut self.links)?;
+        self.serving.run_pairs(net, &mut self.writers)?;
+        let mut later = Seq::new(alloc);
+        self.serving.write_all(net, &self.writers, &mut later)?;
+        self.writers.clear();
+        self.writers.add_all(later.as_slice())?;
+        Ok(())
+    }
+}

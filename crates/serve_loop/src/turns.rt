@@ -1,0 +1,33 @@
+// Turns.
+
+ghost use Rattle.std.specs.Prelude.{◌≡◌, IfOk, false};
+ghost use Rattle.serve_loop.specs.Part.{stand};
+ghost use Rattle.serve_loop.specs.Server.{IsOver, Served};
+ghost use Rattle.serve_loop.specs.Turn.{CanAccept};
+
+use crate::server::Server;
+use crate::{Core, ServeEnd, ServeFault};
+use px_outside::{Clock, Net, Sink};
+
+/// So many turns, and no more once as many connections were accepted as may be and all are over.
+pub fn serve<C: Core + Drop, N: Net, T: Clock, K: Sink>(
+    server: &mut Server<C>,
+    net: &mut N,
+    clock: &mut T,
+    journal: &mut K,
+    turns: u64,
+) -> Result<ServeEnd, ServeFault>
+    ensures served { IfOk result (λ end. Served C.face N.did N.gave T.gave turns
+        (record { server = server.old; net = net.old; clock = clock.old; written = K.written journal.old })
+        (record { server = server.new; net = net.new; clock = clock.new; written = K.written journal.new })
+        end) }
+{
+    for turn in 0..turns {
+        let _ = turn;
+        server.turn(net, clock, journal)?;
+        if server.serving.is_over() {
+            return Ok(ServeEnd::Conns);
+        }
+    }
+    Ok(ServeEnd::Turns)
+}

@@ -1,0 +1,72 @@
+// What is pending is written.
+
+ghost use Rattle.std.specs.Prelude.{◌≡◌, IfOk};
+ghost use Rattle.serve_loop.specs.Part.{Part};
+ghost use Rattle.serve_loop.specs.Writing.{Wrote, WroteOnce, asked_of};
+
+use crate::asked::write_to_event;
+use crate::serving::Serving;
+use crate::{Asked, Core, ServeFault};
+use px_bytes::Side;
+use px_outside::{Net, WriteAnswer};
+
+impl<C: Core + Drop> Serving<C> {
+    /// Writes what is pending to a side until its link takes no more by now, or nothing is pending.
+    /// Says whether something may be pending still.
+    pub(crate) fn write<N: Net>(
+        &mut self,
+        net: &mut N,
+        conn: u32,
+        side: Side,
+    ) -> Result<bool, ServeFault>
+        ensures part { IfOk result (λ stays. Part C.face N.did N.gave
+            (Wrote C.face self.old.conns conn side stays) self.old self.new net.old net.new) }
+    {
+        let pending = self.core.front(conn, side).len();
+        for often in 0..pending {
+            let _ = often;
+            match self.write_once(net, conn, side)? {
+                Asked::Again => {}
+                Asked::Stays => return Ok(true),
+                Asked::Over => return Ok(false),
+            }
+        }
+        Ok(true)
+    }
+
+    fn write_once<N: Net>(
+        &mut self,
+        net: &mut N,
+        conn: u32,
+        side: Side,
+    ) -> Result<Asked, ServeFault>
+        ensures part { IfOk result (λ asked. Part C.face N.did N.gave
+            (WroteOnce C.face self.old.conns conn side asked) self.old self.new net.old net.new) }
+    {
+        let Some(link) = self.links.link(conn, side) else {
+            return Ok(Asked::Over);
+        };
+        let bytes = self.core.front(conn, side);
+        if bytes.is_empty() {
+            return Ok(Asked::Over);
+        }
+        let answer = net.write(link, bytes);
+        match write_to_event(conn, side, answer) {
+            None => Ok(asked_of(answer)),
+            Some(event) => {
+                self.give(net, event)?;
+                Ok(asked_of(answer))
+            }
+        }
+    }
+}
+
+fn asked_of(answer: WriteAnswer) -> Asked
+    ensures { result ≡ asked_of answer }
+{
+    match answer {
+        WriteAnswer::Took(_) => Asked::Again,
+        WriteAnswer::NotYet => Asked::Stays,
+        WriteAnswer::Reset => Asked::Over,
+    }
+}
