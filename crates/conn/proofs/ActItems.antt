@@ -12,6 +12,7 @@ use Rattle.connection_model.specs.Gates.{Counts, TakenCounts, Met, sent_after, s
 use Rattle.connection_model.specs.Bodies.{act_item}
 use Rattle.frame_machine.specs.Went.{effects_in}
 use Rattle.conn.specs.Hosts.{client_bytes, logs_of, ToClientAlone}
+use Rattle.conn.specs.RunsItems.{connects_in}
 
 -- items that send and show nothing, and may always be given
 pub record Silent (c : ℕ) (took : TakenCounts) (tail : List Item) : Type 0 where
@@ -20,13 +21,14 @@ pub record Silent (c : ℕ) (took : TakenCounts) (tail : List Item) : Type 0 whe
   pub noted : notes_of c tail ≡ []
   pub sent : (sent : Counts) → sent_from sent tail ≡ sent
   pub choices : choices_in tail ≡ []
+  pub no_connect : connects_in tail ≡ []
   pub uncut : (t : TakenCounts) (rest : List Item) → cut_in t (tail ++ rest) ≡ cut_in t rest
 
 pub no_tail : (c : ℕ) (took : TakenCounts) → Silent c took []
-no_tail c took = record { met = λ s. tt; output = refl; noted = refl; sent = λ s. refl; choices = refl; uncut = λ t rest. refl }
+no_tail c took = record { met = λ s. tt; output = refl; noted = refl; sent = λ s. refl; choices = refl; no_connect = refl; uncut = λ t rest. refl }
 
 pub end_tail : (c : ℕ) (took : TakenCounts) (e : EventName) (cost : ℕ) → Silent c took (Ran e cost ∷ [])
-end_tail c took e cost = record { met = λ s. (refl, tt); output = refl; noted = refl; sent = λ s. refl; choices = refl; uncut = λ t rest. refl }
+end_tail c took e cost = record { met = λ s. (refl, tt); output = refl; noted = refl; sent = λ s. refl; choices = refl; no_connect = refl; uncut = λ t rest. refl }
 
 module _ (c number : ℕ) (took : TakenCounts) (tail : List Item) (t : Silent c took tail) where
   abbrev items : List Act → List Item
@@ -56,6 +58,12 @@ module _ (c number : ℕ) (took : TakenCounts) (tail : List Item) (t : Silent c 
   acts_choices (Did (effect.Logged text) ∷ xs) = acts_choices xs
   acts_choices (Did (effect.Sent side bytes) ∷ xs) = acts_choices xs
   acts_choices (act.Called path call ∷ xs) = acts_choices xs
+
+  pub acts_no_connect : (xs : List Act) → connects_in (items xs) ≡ []
+  acts_no_connect [] = t.no_connect
+  acts_no_connect (Did (effect.Logged text) ∷ xs) = acts_no_connect xs
+  acts_no_connect (Did (effect.Sent side bytes) ∷ xs) = acts_no_connect xs
+  acts_no_connect (act.Called path call ∷ xs) = acts_no_connect xs
 
   pub acts_uncut : (xs : List Act) (k : TakenCounts) (rest : List Item) → cut_in k (items xs ++ rest) ≡ cut_in k rest
   acts_uncut [] k rest = t.uncut k rest

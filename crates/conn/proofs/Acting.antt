@@ -17,7 +17,7 @@ use Rattle.conn.specs.declared.connection.Conn.{Conn}
 use Rattle.conn.specs.declared.host.RuleHost.{RuleHost}
 use Rattle.conn.specs.declared.turn.Act as code
 use Rattle.conn.specs.declared.turn.Act.TheVariants as done
-use Rattle.conn.proofs.ActItems.{Silent, acts_met, acts_output, acts_noted, acts_choices, acts_uncut, acts_server, acts_number}
+use Rattle.conn.proofs.ActItems.{Silent, acts_met, acts_output, acts_noted, acts_choices, acts_no_connect, acts_uncut, acts_server, acts_number}
 use Rattle.conn.proofs.Giving.{Gave}
 
 -- where it stands behind what an action gave
@@ -66,5 +66,6 @@ acts_gave g a l at c old new xs tail t h made u stands server cut =
       queue = queue;
       noted = sym (acts_noted c 0 a.took tail t xs);
       choices = acts_choices c 0 a.took tail t xs;
+      no_connect = acts_no_connect c 0 a.took tail t xs;
       uncut = acts_uncut c 0 a.took tail t xs;
     }

@@ -72,6 +72,7 @@ module _ (s : code_setup.Setup) (g : Setup) (serves : Serves s g) (a : Around) (
         open_now = gate_is g a l old h ∙ room;
         silent = refl;
         choice = refl;
+        no_connect = refl;
         uncut = λ t later. refl;
         stands = subst S (sym starts.there) (subst R (sym e) body, starts.fresh.runs);
         sent = refl;
@@ -134,6 +135,7 @@ module _ (s : code_setup.Setup) (g : Setup) (serves : Serves s g) (a : Around) (
         open_now = refl;
         silent = refl;
         choice = refl;
+        no_connect = refl;
         uncut = λ t later. refl;
         stands = f.0;
         sent = refl;
@@ -153,6 +155,7 @@ module _ (s : code_setup.Setup) (g : Setup) (serves : Serves s g) (a : Around) (
         open_now = refl;
         silent = refl;
         choice = refl;
+        no_connect = refl;
         uncut = λ t later. refl;
         stands = subst P (ap seen_host k.host) (entered_stands s g serves Failed new k.there l (st.1.vars ∙ sym k.vars) st.1.replies unasked);
         sent = refl;
@@ -189,6 +192,7 @@ module _ (s : code_setup.Setup) (g : Setup) (serves : Serves s g) (a : Around) (
         open_now = refl;
         silent = refl;
         choice = refl;
+        no_connect = refl;
         uncut = λ t later. uncut_by f t later;
         stands = subst P (ap seen_host k.host) (next_stands s g serves Closed 0 k.mid new k.begins l' (b.vars ∙ sym k.vars) b.replies unasked true);
         sent = refl;

@@ -16,6 +16,7 @@ use Rattle.connection_model.proofs.Querying.{met_joins}
 use Rattle.connection_model.proofs.Unfolding.{unfolds_on, unfolds_one}
 use Rattle.conn.specs.Holds.{Around, Stands, Holds}
 use Rattle.conn.specs.Hosts.{AsksNothing}
+use Rattle.conn.specs.RunsItems.{sought, connects_in}
 use Rattle.conn.specs.declared.connection.Conn.{Conn}
 
 -- the connection went on by these items, with these notes
@@ -27,10 +28,11 @@ pub record Gave (g : Setup) (a : Around) (l at : TraceState) (c : ℕ) (old new 
   pub queue : new.host.to_client ≡ old.host.to_client ++ client_output more
   pub noted : group ≡ notes_of c more
   pub choices : choices_in more ≡ []
+  pub no_connect : connects_in more ≡ []
   pub uncut : (t : TakenCounts) (rest : List Item) → cut_in t (more ++ rest) ≡ cut_in t rest
 
 pub gave_none : (g : Setup) (a : Around) (l : TraceState) (c : ℕ) (old : Conn) → Holds g a l old → Gave g a l l c old old []
-gave_none g a l c old h = record { more = []; passed = refl; met = tt; holds = h; queue = sym (append-nil old.host.to_client); noted = refl; choices = refl; uncut = λ t rest. refl }
+gave_none g a l c old h = record { more = []; passed = refl; met = tt; holds = h; queue = sym (append-nil old.host.to_client); noted = refl; choices = refl; no_connect = refl; uncut = λ t rest. refl }
 
 pub gave_more : (g : Setup) (a : Around) (l m at : TraceState) (c : ℕ) (old mid new : Conn) (first second : List Note) → Gave g a l m c old mid first → Gave g a m at c mid new second → Gave g a l at c old new (first ++ second)
 gave_more g a l m at c old mid new first second p q =
@@ -44,6 +46,7 @@ gave_more g a l m at c old mid new first second p q =
           ∙ ap (λ x. old.host.to_client ++ x) (sym (flat_map-append to_client p.more q.more));
       noted = ap (λ x. x ++ second) p.noted ∙ ap (λ x. notes_of c p.more ++ x) q.noted ∙ sym (flat_map-append (note_of c) p.more q.more);
       choices = flat_map-append (λ i. listed (shown i).choice) p.more q.more ∙ ap (λ x. x ++ choices_in q.more) p.choices ∙ q.choices;
+      no_connect = flat_map-append sought p.more q.more ∙ ap (λ x. x ++ connects_in q.more) p.no_connect ∙ q.no_connect;
       uncut = λ t rest. ap (cut_in t) (append_assoc p.more q.more rest) ∙ p.uncut t (q.more ++ rest) ∙ q.uncut t rest;
     }
 
@@ -54,6 +57,7 @@ pub record OneItem (g : Setup) (a : Around) (l : TraceState) (old new : Conn) (i
   pub open_now : may_give i l.sent a.took ≡ true
   pub silent : to_client i ≡ []
   pub choice : choices_in (i ∷ []) ≡ []
+  pub no_connect : connects_in (i ∷ []) ≡ []
   pub uncut : (t : TakenCounts) (later : Option Cut) → cut_for (shown i).reason t later ≡ later
   pub stands : Stands g new.stage at new
   pub sent : at.sent ≡ l.sent
@@ -81,6 +85,7 @@ gave_one g a l c old new i h o = record {
   queue = o.queue ∙ sym (ap (λ x. old.host.to_client ++ x) (ap (λ x. x ++ []) o.silent) ∙ append-nil old.host.to_client);
   noted = sym (append-nil (note_of c i));
   choices = o.choice;
+  no_connect = o.no_connect;
   uncut = λ t rest. o.uncut t (cut_in t rest);
 }
 

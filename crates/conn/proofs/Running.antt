@@ -57,6 +57,7 @@ passes_of g a l at c old new group none p = record {
   passed = as_taken g a l at c old new group none p;
   met = p.met;
   uncut = λ t. ap (cut_in t) (sym (append-nil p.more)) ∙ p.uncut t [];
+  no_connect = p.no_connect;
   no_server = p.holds.none_sent;
 }
 

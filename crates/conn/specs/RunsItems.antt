@@ -2,12 +2,14 @@
 -- scheduler's move alike.
 use Rattle.std.specs.Prelude.{◌≡◌, ℕ, List, [], ◌∷◌, ◌++◌, Bool, true, false, ◌&&◌, nat_eq}
 use Rattle.std.specs.Prelude.{if◌then◌else◌, None}
+use Rattle.std.specs.List.{flat_map}
+use Rattle.px_bytes.specs.declared.addr.Addr.{Addr}
 use Rattle.px_bytes.specs.declared.addr.Side.TheVariants.{Client, Server}
 use Rattle.connection_model.specs.declared.note.Cause.TheVariants.{Memory}
 use Rattle.connection_model.specs.declared.note.Note.{Note}
 use Rattle.connection_model.specs.declared.note.Note.TheVariants.{Finish, CloseClient, Ended}
 use Rattle.connection_model.specs.Gates.{TakenCounts, to_take, Met}
-use Rattle.connection_model.specs.Item.{Item, notes_of}
+use Rattle.connection_model.specs.Item.{Item, Connected, notes_of}
 use Rattle.connection_model.specs.Further.{longer}
 use Rattle.connection_model.specs.HeardLaws.{cut_in, taken_by_items}
 use Rattle.connection_model.specs.Setup.{Setup}
@@ -52,13 +54,23 @@ abbrev pub asks : ConnTurn → Bool
 asks (turn.Asks call) = true
 asks other = false
 
+-- the servers that items ask for a connection
+abbrev pub sought : Item → List Addr
+sought (Connected to) = to ∷ []
+sought other = []
+
+abbrev pub connects_in : List Item → List Addr
+connects_in items = flat_map sought items
+
 -- From l these items came, on the choices that they took, and each was let through its gate; then
--- it stands at `at`. No cut is among them, and nothing was sent to a server.
+-- it stands at `at`. No cut is among them, no server is asked for a connection, and nothing was
+-- sent to one.
 pub record Passes (g : Setup) (took : TakenCounts) (l : TraceState) (more : List Item)
     (at : TraceState) : Type 0 where
   pub passed : Unfolds g (longer (taken_by_items took more) l) more at
   pub met : Met l.sent took more
   pub uncut : (t : TakenCounts) → cut_in t more ≡ None
+  pub no_connect : connects_in more ≡ []
   pub no_server : at.sent.server ≡ 0
 
 -- It gave these items, and stops there; its notes are those of the items, and then the last ones

@@ -1,11 +1,13 @@
 //! What one connection does, from its streams and recorded answers: the definition and its laws.
 #![tactic(auto)]
 
+mod edges;
 mod host;
 mod laws;
 mod note;
 mod uncaught;
 
+pub use edges::{Edge, EdgeState, Edges};
 pub use host::is_there;
 pub use laws::{
     choices_join, client_is_read, comes_where_it_arrives, cut_ends, cut_keeps_given, cut_waits,

@@ -35,7 +35,7 @@ open_same C past s core c r = by_live (is_in (shared past).live c) refl
     by_live true e =
         let f = live_present c core.live.items (ap (λ y. is_in y.live c) r.agrees.shared ∙ e) in
         let a = let P : Option Live → Type 0 = λ o. AgreesAt C (seen past s c) o in subst P f.1 (r.agrees.each c) in
-        let p = pending_same C c (seen past s c) f.0.conn (as_live C c (seen past s c) e (r.sound.each c)) a.1 in
+        let p = pending_same C c (seen past s c) f.0.conn (as_live C c (seen past s c) e (r.sound.each c)) a.continues in
         ap (open_if_live c) f.1 ∙ ap (λ n. open_text c n (pending_on Server f.0.conn)) (to_client f.0.conn ∙ p.0) ∙ ap (open_text c (pending past s c Client)) (none_to_server f.0.conn)
     by_live false e = ap (open_if_live c) (live_absent c core.live.items (ap (λ y. is_in y.live c) r.agrees.shared ∙ e))
 

@@ -7,7 +7,7 @@ use Rattle.proxy_core.specs.Scheduler.{State}
 use Rattle.proxy_core.specs.declared.config.Config.{Config}
 use Rattle.proxy_core.specs.declared.core_state.Core.{Core}
 use Rattle.proxy_core.specs.declared.event.Event.{Event}
-use Rattle.proxy_core.specs.declared.event.Event.TheVariants.{Accept, ClientTook, Run}
+use Rattle.proxy_core.specs.declared.event.Event.TheVariants.{Accept}
 use Rattle.proxy.specs.declared.replay.Stop.{Stop}
 use Rattle.proxy.specs.declared.replay.Stop.TheVariants as stop
 use Rattle.proxy.specs.declared.schedule.LineFault.{LineFault}
@@ -52,8 +52,7 @@ none_accepted (x ∷ past) e = by_event x.event (none_accepted past) e
   where
     by_event : (y : Event) → (accepted past ≡ [] → accepted_in (events_of past) ≡ []) → with_accepted (kind_of y) (accepted past) ≡ [] → accepted_in (y ∷ events_of past) ≡ []
     by_event (Accept conn vs from) rest f = absurd (none_pushed (accepted past) conn f)
-    by_event (ClientTook conn n) rest f = rest f
-    by_event Run rest f = rest f
+    by_event other rest f = rest f
 
 none_in : (past : Past) → accepted_in (events_of past) ≡ [] → accepted past ≡ []
 none_in [] e = refl
@@ -61,8 +60,7 @@ none_in (x ∷ past) e = by_event x.event (none_in past) e
   where
     by_event : (y : Event) → (accepted_in (events_of past) ≡ [] → accepted past ≡ []) → accepted_in (y ∷ events_of past) ≡ [] → with_accepted (kind_of y) (accepted past) ≡ []
     by_event (Accept conn vs from) rest f = cc
-    by_event (ClientTook conn n) rest f = rest f
-    by_event Run rest f = rest f
+    by_event other rest f = rest f
 
 none_taken : (past : Past) (s : State) (numbers : List ℕ) → taken_of past s numbers ≡ [] → numbers ≡ []
 none_taken past s [] e = refl
@@ -71,14 +69,12 @@ none_taken past s (c ∷ numbers) e = cc
 pub follows : (past : Past) (s : State) (taken : List Taken) (event : Event) → taken ≡ taken_of past s (accepted past) → is_second event taken ≡ false → MayFollow (events_of past) event
 follows past s [] (Accept conn vs from) e h = none_accepted past (none_taken past s (accepted past) (sym e))
 follows past s (t ∷ taken) (Accept conn vs from) e h = cc
-follows past s taken (ClientTook conn n) e h = tt
-follows past s taken Run e h = tt
+follows past s taken other e h = tt
 
 pub second : (past : Past) (s : State) (taken : List Taken) (event : Event) → taken ≡ taken_of past s (accepted past) → is_second event taken ≡ true → MayFollow (events_of past) event → ⊥
 second past s [] (Accept conn vs from) e h m = cc
 second past s (t ∷ taken) (Accept conn vs from) e h m = (let k : t ∷ taken ≡ [] = e ∙ ap (taken_of past s) (none_in past m) in cc)
-second past s taken (ClientTook conn n) e h m = cc
-second past s taken Run e h m = cc
+second past s taken other e h m = cc
 
 -- a stop at the event of a line is one at the line
 pub at_line : (C : Config) (text line : List ℕ) (number at : ℕ) (event : Event) (core : Core) (taken : List Taken) (events : ℕ) (old new : Option (List ℕ)) (why : Stop) → StoppedAtEvent C text line number at event core taken events old new why → StoppedAtLine C text line number at core taken events old new why

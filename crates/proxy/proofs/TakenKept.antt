@@ -15,14 +15,14 @@ use Rattle.px_bytes.specs.declared.addr.Side.TheVariants.{Client}
 use Rattle.connection_model.specs.declared.note.Cause.TheVariants.{Memory}
 use Rattle.connection_model.specs.declared.note.Note.{Note}
 use Rattle.connection_model.specs.declared.note.Note.TheVariants.{Finish}
-use Rattle.connection_model.specs.Heard.{Takes, Accepts, Comes, Runs, Accepted}
+use Rattle.connection_model.specs.Heard.{Takes, Accepts, Comes, Runs, Ticks, Turns, Accepted, Heard, hears}
 use Rattle.connection_model.specs.Item.{Item, to_client, client_output}
 use Rattle.connection_model.proofs.Hearing.{others_not_heard}
 use Rattle.conn.specs.declared.connection.Conn.{Conn}
 use Rattle.proxy_core.specs.Live.{pending_in, queue_of}
-use Rattle.proxy_core.specs.Moves.{Leads, Moves, MovesFailed, MovesOn}
+use Rattle.proxy_core.specs.Moves.{Leads, Moves, Rests, MovesFailed, MovesOn}
 use Rattle.proxy_core.specs.Moves.{MovesRing, RunsOn, RunsOut, RunsFailed}
-use Rattle.proxy_core.specs.Past.{Happened, Past, kind_of, heard, shared}
+use Rattle.proxy_core.specs.Past.{Happened, Past, kind_of, heard, with_accepted, shared}
 use Rattle.proxy_core.specs.Queries.{front_of, front_in, queue_on}
 use Rattle.proxy_core.specs.Ready.{is_in}
 use Rattle.proxy_core.specs.Refusal.{known, core_standing, core_known, refusal_rows, takes_too_much}
@@ -34,7 +34,8 @@ use Rattle.proxy_core.specs.Sound.{unseen, Served}
 use Rattle.proxy_core.specs.declared.config.Config.{Config}
 use Rattle.proxy_core.specs.declared.core_state.Core.{Core}
 use Rattle.proxy_core.specs.declared.event.Event.{Event}
-use Rattle.proxy_core.specs.declared.event.Event.TheVariants.{Accept, ClientTook, Run}
+use Rattle.proxy_core.specs.declared.event.Event.TheVariants.{Accept, Tick, Turn, ClientTook, Run, Mark}
+use Rattle.proxy_core.specs.declared.event.BadEvent.TheVariants.{NoMember}
 use Rattle.proxy_core.specs.declared.live.Live.{Live}
 use Rattle.proxy_core.proofs.Framing.{about, front, touches, only_changed}
 use Rattle.proxy_core.proofs.GroupNotes.{About}
@@ -74,8 +75,7 @@ rises_with C past (Accept c vs from) group s r h =
     by_number : (q : ℕ) (b : Bool) → nat_eq q c ≡ b → is_in (accepted past ++ c ∷ []) q ≡ true → (shared past).last < c → q ≤ c
     by_number q true e k low = let f = eq_same q c e in omega (arith, f)
     by_number q false e k low = let f = r.known q (sym (in_pushed_other c q (accepted past) e) ∙ k) in omega (arith, f, low)
-rises_with C past (ClientTook c n) group s r h = record { known = r.known; distinct = r.distinct }
-rises_with C past Run group s r h = record { known = r.known; distinct = r.distinct }
+rises_with C past other group s r h = record { known = r.known; distinct = r.distinct }
 
 pub rising : (C : Config) (past : Past) (s : State) → Leads C past s → Rising past
 rising C [] s leads = record { known = λ q h. cc; distinct = distinct_none }
@@ -174,7 +174,7 @@ one_more past past' s s' c bytes (q ∷ numbers) d others own = by_number (nat_e
 live_pending : (core : Core) (c n : ℕ) → refusal core (ClientTook c n) ≡ None → (l : Live) × (live_at core.live.items c ≡ Some l) × (n ≤ pending_in l.conn)
 live_pending core c n h =
     let v = Comes c (Takes Client n) in
-    let r = none_holds (refusal_rows core.config (core_known core v) v) h in by_live (live_at core.live.items c) refl r.0 r.1.1.1.1.0
+    let r = none_holds (refusal_rows core.config (core_known core v) v) h in by_live (live_at core.live.items c) refl r.0 r.1.1.1.1.1.1.1.0
   where
     by_live : (o : Option Live) → live_at core.live.items c ≡ o → is_none (core_standing o) ≡ false → takes_too_much (core_standing o) (Takes Client n) ≡ false → (l : Live) × (live_at core.live.items c ≡ Some l) × (n ≤ pending_in l.conn)
     by_live None e k t = cc
@@ -213,7 +213,7 @@ took_kept C past s next core c n group r fine h m =
     let took : (heard c (x ∷ past)).client.took ≡ (heard c past).client.took + n = (come_told c (heard c past) (Takes Client n) group refl may.served.plain.connects (touches C past (Comes c (Takes Client n)) group s next m).notes).took in
     let own : taken_bytes (x ∷ past) next c ≡ taken_bytes past s c ++ bytes =
     ap (λ p. take (heard c (x ∷ past)).client.took (client_output p)) (same_places C past s next c n group m c) ∙ ap (λ t. take t out) took ∙ sym (more_taken (heard c past).client.took n out)
-    ∙ ap (λ q. take (heard c past).client.took out ++ take n q) (sym (queue_is C z f.0.conn a.1)) in
+    ∙ ap (λ q. take (heard c past).client.took out ++ take n q) (sym (queue_is C z f.0.conn a.continues)) in
     ap (λ o. with_took (more_of c o) (taken_of past s (accepted past))) front
     ∙ one_more past (x ∷ past) s next c bytes (accepted past) (rising C past s r.sound.leads).distinct
     (λ q e. bytes_stay C past s next (ClientTook c n) group m q (eq_turned q c e))
@@ -253,9 +253,18 @@ run_bytes C past s next core group r m (c ∷ rest) e k q = by_number (nat_eq c 
         let P : ℕ → Type 0 = λ n. taken_bytes (x ∷ past) next n ≡ taken_bytes past s n in subst P (eq_same c q f) (front_bytes C past s next c rest group v.1 e m k)
     by_number false f = bytes_stay C past s next Run group m q (ap (λ n. nat_eq n q) (ap front e) ∙ f)
 
+-- where nothing changes what each took stays
+rests_kept : (past : Past) (s next : State) (e : Event) (group : List Note) → Rests group s next → with_accepted (kind_of e) (shared past).live ≡ (shared past).live → ((q : ℕ) (h : Heard) → hears q h (kind_of e) [] ≡ h)
+    → taken_of past s (accepted past) ≡ taken_of (record { event = e; group = group } ∷ past) next (accepted past)
+rests_kept past s next e group m live none = sym (same_each past (record { event = e; group = group } ∷ past) s next (accepted past) (λ q. ap bytes_seen (unchanged past (kind_of e) group s next q m (none q) live)))
+
 -- what clients took is kept over each event
 pub taken_kept : (C : Config) (past : Past) (s next : State) (core : Core) (e : Event) (group : List Note) → Represents C past s core → refused C past s (kind_of e) ≡ None → refusal core e ≡ None → Moves C past (record { event = e; group = group }) s next
     → with_took (took_of core e) (taken_of past s (accepted past)) ≡ taken_of (record { event = e; group = group } ∷ past) next (accepted (record { event = e; group = group } ∷ past))
 taken_kept C past s next core (Accept c vs from) group r h k m = accept_kept C past s next core c vs from group r h m
 taken_kept C past s next core (ClientTook c n) group r h k m = took_kept C past s next core c n group r h k m
+taken_kept C past s next core (Tick moment) group r h k m = rests_kept past s next (Tick moment) group m refl (λ q y. others_not_heard q y (Ticks moment) [] refl refl)
+taken_kept C past s next core Turn group r h k m = rests_kept past s next Turn group m refl (λ q y. others_not_heard q y Turns [] refl refl)
 taken_kept C past s next core Run group r h k m = sym (same_each past (record { event = Run; group = group } ∷ past) s next (accepted past) (run_bytes C past s next core group r m s.ring refl m))
+taken_kept C past s next core (Mark pool member up) group r h k m = absurd (let x : Some NoMember ≡ None = k in cc)
+taken_kept C past s next core other group r h k m = absurd m

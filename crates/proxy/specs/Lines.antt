@@ -6,7 +6,7 @@ use Rattle.proxy_core.specs.Refusal.{refused}
 use Rattle.proxy_core.specs.Scheduler.{State}
 use Rattle.proxy_core.specs.declared.config.Config.{Config}
 use Rattle.proxy_core.specs.declared.event.Event.{Event}
-use Rattle.proxy_core.specs.declared.event.Event.TheVariants.{Accept, ClientTook, Run}
+use Rattle.proxy_core.specs.declared.event.Event.TheVariants.{Accept}
 use Rattle.proxy_core.specs.declared.event.BadEvent.{BadEvent}
 use Rattle.journal_text.specs.Line.{IsSkipped}
 use Rattle.proxy.specs.Schedule.{SpellsEvent}
@@ -29,14 +29,12 @@ lines_text (line ∷ lines) = lines_text lines ++ (line ++ 10 ∷ [])
 abbrev pub accepted_in : List Event → List ℕ
 accepted_in [] = []
 accepted_in (Accept conn vs from ∷ events) = conn ∷ accepted_in events
-accepted_in (ClientTook conn n ∷ events) = accepted_in events
-accepted_in (Run ∷ events) = accepted_in events
+accepted_in (other ∷ events) = accepted_in events
 
 -- today a schedule has one connection at most
 abbrev pub MayFollow : List Event → Event → Type 0
 MayFollow before (Accept conn vs from) = accepted_in before ≡ []
-MayFollow before (ClientTook conn n) = Unit {0}
-MayFollow before Run = Unit {0}
+MayFollow before other = Unit {0}
 
 -- the line isn't skipped, and spells this event, which may stand behind those before
 pub record Gives (line : List ℕ) (before : List Event) (event : Event) : Type 0 where

@@ -1,8 +1,8 @@
--- The lines of a schedule whose events the core of today takes: `accept C NAME A.B.C.D P`,
--- `client-took C N` and `run`.
+-- The lines of a schedule whose events the core of today takes: all but `client`, `client-end` and
+-- `client-reset`.
 use Rattle.std.specs.Prelude.{ℕ, ◌<◌, List}
 use Rattle.proxy_core.specs.declared.event.Event.{Event}
-use Rattle.proxy_core.specs.declared.event.Event.TheVariants.{Accept, ClientTook, Run}
+use Rattle.proxy_core.specs.declared.event.Event.TheVariants as event
 use Rattle.journal_text.specs.Line.{SpellsEvent as Spells}
 use Rattle.journal_text.specs.declared.event.Event.{Event as Lined}
 use Rattle.journal_text.specs.declared.event.Event.TheVariants as lined
@@ -13,14 +13,23 @@ use Rattle.proxy.specs.declared.schedule.LineFault.TheVariants as fault
 
 -- the event among those of a schedule
 abbrev pub as_lined : Event → Lined
-as_lined (Accept conn vs from) = lined.Accept conn vs from
-as_lined (ClientTook conn n) = lined.ClientTook conn n
-as_lined Run = lined.Run
+as_lined (event.Accept conn vs from) = lined.Accept conn vs from
+as_lined (event.Connected conn) = lined.Connected conn
+as_lined (event.Refused conn) = lined.Refused conn
+as_lined (event.FromServer conn bytes) = lined.FromServer conn bytes
+as_lined (event.ServerEnd conn) = lined.ServerEnd conn
+as_lined (event.ServerReset conn) = lined.ServerReset conn
+as_lined (event.ClientTook conn n) = lined.ClientTook conn n
+as_lined (event.ServerTook conn n) = lined.ServerTook conn n
+as_lined (event.Tick moment) = lined.Tick moment
+as_lined event.Turn = lined.Turn
+as_lined event.Run = lined.Run
+as_lined (event.Mark pool member up) = lined.Mark pool member up
 
 -- the number of an accepted connection isn't 0
 abbrev pub IsNumbered : Event → Type 0
-IsNumbered (Accept conn vs from) = 0 < conn
-IsNumbered event = Unit {0}
+IsNumbered (event.Accept conn vs from) = 0 < conn
+IsNumbered other = Unit {0}
 
 -- the line is that of the event
 pub record SpellsEvent (line : List ℕ) (event : Event) : Type 0 where

@@ -4,7 +4,7 @@ use Rattle.std.specs.Prelude.{if◌then◌else◌}
 use Rattle.px_bytes.specs.declared.addr.Side.TheVariants.{Client}
 use Rattle.proxy_core.specs.declared.core_state.Core.{Core}
 use Rattle.proxy_core.specs.declared.event.Event.{Event}
-use Rattle.proxy_core.specs.declared.event.Event.TheVariants.{Accept, ClientTook, Run}
+use Rattle.proxy_core.specs.declared.event.Event.TheVariants.{Accept, ClientTook}
 use Rattle.proxy_core.specs.Refusals.{live_at}
 use Rattle.proxy_core.specs.Queries.{front_of}
 use Rattle.proxy.specs.declared.taken.Taken.{Taken}
@@ -20,7 +20,7 @@ more_of conn (Some bytes) = More conn bytes
 abbrev pub took_of : Core → Event → Took
 took_of core (Accept conn vs from) = Begins conn
 took_of core (ClientTook conn n) = more_of conn (front_of Client n (live_at core.live.items conn))
-took_of core Run = Nothing
+took_of core other = Nothing
 
 -- the bytes of one client, with more behind them
 abbrev pub with_bytes : ℕ → List ℕ → List Taken → List Taken
@@ -39,5 +39,4 @@ with_took (More conn bytes) all = with_bytes conn bytes all
 abbrev pub is_second : Event → List Taken → Bool
 is_second (Accept conn vs from) [] = false
 is_second (Accept conn vs from) (t ∷ taken) = true
-is_second (ClientTook conn n) taken = false
-is_second Run taken = false
+is_second other taken = false

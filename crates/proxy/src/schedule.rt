@@ -49,8 +49,17 @@ fn core_event(event: Lined) -> Option<Event>
             }
             Some(Event::Accept { conn, vs, from })
         }
+        Lined::Connected { conn } => Some(Event::Connected { conn }),
+        Lined::Refused { conn } => Some(Event::Refused { conn }),
+        Lined::FromServer { conn, bytes } => Some(Event::FromServer { conn, bytes }),
+        Lined::ServerEnd { conn } => Some(Event::ServerEnd { conn }),
+        Lined::ServerReset { conn } => Some(Event::ServerReset { conn }),
         Lined::ClientTook { conn, n } => Some(Event::ClientTook { conn, n }),
+        Lined::ServerTook { conn, n } => Some(Event::ServerTook { conn, n }),
+        Lined::Tick { moment } => Some(Event::Tick { moment }),
+        Lined::Turn => Some(Event::Turn),
         Lined::Run => Some(Event::Run),
+        Lined::Mark { pool, member, up } => Some(Event::Mark { pool, member, up }),
         _ => None,
     }
 }

@@ -33,7 +33,7 @@ pub fn took_by(core: &Core, event: &Event) -> M<Took>
             Some(bytes) => Took::More(*conn, bytes),
             None => Took::Nothing,
         },
-        Event::Run => Took::Nothing,
+        _ => Took::Nothing,
     })
 }
 

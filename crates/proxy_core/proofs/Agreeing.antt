@@ -14,10 +14,10 @@ use Rattle.conn.specs.declared.connection.Conn.{Conn}
 use Rattle.proxy_core.specs.Changes as code
 use Rattle.proxy_core.specs.Live.{SamePlace}
 use Rattle.proxy_core.specs.Moves.{MovesBy}
-use Rattle.proxy_core.specs.Past.{Past, ended_in, without_all, with_accepted, last_after, Shared, shared, shared_after}
+use Rattle.proxy_core.specs.Past.{Past, ended_in, without_all, with_accepted, last_after, moment_after, Shared, shared, shared_after}
 use Rattle.proxy_core.specs.Ready.{numbers, is_in, without}
 use Rattle.proxy_core.specs.Refusals.{live_at, virtual_place}
-use Rattle.proxy_core.specs.Represents.{around, ConnectionContinues, AgreesAt, AgreesBy, Represents}
+use Rattle.proxy_core.specs.Represents.{around, ConnectionContinues, AgreesLive, AgreesAt, AgreesBy, Represents}
 use Rattle.proxy_core.specs.Scheduler.{State, Seen, seen_after}
 use Rattle.proxy_core.specs.Serving.{Serves}
 use Rattle.proxy_core.specs.Setup.{statics_of, setup_of, stand_of, rules_in, handlers_in, setup_in, port_in}
@@ -28,7 +28,9 @@ use Rattle.px_bytes.specs.declared.addr.Addr.{Addr}
 use Rattle.tcl_vars.specs.Scopes.{Level}
 use Rattle.connection_model.specs.declared.note.Cause.TheVariants.{Memory}
 use Rattle.connection_model.specs.declared.note.Note.TheVariants.{Finish}
-use Rattle.proxy_core.specs.Refusal.{refused}
+use Rattle.proxy_core.specs.Refusal.{edges_in, refused}
+use Rattle.connection_model.specs.declared.edges.EdgeState.TheVariants.{Open}
+use Rattle.connection_model.specs.Edges.{edge}
 use Rattle.proxy_core.proofs.Framing.{about, touches, only_changed, each_by}
 use Rattle.proxy_core.proofs.LiveLookups.{live_absent, live_set_self, live_set_other, live_removed_other, numbers_removed, live_pushed_other, live_pushed_self}
 use Rattle.proxy_core.proofs.Members.{not_in_without}
@@ -47,25 +49,26 @@ pub record After (C : Config) (past : Past) (s : State) (v : EventKind) (group :
 
 -- every event: what its own connection owes is enough
 pub assemble : (C : Config) (past : Past) (s next : State) (v : EventKind) (group : List Note) (old new : Core) → Represents C past s old → MovesBy C past v group s next → code.KeepsConfig old new
-    → new.last ≡ last_after v old.last → numbers new.live.items ≡ without_all (ended_in group) (with_accepted v (numbers old.live.items)) → new.live.ring ≡ next.ring
+    → new.last ≡ last_after v old.last → new.moment ≡ moment_after v old.moment → numbers new.live.items ≡ without_all (ended_in group) (with_accepted v (numbers old.live.items)) → new.live.ring ≡ next.ring
     → ((q : ℕ) → nat_eq (about v s) q ≡ false → live_at new.live.items q ≡ live_at old.live.items q)
     → AgreesAt C (seen_after past v group next (about v s)) (live_at new.live.items (about v s)) → After C past s v group new
-assemble C past s next v group old new r moves keeps last live ring others own =
-    let make : ℕ → List ℕ → Shared = λ l ns. record { last = l; live = ns } in
+assemble C past s next v group old new r moves keeps last moment live ring others own =
+    let make : ℕ → ℕ → List ℕ → Shared = λ l m ns. record { last = l; moment = m; live = ns } in
     record {
       next = next;
       moves = moves;
       agrees = record {
         config = keeps.config ∙ r.agrees.config;
         statics = ap (λ x. x.statics) keeps.statics ∙ r.agrees.statics;
-        shared = ap (λ l. make l (numbers new.live.items)) last ∙ ap (make (last_after v old.last)) live ∙ ap (shared_after v group) r.agrees.shared;
+        shared = ap (λ l. make l new.moment (numbers new.live.items)) last ∙ ap (λ m. make (last_after v old.last) m (numbers new.live.items)) moment ∙ ap (make (last_after v old.last) (moment_after v old.moment)) live
+            ∙ ap (shared_after v group) r.agrees.shared;
         ring = ring;
         each = each_by (λ q z o. AgreesAt C z o) (λ q. live_at old.live.items q) (λ q. live_at new.live.items q) (about v s) past v group s next (only_changed past v group s next (touches C past v group s next moves)) others r.agrees.each own;
       };
     }
 
 -- its own live connection
-pub its : (C : Config) (z : Seen) (o : Option Live) (l : Live) → AgreesAt C z o → o ≡ Some l → (z.live ≡ true) × ConnectionContinues C z l.conn × Serves C (statics_of C) l.vs (setup_of C z.heard)
+pub its : (C : Config) (z : Seen) (o : Option Live) (l : Live) → AgreesAt C z o → o ≡ Some l → AgreesLive C z l
 its C z o l a e = let P : Option Live → Type 0 = λ y. AgreesAt C z y in subst P e a
 
 -- the numbers of the live connections are distinct
@@ -98,9 +101,9 @@ pub closing_live : (over : Bool) (c : ℕ) (live : List ℕ) → without_all (en
 closing_live true c live = refl
 closing_live false c live = refl
 
-pub is_live_over : (c : ℕ) (over : Bool) (olds news : List Live) (after : Live) (z : Seen) (C : Config) → OneChanged c over olds news after → z.live ≡ not over → (over ≡ false → ConnectionContinues C z after.conn) → (over ≡ false → Serves C (statics_of C) after.vs (setup_of C z.heard)) → AgreesAt C z (live_at news c)
-is_live_over c true olds news after z C o live k s = let P : Option Live → Type 0 = λ x. AgreesAt C z x in subst P (sym o.own) live
-is_live_over c false olds news after z C o live k s = let P : Option Live → Type 0 = λ x. AgreesAt C z x in subst P (sym o.own) (live, k refl, s refl)
+pub is_live_over : (c : ℕ) (over : Bool) (olds news : List Live) (after : Live) (z : Seen) (C : Config) → OneChanged c over olds news after → z.live ≡ not over → (over ≡ false → ConnectionContinues C z after.conn) → (over ≡ false → Serves C (statics_of C) after.vs (setup_of C z.heard)) → (over ≡ false → z.heard.edges ≡ edges_in after) → AgreesAt C z (live_at news c)
+is_live_over c true olds news after z C o live k s e = let P : Option Live → Type 0 = λ x. AgreesAt C z x in subst P (sym o.own) live
+is_live_over c false olds news after z C o live k s e = let P : Option Live → Type 0 = λ x. AgreesAt C z x in subst P (sym o.own) (record { live = live; continues = k refl; serves = s refl; edges = e refl })
 
 -- what goes on is what was told of it
 pub to_standing : (C : Config) (h : Heard) (g : Setup) (place : List Item) (at : TraceState) (conn : Conn) → setup_of C h ≡ g → Unfolds g (start_of g h) place at → Holds g (around h) at conn → Holds (setup_of C h) (around h) (stand_of C h place) conn
@@ -147,7 +150,7 @@ accepts C past s old new c vs from group r h k =
     let a : Accepted = record { virtual = vs; from = from } in
     let u = not_accepted C past c vs from s r.sound h in
     let failed = not (is_some k.conn) in
-    let l : Live = record { number = c; vs = k.place; from = from; conn = k.conn } in
+    let l : Live = record { number = c; vs = k.place; from = from; client = edge Open; conn = k.conn } in
     let next : State = record s { ring = s.ring ++ c ∷ [] } in
     let place_is : virtual_place C vs ≡ Some k.place = ap (λ D. virtual_place D vs) (sym r.agrees.config) ∙ k.virtual in
     let D : Config → Type 0 = λ x. code.BeginsAt (statics_of C) x c k.place from k.conn group in
@@ -158,8 +161,8 @@ accepts C past s old new c vs from group r h k =
     let there : live_at new.live.items c ≡ Some l = ap (λ ls. live_at ls c) k.live ∙ live_pushed_self old.live.items l absent in
     let P : Seen → Type 0 = λ z. AgreesAt C z (live_at new.live.items c) in
     let Q : Option Live → Type 0 = λ o. AgreesAt C (fresh c a failed) o in
-    assemble C past s next v group old new r moves k.keeps k.last
+    assemble C past s next v group old new r moves k.keeps k.last k.moment
     (ap numbers k.live ∙ numbers_push old.live.items l ∙ sym (first_live c failed group (numbers old.live.items ++ c ∷ []) b.0))
     (k.ring ∙ ap (λ ns. ns ++ c ∷ []) r.agrees.ring)
     (λ q e. ap (λ ls. live_at ls q) k.live ∙ live_pushed_other q old.live.items l e)
-    (subst P (sym (seen_accept past c a failed group s next u b.0 refl)) (subst Q (sym there) (refl, b.1, serves_named C vs from k.place place_is)))
+    (subst P (sym (seen_accept past c a failed group s next u b.0 refl)) (subst Q (sym there) (record { live = refl; continues = b.1; serves = serves_named C vs from k.place place_is; edges = refl })))

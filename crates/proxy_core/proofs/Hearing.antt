@@ -33,12 +33,14 @@ unmarked : (h : Heard) → h.connects ≡ [] → Marked h h 0
 unmarked h e = record { accepted = refl; took = omega arith; reset = refl; connects = e; replies = refl; cut = refl; finished = refl; failed = refl; notes = refl }
 
 marks_few : (input : Input) (h : Heard) → may_come input ≡ true → h.connects ≡ [] → Marked h (marks input h) (taken_more input)
-marks_few (Bytes side bytes) h m e = unmarked h e
-marks_few (Ends side) h m e = unmarked h e
-marks_few (Resets side) h m e = cc
-marks_few (Connects made) h m e = cc
+marks_few (Bytes Client bytes) h m e = unmarked h e
+marks_few (Bytes Server bytes) h m e = absurd (let x : false ≡ true = m in cc)
+marks_few (Ends Client) h m e = unmarked h e
+marks_few (Ends Server) h m e = absurd (let x : false ≡ true = m in cc)
+marks_few (Resets side) h m e = absurd (let x : false ≡ true = m in cc)
+marks_few (Connects made) h m e = absurd (let x : false ≡ true = m in cc)
 marks_few (Takes Client n) h m e = record { accepted = refl; took = refl; reset = refl; connects = e; replies = refl; cut = refl; finished = refl; failed = refl; notes = refl }
-marks_few (Takes Server n) h m e = record { accepted = refl; took = omega arith; reset = refl; connects = ap (at_last _) e; replies = refl; cut = refl; finished = refl; failed = refl; notes = refl }
+marks_few (Takes Server n) h m e = absurd (let x : false ≡ true = m in cc)
 
 -- what it hears after an event and its notes, which are all about it
 pub record Told (c : ℕ) (h : Heard) (v : EventKind) (group : List Note) (n : ℕ) : Type 0 where

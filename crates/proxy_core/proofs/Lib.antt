@@ -5,6 +5,8 @@ pub mod Members
 pub mod LiveLookups
 pub mod Entries
 pub mod GroupNotes
+pub mod EdgeNotes
+pub mod Refusing
 pub mod Hearing
 pub mod Standing
 pub mod Framing
@@ -16,5 +18,6 @@ pub mod Setups
 pub mod Agreeing
 pub mod TookAgrees
 pub mod RunAgrees
+pub mod Resting
 pub mod FrontRuns
 pub mod Stepping

@@ -104,10 +104,6 @@ numbers_removed_at (suc at) (x ∷ ls) = ap (λ ns. x.number ∷ ns) (numbers_re
 pub read_again : (ls : List Live) (at : ℕ) (l m : Live) → slice_get ls at ≡ Some l → slice_get ls at ≡ Some m → l ≡ m
 read_again ls at l m h k = let e : Some l ≡ Some m = sym h ∙ k in cc
 
-pub took_accepted : (core : Core) (number at n : ℕ) (l : Live) → (place_of core.live.items number ≡ Some at) × (slice_get core.live.items at ≡ Some l) → n ≤ pending_in l.conn → refusal_of core (Comes number (Takes Client n)) ≡ None
-took_accepted core number at n l h p =
-    let t : nat_lt (pending_in l.conn) n ≡ false = grind (arith, nat_tests) in rw (live_there number at core.live.items l h.0 h.1, t) refl
-
 pub remove_set : (at : ℕ) (ls : List Live) (m : Live) → remove (set ls at m) at ≡ remove ls at
 remove_set at [] m = refl
 remove_set zero (x ∷ xs) m = refl

@@ -39,6 +39,12 @@ use Rattle.proxy_core.specs.Sound.{Served}
 use Rattle.proxy_core.specs.declared.config.Config.{Config}
 use Rattle.proxy_core.specs.declared.core_state.Core.{Core}
 use Rattle.proxy_core.specs.declared.live.Live.{Live}
+use Rattle.connection_model.specs.declared.edges.Edge.{Edge}
+use Rattle.connection_model.specs.declared.edges.Edges.{Edges}
+use Rattle.connection_model.specs.declared.edges.EdgeState.TheVariants.{Absent}
+use Rattle.connection_model.specs.Edges.{edge}
+use Rattle.proxy_core.specs.Refusal.{edges_in}
+use Rattle.proxy_core.proofs.EdgeNotes.{run_edges}
 use Rattle.proxy_core.proofs.Framing.{about, front}
 use Rattle.proxy_core.proofs.GroupNotes.{of_items, ended_behind, failure_behind}
 use Rattle.proxy_core.proofs.Hearing.{run_told}
@@ -58,6 +64,7 @@ record RanConn (C : Config) (past : Past) (s : State) (c : ℕ) (rest : List ℕ
   ended : (live : List ℕ) → without_all (ended_in group) live ≡ (if ends t then without c live else live)
   setup : ends t ≡ false → setup_of C (hears c (heard c past) Runs group) ≡ setup_of C (heard c past)
   goes_on : ends t ≡ false → ConnectionContinues C (seen_after past Runs group next c) o
+  edges : ends t ≡ false → (hears c (heard c past) Runs group).edges ≡ (heard c past).edges
 
 -- those that ended are gone
 gone : (past : Past) (c : ℕ) (over : Bool) (group : List Note) → IsDistinct nat_eq (shared past).live → is_in (shared past).live c ≡ true → ((live : List ℕ) → without_all (ended_in group) live ≡ (if over then without c live else live)) → is_in (without_all (ended_in group) (shared past).live) c ≡ not over
@@ -90,6 +97,7 @@ front_failed C past s c rest group t o d live k e f =
       ended = gone_all;
       setup = λ x. absurd (over_stays t f x);
       goes_on = λ x. absurd (over_stays t f x);
+      edges = λ x. absurd (over_stays t f x);
     }
 
 front_goes : (C : Config) (past : Past) (s : State) (c : ℕ) (rest : List ℕ) (group : List Note) (t : ConnTurn) (old new : Conn) → IsDistinct nat_eq (shared past).live → (seen past s c).live ≡ true → Served C c (seen past s c) → Continues C (seen past s c) old
@@ -125,6 +133,7 @@ front_goes C past s c rest group t old new d live v k w =
       live = gone past c over group d live gone_all;
       ended = gone_all;
       setup = λ x. ap (λ n. setup_of C (hears c h Runs n)) w.items.noted ∙ setup;
+      edges = λ x. ap (λ n. (hears c h Runs n).edges) w.items.noted ∙ run_edges c h w.more over w.items.passes.no_connect x;
       goes_on = λ x. subst G (sym w.items.noted) (subst Z (sym place) (record {
         not_failed = told.failed ∙ ap (λ y. y || failure_told (map tells notes)) k.not_failed ∙ failure_behind c (notes_of c w.more) behind (of_items c w.more) ∙ failure_closing over c;
         holds = to_standing C h' g (z.place ++ w.more) w.at new setup stands (subst T (sym took) w.holds);
@@ -175,6 +184,7 @@ front_stops C past s c rest group t old o d live v k w =
       ended = gone_all;
       setup = λ x. absurd (over_stays t w.over x);
       goes_on = λ x. absurd (over_stays t w.over x);
+      edges = λ x. absurd (over_stays t w.over x);
     }
 
 front_runs : (C : Config) (past : Past) (s : State) (c : ℕ) (rest : List ℕ) (group : List Note) (t : ConnTurn) (S : given.Setup) (o o' : Option Conn) → IsDistinct nat_eq (shared past).live → (seen past s c).live ≡ true → Served C c (seen past s c) → ConnectionContinues C (seen past s c) o
@@ -198,24 +208,28 @@ runs_front C past s old new c rest group steps r front_is k =
     let z = seen past s c in
     let there = live_there c k.at old.live.items k.before k.place k.found in
     let i = its C z (live_at old.live.items c) k.before (r.agrees.each c) there in
-    let v = (is_served C c z (λ u. let n : z.live ≡ false = ap (λ y. y.live) u in let m : true ≡ false = sym i.0 ∙ n in cc) (r.sound.each c)).1 in
+    let v = (is_served C c z (λ u. let n : z.live ≡ false = ap (λ y. y.live) u in let m : true ≡ false = sym i.live ∙ n in cc) (r.sound.each c)).1 in
     let D : Config → Type 0 = λ x. IsSetup x (statics_of C) k.before.vs k.setup in
     let L : Level → Type 0 = λ x. IsSetup old.config x k.before.vs k.setup in
-    let serves = serves_code C (statics_of C) k.before.vs k.setup (setup_of C z.heard) (subst D r.agrees.config (subst L r.agrees.statics k.setup_is)) i.2 in
-    let w = front_runs C past s c rest group k.turn k.setup k.before.conn k.after.conn r.sound.distinct i.0 v i.1 serves k.runs in
+    let serves = serves_code C (statics_of C) k.before.vs k.setup (setup_of C z.heard) (subst D r.agrees.config (subst L r.agrees.statics k.setup_is)) i.serves in
+    let w = front_runs C past s c rest group k.turn k.setup k.before.conn k.after.conn r.sound.distinct i.live v i.continues serves k.runs in
     let over = ends k.turn in
     let number = number_at c k.at old.live.items k.before k.place k.found in
     let o = one_changed c over old.live.items new.live.items k.at k.before k.after (distinct_live C past s old r) k.found number (k.same.number ∙ number) (live_is over k.goes_on k.over) in
     let z' = seen_after past Runs group w.next c in
-    let still : over ≡ false → Serves C (statics_of C) k.after.vs (setup_of C z'.heard) = λ e. serves_still C k.before k.after (setup_of C z.heard) (setup_of C z'.heard) k.same (w.setup e) i.2 in
+    let still : over ≡ false → Serves C (statics_of C) k.after.vs (setup_of C z'.heard) = λ e. serves_still C k.before k.after (setup_of C z.heard) (setup_of C z'.heard) k.same (w.setup e) i.serves in
+    let ends_are : over ≡ false → z'.heard.edges ≡ edges_in k.after = λ e. w.edges e ∙ i.edges ∙ ap at_client (sym k.same.client) in
     let at : about Runs s ≡ c = ap front front_is in
     let T : List ℕ → Type 0 = λ y. MovesRing C past y group s w.next in
     let A : ℕ → Type 0 = λ n. AgreesAt C (seen_after past Runs group w.next n) (live_at new.live.items n) in
-    assemble C past s w.next Runs group old new r (subst T (sym front_is) w.moves) k.keeps k.last
+    assemble C past s w.next Runs group old new r (subst T (sym front_is) w.moves) k.keeps k.last k.moment
     (o.numbers_are ∙ sym (w.ended (numbers old.live.items))) (k.ring ∙ sym w.ring)
     (λ q e. o.others q (ap (λ n. nat_eq n q) (sym at) ∙ e))
-    (subst A (sym at) (is_live_over c over old.live.items new.live.items k.after z' C o w.live w.goes_on still))
+    (subst A (sym at) (is_live_over c over old.live.items new.live.items k.after z' C o w.live w.goes_on still ends_are))
   where
+    at_client : Edge → Edges
+    at_client x = record { client = x; server = edge Absent }
+
     live_is : (b : Bool) → (b ≡ false → new.live.items ≡ set old.live.items k.at k.after) → (b ≡ true → new.live.items ≡ remove old.live.items k.at) → new.live.items ≡ (if b then remove old.live.items k.at else set old.live.items k.at k.after)
     live_is true f g = g refl
     live_is false f g = f refl
@@ -225,7 +239,7 @@ runs C past s old new [] group steps r e k =
     let T : List ℕ → Type 0 = λ y. MovesRing C past y group s s in
     let A : Seen → Type 0 = λ z. AgreesAt C z (live_at new.live.items (about Runs s)) in
     let B : List Live → Type 0 = λ ls. AgreesAt C (seen past s (about Runs s)) (live_at ls (about Runs s)) in
-    assemble C past s s Runs group old new r (subst T (sym e) (k.notes, refl)) k.keeps k.last
+    assemble C past s s Runs group old new r (subst T (sym e) (k.notes, refl)) k.keeps k.last k.moment
     (ap numbers k.live ∙ sym (ap (λ g. without_all (ended_in g) (numbers old.live.items)) k.notes)) (k.ring ∙ sym e) (λ q n. ap (λ ls. live_at ls q) k.live)
     (subst A (sym (unchanged past Runs group s s (about Runs s) (k.notes, refl) (λ h. others_not_heard (about Runs s) h Runs [] refl refl) refl)) (subst B (sym k.live) (r.agrees.each (about Runs s))))
 runs C past s old new (c ∷ rest) group steps r e k = runs_front C past s old new c rest group steps r e k

@@ -7,6 +7,7 @@ use Rattle.std.proofs.lemmas.Grind.{flat_map-append}
 use Rattle.connection_model.specs.declared.note.Cause.TheVariants.{Memory}
 use Rattle.connection_model.specs.declared.note.Note.{Note}
 use Rattle.connection_model.specs.declared.note.Note.TheVariants.{Finish}
+use Rattle.connection_model.specs.Edges.{accepted_edges}
 use Rattle.connection_model.specs.Further.{longer, CutMeets}
 use Rattle.px_bytes.specs.declared.addr.Side.TheVariants.{Client, Server}
 use Rattle.connection_model.specs.Gates.{Counts, TakenCounts, no_bytes, sent_from, to_take, Met}
@@ -47,7 +48,7 @@ first_notes c failed = if failed then Finish c Memory ∷ [] else []
 
 abbrev pub fresh : ℕ → Accepted → Bool → Seen
 fresh c a failed = record {
-  heard = record nothing_heard { accepted = Some a; finished = failed; failed = failed; notes = first_notes c failed };
+  heard = record nothing_heard { accepted = Some a; finished = failed; failed = failed; notes = first_notes c failed; edges = accepted_edges };
   live = true;
   ready = c ∷ [];
   place = [];

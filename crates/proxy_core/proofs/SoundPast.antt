@@ -11,6 +11,7 @@ use Rattle.connection_model.specs.declared.note.Note.{Note}
 use Rattle.connection_model.specs.declared.note.Note.TheVariants.{Finish}
 use Rattle.connection_model.specs.Gates.{TakenCounts}
 use Rattle.connection_model.specs.Heard.{Input, Bytes, Ends, Resets, Connects, Takes, EventKind, Accepts, Comes, Ticks, Turns, Runs, Marks, Accepted, Heard, taken, event_marks, marks, hears}
+use Rattle.connection_model.specs.declared.edges.Edges.{Edges}
 use Rattle.connection_model.specs.Item.{Item, client_output, notes_of}
 use Rattle.connection_model.specs.State.{TraceState}
 use Rattle.connection_model.specs.Setup.{Setup}
@@ -53,13 +54,13 @@ live_by true z h = refl
 live_by false z h = cc
 
 -- what a took-count that isn't refused takes is there
-takes_within : (input : Input) (took sent left right : ℕ) → took ≤ sent → left ≡ sent - took → takes_too_much (Some (record { to_client = left; to_server = right })) input ≡ false → took + taken_more input ≤ sent
-takes_within (Bytes side bytes) took sent left right le e h = omega (arith, le)
-takes_within (Ends side) took sent left right le e h = omega (arith, le)
-takes_within (Resets side) took sent left right le e h = omega (arith, le)
-takes_within (Connects made) took sent left right le e h = omega (arith, le)
-takes_within (Takes Client n) took sent left right le e h = let t : nat_lt left n ≡ false = h in grind (arith, nat_tests)
-takes_within (Takes Server n) took sent left right le e h = omega (arith, le)
+takes_within : (edges : Edges) (input : Input) (took sent left right : ℕ) → took ≤ sent → left ≡ sent - took → takes_too_much (Some (record { edges = edges; to_client = left; to_server = right })) input ≡ false → took + taken_more input ≤ sent
+takes_within edges (Bytes side bytes) took sent left right le e h = omega (arith, le)
+takes_within edges (Ends side) took sent left right le e h = omega (arith, le)
+takes_within edges (Resets side) took sent left right le e h = omega (arith, le)
+takes_within edges (Connects made) took sent left right le e h = omega (arith, le)
+takes_within edges (Takes Client n) took sent left right le e h = let t : nat_lt left n ≡ false = h in grind (arith, nat_tests)
+takes_within edges (Takes Server n) took sent left right le e h = omega (arith, le)
 
 pub may_come_at : (C : Config) (past : Past) (old : State) (c : ℕ) (input : Input) → SoundAt C c (seen past old c) → refused C past old (Comes c input) ≡ None → MayCome C c input (seen past old c)
 may_come_at C past old c input s h =
@@ -68,7 +69,7 @@ may_come_at C past old c input s h =
     let live : z.live ≡ true = live_by z.live z r.0 in
     let k = is_served C c z (λ u. let n : z.live ≡ false = ap (λ y. y.live) u in let m : true ≡ false = sym live ∙ n in cc) s in
     let P : Bool → Type 0 = λ b. takes_too_much (standing_by b z) input ≡ false in
-    record { live = live; accepted = k.0; served = k.1; within = takes_within input z.heard.client.took (length (client_output z.place)) (untaken_of z.heard z.place Client) (untaken_of z.heard z.place Server) k.1.within (client_untaken z.heard z.place k.1.plain) (subst P live r.1.1.1.1.0) }
+    record { live = live; accepted = k.0; served = k.1; within = takes_within z.heard.edges input z.heard.client.took (length (client_output z.place)) (untaken_of z.heard z.place Client) (untaken_of z.heard z.place Server) k.1.within (client_untaken z.heard z.place k.1.plain) (subst P live r.1.1.1.1.1.1.1.0) }
 
 -- an event that changes nothing
 pub unchanged : (past : Past) (v : EventKind) (group : List Note) (old new : State) (q : ℕ) → Rests group old new → ((h : Heard) → hears q h v [] ≡ h) → with_accepted v (shared past).live ≡ (shared past).live → seen_after past v group new q ≡ seen past old q

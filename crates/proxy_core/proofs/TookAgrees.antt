@@ -31,6 +31,7 @@ use Rattle.proxy_core.specs.Setup.{begins_at, setup_in, setup_of, stand_of}
 use Rattle.proxy_core.specs.declared.config.Config.{Config}
 use Rattle.proxy_core.specs.declared.core_state.Core.{Core}
 use Rattle.proxy_core.specs.declared.live.Live.{Live}
+use Rattle.proxy_core.proofs.EdgeNotes.{took_edges}
 use Rattle.proxy_core.proofs.GroupNotes.{about_closing_if, quiet_closing_if}
 use Rattle.proxy_core.proofs.Hearing.{come_told, taken_plain, counts, still_plain}
 use Rattle.proxy_core.proofs.Places.{number_at, live_there}
@@ -150,7 +151,7 @@ takes C past s old new c n group r h k =
     let m = may_come_at C past s c (Takes Client n) (r.sound.each c) h in
     let there = live_there c k.at old.live.items k.before k.place k.found in
     let i = its C (seen past s c) (live_at old.live.items c) k.before (r.agrees.each c) there in
-    let w = took_on C past s c n k.over k.before.conn k.after.conn m i.1 k.taken in
+    let w = took_on C past s c n k.over k.before.conn k.after.conn m i.continues k.taken in
     let number = number_at c k.at old.live.items k.before k.place k.found in
     let number' : k.after.number ≡ c = k.same.number ∙ number in
     let t = core_took c k.over group old new k.at k.before k.after number number' k.goes_on k.ends in
@@ -162,9 +163,9 @@ takes C past s old new c n group r h k =
     let z' = seen_after past v (closing_if k.over c) next c in
     let live : z'.live ≡ not k.over = ended_closing k.over c (shared past).live r.sound.distinct m.live in
     let told = come_told c (heard c past) (Takes Client n) (closing_if k.over c) refl m.served.plain.connects (about_closing_if k.over c) in
-    let serves = serves_still C k.before k.after (setup_of C (heard c past)) (setup_of C z'.heard) k.same (ap (setup_in C) told.accepted) i.2 in
+    let serves = serves_still C k.before k.after (setup_of C (heard c past)) (setup_of C z'.heard) k.same (ap (setup_in C) told.accepted) i.serves in
     let G : List Note → Type 0 = λ x. AgreesAt C (seen_after past v x next c) (live_at new.live.items c) in
-    assemble C past s next v group old new r moves k.keeps k.last
+    assemble C past s next v group old new r moves k.keeps k.last k.moment
     (o.numbers_are ∙ sym (ap (λ x. without_all (ended_in x) (numbers old.live.items)) t.notes ∙ closing_live k.over c (numbers old.live.items)))
     ring o.others
-    (subst G (sym t.notes) (is_live_over c k.over old.live.items new.live.items k.after z' C o live w.goes_on (λ e. serves)))
+    (subst G (sym t.notes) (is_live_over c k.over old.live.items new.live.items k.after z' C o live w.goes_on (λ e. serves) (took_edges c n (heard c past) k.over k.before k.after k.same.client i.edges)))

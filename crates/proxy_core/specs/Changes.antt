@@ -3,9 +3,11 @@ use Rattle.std.specs.Prelude.{◌≡◌, ℕ, List, [], ◌∷◌, ◌++◌, len
 use Rattle.std.specs.Prelude.{Some, None, slice_get, slice_set, remove}
 use Rattle.px_bytes.specs.declared.addr.Addr.{Addr}
 use Rattle.tcl_vars.specs.Scopes.{Level}
+use Rattle.connection_model.specs.declared.edges.EdgeState.TheVariants.{Open}
 use Rattle.connection_model.specs.declared.note.Cause.TheVariants.{Memory}
 use Rattle.connection_model.specs.declared.note.Note.{Note}
 use Rattle.connection_model.specs.declared.note.Note.TheVariants.{Finish}
+use Rattle.connection_model.specs.Edges.{edge}
 use Rattle.conn.specs.Calls.{Begins}
 use Rattle.conn.specs.Runs.{IsBounded, IsWhole}
 use Rattle.conn.specs.RunsItems.{closing, ends}
@@ -19,7 +21,7 @@ use Rattle.proxy_core.specs.Serving.{IsSetup}
 use Rattle.proxy_core.specs.declared.config.Config.{Config}
 use Rattle.proxy_core.specs.declared.core_state.Core.{Core}
 use Rattle.proxy_core.specs.declared.event.Event.{Event}
-use Rattle.proxy_core.specs.declared.event.Event.TheVariants.{Accept, ClientTook, Run}
+use Rattle.proxy_core.specs.declared.event.Event.TheVariants as event
 use Rattle.proxy_core.specs.declared.live.Live.{Live}
 
 -- the configuration and the static variables never change
@@ -39,12 +41,13 @@ pub record Accepts (old new : Core) (number : ℕ) (vs : List ℕ) (from : Addr)
     (group : List Note) : Type 0 where
   pub keeps : KeepsConfig old new
   pub last : new.last ≡ number
+  pub moment : new.moment ≡ old.moment
   pub place : ℕ
   pub virtual : virtual_place old.config vs ≡ Some place
   pub conn : Option Conn
   pub begins : BeginsAt old.statics.statics old.config number place from conn group
   pub live : new.live.items ≡ old.live.items
-      ++ record { number = number; vs = place; from = from; conn = conn } ∷ []
+      ++ record { number = number; vs = place; from = from; client = edge Open; conn = conn } ∷ []
   pub ring : new.live.ring ≡ old.live.ring ++ number ∷ []
 
 -- The connection at a place goes on with this state, and is ready; or it is over, and gone from the
@@ -62,6 +65,7 @@ Goes old new at l =
 pub record Takes (old new : Core) (number n : ℕ) (group : List Note) : Type 0 where
   pub keeps : KeepsConfig old new
   pub last : new.last ≡ old.last
+  pub moment : new.moment ≡ old.moment
   pub at : ℕ
   pub place : place_of old.live.items number ≡ Some at
   pub before : Live
@@ -79,6 +83,7 @@ pub record RunsFront (old new : Core) (number : ℕ) (rest : List ℕ) (group : 
     (steps : ℕ) : Type 0 where
   pub keeps : KeepsConfig old new
   pub last : new.last ≡ old.last
+  pub moment : new.moment ≡ old.moment
   pub at : ℕ
   pub place : place_of old.live.items number ≡ Some at
   pub before : Live
@@ -99,6 +104,7 @@ pub record RunsFront (old new : Core) (number : ℕ) (rest : List ℕ) (group : 
 pub record Idles (old new : Core) (group : List Note) (steps : ℕ) : Type 0 where
   pub keeps : KeepsConfig old new
   pub last : new.last ≡ old.last
+  pub moment : new.moment ≡ old.moment
   pub live : new.live.items ≡ old.live.items
   pub ring : new.live.ring ≡ []
   pub notes : group ≡ []
@@ -108,9 +114,21 @@ abbrev pub RunsRing : Core → Core → List ℕ → List Note → (steps : ℕ)
 RunsRing old new [] group steps = Idles old new group steps
 RunsRing old new (number ∷ rest) group steps = RunsFront old new number rest group steps
 
--- what an event that isn't refused changes, and how many steps it counts
+-- only this changes, without a note
+pub record Becomes (new after : Core) (group : List Note) (steps : ℕ) : Type 0 where
+  pub core : new ≡ after
+  pub notes : group ≡ []
+  pub no_step : steps ≡ 0
+
+-- What an event that isn't refused changes, and how many steps it counts. What comes of a server is
+-- refused, as none is asked for a connection yet; a mark too, as there are no pools yet.
 abbrev pub Changes : Core → Core → Event → List Note → (steps : ℕ) → Type 0
-Changes old new (Accept conn vs from) group steps =
+Changes old new (event.Accept conn vs from) group steps =
     Accepts old new conn vs from group × (steps ≡ 0)
-Changes old new (ClientTook conn n) group steps = Takes old new conn n group × (steps ≡ 0)
-Changes old new Run group steps = RunsRing old new old.live.ring group steps
+Changes old new (event.ClientTook conn n) group steps =
+    Takes old new conn n group × (steps ≡ 0)
+Changes old new (event.Tick moment) group steps =
+    Becomes new (record old { moment = moment }) group steps
+Changes old new event.Turn group steps = Becomes new old group steps
+Changes old new event.Run group steps = RunsRing old new old.live.ring group steps
+Changes old new other group steps = ⊥

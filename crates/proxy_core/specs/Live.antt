@@ -19,10 +19,11 @@ abbrev pub pending_in : Option Conn → ℕ
 pending_in None = 0
 pending_in (Some conn) = length (queue_of conn)
 
--- it keeps its number and virtual server
+-- it keeps its number and virtual server, and its client's end stands where it stood
 pub record SamePlace (old new : Live) : Type 0 where
   pub number : new.number ≡ old.number
   pub vs : new.vs ≡ old.vs
+  pub client : new.client ≡ old.client
 
 -- its client took n bytes more, and whether it is over then
 pub record ConnTakes (n : ℕ) (old new : Conn) (over : Bool) : Type 0 where

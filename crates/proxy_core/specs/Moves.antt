@@ -2,6 +2,7 @@
 use Rattle.std.specs.Prelude.{◌≡◌, ◌⊎◌, ℕ, List, [], ◌∷◌, ◌++◌, Bool, true, false, None}
 use Rattle.std.specs.Prelude.{if◌then◌else◌}
 use Rattle.std.specs.Bool.{MatchBool}
+use Rattle.px_bytes.specs.declared.addr.Side.TheVariants.{Client}
 use Rattle.connection_model.specs.declared.note.Cause.TheVariants.{Memory}
 use Rattle.connection_model.specs.declared.note.Note.{Note}
 use Rattle.connection_model.specs.declared.note.Note.TheVariants.{Finish}
@@ -55,13 +56,12 @@ abbrev pub MovesCome : Config → (before now : Heard) → ℕ → List Note →
 MovesCome C before now c group old new =
     MatchBool before.failed (MovesFailed c group old new) (MovesOn C now c group old new)
 
--- what may come of a connection: no reset and no answer to a connect yet
+-- what may come of a connection: nothing of a server and no reset yet
 abbrev pub may_come : Input → Bool
-may_come (Bytes side bytes) = true
-may_come (Ends side) = true
-may_come (Resets side) = false
-may_come (Connects made) = false
-may_come (Takes side n) = true
+may_come (Bytes Client bytes) = true
+may_come (Ends Client) = true
+may_come (Takes Client n) = true
+may_come other = false
 
 -- the front passed items
 abbrev pub ran : ℕ → List ℕ → List Item → State → State

@@ -1,13 +1,14 @@
 -- All that happened so far, as one list of events with their groups of notes, the newest first, and
 -- what it tells of one connection and of all.
-use Rattle.std.specs.Prelude.{ℕ, List, [], ◌∷◌, ◌++◌, if◌then◌else◌}
-use Rattle.px_bytes.specs.declared.addr.Side.TheVariants.{Client}
+use Rattle.std.specs.Prelude.{ℕ, List, [], ◌∷◌, ◌++◌, true, false, if◌then◌else◌}
+use Rattle.px_bytes.specs.declared.addr.Side.TheVariants.{Client, Server}
 use Rattle.connection_model.specs.declared.note.Note.{Note}
-use Rattle.connection_model.specs.Heard.{Takes, EventKind, Accepts, Comes, Runs, Heard}
-use Rattle.connection_model.specs.Heard.{nothing_heard, hears}
+use Rattle.connection_model.specs.Heard.{Bytes, Ends, Resets, Connects, Takes, EventKind, Accepts}
+use Rattle.connection_model.specs.Heard.{Comes, Ticks, Turns, Runs, Marks, Heard, nothing_heard}
+use Rattle.connection_model.specs.Heard.{hears}
 use Rattle.connection_model.specs.Tellings.{tells, conn_of}
 use Rattle.proxy_core.specs.declared.event.Event.{Event}
-use Rattle.proxy_core.specs.declared.event.Event.TheVariants.{Accept, ClientTook, Run}
+use Rattle.proxy_core.specs.declared.event.Event.TheVariants as event
 use Rattle.proxy_core.specs.Ready.{without}
 
 -- an event that was accepted, with the notes that came of it
@@ -20,9 +21,18 @@ Past = List Happened
 
 -- what an event may mean to a connection
 abbrev pub kind_of : Event → EventKind
-kind_of (Accept c vs from) = Accepts c vs from
-kind_of (ClientTook c n) = Comes c (Takes Client n)
-kind_of Run = Runs
+kind_of (event.Accept c vs from) = Accepts c vs from
+kind_of (event.Connected c) = Comes c (Connects true)
+kind_of (event.Refused c) = Comes c (Connects false)
+kind_of (event.FromServer c bytes) = Comes c (Bytes Server bytes)
+kind_of (event.ServerEnd c) = Comes c (Ends Server)
+kind_of (event.ServerReset c) = Comes c (Resets Server)
+kind_of (event.ClientTook c n) = Comes c (Takes Client n)
+kind_of (event.ServerTook c n) = Comes c (Takes Server n)
+kind_of (event.Tick moment) = Ticks moment
+kind_of event.Turn = Turns
+kind_of event.Run = Runs
+kind_of (event.Mark pool member up) = Marks pool member up
 
 -- what was heard of a connection
 abbrev pub heard : ℕ → Past → Heard
@@ -46,18 +56,24 @@ abbrev pub last_after : EventKind → ℕ → ℕ
 last_after (Accepts c vs from) last = c
 last_after other last = last
 
--- what all connections share: the greatest number that was accepted, and the numbers of the live
--- ones, which were accepted and not ended, in this order
+abbrev pub moment_after : EventKind → ℕ → ℕ
+moment_after (Ticks moment) now = moment
+moment_after other now = now
+
+-- what all connections share: the greatest number that was accepted; the moment of the last Tick, 0
+-- at the start; and the numbers of the live ones, which were accepted and not ended, in this order
 pub record Shared : Type 0 where
   pub last : ℕ
+  pub moment : ℕ
   pub live : List ℕ
 
 abbrev pub shared_after : EventKind → List Note → Shared → Shared
 shared_after v group a = record {
   last = last_after v a.last;
+  moment = moment_after v a.moment;
   live = without_all (ended_in group) (with_accepted v a.live);
 }
 
 abbrev pub shared : Past → Shared
-shared [] = record { last = 0; live = [] }
+shared [] = record { last = 0; moment = 0; live = [] }
 shared (x ∷ past) = shared_after (kind_of x.event) x.group (shared past)

@@ -1,10 +1,15 @@
 -- Which event is refused, and why: one list of rows over what is known, for the scheduler and the
 -- core alike. The first row that holds is the reason.
 use Rattle.std.specs.Prelude.{ℕ, List, [], ◌∷◌, length, Bool, true, false, Option, Some, None}
-use Rattle.std.specs.Prelude.{is_none, nat_le, nat_lt, option_map, if◌then◌else◌}
+use Rattle.std.specs.Prelude.{is_none, nat_le, nat_lt, not, option_map, if◌then◌else◌}
+use Rattle.px_bytes.specs.declared.addr.Addr.{Addr}
 use Rattle.px_bytes.specs.declared.addr.Side.{Side}
 use Rattle.px_bytes.specs.declared.addr.Side.TheVariants.{Client, Server}
-use Rattle.connection_model.specs.Heard.{Input, Takes, EventKind, Accepts, Comes}
+use Rattle.connection_model.specs.declared.edges.Edges.{Edges}
+use Rattle.connection_model.specs.declared.edges.EdgeState.TheVariants.{Absent}
+use Rattle.connection_model.specs.Edges.{edge, edge_of, is_connecting, may_send, may_take}
+use Rattle.connection_model.specs.Heard.{Input, Bytes, Ends, Resets, Connects, Takes, EventKind}
+use Rattle.connection_model.specs.Heard.{Accepts, Comes, Ticks, Marks}
 use Rattle.proxy_core.specs.Live.{pending_in}
 use Rattle.proxy_core.specs.Past.{Past, kind_of, shared}
 use Rattle.proxy_core.specs.Refusals.{virtual_place, live_at}
@@ -14,24 +19,28 @@ use Rattle.proxy_core.specs.declared.core_state.Core.{Core}
 use Rattle.proxy_core.specs.declared.event.Event.{Event}
 use Rattle.proxy_core.specs.declared.live.Live.{Live}
 use Rattle.proxy_core.specs.declared.event.BadEvent.{BadEvent}
-use Rattle.proxy_core.specs.declared.event.BadEvent.TheVariants.{NoConn, TookTooMuch, Full}
-use Rattle.proxy_core.specs.declared.event.BadEvent.TheVariants.{TwiceConn, NoVirtual}
+use Rattle.proxy_core.specs.declared.event.BadEvent.TheVariants.{NoConn, AfterEnd, NotConnecting}
+use Rattle.proxy_core.specs.declared.event.BadEvent.TheVariants.{MomentBack, TookTooMuch, Full}
+use Rattle.proxy_core.specs.declared.event.BadEvent.TheVariants.{NoMember, TwiceConn, NoVirtual}
 
--- what is pending to the sides of a live connection
+-- how a live connection stands: its ends, and what is pending to its sides
 pub record Standing : Type 0 where
+  pub edges : Edges
   pub to_client : ℕ
   pub to_server : ℕ
 
--- what an event is judged by: the greatest number that was accepted, how many connections are live,
--- and how the one that it names stands, if it is live
+-- what an event is judged by: the greatest number that was accepted, the present moment, how many
+-- connections are live, and how the one that it names stands, if it is live
 pub record Known : Type 0 where
   pub last : ℕ
+  pub moment : ℕ
   pub live : ℕ
   pub conn : Option Standing
 
 abbrev pub standing_by : Bool → Seen → Option Standing
 standing_by false z = None
 standing_by true z = Some (record {
+  edges = z.heard.edges;
   to_client = untaken_of z.heard z.place Client;
   to_server = untaken_of z.heard z.place Server;
 })
@@ -48,6 +57,7 @@ named other = 0
 abbrev pub known : Past → State → EventKind → Known
 known past s v = record {
   last = (shared past).last;
+  moment = (shared past).moment;
   live = length (shared past).live;
   conn = standing_of (seen past s (named v));
 }
@@ -71,6 +81,45 @@ has_no_virtual C other = false
 abbrev pub is_full : Config → Known → EventKind → Bool
 is_full C k (Accepts c vs from) = nat_le C.connections k.live
 is_full C k other = false
+
+-- Bytes or an end come of a side that has ended, was reset or isn't open; a reset or a took-count,
+-- of one that was reset or isn't open.
+abbrev pub is_late : Edges → Input → Bool
+is_late e (Bytes side bytes) = not (may_send (edge_of side e))
+is_late e (Ends side) = not (may_send (edge_of side e))
+is_late e (Resets side) = not (may_take (edge_of side e))
+is_late e (Connects made) = false
+is_late e (Takes side n) = not (may_take (edge_of side e))
+
+-- no server is asked for a connection
+abbrev pub answers_nothing : Edges → Input → Bool
+answers_nothing e (Connects made) = not (is_connecting e.server.state)
+answers_nothing e other = false
+
+abbrev pub by_edges : (Edges → Input → Bool) → Option Standing → Input → Bool
+by_edges test None input = false
+by_edges test (Some p) input = test p.edges input
+
+abbrev pub comes_after_end : Known → EventKind → Bool
+comes_after_end k (Comes c input) = by_edges is_late k.conn input
+comes_after_end k other = false
+
+abbrev pub is_not_connecting : Known → EventKind → Bool
+is_not_connecting k (Comes c input) = by_edges answers_nothing k.conn input
+is_not_connecting k other = false
+
+-- the moment is below the present one
+abbrev pub goes_back : Known → EventKind → Bool
+goes_back k (Ticks moment) = nat_lt moment k.moment
+goes_back k other = false
+
+-- the pool has the member: a configuration of today has no pools
+abbrev pub has_member : Config → (pool : List ℕ) → Addr → Bool
+has_member C pool member = false
+
+abbrev pub has_no_member : Config → EventKind → Bool
+has_no_member C (Marks pool member up) = not (has_member C pool member)
+has_no_member C other = false
 
 abbrev pub pending_on : Side → Option Standing → ℕ
 pending_on side None = 0
@@ -100,7 +149,11 @@ refusal_rows C k v =
     ∷ row (is_not_above k v) TwiceConn
     ∷ row (has_no_virtual C v) NoVirtual
     ∷ row (is_full C k v) Full
+    ∷ row (comes_after_end k v) AfterEnd
+    ∷ row (is_not_connecting k v) NotConnecting
+    ∷ row (goes_back k v) MomentBack
     ∷ row (is_taking_too_much k v) TookTooMuch
+    ∷ row (has_no_member C v) NoMember
     ∷ []
 
 abbrev pub first_of : List Row → Option BadEvent
@@ -115,12 +168,26 @@ abbrev pub refused : Config → Past → State → EventKind → Option BadEvent
 refused C past s v = refusal_by C (known past s v) v
 
 -- what a core knows of the same; there is no server connection yet
+abbrev pub edges_in : Live → Edges
+edges_in l = record { client = l.client; server = edge Absent }
+
 abbrev pub core_standing : Option Live → Option Standing
-core_standing o = option_map (λ l. record { to_client = pending_in l.conn; to_server = 0 }) o
+core_standing o = option_map (λ l. record {
+  edges = edges_in l;
+  to_client = pending_in l.conn;
+  to_server = 0;
+}) o
+
+-- why what comes of the client of a live connection is refused
+abbrev pub client_refusal : Live → Input → Option BadEvent
+client_refusal l input =
+    if is_late (edges_in l) input then Some AfterEnd
+    else if takes_too_much (core_standing (Some l)) input then Some TookTooMuch else None
 
 abbrev pub core_known : Core → EventKind → Known
 core_known core v = record {
   last = core.last;
+  moment = core.moment;
   live = length core.live.items;
   conn = core_standing (live_at core.live.items (named v));
 }

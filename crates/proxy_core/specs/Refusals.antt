@@ -1,8 +1,10 @@
 -- Where a virtual server and a live connection are found.
-use Rattle.std.specs.Prelude.{ℕ, List, Option, slice_get, option_and_then}
+use Rattle.std.specs.Prelude.{ℕ, List, Option, Some, None, slice_get, option_and_then}
 use Rattle.std.specs.List.{position_from}
 use Rattle.std.specs.Str.{bytes_eq}
 use Rattle.proxy_core.specs.declared.config.Config.{Config}
+use Rattle.proxy_core.specs.declared.event.BadEvent.{BadEvent}
+use Rattle.proxy_core.specs.declared.event.BadEvent.TheVariants.{NoConn}
 use Rattle.proxy_core.specs.declared.live.Live.{Live}
 use Rattle.proxy_core.specs.Ready.{place_of}
 
@@ -13,3 +15,8 @@ virtual_place C name = position_from (λ v. bytes_eq v.name name) 0 C.virtuals
 -- the live connection of a number
 abbrev pub live_at : List Live → ℕ → Option Live
 live_at live number = option_and_then (λ at. slice_get live at) (place_of live number)
+
+-- the reason, unless there is no such connection
+abbrev pub unless_unknown : Option Live → BadEvent → BadEvent
+unless_unknown None why = NoConn
+unless_unknown (Some l) why = why

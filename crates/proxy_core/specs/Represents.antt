@@ -7,6 +7,7 @@ use Rattle.conn.specs.declared.connection.Conn.{Conn}
 use Rattle.proxy_core.specs.Live.{queue_of}
 use Rattle.proxy_core.specs.Past.{Past, Shared, shared}
 use Rattle.proxy_core.specs.Ready.{numbers}
+use Rattle.proxy_core.specs.Refusal.{edges_in}
 use Rattle.proxy_core.specs.Refusals.{live_at}
 use Rattle.proxy_core.specs.Scheduler.{State, Seen, seen}
 use Rattle.proxy_core.specs.Serving.{Serves}
@@ -36,15 +37,21 @@ abbrev pub ConnectionContinues : Config → Seen → Option Conn → Type 0
 ConnectionContinues C z None = NeverBegan z
 ConnectionContinues C z (Some conn) = Continues C z conn
 
--- a live connection's rules are those of its virtual server
+-- a live connection goes on, its rules are those of its virtual server, and its ends stand where
+-- what was heard put them
+pub record AgreesLive (C : Config) (z : Seen) (l : Live) : Type 0 where
+  pub live : z.live ≡ true
+  pub continues : ConnectionContinues C z l.conn
+  pub serves : Serves C (statics_of C) l.vs (setup_of C z.heard)
+  pub edges : z.heard.edges ≡ edges_in l
+
 abbrev pub AgreesAt : Config → Seen → Option Live → Type 0
 AgreesAt C z None = z.live ≡ false
-AgreesAt C z (Some l) = (z.live ≡ true) × ConnectionContinues C z l.conn
-    × Serves C (statics_of C) l.vs (setup_of C z.heard)
+AgreesAt C z (Some l) = AgreesLive C z l
 
 -- what all connections share, by the core's fields
 abbrev pub shared_of : Core → Shared
-shared_of core = record { last = core.last; live = numbers core.live.items }
+shared_of core = record { last = core.last; moment = core.moment; live = numbers core.live.items }
 
 -- the core's fields are those of the past and the state, connection by connection
 pub record AgreesBy (C : Config) (all : Shared) (each_seen : ℕ → Seen) (s : State)

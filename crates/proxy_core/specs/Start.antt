@@ -8,5 +8,6 @@ pub record IsStart (C : Config) (core : Core) : Type 0 where
   pub config : core.config ≡ C
   pub statics : core.statics ≡ no_scopes
   pub last : core.last ≡ 0
+  pub moment : core.moment ≡ 0
   pub live : core.live.items ≡ []
   pub ring : core.live.ring ≡ []

@@ -15,7 +15,7 @@ use crate::event::BadEvent;
 use crate::live::Live;
 use crate::setup::setup_at;
 use conn::Conn;
-use connection_model::Notes;
+use connection_model::{Edge, EdgeState, Notes};
 use px_bytes::Addr;
 
 impl Core {
@@ -52,6 +52,7 @@ impl Core {
             number,
             vs: place,
             from,
+            client: Edge::new(EdgeState::Open),
             conn,
         };
         self.live.push(number, live);

@@ -19,6 +19,8 @@ pub struct Core {
     pub(crate) config: Config,
     /// What RULE_INIT left in the static variables.
     pub(crate) statics: Vars,
+    /// The present moment: that of the last Tick.
+    pub(crate) moment: u64,
     /// The greatest number that was accepted.
     pub(crate) last: u32,
     /// The live connections by their numbers, and the ring of those that are ready to run.
@@ -48,6 +50,7 @@ impl Core {
             alloc,
             config,
             statics: Vars::new(alloc),
+            moment: 0,
             last: 0,
             live,
         };

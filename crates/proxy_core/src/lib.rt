@@ -5,6 +5,7 @@ mod accept;
 mod config;
 mod core_state;
 mod event;
+mod late;
 mod laws;
 mod live;
 mod queries;
@@ -12,6 +13,7 @@ mod ring;
 mod run;
 mod setup;
 mod step;
+mod tick;
 mod took;
 
 pub use config::{Config, Virtual};

@@ -1,13 +1,17 @@
 // The place of a live connection.
 
 ghost use Rattle.std.specs.Prelude.{◌≡◌, ◌≤◌, ◌-◌, ◌++◌, List, length};
+ghost use Rattle.px_bytes.specs.declared.addr.Side.TheVariants.{Client};
 ghost use Rattle.connection_model.specs.declared.note.Note.{Note};
+ghost use Rattle.connection_model.specs.Heard.{Takes};
 ghost use Rattle.conn.specs.Runs.{IsBounded, IsWhole};
 ghost use Rattle.conn.specs.RunsItems.{closing, closing_if};
+ghost use Rattle.proxy_core.specs.Refusal.{client_refusal};
 ghost use Rattle.proxy_core.specs.Live.{LiveRuns, LiveTakes, SamePlace, pending_in};
 
+use crate::event::BadEvent;
 use conn::{Conn, ConnTurn, Setup};
-use connection_model::{Note, Notes};
+use connection_model::{Edge, Note, Notes};
 use px_bytes::{Addr, Steps};
 use std::alloc::Global;
 use std::sync::ledger::Ledger;
@@ -20,6 +24,8 @@ pub struct Live {
     pub number: u32,
     pub vs: usize,
     pub from: Addr,
+    /// The client's end. There is no server connection yet.
+    pub client: Edge,
     pub conn: Option<Conn>,
 }
 
@@ -32,6 +38,19 @@ impl Live {
             Some(conn) => conn.pending(),
             None => 0,
         }
+    }
+
+    /// Why a took-count of its client is refused.
+    pub fn refuses_took(&self, n: usize) -> Option<BadEvent>
+        ensures { result ≡ client_refusal self.now (Takes Client n) }
+    {
+        if !self.client.may_take() {
+            return Some(BadEvent::AfterEnd);
+        }
+        if self.pending() < n {
+            return Some(BadEvent::TookTooMuch);
+        }
+        None
     }
 
     /// The client took the first `n` bytes. Says whether the connection is over, and gives its last

@@ -55,10 +55,20 @@ impl Core {
         match event {
             Event::Accept { conn, vs, from } => self.accept(conn, vs.as_bytes(), from, notes),
             Event::ClientTook { conn, n } => self.took(conn, n, notes),
+            Event::Connected { conn } | Event::Refused { conn } => {
+                Err(self.not_connecting(conn))
+            }
+            Event::FromServer { conn, .. }
+            | Event::ServerEnd { conn }
+            | Event::ServerReset { conn }
+            | Event::ServerTook { conn, .. } => Err(self.after_end(conn)),
+            Event::Tick { moment } => self.tick(moment),
+            Event::Turn => Ok(()),
             Event::Run => {
                 self.run(steps, notes);
                 Ok(())
             }
+            Event::Mark { .. } => Err(BadEvent::NoMember),
         }
     }
 }

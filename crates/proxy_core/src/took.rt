@@ -28,8 +28,8 @@ impl Core {
         let Some(at) = find(&self.live, number) else {
             return Err(BadEvent::NoConn);
         };
-        if self.live[at].pending() < n {
-            return Err(BadEvent::TookTooMuch);
+        if let Some(why) = self.live[at].refuses_took(n) {
+            return Err(why);
         }
         if self.live[at].take(n, notes) {
             let _ = self.live.remove(at);

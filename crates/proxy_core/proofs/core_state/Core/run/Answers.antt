@@ -121,6 +121,7 @@ returns-then-is_over-clause-runs g c =
       front_runs _ _ s.live.ring rest number c.run-turn.ensures.runs.0 _ p.ring (record {
         keeps = record { config = refl; statics = refl };
         last = refl;
+        moment = refl;
         at = at;
         place = place;
         before = l;
@@ -166,6 +167,7 @@ returns-clause-runs g c =
       front_runs _ _ s.live.ring rest number c.run-turn.ensures.runs.0 _ p.ring (record {
         keeps = record { config = refl; statics = refl };
         last = refl;
+        moment = refl;
         at = at;
         place = place;
         before = l;
@@ -211,6 +213,7 @@ returns-in_default-clause-runs g c =
       idle_runs s _ s.live.ring _ e.0 (record {
         keeps = record { config = refl; statics = refl };
         last = refl;
+        moment = refl;
         live = c.pop_ready.ensures.items;
         ring = e.1;
         notes = refl;

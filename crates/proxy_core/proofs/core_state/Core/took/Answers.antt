@@ -1,7 +1,10 @@
 use Rattle.std.proofs.Common.{◌≡◌, ◌∙◌, ◌++◌, [], ap, arith, false, refl, sym, true}
 use Rattle.conn.specs.RunsItems.{closing, closing_if}
+use Rattle.px_bytes.specs.declared.addr.Side.TheVariants.{Client}
+use Rattle.connection_model.specs.Heard.{Takes}
 use Rattle.proxy_core.specs.Ready.{with_ready, without}
-use Rattle.proxy_core.proofs.Places.{number_at, number_in, remove_set, took_accepted}
+use Rattle.proxy_core.proofs.Refusing.{client_judged}
+use Rattle.proxy_core.proofs.Places.{number_at, number_in, remove_set, live_there}
 use Rattle.proxy_core.proofs.Tables.{gone, kept}
 use Rattle.proxy_core.proofs.core_state.Core.took.Goals as goal
 
@@ -56,12 +59,12 @@ invariant_of-self-else-take-clause-live_limit c =
 pub returns-then-take-clause-accepted : goal.returns-then-take-clause-accepted
 returns-then-take-clause-accepted c =
     let s = c.args.self.now in
-    took_accepted s c.args.number c.in-Some.at c.args.n c.index.result.now (sym c.in-Some.ensures.place, c.index.ensures) (omega (arith, c.if-pending-n.false, c.pending.ensures))
+    client_judged s c.args.number (Takes Client c.args.n) c.index.result.now refl (live_there c.args.number c.in-Some.at s.live.items c.index.result.now (sym c.in-Some.ensures.place) c.index.ensures) ∙ (sym c.refuses_took.ensures ∙ c.in_default-refuses_took.is)
 
 pub returns-else-take-clause-accepted : goal.returns-else-take-clause-accepted
 returns-else-take-clause-accepted c =
     let s = c.args.self.now in
-    took_accepted s c.args.number c.in-Some.at c.args.n c.index.result.now (sym c.in-Some.ensures.place, c.index.ensures) (omega (arith, c.if-pending-n.false, c.pending.ensures))
+    client_judged s c.args.number (Takes Client c.args.n) c.index.result.now refl (live_there c.args.number c.in-Some.at s.live.items c.index.result.now (sym c.in-Some.ensures.place) c.index.ensures) ∙ (sym c.refuses_took.ensures ∙ c.in_default-refuses_took.is)
 
 pub returns-then-take-clause-takes : goal.returns-then-take-clause-takes
 returns-then-take-clause-takes c =
@@ -77,6 +80,7 @@ returns-then-take-clause-takes c =
       record {
         keeps = record { config = refl; statics = refl };
         last = refl;
+        moment = refl;
         at = at;
         place = place;
         before = l;
@@ -103,6 +107,7 @@ returns-else-take-clause-takes c =
       record {
         keeps = record { config = refl; statics = refl };
         last = refl;
+        moment = refl;
         at = at;
         place = place;
         before = l;

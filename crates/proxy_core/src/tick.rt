@@ -1,0 +1,24 @@
+// The present moment.
+
+ghost use Rattle.std.specs.Prelude.{◌≡◌, Some, None, OnOk, OnErr, IfErr};
+ghost use Rattle.connection_model.specs.Heard.{Ticks};
+ghost use Rattle.proxy_core.specs.Refusal.{refusal_of};
+
+use crate::core_state::Core;
+use crate::event::BadEvent;
+
+impl Core {
+    /// It is this moment.
+    pub(crate) fn tick(&mut self, moment: u64) -> Result<(), BadEvent>
+        ensures accepted { OnOk result (refusal_of self.old (Ticks moment) ≡ None) }
+        ensures refused { IfErr result (λ why. refusal_of self.old (Ticks moment) ≡ Some why) }
+        ensures ticks { OnOk result (self.new ≡ record self.old { moment = moment }) }
+        ensures same { OnErr result (self.new ≡ self.old) }
+    {
+        if moment < self.moment {
+            return Err(BadEvent::MomentBack);
+        }
+        self.moment = moment;
+        Ok(())
+    }
+}
