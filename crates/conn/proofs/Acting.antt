@@ -10,6 +10,7 @@ use Rattle.connection_model.specs.State.{TraceState, ForReply, Waits}
 use Rattle.connection_model.specs.Trace.{next_item, Unfolds, GivesNoMore}
 use Rattle.connection_model.proofs.Given.{sent_counted, sent_output}
 use Rattle.frame_machine.specs.Went.{effects_in}
+use Rattle.conn.specs.Arrivals.{arrived}
 use Rattle.conn.specs.Holds.{Around, Stands, Holds}
 use Rattle.conn.specs.Hosts.{AsksNothing, ToClientAlone, client_bytes, logs_of}
 use Rattle.conn.specs.Stages.{is_asking}
@@ -39,8 +40,8 @@ pub record DoesActs (xs : List Act) (old new : RuleHost) : Type 0 where
 
 -- acts of a body, and what stands behind them
 pub acts_gave : (g : Setup) (a : Around) (l at : TraceState) (c : ℕ) (old new : Conn) (xs : List Act) (tail : List Item) → Silent c a.took tail → Holds g a l old → DoesActs xs old.host new.host
-    → Unfolds g l (map (act_item 0) xs ++ tail) at → Stands g new.stage at new → at.server ≡ l.server → at.answers.cut ≡ l.answers.cut → Gave g a l at c old new (logs_of c (effects_in xs))
-acts_gave g a l at c old new xs tail t h made u stands server cut =
+    → Unfolds g l (map (act_item 0) xs ++ tail) at → Stands g new.stage at new → at.server ≡ l.server → at.answers.cut ≡ l.answers.cut → at.client ≡ l.client → new.client ≡ old.client → Gave g a l at c old new (logs_of c (effects_in xs))
+acts_gave g a l at c old new xs tail t h made u stands server cut client kept =
     let items = map (act_item 0) xs ++ tail in
     let sent : at.sent ≡ sent_from l.sent items = sent_counted g l at items u in
     let output = acts_output c 0 a.took tail t xs made.alone in
@@ -58,6 +59,7 @@ acts_gave g a l at c old new xs tail t h made u stands server cut =
             (let s : at.sent.client ≡ l.sent.client + length (client_output items) = ap (λ x. x.client) sent ∙ sent_output l.sent items in
             let q : length new.host.to_client ≡ length old.host.to_client + length (client_output items) = ap length queue ∙ length-append old.host.to_client (client_output items) in
             let k = h.untaken in omega (arith, s, q, k));
+        client = client ∙ h.client ∙ ap arrived (sym kept);
         no_server = server ∙ h.no_server;
         none_sent = ap (λ x. x.server) sent ∙ acts_server c 0 a.took tail t xs made.alone l.sent ∙ h.none_sent;
         no_number = ap (λ x. x.number) sent ∙ acts_number c 0 a.took tail t xs made.alone l.sent ∙ h.no_number;

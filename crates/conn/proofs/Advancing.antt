@@ -34,7 +34,7 @@ use Rattle.conn.specs.declared.stage.Stage.TheVariants as stage
 use Rattle.conn.specs.declared.turn.Act as step_act
 use Rattle.conn.specs.declared.turn.Act.TheVariants as done
 use Rattle.conn.proofs.Acting.{ActGave}
-use Rattle.conn.proofs.BodyMoves.{next_awake, next_host, body_gives, step_notes}
+use Rattle.conn.proofs.BodyMoves.{next_awake, next_host, next_client, body_gives, step_notes}
 use Rattle.conn.proofs.Doing.{begun_unasked, same_unasked, unselected_unasked}
 use Rattle.conn.proofs.Giving.{gave_none, OneItem, gave_one}
 use Rattle.conn.proofs.Places.{handlers_are, body_begins, next_stands, entered_stands}
@@ -63,7 +63,7 @@ module _ (s : code_setup.Setup) (g : Setup) (serves : Serves s g) (a : Around) (
       let ev = event_of at in
       let after : TraceState = record l { phase = InEvent ev (Running x xs 0) } in
       let P : HostState → Type 0 = λ host. BodyGoesOn g ev x xs 0 (record l { phase = InEvent ev (Running x xs 0); host = host }) new in
-      let body : BodyGoesOn g ev x xs 0 after new = subst P (sym b.host) (body_begins s g serves ev x xs old new at 0 starts l b.vars b.replies) in
+      let body : BodyGoesOn g ev x xs 0 after new = subst P (sym b.host) (body_begins s g serves ev x xs old new at 0 starts l b.vars b.replies h.unasked.collect) in
       let R : List Handler → Type 0 = λ hs. RunsFirst g ev (drop 0 hs) 0 after new in
       let S : Stage → Type 0 = λ st. Stands g st after new in
       goes g a l c old new (Opened BeforeBodies) h (record {
@@ -80,6 +80,8 @@ module _ (s : code_setup.Setup) (g : Setup) (serves : Serves s g) (a : Around) (
         cut = refl;
         queue = ap (λ x. x.to_client) starts.host;
         unasked = same_unasked old.host new.host starts.host h.unasked;
+        client = refl;
+        kept = starts.client;
       }) (ap is_asking starts.there)
 
   gate_shut : (at : At) (hs : List Handler) → GatedBefore (event_of at) hs l.phase → nat_lt (length old.host.to_client) room_limit ≡ false → GivesNoMore false l.sent a.took (next_item g l)
@@ -122,6 +124,11 @@ module _ (s : code_setup.Setup) (g : Setup) (serves : Serves s g) (a : Around) (
       (subst P (sym k.there) (refl, record { vars = b.vars ∙ sym k.vars; host = ap seen_host (sym k.host); replies = b.replies }), ap is_asking k.there, k.host)
   fault_stands Closed n kind b k = (next_stands s g serves Closed n old new k l b.vars b.replies h.unasked l.finished, next_awake s Closed n old new k, next_host s Closed n old new k)
 
+  fault_client : (at : At) (n : ℕ) (kind : FaultKind) → BehindFault s at n kind old new → new.client ≡ old.client
+  fault_client Accepted n kind k = k.client
+  fault_client Failed n kind k = k.client
+  fault_client Closed n kind k = next_client s Closed n old new k
+
   logs : (at : At) (n : ℕ) (kind : FaultKind) (line : List ℕ) → Stands g (stage.Failing at n kind line) l old → BehindFault s at n kind old new → ActGave g a l c old new (note.Log c line ∷ []) done.Goes
   logs at n kind line st k =
       let ev = event_of at in
@@ -143,6 +150,8 @@ module _ (s : code_setup.Setup) (g : Setup) (serves : Serves s g) (a : Around) (
         cut = refl;
         queue = ap (λ x. x.to_client) f.2;
         unasked = same_unasked old.host new.host f.2 h.unasked;
+        client = refl;
+        kept = fault_client at n kind k;
       }) f.1
 
   chooses : Stands g stage.Choosing l old → Chooses s old new → ActGave g a l c old new [] done.Goes
@@ -163,6 +172,8 @@ module _ (s : code_setup.Setup) (g : Setup) (serves : Serves s g) (a : Around) (
         cut = refl;
         queue = ap (λ x. x.to_client) k.host;
         unasked = unasked;
+        client = refl;
+        kept = k.client;
       }) (ap is_asking k.there ∙ entered_awake (bodies_at s Failed))
     where
       entered_awake : (hs : List code.Handler) → is_asking (entered_by Failed hs) ≡ false
@@ -200,6 +211,8 @@ module _ (s : code_setup.Setup) (g : Setup) (serves : Serves s g) (a : Around) (
         cut = refl;
         queue = ap (λ x. x.to_client) (next_host s Closed 0 k.mid new k.begins ∙ k.host);
         unasked = same_unasked k.mid.host new.host (next_host s Closed 0 k.mid new k.begins) unasked;
+        client = refl;
+        kept = next_client s Closed 0 k.mid new k.begins ∙ k.client;
       }) (next_awake s Closed 0 k.mid new k.begins))
 
   drains : (did : step_act.Act) → Stands g stage.Draining l old → did ≡ done.Rests → new ≡ old → ActGave g a l c old new [] did

@@ -79,11 +79,18 @@ next_host s at n mid new k = by_test (nat_lt n (length (bodies_at s at))) k
     by_test true c = c.host
     by_test false c = c.host
 
+pub next_client : (s : code_setup.Setup) (at : At) (n : ℕ) (mid new : Conn) → NextBody s at n mid new → new.client ≡ mid.client
+next_client s at n mid new k = by_test (nat_lt n (length (bodies_at s at))) k
+  where
+    by_test : (b : _) → MatchBool b (StartsBody s at n mid new) (GoesTo (after_stage at) mid new) → new.client ≡ mid.client
+    by_test true c = c.client
+    by_test false c = c.client
+
 -- a step of the body of which the state of the trace tells
 module _ (s : code_setup.Setup) (g : Setup) (serves : Serves s g) (a : Around) (l : TraceState) (c : ℕ) (old mid : Conn) (at : At) (number : ℕ) (h : code.Handler) (bs : List Handler)
     (holds : Holds g a l old) (k : BodyGoesOn g (event_of at) (handler_of h) bs 0 l old) (said : Turn) (ticks : ℕ) (made : List Effect → Type 0)
     (w : Went (body_setting g (procs_view h.procs)) (node_view h.body) (place old.body.machine.at old.vars (seen_host old.host)) (place mid.body.machine.at mid.vars (seen_host mid.host)) said made ticks)
-    (done_acts : DoesActs w.acts old.host mid.host) where
+    (done_acts : DoesActs w.acts old.host mid.host) (same_client : mid.client ≡ old.client) where
   abbrev group : List Note
   group = logs_of c (effects_in w.acts)
 
@@ -130,12 +137,12 @@ module _ (s : code_setup.Setup) (g : Setup) (serves : Serves s g) (a : Around) (
       let kept = (acts_stay S b.body mid.body.machine.at mid.vars (seen_host mid.host) [] (k.cost + w.spent) acts) in
       let at' = running e b bs (length acts + 0) (sent_by w.acts) l in
       let u = come o w.acts kept.0 (length acts + 0) is (kept.1 ∙ append_assoc k.acts w.acts kept.0) (omega (arith, length-append k.acts w.acts)) in
-      let now : BodyGoesOn g e b bs 0 at' mid = record { acts = acts; cost = k.cost + w.spent; phase = refl; same = subst T more same } in
+      let now : BodyGoesOn g e b bs 0 at' mid = record { acts = acts; cost = k.cost + w.spent; phase = refl; no_collect = k.no_collect; same = subst T more same } in
       let P : List Handler → Type 0 = λ hs. RunsFirst g e hs 0 at' mid in
       let R : Stage → Type 0 = λ st. Stands g st at' mid in
       record {
         at = at';
-        gave = acts_gave g a l at' c old mid w.acts [] (no_tail c a.took) holds done_acts (with_tail w.acts at' u) (subst R (sym there) (subst P (sym left) now, runs)) refl refl;
+        gave = acts_gave g a l at' c old mid w.acts [] (no_tail c a.took) holds done_acts (with_tail w.acts at' u) (subst R (sym there) (subst P (sym left) now, runs)) refl refl refl same_client;
         stops = ap is_asking there;
       }
 
@@ -156,12 +163,12 @@ module _ (s : code_setup.Setup) (g : Setup) (serves : Serves s g) (a : Around) (
       let all : acts ++ calls ≡ k.acts ++ (xs ++ []) = append_assoc k.acts w.acts calls ∙ ap (λ x. k.acts ++ x) (sym (append-nil xs)) in
       let at' = running e b bs (length acts + 1) (sent_by xs) l in
       let u = come o xs [] (length acts + 1) is all (omega (arith, length-append k.acts w.acts, length-append w.acts calls)) in
-      let now : BodyGoesOn g e b bs 1 at' asked = record { acts = acts; cost = k.cost + w.spent; phase = refl; same = subst T is_ask same } in
+      let now : BodyGoesOn g e b bs 1 at' asked = record { acts = acts; cost = k.cost + w.spent; phase = refl; no_collect = k.no_collect; same = subst T is_ask same } in
       let R : List Handler → Type 0 = λ hs. RunsFirst g e hs 1 at' asked in
       let G : List Effect → Type 0 = λ es. Gave g a l at' c old asked (logs_of c es) in
       record {
         at = at';
-        gave = subst G (called_is_none w.acts path call) (acts_gave g a l at' c old asked xs [] (no_tail c a.took) holds (calls_too w.acts path call old.host mid.host done_acts) (with_tail xs at' u) (subst R (sym left) now, waits) refl refl);
+        gave = subst G (called_is_none w.acts path call) (acts_gave g a l at' c old asked xs [] (no_tail c a.took) holds (calls_too w.acts path call old.host mid.host done_acts) (with_tail xs at' u) (subst R (sym left) now, waits) refl refl refl same_client);
         stops = ap (λ n. next_item g (running e b bs n (sent_by xs) l)) (sym (length-append acts calls))
             ∙ body_waits g e b bs l path call (state mid.vars (seen_host mid.host) [] m.budget (k.cost + w.spent) (acts ++ calls)) (sent_by xs) holds.no_cut is;
       }
@@ -184,6 +191,10 @@ module _ (s : code_setup.Setup) (g : Setup) (serves : Serves s g) (a : Around) (
   ended_host new None did (goes, n) = (next_host s at (number + 1) mid new n, goes)
   ended_host new (Some fault) did (goes, n) = (n.host, goes)
 
+  ended_client : (new : Conn) (f : Option TclFault) (did : step_act.Act) → GoesOn s at number (ended_of h at f) mid new did → new.client ≡ mid.client
+  ended_client new None did (goes, n) = next_client s at (number + 1) mid new n
+  ended_client new (Some fault) did (goes, n) = n.client
+
   over : (code : Code) → said ≡ turn.Done code → (new : Conn) (did : step_act.Act) → GoesOn s at number (ended_of h at (uncaught_of code)) mid new did → drop (number + 1) (g.handlers e) ≡ bs → ActGave g a l c old new group did
   over code is_done new did n behind =
       let m = mid.body.machine.at in
@@ -204,7 +215,7 @@ module _ (s : code_setup.Setup) (g : Setup) (serves : Serves s g) (a : Around) (
         at = at2;
         gave = acts_gave g a l at2 c old new w.acts (Ran e st.cost ∷ []) (end_tail c a.took e st.cost) holds (subst (λ x. DoesActs w.acts old.host x) (sym host.0) done_acts)
             (unfolds_on g l at1 at2 (map (act_item 0) w.acts) (Ran e st.cost ∷ []) u (unfolds_one g at1 at2 (Ran e st.cost) last))
-            (subst P (sym (ap link_of holds.no_server)) ends.0) refl refl;
+            (subst P (sym (ap link_of holds.no_server)) ends.0) refl refl refl (ended_client new (uncaught_of code) did n ∙ same_client);
         stops = ends.1;
       })
 
@@ -213,16 +224,16 @@ module _ (s : code_setup.Setup) (g : Setup) (serves : Serves s g) (a : Around) (
     (holds : Holds g a l old) (k : BodyGoesOn g (event_of at) (handler_of h) bs 0 l old) (left : drop number (g.handlers (event_of at)) ≡ handler_of h ∷ bs) (behind : drop (number + 1) (g.handlers (event_of at)) ≡ bs)
     (there : mid.stage ≡ stage.Running at number) (ticks : ℕ) (made : List Effect → Type 0) where
   said_gives : (said : Turn) (w : Went (body_setting g (procs_view h.procs)) (node_view h.body) (place old.body.machine.at old.vars (seen_host old.host)) (place mid.body.machine.at mid.vars (seen_host mid.host)) said made ticks)
-      → DoesActs w.acts old.host mid.host → SaidIs said mid.body → (did : step_act.Act) → GoesOn s at number (said_of h at said) mid new did → ActGave g a l c old new (logs_of c (effects_in w.acts)) did
-  said_gives turn.More w d is did t =
+      → DoesActs w.acts old.host mid.host → mid.client ≡ old.client → SaidIs said mid.body → (did : step_act.Act) → GoesOn s at number (said_of h at said) mid new did → ActGave g a l c old new (logs_of c (effects_in w.acts)) did
+  said_gives turn.More w d kept is did t =
       let P : Conn → Type 0 = λ x. ActGave g a l c old x (logs_of c (effects_in w.acts)) did in
       let Q : step_act.Act → Type 0 = λ x. ActGave g a l c old mid (logs_of c (effects_in w.acts)) x in
-      subst P (sym t.1) (subst Q (sym t.0) (goes_on s g serves a l c old mid at number h bs holds k turn.More ticks made w d refl is left there))
-  said_gives (turn.Asks call) w d is did t =
+      subst P (sym t.1) (subst Q (sym t.0) (goes_on s g serves a l c old mid at number h bs holds k turn.More ticks made w d kept refl is left there))
+  said_gives (turn.Asks call) w d kept is did t =
       let P : Conn → Type 0 = λ x. ActGave g a l c old x (logs_of c (effects_in w.acts)) did in
       let Q : step_act.Act → Type 0 = λ x. ActGave g a l c old (record mid { stage = stage.Asking at number }) (logs_of c (effects_in w.acts)) x in
-      subst P (sym t.1) (subst Q (sym t.0) (asks s g serves a l c old mid at number h bs holds k (turn.Asks call) ticks made w d call refl is left))
-  said_gives (turn.Done code) w d is did t = over s g serves a l c old mid at number h bs holds k (turn.Done code) ticks made w d code refl new did t behind
+      subst P (sym t.1) (subst Q (sym t.0) (asks s g serves a l c old mid at number h bs holds k (turn.Asks call) ticks made w d kept call refl is left))
+  said_gives (turn.Done code) w d kept is did t = over s g serves a l c old mid at number h bs holds k (turn.Done code) ticks made w d kept code refl new did t behind
 
 -- the notes of a body's step
 abbrev pub step_notes : {s : code_setup.Setup} {h : code.Handler} {c : ℕ} {at : At} {number : ℕ} {old new : Conn} {before after : List Note} {did : step_act.Act} → BodySteps s h c at number old new before after did → List Note
@@ -249,4 +260,4 @@ body_gives s g serves a l c old new at number h before after did got k is holds 
     let w : W (body_setting g (procs_view h.procs)) k.mid = went_same (body_setting g (procs_view h.procs)) (node_view h.body) (place old.body.machine.at old.vars (seen_host old.host)) k.stepped k.mid k.turned made k.ticks moved w0 in
     let acted = acts_done g.groups (body_setting g (procs_view h.procs)) refl c old k.stepped k.mid before after k.does holds.unasked w.acts w.called w.once w.by in
     let N : List Effect → Type 0 = λ es. ActGave g a l c old new (logs_of c es) did in
-    subst N acted.taken (said_gives s g serves a l c old k.mid new at number h bs holds goes left behind (k.does.there ∙ k.there ∙ is) k.ticks made k.turned w acted.acts (said_same k.turned k.stepped.body k.mid.body (sym k.does.body) (k.said_is here.1)) did k.goes_on)
+    subst N acted.taken (said_gives s g serves a l c old k.mid new at number h bs holds goes left behind (k.does.there ∙ k.there ∙ is) k.ticks made k.turned w acted.acts (k.does.client ∙ k.client) (said_same k.turned k.stepped.body k.mid.body (sym k.does.body) (k.said_is here.1)) did k.goes_on)

@@ -16,7 +16,7 @@ use Rattle.connection_model.specs.Host.{HostState, body_setting}
 use Rattle.connection_model.specs.Item.{Item}
 use Rattle.connection_model.specs.Phases.{RunsIn, OrderlyIn, Orderly}
 use Rattle.connection_model.specs.Setup.{Handler, Setup}
-use Rattle.connection_model.specs.State.{Gated, Running, Failing, Phase, InEvent, NoServer, ServerSide, link_of, Cut, Answers, TraceState, ForReply, Next, Does, Waits, Over}
+use Rattle.connection_model.specs.State.{Gated, Running, Failing, Phase, InEvent, NoServer, ServerSide, Stream, link_of, Cut, Answers, TraceState, ForReply, Next, Does, Waits, Over}
 use Rattle.connection_model.specs.State as phase
 use Rattle.connection_model.specs.Trace.{counted, cut_next, next_item, Unfolds, trace_from, trace, start}
 use Rattle.connection_model.proofs.BodyItems.{running, acts_unfold}
@@ -28,19 +28,21 @@ use Rattle.connection_model.proofs.Unfolding.{trace_unfolds}
 use Rattle.frame_machine.specs.Frames.{comes_to, path_of}
 use Rattle.frame_machine.specs.declared.frame.Mode.TheVariants as mode
 use Rattle.frame_machine.specs.declared.frame.Standing.{Standing}
-use Rattle.conn.specs.Continues.{Unread, unread_in, gated_phase, phase_at, is_closed, has_finished, sent_by, own_state, items_of, first_ahead, ahead_at, MayCome, ConnectionContinues}
+use Rattle.conn.specs.Continues.{Unread, unread_in, gated_phase, phase_at, sent_by, own_state, items_of, first_ahead, ahead_at, MayCome, ConnectionContinues}
 use Rattle.conn.specs.Events.{event_of}
 use Rattle.conn.specs.Holds.{Around, Between, BodyGoesOn, GatedBefore, RunsFirst, Stands, Holds}
 use Rattle.conn.specs.Hosts.{seen_host}
 use Rattle.conn.specs.Modes.{is_asked}
-use Rattle.conn.specs.Stages.{reason_for}
+use Rattle.conn.specs.Stages.{has_finished, reason_for}
 use Rattle.conn.specs.declared.connection.Conn.{Conn}
 use Rattle.conn.specs.declared.events.At.{At}
 use Rattle.conn.specs.declared.events.At.TheVariants.{Accepted, Failed, Closed}
 use Rattle.conn.specs.declared.stage.Stage.{Stage}
 use Rattle.conn.specs.declared.stage.Stage.TheVariants as stage
+use Rattle.conn.specs.Arrivals.{arrived}
 use Rattle.conn.proofs.ActItems.{no_tail, acts_met}
 use Rattle.conn.proofs.Asking.{asking_waits}
+use Rattle.conn.proofs.Finishing.{finished_at}
 use Rattle.conn.proofs.FramesKeep.{all_behind, frames_keep, acts_behind, acts_stay}
 use Rattle.conn.proofs.Replying.{asked_mode, goes_on}
 
@@ -59,35 +61,6 @@ trace_front zero k g l m (i ∷ items) within (mid, step, more) = refl
 trace_front (suc n) k g l m (i ∷ items) within (mid, step, more) =
     ap (trace_from (suc n) g) step ∙ ap (λ r. i ∷ r) (trace_front n k g mid m items (omega (arith, within)) more)
 
--- whether it has finished is told by where it stands
-runs_in : (at : At) (finished : Bool) → RunsIn (event_of at) finished → finished ≡ is_closed at
-runs_in Accepted finished k = k
-runs_in Failed finished k = k
-runs_in Closed finished k = k
-
-module _ (g : Setup) (l : TraceState) (c : Conn) (order : Orderly l) where
-  in_phase : (p : Phase) → l.phase ≡ p → OrderlyIn p l.finished (link_of l.server)
-  in_phase p is = let P : Phase → Type 0 = λ x. OrderlyIn x l.finished (link_of l.server) in subst P is order
-
-  gated_finished : (e : EventName) (hs : List Handler) → GatedBefore e hs l.phase → l.finished ≡ false
-  gated_finished e [] k = absurd k
-  gated_finished e (b ∷ bs) k = (in_phase (InEvent e (Gated b bs)) k).0
-
-  first_finished : (at : At) (hs : List Handler) (n : ℕ) → RunsFirst g (event_of at) hs n l c → l.finished ≡ is_closed at
-  first_finished at [] n k = absurd k
-  first_finished at (b ∷ bs) n k = runs_in at l.finished (in_phase (InEvent (event_of at) (Running b bs (length k.acts + n))) k.phase).0
-
-  finished_at : (st : Stage) → Stands g st l c → l.finished ≡ has_finished st
-  finished_at (stage.Gated at) k = gated_finished (event_of at) (g.handlers (event_of at)) k.0
-  finished_at (stage.Running at n) k = first_finished at (drop n (g.handlers (event_of at))) 0 k.0
-  finished_at (stage.Asking at n) k = first_finished at (drop n (g.handlers (event_of at))) 1 k.0
-  finished_at (stage.Failing at n kind line) k = runs_in at l.finished (in_phase (InEvent (event_of at) (Failing kind line (drop n (g.handlers (event_of at))))) k.0).0
-  finished_at stage.Choosing k = in_phase phase.Choosing k.0
-  finished_at (stage.Finishing f) k = in_phase (phase.Finishing (reason_for f)) k.0
-  finished_at stage.Draining k = in_phase phase.Draining k.0
-  finished_at stage.OutOfMemory k = absurd k
-  finished_at (stage.Dropped n) k = absurd k
-
 -- the connection's own fields, but for these
 abbrev own_at : Around → Unread → Conn → Phase → Scopes → HostState → List Reply → TraceState
 own_at a u c p v h replies = record {
@@ -95,7 +68,7 @@ own_at a u c p v h replies = record {
   vars = v;
   host = h;
   finished = has_finished c.stage;
-  client = u.client;
+  client = arrived c.client;
   server = NoServer;
   sent = sent_by a c;
   answers = record { replies = replies; connects = u.connects; choices = u.choices; cut = None };
@@ -113,11 +86,12 @@ sent_is g a l c h =
 
 is_own : (g : Setup) (a : Around) (l : TraceState) (c : Conn) → Holds g a l c → l.finished ≡ has_finished c.stage → l ≡ own_at a (unread_in l) c l.phase l.vars l.host l.answers.replies
 is_own g a l c h finished =
-    let own : Bool → ServerSide → Counts → Option Cut → TraceState = λ f s n k. record l { finished = f; server = s; sent = n; answers = record l.answers { cut = k } } in
-    ap (λ f. own f l.server l.sent l.answers.cut) finished
-    ∙ ap (λ s. own (has_finished c.stage) s l.sent l.answers.cut) h.no_server
-    ∙ ap (λ n. own (has_finished c.stage) NoServer n l.answers.cut) (sent_is g a l c h)
-    ∙ ap (λ k. own (has_finished c.stage) NoServer (sent_by a c) k) h.no_cut
+    let own : Bool → Stream → ServerSide → Counts → Option Cut → TraceState = λ f t s n k. record l { finished = f; client = t; server = s; sent = n; answers = record l.answers { cut = k } } in
+    ap (λ f. own f l.client l.server l.sent l.answers.cut) finished
+    ∙ ap (λ t. own (has_finished c.stage) t l.server l.sent l.answers.cut) h.client
+    ∙ ap (λ s. own (has_finished c.stage) (arrived c.client) s l.sent l.answers.cut) h.no_server
+    ∙ ap (λ n. own (has_finished c.stage) (arrived c.client) NoServer n l.answers.cut) (sent_is g a l c h)
+    ∙ ap (λ k. own (has_finished c.stage) (arrived c.client) NoServer (sent_by a c) k) h.no_cut
 
 -- acts of the frames that were given at an open call
 record FirstGiven (w : ℕ) (o : Outcome HostState) : Type 0 where

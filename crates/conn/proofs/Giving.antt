@@ -14,6 +14,7 @@ use Rattle.connection_model.specs.Trace.{next_item, Unfolds}
 use Rattle.connection_model.proofs.Given.{sent_counted}
 use Rattle.connection_model.proofs.Querying.{met_joins}
 use Rattle.connection_model.proofs.Unfolding.{unfolds_on, unfolds_one}
+use Rattle.conn.specs.Arrivals.{arrived}
 use Rattle.conn.specs.Holds.{Around, Stands, Holds}
 use Rattle.conn.specs.Hosts.{AsksNothing}
 use Rattle.conn.specs.RunsItems.{sought, connects_in}
@@ -65,6 +66,8 @@ pub record OneItem (g : Setup) (a : Around) (l : TraceState) (old new : Conn) (i
   pub cut : at.answers.cut ≡ l.answers.cut
   pub queue : new.host.to_client ≡ old.host.to_client
   pub unasked : AsksNothing new.host.net
+  pub client : at.client ≡ l.client
+  pub kept : new.client ≡ old.client
 
 pub gave_one : (g : Setup) (a : Around) (l : TraceState) (c : ℕ) (old new : Conn) (i : Item) → Holds g a l old → (o : OneItem g a l old new i) → Gave g a l o.at c old new (note_of c i)
 gave_one g a l c old new i h o = record {
@@ -77,6 +80,7 @@ gave_one g a l c old new i h o = record {
     taken = h.taken;
     not_reset = h.not_reset;
     untaken = ap (λ q. length q + h.taken) o.queue ∙ h.untaken ∙ ap (λ s. s.client) (sym o.sent);
+    client = o.client ∙ h.client ∙ ap arrived (sym o.kept);
     no_server = o.server ∙ h.no_server;
     none_sent = ap (λ s. s.server) o.sent ∙ h.none_sent;
     no_number = ap (λ s. s.number) o.sent ∙ h.no_number;

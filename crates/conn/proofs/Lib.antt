@@ -12,6 +12,8 @@ pub mod Asking
 pub mod BodyActs
 pub mod BodyMoves
 pub mod Resting
+pub mod Finishing
+pub mod Arriving
 pub mod Taking
 pub mod Replying
 pub mod Awake

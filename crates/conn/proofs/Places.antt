@@ -10,6 +10,7 @@ use Rattle.event_order.specs.declared.event.EventName.{EventName}
 use Rattle.rule_model.specs.Evaluator.{evaluate}
 use Rattle.rule_model.specs.Outcome.{Outcome, state}
 use Rattle.rule_model.specs.Setting as given
+use Rattle.irule_net.specs.declared.state.Asks.TheVariants.{NotAsked}
 use Rattle.connection_model.specs.Host.{HostState, body_setting}
 use Rattle.connection_model.specs.Item.{Unselected}
 use Rattle.connection_model.specs.Places.{at as put, after_event, behind_accepted, next_body, entered, unless_ended}
@@ -75,14 +76,15 @@ begins_same {H = H} g tree budget vars host more m frames begins units =
     sym (ap (λ fs. F fs m.mode m.budget) frames ∙ ap (λ md. F [] md m.budget) begins ∙ ap (λ b. F [] mode.Begin b) units)
 
 pub body_begins : (s : code_setup.Setup) (g : Setup) → Serves s g → (e : EventName) (b : Handler) (bs : List Handler) (mid new : Conn) (at : At) (n : ℕ) → StartsBody s at n mid new
-    → (l : TraceState) → l.vars ≡ mid.vars → l.answers.replies ≡ [] → BodyGoesOn g e b bs 0 (record l { phase = InEvent e (Running b bs 0); host = seen_host mid.host }) new
-body_begins s g serves e b bs mid new at n k l vars none =
+    → (l : TraceState) → l.vars ≡ mid.vars → l.answers.replies ≡ [] → mid.host.net.client.asks ≡ NotAsked → BodyGoesOn g e b bs 0 (record l { phase = InEvent e (Running b bs 0); host = seen_host mid.host }) new
+body_begins s g serves e b bs mid new at n k l vars none no_collect =
     let S = body_setting g b.procedures in
     let m = new.body.machine.at in
     record {
       acts = [];
       cost = 0;
       phase = refl;
+      no_collect = no_collect;
       same = λ more.
           ap (λ rs. evaluate S b.body l.vars (seen_host mid.host) (rs ++ more) g.budget) none
           ∙ ap (λ v. evaluate S b.body v (seen_host mid.host) more g.budget) (vars ∙ sym k.vars)
@@ -111,7 +113,7 @@ next_stands s g serves at n mid new k l vars none q fin = by_test (nat_lt n (len
         let is : drop n (g.handlers (event_of at)) ≡ some.0 ∷ some.1 = ap (drop n) (handlers_are s g serves at) ∙ some.2 in
         let P : List Handler → Type 0 = λ hs. RunsFirst g (event_of at) hs 0 (put (next_body g (event_of at) fin Absent hs (seen_host mid.host)) l) new in
         let Q : Stage → Type 0 = λ st. Stands g st (put (next_body g (event_of at) fin Absent (drop n (g.handlers (event_of at))) (seen_host mid.host)) l) new in
-        subst Q (sym c.there) (subst P (sym is) (body_begins s g serves (event_of at) some.0 some.1 mid new at n c l vars none), c.fresh.runs)
+        subst Q (sym c.there) (subst P (sym is) (body_begins s g serves (event_of at) some.0 some.1 mid new at n c l vars none q.collect), c.fresh.runs)
     by_test false e c =
         let is : drop n (g.handlers (event_of at)) ≡ [] = ap (drop n) (handlers_are s g serves at) ∙ none_left (bodies_at s at) n (grind (arith, nat_tests, e)) in
         let P : List Handler → Type 0 = λ hs. Stands g (after_stage at) (put (next_body g (event_of at) fin Absent hs (seen_host mid.host)) l) new in

@@ -15,6 +15,8 @@ use Rattle.frame_machine.specs.Frames.{comes_to, path_of}
 use Rattle.frame_machine.specs.declared.frame.Mode.{Mode}
 use Rattle.frame_machine.specs.declared.frame.Mode.TheVariants as mode
 use Rattle.frame_machine.specs.declared.frame.Standing.{Standing}
+use Rattle.connection_model.proofs.Streams.{nothing_stream}
+use Rattle.conn.specs.Arrivals.{arrived}
 use Rattle.conn.specs.Bodies.{Heard}
 use Rattle.conn.specs.Calls.{Replies}
 use Rattle.conn.specs.Events.{event_of}
@@ -50,6 +52,7 @@ body_hears g e b bs l old new reply k asked heard vars host =
       acts = acts;
       cost = k.cost;
       phase = k.phase ∙ ap (λ n. InEvent e (Running b bs n)) count;
+      no_collect = k.no_collect;
       same = λ more.
           ap (λ rs. evaluate S b.body l.vars l.host rs g.budget) (append_assoc l.answers.replies (reply ∷ []) more)
           ∙ k.same (reply ∷ more)
@@ -64,8 +67,8 @@ first_hears : (g : Setup) (e : EventName) (hs : List Handler) (l : TraceState) (
 first_hears g e [] l old new reply k asked heard vars host = k
 first_hears g e (b ∷ bs) l old new reply k asked heard vars host = body_hears g e b bs l old new reply k asked heard vars host
 
-pub replies : (reply : Reply) (old new : Conn) (at : At) (n : ℕ) → old.stage ≡ stage.Asking at n → new.stage ≡ stage.Running at n → (old.body.asks ≡ true → Heard reply old.body new.body) → new.vars ≡ old.vars → new.host ≡ old.host → Replies reply old new
-replies reply old new at n was is hears vars host g a l h =
+pub replies : (reply : Reply) (old new : Conn) (at : At) (n : ℕ) → old.stage ≡ stage.Asking at n → new.stage ≡ stage.Running at n → (old.body.asks ≡ true → Heard reply old.body new.body) → new.vars ≡ old.vars → new.host ≡ old.host → new.client ≡ old.client → Replies reply old new
+replies reply old new at n was is hears vars host client g a l h =
     let f = replies_only (reply ∷ []) in
     let e = event_of at in
     let P : Stage → Type 0 = λ st. Stands g st l old in
@@ -78,6 +81,7 @@ replies reply old new at n was is hears vars host g a l h =
       taken = h.taken;
       not_reset = h.not_reset;
       untaken = ap (λ x. length x.to_client + h.taken) host ∙ h.untaken;
+      client = nothing_stream nothing_comes l.client refl ∙ h.client ∙ ap arrived (sym client);
       no_server = ap (longer_server (left_for nothing_comes l.answers.connects)) h.no_server;
       none_sent = h.none_sent;
       no_number = h.no_number;

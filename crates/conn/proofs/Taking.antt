@@ -12,6 +12,7 @@ use Rattle.connection_model.specs.Places.{at as put, begun, entered}
 use Rattle.connection_model.specs.Setup.{Handler, Setup}
 use Rattle.connection_model.specs.State.{Absent, Draining, NoServer, TraceState, no_stream, no_answers}
 use Rattle.connection_model.specs.Trace.{start}
+use Rattle.conn.specs.Arrivals.{nothing_arrived, arrived}
 use Rattle.conn.specs.Calls.{Begins, Takes}
 use Rattle.conn.specs.Events.{event_of}
 use Rattle.conn.specs.Holds.{Between, RunsFirst, Stands}
@@ -31,7 +32,7 @@ with_queue q c = record c { host = record c.host { to_client = q } }
 
 same_body : (g : Setup) (e : EventName) (hs : List Handler) (n : ℕ) (l : TraceState) (c : Conn) (q : List ℕ) → RunsFirst g e hs n l c → RunsFirst g e hs n l (with_queue q c)
 same_body g e [] n l c q k = k
-same_body g e (b ∷ bs) n l c q k = record { acts = k.acts; cost = k.cost; phase = k.phase; same = k.same }
+same_body g e (b ∷ bs) n l c q k = record { acts = k.acts; cost = k.cost; phase = k.phase; no_collect = k.no_collect; same = k.same }
 
 same_between : (l : TraceState) (c : Conn) (q : List ℕ) → Between l c → Between l (with_queue q c)
 same_between l c q b = record { vars = b.vars; host = b.host; replies = b.replies }
@@ -55,6 +56,7 @@ takes n old q within is g a l h = record {
   taken = h.taken + n;
   not_reset = ap (option_map (λ k. k + n)) h.not_reset;
   untaken = (let s : length q ≡ length old.host.to_client - n = ap length is ∙ length-drop n old.host.to_client in let u = h.untaken in omega (arith, s, u, within));
+  client = h.client;
   no_server = h.no_server;
   none_sent = h.none_sent;
   no_number = h.no_number;
@@ -62,8 +64,8 @@ takes n old q within is g a l h = record {
 }
 
 -- a connection that begins stands where its trace does
-pub begins : (s : code.Setup) (from : Addr) (new : Conn) → new.stage ≡ entered_stage s Accepted → new.vars ≡ no_scopes → new.host ≡ fresh_host (new_state from s.port [] false) → Begins s from new
-begins s from new there vars host g serves came =
+pub begins : (s : code.Setup) (from : Addr) (new : Conn) → new.stage ≡ entered_stage s Accepted → new.vars ≡ no_scopes → new.host ≡ fresh_host (new_state from s.port [] false) → new.client ≡ nothing_arrived → Begins s from new
+begins s from new there vars host client g serves came =
     let l0 : TraceState = record { phase = Draining; vars = no_scopes; host = first_host g; finished = false; client = no_stream; server = NoServer; sent = no_bytes; answers = no_answers } in
     let S : Addr → ℕ → List ℕ → Bool → HostState = λ a n p b. record { event = ClientAccepted; net = new_state a n p b } in
     let first : begun ClientAccepted Absent (first_host g) ≡ seen_host new.host =
@@ -78,6 +80,7 @@ begins s from new there vars host g serves came =
       taken = 0;
       not_reset = refl;
       untaken = sent_none;
+      client = ap arrived (sym client);
       no_server = refl;
       none_sent = same_none;
       no_number = refl;

@@ -29,12 +29,14 @@ pub record Chooses (s : Setup) (old new : Conn) : Type 0 where
   pub there : new.stage ≡ entered_stage s Failed
   pub vars : new.vars ≡ old.vars
   pub host : new.host ≡ begun_host Failed (unselected_host old.host)
+  pub client : new.client ≡ old.client
 
 -- the closing event begins
 pub record Closes (s : Setup) (old new : Conn) : Type 0 where
   pub mid : Conn
   pub vars : mid.vars ≡ old.vars
   pub host : mid.host ≡ begun_host Closed old.host
+  pub client : mid.client ≡ old.client
   pub begins : NextBody s Closed 0 mid new
 
 -- behind a fault it finishes; a closing event goes on

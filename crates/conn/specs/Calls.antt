@@ -1,9 +1,13 @@
 -- What the calls of a connection make of it, for each state that its trace may stand at.
-use Rattle.std.specs.Prelude.{◌≡◌, ℕ, ◌+◌, [], ◌∷◌, Bool, ◌&&◌, option_map}
+use Rattle.std.specs.Prelude.{◌≡◌, ℕ, ◌+◌, ◌-◌, [], ◌∷◌, length, Bool, true, false, ◌&&◌}
+use Rattle.std.specs.Prelude.{option_map, if◌then◌else◌}
 use Rattle.px_bytes.specs.declared.addr.Addr.{Addr}
 use Rattle.px_bytes.specs.declared.addr.Side.TheVariants.{Client}
 use Rattle.px_bytes.specs.declared.fault.Reply.{Reply}
-use Rattle.connection_model.specs.Further.{longer, replies_only}
+use Rattle.connection_model.specs.Further.{Coming, Further, nothing_further, longer}
+use Rattle.connection_model.specs.Further.{replies_only}
+use Rattle.connection_model.specs.Phases.{Orderly}
+use Rattle.connection_model.specs.Queries.{unread_limit}
 use Rattle.connection_model.specs.Queries as query
 use Rattle.connection_model.specs.Setup as model
 use Rattle.connection_model.specs.State.{TraceState, no_stream, no_answers}
@@ -13,18 +17,31 @@ use Rattle.conn.specs.declared.setup.Setup.{Setup}
 use Rattle.conn.specs.Holds.{Around, fresh, Holds}
 use Rattle.conn.specs.RunsItems.{is_drained}
 use Rattle.conn.specs.Setups.{Serves}
-use Rattle.conn.specs.Stages.{is_draining}
+use Rattle.conn.specs.Stages.{has_finished, is_draining}
 use Rattle.seg_buffer.specs.Bytes.{is_empty}
 
--- the most bytes of a side that may lie unread, all of which are wanted while nothing arrives
-abbrev pub wanted : ℕ
-wanted = 65536
+-- how many bytes of its client may come: as many as don't lie unread of the most, and the most once
+-- it has finished
+abbrev pub wanted_in : Conn → ℕ
+wanted_in c =
+    if has_finished c.stage then unread_limit else unread_limit - length c.client.unread
 
--- as many as its trace wants, where nothing lies unread
+-- as many as its trace wants
 abbrev pub Wants : Conn → ℕ → Type 0
 Wants c n =
-    (g : model.Setup) (a : Around) (l : TraceState) → Holds g a l c → l.client.unread ≡ []
+    (g : model.Setup) (a : Around) (l : TraceState) → Holds g a l c → Orderly l
     → n ≡ query.wanted Client l
+
+-- what comes of a client; once it has finished nothing does
+abbrev pub unless_finished : Bool → Coming → Further
+unless_finished true coming = nothing_further
+unless_finished false coming = record nothing_further { client = coming }
+
+-- more comes of its client
+abbrev pub Hears : Coming → Conn → Conn → Type 0
+Hears coming old new =
+    (g : model.Setup) (a : Around) (l : TraceState) → Holds g a l old → Orderly l
+    → Holds g a (longer (unless_finished l.finished coming) l) new
 
 -- its client is at this address
 abbrev pub Begins : Setup → Addr → Conn → Type 0

@@ -15,6 +15,7 @@ pub record GoesTo (stage : Stage) (old new : Conn) : Type 0 where
   pub there : new.stage ≡ stage
   pub vars : new.vars ≡ old.vars
   pub host : new.host ≡ old.host
+  pub client : new.client ≡ old.client
 
 -- the body of this number begins
 pub record StartsBody (s : Setup) (at : At) (number : ℕ) (old new : Conn) : Type 0 where
@@ -22,6 +23,7 @@ pub record StartsBody (s : Setup) (at : At) (number : ℕ) (old new : Conn) : Ty
   pub fresh : Fresh new.body s.budget
   pub vars : new.vars ≡ old.vars
   pub host : new.host ≡ old.host
+  pub client : new.client ≡ old.client
 
 -- it begins where there is one, and else the event is over
 abbrev pub NextBody : Setup → At → ℕ → Conn → Conn → Type 0

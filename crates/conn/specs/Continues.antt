@@ -1,7 +1,7 @@
 -- What a connection is followed by, from its own fields: whatever may still come, its trace is what
 -- was given, and then this.
 use Rattle.std.specs.Prelude.{◌≡◌, ℕ, ◌+◌, List, [], ◌∷◌, ◌++◌, length, map, take, drop}
-use Rattle.std.specs.Prelude.{Bool, true, false, Option, Some, None, unwrap_or}
+use Rattle.std.specs.Prelude.{Option, Some, None, unwrap_or}
 use Rattle.px_bytes.specs.declared.fault.Reply.{Reply}
 use Rattle.event_order.specs.declared.event.EventName.{EventName}
 use Rattle.rule_model.specs.Laws.{state_after}
@@ -21,27 +21,25 @@ use Rattle.connection_model.specs.State as phase
 use Rattle.connection_model.specs.Trace.{next_item, Unfolds, trace_from, trace, start}
 use Rattle.frame_machine.specs.Frames.{comes_to}
 use Rattle.conn.specs.declared.connection.Conn.{Conn}
-use Rattle.conn.specs.declared.events.At.{At}
-use Rattle.conn.specs.declared.events.At.TheVariants.{Accepted, Failed, Closed}
 use Rattle.conn.specs.declared.stage.Stage.{Stage}
 use Rattle.conn.specs.declared.stage.Stage.TheVariants as stage
 use Rattle.conn.specs.declared.turn.ConnTurn.{ConnTurn}
+use Rattle.conn.specs.Arrivals.{arrived}
 use Rattle.conn.specs.Calls.{took_more, Takes, Replies}
 use Rattle.conn.specs.Events.{event_of}
 use Rattle.conn.specs.Holds.{Around, fresh, Holds}
 use Rattle.conn.specs.Hosts.{seen_host}
 use Rattle.conn.specs.Runs.{GoesOnWith}
-use Rattle.conn.specs.Stages.{reason_for}
+use Rattle.conn.specs.Stages.{has_finished, reason_for}
 
--- What came and wasn't read. A connection of today keeps none of it, as nothing reads it.
+-- What came and wasn't read, besides its client's bytes. A connection of today keeps none of it, as
+-- nothing reads it.
 pub record Unread : Type 0 where
-  pub client : Stream
   pub connects : List (Option Stream)
   pub choices : List Choice
 
 abbrev pub unread_in : TraceState → Unread
 unread_in l = record {
-  client = l.client;
   connects = l.answers.connects;
   choices = l.answers.choices;
 }
@@ -65,19 +63,6 @@ phase_at g stage.Choosing = phase.Choosing
 phase_at g (stage.Finishing f) = phase.Finishing (reason_for f)
 phase_at g other = phase.Draining
 
--- the closing event runs once it has finished
-abbrev pub is_closed : At → Bool
-is_closed Accepted = false
-is_closed Failed = false
-is_closed Closed = true
-
-abbrev pub has_finished : Stage → Bool
-has_finished (stage.Running at n) = is_closed at
-has_finished (stage.Asking at n) = is_closed at
-has_finished (stage.Failing at n kind line) = is_closed at
-has_finished stage.Draining = true
-has_finished other = false
-
 -- what was taken, and what waits for its client, was sent
 abbrev pub sent_by : Around → Conn → Counts
 sent_by a c = record {
@@ -93,7 +78,7 @@ own_state g a u c = record {
   vars = c.vars;
   host = seen_host c.host;
   finished = has_finished c.stage;
-  client = u.client;
+  client = arrived c.client;
   server = NoServer;
   sent = sent_by a c;
   answers = record { replies = []; connects = u.connects; choices = u.choices; cut = None };

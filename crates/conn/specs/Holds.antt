@@ -5,6 +5,7 @@ use Rattle.event_order.specs.declared.event.EventName.{EventName}
 use Rattle.rule_model.specs.Evaluator.{evaluate}
 use Rattle.rule_model.specs.Outcome.{Act}
 use Rattle.connection_model.specs.Gates.{TakenCounts, none_taken}
+use Rattle.irule_net.specs.declared.state.Asks.TheVariants.{NotAsked}
 use Rattle.connection_model.specs.Host.{body_setting}
 use Rattle.connection_model.specs.Setup.{Handler, Setup}
 use Rattle.connection_model.specs.State.{Gated, Running, Failing, Phase, InEvent, TraceState}
@@ -14,6 +15,7 @@ use Rattle.frame_machine.specs.Frames.{comes_to}
 use Rattle.conn.specs.declared.connection.Conn.{Conn}
 use Rattle.conn.specs.declared.stage.Stage.{Stage}
 use Rattle.conn.specs.declared.stage.Stage.TheVariants as stage
+use Rattle.conn.specs.Arrivals.{arrived}
 use Rattle.conn.specs.Events.{event_of}
 use Rattle.conn.specs.Hosts.{AsksNothing, seen_host}
 use Rattle.conn.specs.Stages.{reason_for}
@@ -39,6 +41,7 @@ pub record BodyGoesOn (g : Setup) (e : EventName) (b : Handler) (bs : List Handl
   pub acts : List Act
   pub cost : ℕ
   pub phase : l.phase ≡ InEvent e (Running b bs (length acts + waiting))
+  pub no_collect : l.host.net.client.asks ≡ NotAsked
   pub same : (more : List Reply)
       → evaluate (body_setting g b.procedures) b.body l.vars l.host (l.answers.replies ++ more)
       g.budget
@@ -72,13 +75,15 @@ Stands g stage.OutOfMemory l c = ⊥
 Stands g (stage.Dropped n) l c = ⊥
 
 -- What it holds where its trace stands at l: what waits for its client is what was sent and not
--- taken. Nothing was sent to a server, and no cut was heard.
+-- taken, and what came of its client and wasn't read is that of the trace. Nothing was sent to a
+-- server, and no cut was heard.
 pub record Holds (g : Setup) (a : Around) (l : TraceState) (c : Conn) : Type 0 where
   pub stage : Stands g c.stage l c
   pub unasked : AsksNothing c.host.net
   pub taken : ℕ
   pub not_reset : a.took.client ≡ Some taken
   pub untaken : length c.host.to_client + taken ≡ l.sent.client
+  pub client : l.client ≡ arrived c.client
   pub no_server : l.server ≡ NoServer
   pub none_sent : l.sent.server ≡ 0
   pub no_number : l.sent.number ≡ 0

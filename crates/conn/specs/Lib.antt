@@ -2,6 +2,7 @@ pub mod Events
 pub mod Setups
 pub mod Stages
 pub mod Modes
+pub mod Arrivals
 pub mod Hosts
 pub mod Making
 pub mod Bodies

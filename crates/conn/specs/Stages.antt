@@ -53,3 +53,18 @@ failed other = stage.OutOfMemory
 abbrev pub dropped_in : Stage → ℕ
 dropped_in (stage.Dropped n) = n
 dropped_in other = 0
+
+-- the closing event runs once it has finished
+abbrev pub is_closed : At → Bool
+is_closed Accepted = false
+is_closed Failed = false
+is_closed Closed = true
+
+abbrev pub has_finished : Stage → Bool
+has_finished (stage.Running at n) = is_closed at
+has_finished (stage.Asking at n) = is_closed at
+has_finished (stage.Failing at n kind line) = is_closed at
+has_finished stage.Draining = true
+has_finished stage.OutOfMemory = true
+has_finished (stage.Dropped n) = true
+has_finished other = false

@@ -37,6 +37,7 @@ pub record DoesMade (c : ℕ) (old new : Conn) (before after : List Note) : Type
   pub there : new.stage ≡ old.stage
   pub body : new.body ≡ old.body
   pub vars : new.vars ≡ old.vars
+  pub client : new.client ≡ old.client
   pub host : new.host ≡ record old.host {
     to_client = old.host.to_client ++ client_bytes (one_of old.host.made);
   }
@@ -69,6 +70,7 @@ pub record BodySteps (s : Setup) (h : Handler) (c : ℕ) (at : At) (number : ℕ
   pub turned : Turn
   pub ticks : ℕ
   pub there : stepped.stage ≡ old.stage
+  pub client : stepped.client ≡ old.client
   pub went : old.body.runs ≡ true
       → Went (setting (Some s.statics.now.statics) (commands s.groups.now) (procs_view h.procs))
       (node_view h.body) (place old.body.machine.at old.vars (seen_host old.host))

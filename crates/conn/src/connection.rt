@@ -1,10 +1,13 @@
 // A connection.
 
-ghost use Rattle.std.specs.Prelude.{◌≡◌, ◌≤◌, ◌++◌, [], true, IfOk, OnOk, length, take, drop};
-ghost use Rattle.conn.specs.Calls.{Begins, Replies, Takes, Settles, Wants, over_in, wanted};
-ghost use Rattle.conn.specs.Stages.{is_asking};
+ghost use Rattle.std.specs.Prelude.{◌≡◌, ◌≤◌, ◌++◌, [], true, false, IfOk, OnOk, OnErr};
+ghost use Rattle.std.specs.Prelude.{length, take, drop};
+ghost use Rattle.conn.specs.Calls.{Begins, Hears, Replies, Takes, Settles, Wants, over_in};
+ghost use Rattle.conn.specs.Calls.{wanted_in};
+ghost use Rattle.conn.specs.Stages.{has_finished, is_asking};
 ghost use Rattle.conn.specs.RunsItems.{closing_if};
 
+use crate::arrived::Arrived;
 use crate::body::Body;
 use crate::events::At;
 use crate::host::RuleHost;
@@ -16,17 +19,18 @@ use px_bytes::{Addr, M, Reply, Text};
 use std::alloc::Global;
 use tcl_vars::Vars;
 
-/// The most bytes of a side that may have arrived and not been read.
+/// The most bytes of a side that may lie unread.
 const UNREAD_LIMIT: usize = 65_536;
 
 /// A connection: where it stands, the body that runs, the variables of its rules, which all events
-/// share, and their host.
+/// share, their host, and what came of its client and wasn't read.
 #[derive(Drop)]
 pub struct Conn {
     pub(crate) stage: Stage,
     pub(crate) body: Body,
     pub(crate) vars: Vars,
     pub(crate) host: RuleHost,
+    pub(crate) client: Arrived,
 }
 
 impl Conn {
@@ -41,6 +45,7 @@ impl Conn {
             body: Body::new(alloc),
             vars: Vars::new(alloc),
             host: RuleHost::new(alloc, net),
+            client: Arrived::new(alloc),
         }
     }
 
@@ -49,6 +54,7 @@ impl Conn {
         requires { n ≤ length self.old.host.to_client }
         ensures takes { Takes n self.old self.new }
         ensures queue { self.new.host.to_client ≡ drop n self.old.host.to_client }
+        ensures stage { self.new.stage ≡ self.old.stage }
     {
         self.host.to_client.drop_front(n);
     }
@@ -104,12 +110,47 @@ impl Conn {
         self.host.to_client.copy(n)
     }
 
-    /// How many bytes that its client sends may arrive. None arrive today.
+    /// How many bytes of its client may come.
     pub fn wants(&self) -> usize
-        ensures exact { result ≡ wanted }
+        ensures exact { result ≡ wanted_in self.now }
         ensures wanted { Wants self.now result }
     {
-        UNREAD_LIMIT
+        self.left()
+    }
+
+    fn left(&self) -> usize
+        ensures { result ≡ wanted_in self.now }
+    {
+        if self.stage.has_finished() {
+            return UNREAD_LIMIT;
+        }
+        UNREAD_LIMIT.saturating_sub(self.client.unread.len())
+    }
+
+    /// Bytes come of its client. Once it has finished they are dropped.
+    pub fn arrive(&mut self, bytes: &[u8]) -> M<()>
+        ensures hears { OnOk result
+            (Hears (record { bytes = bytes.now; ended = false }) self.old self.new) }
+        ensures host { self.new.host ≡ self.old.host }
+        ensures stage { self.new.stage ≡ self.old.stage }
+        ensures err { OnErr result (self.new ≡ self.old) }
+        ensures goes_on { OnErr result (has_finished self.old.stage ≡ false) }
+    {
+        if self.stage.has_finished() {
+            return Ok(());
+        }
+        self.client.push(bytes)
+    }
+
+    /// Its client sends no more.
+    pub fn end(&mut self)
+        ensures hears { Hears (record { bytes = []; ended = true }) self.old self.new }
+        ensures host { self.new.host ≡ self.old.host }
+        ensures stage { self.new.stage ≡ self.old.stage }
+    {
+        if !self.stage.has_finished() {
+            self.client.end();
+        }
     }
 
     /// Gives its last notes where it is over and its client took all, and says whether.

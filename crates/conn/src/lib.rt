@@ -2,6 +2,7 @@
 #![tactic(auto)]
 
 mod advance;
+mod arrived;
 mod body;
 mod body_step;
 mod connection;
@@ -16,6 +17,7 @@ mod turn;
 mod uncaught;
 mod without_memory;
 
+pub use arrived::Arrived;
 pub use body::Body;
 pub use connection::Conn;
 pub use events::At;

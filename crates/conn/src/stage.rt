@@ -2,7 +2,7 @@
 
 ghost use Rattle.std.specs.Prelude.{◌≡◌};
 ghost use Rattle.conn.specs.Stages.{after_stage, cause_for, dropped_in, failed, is_asking};
-ghost use Rattle.conn.specs.Stages.{is_draining};
+ghost use Rattle.conn.specs.Stages.{has_finished, is_draining};
 
 use crate::events::At;
 use connection_model::Cause;
@@ -103,6 +103,19 @@ impl Stage {
     {
         match self {
             Stage::Asking { .. } => true,
+            _ => false,
+        }
+    }
+
+    /// Whether it has finished.
+    pub fn has_finished(&self) -> bool
+        ensures { result ≡ has_finished self.now }
+    {
+        match self {
+            Stage::Running { at, .. } | Stage::Asking { at, .. } | Stage::Failing { at, .. } => {
+                matches!(at, At::Closed)
+            }
+            Stage::Draining | Stage::OutOfMemory | Stage::Dropped(_) => true,
             _ => false,
         }
     }

@@ -15,12 +15,13 @@ use Rattle.px_bytes.specs.declared.addr.Side.TheVariants.{Client}
 use Rattle.connection_model.specs.declared.note.Cause.TheVariants.{Memory}
 use Rattle.connection_model.specs.declared.note.Note.{Note}
 use Rattle.connection_model.specs.declared.note.Note.TheVariants.{Finish}
-use Rattle.connection_model.specs.Heard.{Takes, Accepts, Comes, Runs, Ticks, Turns, Accepted, Heard, hears}
+use Rattle.connection_model.specs.Heard.{Input, Bytes, Ends, Takes, EventKind, Accepts, Comes, Runs, Ticks, Turns, Accepted, Heard, hears}
 use Rattle.connection_model.specs.Item.{Item, to_client, client_output}
 use Rattle.connection_model.proofs.Hearing.{others_not_heard}
 use Rattle.conn.specs.declared.connection.Conn.{Conn}
 use Rattle.proxy_core.specs.Live.{pending_in, queue_of}
-use Rattle.proxy_core.specs.Moves.{Leads, Moves, Rests, MovesFailed, MovesOn}
+use Rattle.proxy_core.specs.Live.{taken_more}
+use Rattle.proxy_core.specs.Moves.{Leads, Moves, MovesBy, MovesCome, Rests, MovesFailed, MovesLacks, MovesOn, may_come}
 use Rattle.proxy_core.specs.Moves.{MovesRing, RunsOn, RunsOut, RunsFailed}
 use Rattle.proxy_core.specs.Past.{Happened, Past, kind_of, heard, with_accepted, shared}
 use Rattle.proxy_core.specs.Queries.{front_of, front_in, queue_on}
@@ -34,7 +35,7 @@ use Rattle.proxy_core.specs.Sound.{unseen, Served}
 use Rattle.proxy_core.specs.declared.config.Config.{Config}
 use Rattle.proxy_core.specs.declared.core_state.Core.{Core}
 use Rattle.proxy_core.specs.declared.event.Event.{Event}
-use Rattle.proxy_core.specs.declared.event.Event.TheVariants.{Accept, Tick, Turn, ClientTook, Run, Mark}
+use Rattle.proxy_core.specs.declared.event.Event.TheVariants.{Accept, FromClient, ClientEnd, Tick, Turn, ClientTook, Run, Mark}
 use Rattle.proxy_core.specs.declared.event.BadEvent.TheVariants.{NoMember}
 use Rattle.proxy_core.specs.declared.live.Live.{Live}
 use Rattle.proxy_core.proofs.Framing.{about, front, touches, only_changed}
@@ -62,7 +63,7 @@ absent past c r h = by_test (is_in (accepted past) c) refl
 
 above : (C : Config) (past : Past) (c : ℕ) (vs : List ℕ) (from : Addr) (s : State) → refused C past s (Accepts c vs from) ≡ None → (shared past).last < c
 above C past c vs from s h =
-    let r = (none_holds (refusal_rows C (known past s (Accepts c vs from)) (Accepts c vs from)) h).1.0 in grind (arith, nat_tests)
+    let r = (none_holds (refusal_rows C (known C past s (Accepts c vs from)) (Accepts c vs from)) h).1.0 in grind (arith, nat_tests)
 
 rises_with : (C : Config) (past : Past) (e : Event) (group : List Note) (s : State) → Rising past → refused C past s (kind_of e) ≡ None → Rising (record { event = e; group = group } ∷ past)
 rises_with C past (Accept c vs from) group s r h =
@@ -174,7 +175,7 @@ one_more past past' s s' c bytes (q ∷ numbers) d others own = by_number (nat_e
 live_pending : (core : Core) (c n : ℕ) → refusal core (ClientTook c n) ≡ None → (l : Live) × (live_at core.live.items c ≡ Some l) × (n ≤ pending_in l.conn)
 live_pending core c n h =
     let v = Comes c (Takes Client n) in
-    let r = none_holds (refusal_rows core.config (core_known core v) v) h in by_live (live_at core.live.items c) refl r.0 r.1.1.1.1.1.1.1.0
+    let r = none_holds (refusal_rows core.config (core_known core v) v) h in by_live (live_at core.live.items c) refl r.0 r.1.1.1.1.1.1.1.1.0
   where
     by_live : (o : Option Live) → live_at core.live.items c ≡ o → is_none (core_standing o) ≡ false → takes_too_much (core_standing o) (Takes Client n) ≡ false → (l : Live) × (live_at core.live.items c ≡ Some l) × (n ≤ pending_in l.conn)
     by_live None e k t = cc
@@ -189,15 +190,38 @@ front_is n l h = by_conn l.conn h
 
 queue_is : (C : Config) (z : Seen) (o : Option Conn) → ConnectionContinues C z o → queue_on Client o ≡ drop z.heard.client.took (client_output z.place)
 queue_is C z None k = rw k.no_items (sym (drop_nothing z.heard.client.took))
-queue_is C z (Some conn) k = k.queue
+queue_is C z (Some conn) (inl k) = k.queue
+queue_is C z (Some conn) (inr k) = k.queue
 
--- what a took-count leaves of the places
-same_places : (C : Config) (past : Past) (s next : State) (c n : ℕ) (group : List Note) → Moves C past (record { event = ClientTook c n; group = group }) s next → (q : ℕ) → next.places q ≡ s.places q
-same_places C past s next c n group m q = by_failed (heard c past).failed m
+-- what comes of a client leaves the places
+came_places : (C : Config) (past : Past) (s next : State) (c : ℕ) (input : Input) (group : List Note) → may_come input ≡ true → MovesBy C past (Comes c input) group s next → (q : ℕ) → next.places q ≡ s.places q
+came_places C past s next c input group may m q = let M : Bool → Type 0 = λ b. MatchBool b (MovesCome C input (heard c past) now c group s next) ⊥ in by_failed (heard c past).failed (subst M may m)
   where
-    by_failed : (b : Bool) → MatchBool b (MovesFailed c group s next) (MovesOn C (heard c (record { event = ClientTook c n; group = group } ∷ past)) c group s next) → next.places q ≡ s.places q
+    now : Heard
+    now = hears c (heard c past) (Comes c input) group
+
+    by_failed : (b : Bool) → MatchBool b (MovesFailed c group s next) (MovesOn C now c group s next ⊎ MovesLacks input c group s next) → next.places q ≡ s.places q
     by_failed true k = ap (λ y. y.places q) k.state
-    by_failed false k = ap (λ y. y.places q) k.state
+    by_failed false (inl k) = ap (λ y. y.places q) k.state
+    by_failed false (inr k) = ap (λ y. y.places q) k.state
+
+-- where it took none of what was pending each took what it took before
+came_kept : (C : Config) (past : Past) (s next : State) (core : Core) (c : ℕ) (input : Input) (e : Event) (group : List Note) → kind_of e ≡ Comes c input → may_come input ≡ true → taken_more input ≡ 0 → Represents C past s core → refused C past s (Comes c input) ≡ None
+    → Moves C past (record { event = e; group = group }) s next → taken_of past s (accepted past) ≡ taken_of (record { event = e; group = group } ∷ past) next (accepted past)
+came_kept C past s next core c input e group is may none r fine m =
+    let x : Happened = record { event = e; group = group } in
+    let v = Comes c input in
+    let K : EventKind → Type 0 = λ k. MovesBy C past k group s next in
+    let moved : MovesBy C past v group s next = subst K is m in
+    let met = may_come_at C past s c input (r.sound.each c) fine in
+    let t = come_told c (heard c past) input group may met.served.plain.connects (touches C past v group s next moved).notes in
+    let took : (heard c (x ∷ past)).client.took ≡ (heard c past).client.took = ap (λ k. (hears c (heard c past) k group).client.took) is ∙ t.took ∙ (omega (arith, none)) in
+    let own : taken_bytes (x ∷ past) next c ≡ taken_bytes past s c = ap (λ n. take n (client_output (next.places c))) took ∙ ap (λ p. take (heard c past).client.took (client_output p)) (came_places C past s next c input group may moved c) in
+    sym (same_each past (x ∷ past) s next (accepted past) (λ q. by_number q (nat_eq c q) refl own))
+  where
+    by_number : (q : ℕ) (b : Bool) → nat_eq c q ≡ b → taken_bytes (record { event = e; group = group } ∷ past) next c ≡ taken_bytes past s c → taken_bytes (record { event = e; group = group } ∷ past) next q ≡ taken_bytes past s q
+    by_number q true f own = let P : ℕ → Type 0 = λ n. taken_bytes (record { event = e; group = group } ∷ past) next n ≡ taken_bytes past s n in subst P (eq_same c q f) own
+    by_number q false f own = bytes_stay C past s next e group m q (ap (λ k. nat_eq (about k s) q) is ∙ f)
 
 took_kept : (C : Config) (past : Past) (s next : State) (core : Core) (c n : ℕ) (group : List Note) → Represents C past s core → refused C past s (Comes c (Takes Client n)) ≡ None → refusal core (ClientTook c n) ≡ None → Moves C past (record { event = ClientTook c n; group = group }) s next
     → with_took (took_of core (ClientTook c n)) (taken_of past s (accepted past)) ≡ taken_of (record { event = ClientTook c n; group = group } ∷ past) next (accepted past)
@@ -212,7 +236,7 @@ took_kept C past s next core c n group r fine h m =
     let may = may_come_at C past s c (Takes Client n) (r.sound.each c) fine in
     let took : (heard c (x ∷ past)).client.took ≡ (heard c past).client.took + n = (come_told c (heard c past) (Takes Client n) group refl may.served.plain.connects (touches C past (Comes c (Takes Client n)) group s next m).notes).took in
     let own : taken_bytes (x ∷ past) next c ≡ taken_bytes past s c ++ bytes =
-    ap (λ p. take (heard c (x ∷ past)).client.took (client_output p)) (same_places C past s next c n group m c) ∙ ap (λ t. take t out) took ∙ sym (more_taken (heard c past).client.took n out)
+    ap (λ p. take (heard c (x ∷ past)).client.took (client_output p)) (came_places C past s next c (Takes Client n) group refl m c) ∙ ap (λ t. take t out) took ∙ sym (more_taken (heard c past).client.took n out)
     ∙ ap (λ q. take (heard c past).client.took out ++ take n q) (sym (queue_is C z f.0.conn a.continues)) in
     ap (λ o. with_took (more_of c o) (taken_of past s (accepted past))) front
     ∙ one_more past (x ∷ past) s next c bytes (accepted past) (rising C past s r.sound.leads).distinct
@@ -262,6 +286,8 @@ rests_kept past s next e group m live none = sym (same_each past (record { event
 pub taken_kept : (C : Config) (past : Past) (s next : State) (core : Core) (e : Event) (group : List Note) → Represents C past s core → refused C past s (kind_of e) ≡ None → refusal core e ≡ None → Moves C past (record { event = e; group = group }) s next
     → with_took (took_of core e) (taken_of past s (accepted past)) ≡ taken_of (record { event = e; group = group } ∷ past) next (accepted (record { event = e; group = group } ∷ past))
 taken_kept C past s next core (Accept c vs from) group r h k m = accept_kept C past s next core c vs from group r h m
+taken_kept C past s next core (FromClient c bytes) group r h k m = came_kept C past s next core c (Bytes Client bytes) (FromClient c bytes) group refl refl refl r h m
+taken_kept C past s next core (ClientEnd c) group r h k m = came_kept C past s next core c (Ends Client) (ClientEnd c) group refl refl refl r h m
 taken_kept C past s next core (ClientTook c n) group r h k m = took_kept C past s next core c n group r h k m
 taken_kept C past s next core (Tick moment) group r h k m = rests_kept past s next (Tick moment) group m refl (λ q y. others_not_heard q y (Ticks moment) [] refl refl)
 taken_kept C past s next core Turn group r h k m = rests_kept past s next Turn group m refl (λ q y. others_not_heard q y Turns [] refl refl)

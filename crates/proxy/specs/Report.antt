@@ -4,13 +4,14 @@ use Rattle.std.specs.Fmt.{decimal}
 use Rattle.px_bytes.specs.Hexadecimal.{hex_text}
 use Rattle.proxy_core.specs.declared.event.BadEvent.{BadEvent}
 use Rattle.proxy_core.specs.declared.event.BadEvent.TheVariants.{NoConn, AfterEnd, NotConnecting}
-use Rattle.proxy_core.specs.declared.event.BadEvent.TheVariants.{MomentBack, TookTooMuch, Full}
-use Rattle.proxy_core.specs.declared.event.BadEvent.TheVariants.{NoMember, TwiceConn, NoVirtual}
+use Rattle.proxy_core.specs.declared.event.BadEvent.TheVariants.{MomentBack, TooMuch, TookTooMuch}
+use Rattle.proxy_core.specs.declared.event.BadEvent.TheVariants.{Full, NoMember, TwiceConn, NoVirtual}
 
 -- the number of a refusal
 abbrev pub refusal_number : BadEvent → ℕ
 refusal_number NoConn = 1
 refusal_number AfterEnd = 2
+refusal_number TooMuch = 3
 refusal_number NotConnecting = 4
 refusal_number MomentBack = 5
 refusal_number TookTooMuch = 6

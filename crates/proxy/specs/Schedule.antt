@@ -1,5 +1,4 @@
--- The lines of a schedule whose events the core of today takes: all but `client`, `client-end` and
--- `client-reset`.
+-- The lines of a schedule whose events the core of today takes: all but `client-reset`.
 use Rattle.std.specs.Prelude.{ℕ, ◌<◌, List}
 use Rattle.proxy_core.specs.declared.event.Event.{Event}
 use Rattle.proxy_core.specs.declared.event.Event.TheVariants as event
@@ -14,6 +13,8 @@ use Rattle.proxy.specs.declared.schedule.LineFault.TheVariants as fault
 -- the event among those of a schedule
 abbrev pub as_lined : Event → Lined
 as_lined (event.Accept conn vs from) = lined.Accept conn vs from
+as_lined (event.FromClient conn bytes) = lined.FromClient conn bytes
+as_lined (event.ClientEnd conn) = lined.ClientEnd conn
 as_lined (event.Connected conn) = lined.Connected conn
 as_lined (event.Refused conn) = lined.Refused conn
 as_lined (event.FromServer conn bytes) = lined.FromServer conn bytes

@@ -49,6 +49,8 @@ fn core_event(event: Lined) -> Option<Event>
             }
             Some(Event::Accept { conn, vs, from })
         }
+        Lined::FromClient { conn, bytes } => Some(Event::FromClient { conn, bytes }),
+        Lined::ClientEnd { conn } => Some(Event::ClientEnd { conn }),
         Lined::Connected { conn } => Some(Event::Connected { conn }),
         Lined::Refused { conn } => Some(Event::Refused { conn }),
         Lined::FromServer { conn, bytes } => Some(Event::FromServer { conn, bytes }),

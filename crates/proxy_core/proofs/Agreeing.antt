@@ -131,10 +131,10 @@ serves_named C vs from place e = record {
 
 begun : (C : Config) (c place : ℕ) (vs : List ℕ) (from : Addr) (conn : Option Conn) (group : List Note) → virtual_place C vs ≡ Some place → code.BeginsAt (statics_of C) C c place from conn group
     → (group ≡ first_notes c (not (is_some conn))) × ConnectionContinues C (fresh c (record { virtual = vs; from = from }) (not (is_some conn))) conn
-begun C c place vs from None group e b = (b, record { failed = refl; no_items = refl })
+begun C c place vs from None group e b = (b, record { failed = refl; finished = refl; no_items = refl })
 begun C c place vs from (Some conn) group e b =
     let g = setup_in C (Some (record { virtual = vs; from = from })) in
-    (b.2, record { not_failed = refl; holds = b.0.2 g (serves_code C (statics_of C) place b.0.0 g b.0.1 (serves_named C vs from place e)) refl; queue = b.1 })
+    (b.2, inl (record { not_failed = refl; holds = b.0.2 g (serves_code C (statics_of C) place b.0.0 g b.0.1 (serves_named C vs from place e)) refl; queue = b.1 }))
 
 accept_moves : (c : ℕ) (failed : Bool) (group : List Note) → group ≡ first_notes c failed → (group ≡ []) ⊎ (group ≡ Finish c Memory ∷ [])
 accept_moves c true group e = inr e

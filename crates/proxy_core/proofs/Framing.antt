@@ -9,7 +9,7 @@ use Rattle.connection_model.specs.HeardLaws.{concerns}
 use Rattle.connection_model.specs.Item.{Item, notes_of}
 use Rattle.connection_model.specs.Tellings.{tells, conn_of}
 use Rattle.connection_model.proofs.Hearing.{others_not_heard}
-use Rattle.proxy_core.specs.Moves.{Rests, is_drained_at, came, may_come, ran, MovesFailed, MovesOn, MovesCome, RunsOn, RunsOut, RunsFailed, MovesRing, MovesBy}
+use Rattle.proxy_core.specs.Moves.{Rests, is_drained_at, came, may_come, ran, MovesFailed, MovesLacks, MovesOn, MovesCome, RunsOn, RunsOut, RunsFailed, MovesRing, MovesBy}
 use Rattle.proxy_core.specs.Past.{Past, heard, ended_in, without_all, with_accepted, shared}
 use Rattle.proxy_core.specs.Ready.{is_in, ring_behind, without}
 use Rattle.conn.specs.RunsItems.{closing, closing_if, ends, out_of_memory}
@@ -100,12 +100,13 @@ by_ring C past (c ∷ rest) group old new e m = by_failed (heard c past).failed 
         ran_touch c rest rest k.more group (out_of_memory c k.more (untaken_all (heard c past) (old.places c ++ k.more))) old new e (λ q h. refl) k.notes
         (about_joined c (notes_of c k.more) (Finish c Memory ∷ closing c (untaken_all (heard c past) (old.places c ++ k.more))) (about_items c (notes_of c k.more) (of_items c k.more)) (refl, (refl, (refl, tt)))) k.state
 
-by_input : (C : Config) (past : Past) (c : ℕ) (input : Input) (group : List Note) (old new : State) → (b : Bool) → MatchBool b (MovesCome C (heard c past) (hears c (heard c past) (Comes c input) group) c group old new) ⊥ → Touches c group old new
+by_input : (C : Config) (past : Past) (c : ℕ) (input : Input) (group : List Note) (old new : State) → (b : Bool) → MatchBool b (MovesCome C input (heard c past) (hears c (heard c past) (Comes c input) group) c group old new) ⊥ → Touches c group old new
 by_input C past c input group old new true m = by_failed (heard c past).failed m
   where
-    by_failed : (b : Bool) → MatchBool b (MovesFailed c group old new) (MovesOn C (hears c (heard c past) (Comes c input) group) c group old new) → Touches c group old new
+    by_failed : (b : Bool) → MatchBool b (MovesFailed c group old new) (MovesOn C (hears c (heard c past) (Comes c input) group) c group old new ⊎ MovesLacks input c group old new) → Touches c group old new
     by_failed true k = comes_touch false c group old new k.notes k.state
-    by_failed false k = comes_touch (is_drained_at C (hears c (heard c past) (Comes c input) group) (old.places c)) c group old new k.notes k.state
+    by_failed false (inl k) = comes_touch (is_drained_at C (hears c (heard c past) (Comes c input) group) (old.places c)) c group old new k.notes k.state
+    by_failed false (inr k) = touched c group (Finish c Memory ∷ []) old new (came c false old) k.notes k.state (record { notes = (refl, tt); ready = λ q h. entries_ready c q old.ring (eq_turned c q h); place = λ q h. refl })
 by_input C past c input group old new false m = absurd m
 
 by_accept : (c : ℕ) (group : List Note) (old new : State) → (group ≡ []) ⊎ (group ≡ Finish c Memory ∷ []) → new ≡ record old { ring = old.ring ++ c ∷ [] } → Touches c group old new

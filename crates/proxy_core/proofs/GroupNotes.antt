@@ -124,5 +124,8 @@ quiet_closing_if false c = quiet_by c [] tt refl refl (λ took. refl)
 pub quiet_closing : (c dropped : ℕ) → TellsNothing c (closing c dropped)
 quiet_closing c dropped = quiet_by c (closing c dropped) (refl, (refl, tt)) refl refl (λ took. refl)
 
+pub quiet_finish : (c : ℕ) → TellsNothing c (note.Finish c Memory ∷ [])
+quiet_finish c = quiet_by c (note.Finish c Memory ∷ []) (refl, tt) refl refl (λ took. refl)
+
 pub quiet_memory : (c dropped : ℕ) → TellsNothing c (note.Finish c Memory ∷ closing c dropped)
 quiet_memory c dropped = quiet_by c (note.Finish c Memory ∷ closing c dropped) (refl, (refl, (refl, tt))) refl refl (λ took. refl)

@@ -2,20 +2,21 @@
 use Rattle.std.proofs.Common.{◌≡◌, refl, sym, ap, subst, ◌∙◌, ℕ, ◌+◌, ◌≤◌, List, [], ◌++◌, Bool, true, false, ◌||◌, Option, Some, None, map, nat_eq, if◌then◌else◌, arith, zero, suc}
 use Rattle.px_bytes.specs.declared.addr.Side.TheVariants.{Client, Server}
 use Rattle.connection_model.specs.declared.note.Note.{Note}
-use Rattle.connection_model.specs.Further.{Coming, first_cut}
+use Rattle.px_bytes.specs.declared.fault.Reply.{Reply}
+use Rattle.connection_model.specs.Further.{Coming, Further, first_cut, nothing_further}
+use Rattle.connection_model.specs.HeardLaws.{TellsNothing}
+use Rattle.connection_model.specs.Item.{Choice}
+use Rattle.connection_model.specs.State.{Cut}
+use Rattle.conn.specs.Calls.{unless_finished}
 use Rattle.connection_model.specs.Gates.{TakenCounts, taken_of}
-use Rattle.connection_model.specs.Heard.{Input, Bytes, Ends, Resets, Connects, Takes, EventKind, Comes, Runs, SideHeard, Heard, taken_by, servers_taken, taken, hears_by, hears_more, at_last, brought_nothing, brings_in, marks, event_marks, brought, hears_event, hears}
+use Rattle.connection_model.specs.Heard.{Input, Bytes, Ends, Resets, Connects, Takes, EventKind, Comes, Runs, SideHeard, Heard, taken_by, servers_taken, taken, hears_by, hears_more, at_last, as_answer, Brought, brought_nothing, brings_in, event_brings, marks, event_marks, brought, hears_event, hears, further_of}
 use Rattle.connection_model.specs.Laws.{AtLeast, TakesMore}
-use Rattle.connection_model.specs.Tellings.{tells, own, notes_about, replies_told, cut_told, finish_told, failure_told}
+use Rattle.connection_model.specs.Tellings.{tells, own, notes_about, replies_told, choices_told, cut_told, finish_told, failure_told}
+use Rattle.proxy_core.specs.Live.{taken_more}
 use Rattle.proxy_core.specs.Moves.{may_come}
 use Rattle.proxy_core.specs.Sound.{IsPlain}
 use Rattle.proxy_core.proofs.GroupNotes.{About, own_all, tells_all}
 use Rattle.proxy_core.proofs.Members.{eq_self}
-
--- so many bytes more were taken by the client
-abbrev pub taken_more : Input → ℕ
-taken_more (Takes Client n) = n
-taken_more other = 0
 
 -- what an event changes, before its notes and what it brings are heard
 record Marked (h k : Heard) (n : ℕ) : Type 0 where
@@ -87,9 +88,12 @@ brings_none (Bytes Client bytes) m = refl
 brings_none (Bytes Server bytes) m = refl
 brings_none (Ends Client) m = refl
 brings_none (Ends Server) m = refl
-brings_none (Resets side) m = cc
-brings_none (Connects made) m = cc
+brings_none (Resets side) m = refl
+brings_none (Connects made) m = absurd (let x : false ≡ true = m in cc)
 brings_none (Takes side n) m = refl
+
+abbrev adds : Brought → List Reply → List Choice → Option Cut → Further
+adds b replies choices cut = record { client = b.client; server = b.server; connects = map as_answer b.connects; replies = replies; choices = choices; cut = cut }
 
 pub come_told : (c : ℕ) (h : Heard) (input : Input) (group : List Note) → may_come input ≡ true → h.connects ≡ [] → About c group → Told c h (Comes c input) group (taken_more input)
 come_told c h input group m e a = told_by c h (Comes c input) group (taken_more input) a (subst P (sym (eq_self c)) (marks_few input h m e)) (by_end (h.finished || finish_told (notes_about c group)))
@@ -100,6 +104,49 @@ come_told c h input group m e a = told_by c h (Comes c input) group (taken_more 
     by_end : (b : Bool) → (if b then brought_nothing else (if nat_eq c c then brings_in input else brought_nothing)).connects ≡ []
     by_end true = refl
     by_end false = ap (λ b. (if b then brings_in input else brought_nothing).connects) (eq_self c) ∙ brings_none input m
+
+-- an input whose notes tell nothing brings what comes of its client
+pub come_further : (c : ℕ) (h : Heard) (input : Input) (group : List Note) → may_come input ≡ true → TellsNothing c group → finish_told (notes_about c group) ≡ false → further_of c h (Comes c input) group ≡ unless_finished h.finished (brings_in input).client
+come_further c h input group m quiet none =
+    let v = Comes c input in
+    let t = notes_about c group in
+    let k = cut_told (taken (hears_event c h v group)) t in
+    let is : brought c h v group ≡ (if h.finished then brought_nothing else brings_in input) =
+    ap (λ b. if h.finished || b then brought_nothing else event_brings c v) none ∙ ap (λ b. if b then brought_nothing else event_brings c v) (or_false h.finished) ∙ ap (λ b. if h.finished then brought_nothing else (if b then brings_in input else brought_nothing)) (eq_self c) in
+    ap (λ b. adds b (replies_told t) (choices_told t) k) is
+    ∙ ap (λ r. adds (if h.finished then brought_nothing else brings_in input) r (choices_told t) k) quiet.replies
+    ∙ ap (λ i. adds (if h.finished then brought_nothing else brings_in input) [] i k) quiet.choices
+    ∙ ap (λ x. adds (if h.finished then brought_nothing else brings_in input) [] [] x) (quiet.cut (taken (hears_event c h v group)))
+    ∙ by_end h.finished input m
+  where
+    or_false : (b : Bool) → (b || false) ≡ b
+    or_false true = refl
+    or_false false = refl
+
+    by_end : (b : Bool) (i : Input) → may_come i ≡ true → adds (if b then brought_nothing else brings_in i) [] [] None ≡ unless_finished b (brings_in i).client
+    by_end true i e = refl
+    by_end false (Bytes Client bytes) e = refl
+    by_end false (Bytes Server bytes) e = absurd (let x : false ≡ true = e in cc)
+    by_end false (Ends Client) e = refl
+    by_end false (Ends Server) e = absurd (let x : false ≡ true = e in cc)
+    by_end false (Resets side) e = refl
+    by_end false (Connects made) e = absurd (let x : false ≡ true = e in cc)
+    by_end false (Takes side n) e = refl
+
+-- where it finishes with them they bring nothing
+pub last_further : (c : ℕ) (h : Heard) (v : EventKind) (group : List Note) → TellsNothing c group → finish_told (notes_about c group) ≡ true → further_of c h v group ≡ nothing_further
+last_further c h v group quiet last =
+    let t = notes_about c group in
+    let k = cut_told (taken (hears_event c h v group)) t in
+    let is : brought c h v group ≡ brought_nothing = ap (λ b. if h.finished || b then brought_nothing else event_brings c v) last ∙ by_end h.finished in
+    ap (λ b. adds b (replies_told t) (choices_told t) k) is
+    ∙ ap (λ r. adds brought_nothing r (choices_told t) k) quiet.replies
+    ∙ ap (λ i. adds brought_nothing [] i k) quiet.choices
+    ∙ ap (λ x. adds brought_nothing [] [] x) (quiet.cut (taken (hears_event c h v group)))
+  where
+    by_end : (b : Bool) → (if b || true then brought_nothing else event_brings c v) ≡ brought_nothing
+    by_end true = refl
+    by_end false = refl
 
 pub run_told : (c : ℕ) (h : Heard) (group : List Note) → h.connects ≡ [] → About c group → Told c h Runs group 0
 run_told c h group e a = told_by c h Runs group 0 a (unmarked h e) (by_end (h.finished || finish_told (notes_about c group)))

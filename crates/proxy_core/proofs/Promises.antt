@@ -35,6 +35,7 @@ use Rattle.proxy_core.specs.Setup.{setup_of, begins_at, stand_of}
 use Rattle.proxy_core.specs.Sound.{IsPlain, last_notes, Spot, Served}
 use Rattle.proxy_core.specs.declared.config.Config.{Config}
 use Rattle.proxy_core.proofs.Ending.{finished_ends, over_has_finished}
+use Rattle.proxy_core.proofs.Finished.{heard_finish, trace_finished}
 use Rattle.proxy_core.proofs.GroupNotes.{of_items, shown_all, closed_behind}
 use Rattle.proxy_core.proofs.SoundPast.{leads_sound}
 use Rattle.proxy_core.proofs.Standing.{as_served, sent_at, server_untaken, client_untaken, none_to_server, all_untaken}
@@ -158,60 +159,6 @@ second [] true first other more le e = cc
 second (r ∷ []) false first other more le e = cc
 second (r ∷ []) true first other more le e = let f : Memory ≡ other = cc in let k : [] ≡ more = cc in (sym f, sym k)
 second (r ∷ s ∷ rs) failed first other more le e = absurd (omega (arith, le))
-
--- whether it has finished, by its notes
-finish_on : (xs ys : List NoteTells) → finish_told (xs ++ ys) ≡ (finish_told xs || finish_told ys)
-finish_on [] ys = refl
-finish_on (t ∷ xs) ys = ap (λ b. t.finishes || b) (finish_on xs ys) ∙ or_assoc t.finishes (finish_told xs) (finish_told ys)
-  where
-    or_assoc : (a b c : Bool) → (a || (b || c)) ≡ ((a || b) || c)
-    or_assoc true b c = refl
-    or_assoc false b c = refl
-
-marks_finish : (c : ℕ) (v : EventKind) (h : Heard) → h.finished ≡ finish_told (map tells h.notes) → (event_marks c v h).finished ≡ finish_told (map tells (event_marks c v h).notes)
-marks_finish c (Accepts d vs from) h e = by_test (nat_eq d c)
-  where
-    by_test : (b : Bool) → (if b then accepts vs from h else h).finished ≡ finish_told (map tells (if b then accepts vs from h else h).notes)
-    by_test true = e
-    by_test false = e
-marks_finish c (Comes d input) h e = by_test (nat_eq d c) input
-  where
-    by_test : (b : Bool) (i : Input) → (if b then marks i h else h).finished ≡ finish_told (map tells (if b then marks i h else h).notes)
-    by_test false i = e
-    by_test true (Bytes side bytes) = e
-    by_test true (Ends side) = e
-    by_test true (Resets Client) = e
-    by_test true (Resets Server) = e
-    by_test true (Connects made) = e
-    by_test true (Takes Client n) = e
-    by_test true (Takes Server n) = e
-marks_finish c (Ticks moment) h e = e
-marks_finish c Turns h e = e
-marks_finish c Runs h e = e
-marks_finish c (Marks pool member up) h e = e
-
-pub heard_finish : (c : ℕ) (past : Past) → (heard c past).finished ≡ finish_told (map tells (heard c past).notes)
-heard_finish c [] = refl
-heard_finish c (x ∷ past) =
-    let k = event_marks c (kind_of x.event) (heard c past) in
-    ap (λ b. b || finish_told (notes_about c x.group)) (marks_finish c (kind_of x.event) (heard c past) (heard_finish c past))
-    ∙ sym (finish_on (map tells k.notes) (notes_about c x.group)) ∙ ap finish_told (sym (map-append tells k.notes (own c x.group)))
-
-last_finish : (c : ℕ) (live : Bool) (d : ℕ) → finish_told (map tells (last_notes c false live d)) ≡ false
-last_finish c true d = refl
-last_finish c false d = refl
-
--- the trace has finished where its notes say so, unless memory was wanted
-trace_finished : (C : Config) (c : ℕ) (z : Seen) → Served C c z → z.heard.finished ≡ finish_told (map tells z.heard.notes) → z.heard.failed ≡ false → (stand_of C z.heard z.place).finished ≡ z.heard.finished
-trace_finished C c z k told none =
-    let f = finishes_once (setup_of C z.heard) (begins_at C z.heard).client (begins_at C z.heard).answers (stand_of C z.heard z.place) z.place k.stands in
-    let t = items_tell c z.place in
-    let N = notes_of c z.place in
-    let d = untaken_all z.heard z.place in
-    let items : finish_told (map tells N) ≡ is_some_of (reasons_in z.place) = ap (λ ns. finish_told (map tells ns)) (sym t.own) ∙ t.finish in
-    f.finished ∙ sym (told ∙ ap (λ ns. finish_told (map tells ns)) k.noted ∙ ap (λ b. finish_told (map tells (N ++ last_notes c b z.live d))) none
-    ∙ ap finish_told (map-append tells N (last_notes c false z.live d)) ∙ finish_on (map tells N) (map tells (last_notes c false z.live d))
-    ∙ ap (λ b. finish_told (map tells N) || b) (last_finish c z.live d) ∙ or_false (finish_told (map tells N)) ∙ items)
 
 is_drained_by : (g : Setup) (took : TakenCounts) (l : TraceState) → next_item g l ≡ Over → to_take l.sent took Client ≡ 0 → to_take l.sent took Server ≡ 0 → is_drained g took l ≡ true
 is_drained_by g took l o c s =

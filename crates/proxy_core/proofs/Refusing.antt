@@ -8,7 +8,10 @@ use Rattle.proxy_core.specs.declared.config.Config.{Config}
 use Rattle.proxy_core.specs.declared.core_state.Core.{Core}
 use Rattle.proxy_core.specs.declared.event.BadEvent.{BadEvent}
 use Rattle.proxy_core.specs.declared.event.BadEvent.TheVariants.{AfterEnd, NotConnecting}
+use Rattle.proxy_core.specs.declared.input.ClientInput.{ClientInput}
+use Rattle.proxy_core.specs.declared.input.ClientInput.TheVariants as input
 use Rattle.proxy_core.specs.declared.live.Live.{Live}
+use Rattle.proxy_core.specs.Live.{input_of}
 
 -- why it is refused, of a live connection; a client's isn't told here
 abbrev pub reason : Input → Option BadEvent
@@ -48,3 +51,9 @@ client_at C last moment live l c (Connects made) e = cc
 
 pub client_judged : (core : Core) (c : ℕ) (i : Input) (l : Live) → reason i ≡ None → live_at core.live.items c ≡ Some l → refusal_of core (Comes c i) ≡ client_refusal l i
 client_judged core c i l e there = ap (λ o. refusal_by core.config (record { last = core.last; moment = core.moment; live = length core.live.items; conn = core_standing o }) (Comes c i)) there ∙ client_at core.config core.last core.moment (length core.live.items) l c i e
+
+-- what the code tells of is a client's
+pub of_client : (i : ClientInput) → reason (input_of i) ≡ None
+of_client (input.Bytes bytes) = refl
+of_client input.End = refl
+of_client (input.Took n) = refl

@@ -31,7 +31,7 @@ use Rattle.proxy_core.specs.Moves.{MovesRing, MovesFront, RunsOn, RunsOut, RunsF
 use Rattle.proxy_core.specs.Past.{Past, heard, ended_in, without_all, shared}
 use Rattle.proxy_core.specs.Ready.{numbers, is_in, ring_behind, without}
 use Rattle.proxy_core.specs.Refusals.{live_at}
-use Rattle.proxy_core.specs.Represents.{around, Continues, NeverBegan, ConnectionContinues, AgreesAt, Represents}
+use Rattle.proxy_core.specs.Represents.{around, Continues, Lacks, NeverBegan, ConnectionContinues, AgreesAt, Represents}
 use Rattle.proxy_core.specs.Scheduler.{State, Seen, seen, seen_after, untaken_all}
 use Rattle.proxy_core.specs.Serving.{Serves, IsSetup}
 use Rattle.proxy_core.specs.Setup.{statics_of, setup_in, setup_of, stand_of}
@@ -78,27 +78,36 @@ gone past c over group d live e = ap (λ ns. is_in ns c) (e (shared past).live) 
 over_stays : (t : ConnTurn) → t ≡ turn.Over → ends t ≡ false → ⊥
 over_stays t e f = let y : true ≡ false = sym (ap ends e) ∙ f in cc
 
-front_failed : (C : Config) (past : Past) (s : State) (c : ℕ) (rest : List ℕ) (group : List Note) (t : ConnTurn) (o : Option Conn) → IsDistinct nat_eq (shared past).live → (seen past s c).live ≡ true → NeverBegan (seen past s c) → group ≡ closing c 0 → t ≡ turn.Over
+front_failed : (C : Config) (past : Past) (s : State) (c : ℕ) (rest : List ℕ) (group : List Note) (t : ConnTurn) (o : Option Conn) → IsDistinct nat_eq (shared past).live → (seen past s c).live ≡ true → (heard c past).failed ≡ true → (dropped : ℕ) → untaken_all (heard c past) (s.places c) ≡ dropped → group ≡ closing c dropped → t ≡ turn.Over
     → RanConn C past s c rest group t o
-front_failed C past s c rest group t o d live k e f =
+front_failed C past s c rest group t o d live failed dropped left e f =
     let h = heard c past in
-    let a = none_untaken (taken h).client in
-    let b = none_untaken (taken_of (taken h).servers 0) in
-    let zero : untaken_all h [] ≡ 0 = omega (arith, a, b) in
-    let left : untaken_all h (s.places c) ≡ 0 = ap (untaken_all h) k.no_items ∙ zero in
     let moved : RunsFailed h c rest group s (record s { ring = rest }) = record { notes = e ∙ ap (closing c) (sym left); state = refl } in
     let M : Bool → Type 0 = λ b. MatchBool b (RunsFailed h c rest group s (record s { ring = rest })) (RunsOn C h c rest group s (record s { ring = rest }) ⊎ RunsOut C h c rest group s (record s { ring = rest })) in
     let gone_all : (ns : List ℕ) → without_all (ended_in group) ns ≡ (if ends t then without c ns else ns) = λ ns. ap (λ g. without_all (ended_in g) ns) e ∙ ap (λ x. if ends x then without c ns else ns) (sym f) in
     record {
       next = record s { ring = rest };
       ring = ap (λ x. ring_behind x c rest) (sym f);
-      moves = subst M (sym k.failed) moved;
+      moves = subst M (sym failed) moved;
       live = gone past c (ends t) group d live gone_all;
       ended = gone_all;
       setup = λ x. absurd (over_stays t f x);
       goes_on = λ x. absurd (over_stays t f x);
       edges = λ x. absurd (over_stays t f x);
     }
+
+-- nothing was sent on one that never began
+none_dropped : (C : Config) (past : Past) (s : State) (c : ℕ) → NeverBegan (seen past s c) → untaken_all (heard c past) (s.places c) ≡ 0
+none_dropped C past s c k =
+    let h = heard c past in
+    let a = none_untaken (taken h).client in
+    let b = none_untaken (taken_of (taken h).servers 0) in
+    let zero : untaken_all h [] ≡ 0 = omega (arith, a, b) in
+    ap (untaken_all h) k.no_items ∙ zero
+
+-- what is queued on one that found no memory is what was sent and not taken
+lacking_dropped : (C : Config) (c : ℕ) (z : Seen) (conn : Conn) → Served C c z → Lacks z conn → untaken_all z.heard z.place ≡ length (queue_of conn)
+lacking_dropped C c z conn v k = all_untaken (setup_of C z.heard) z.heard z.place (stand_of C z.heard z.place) v.stands v.no_server v.plain ∙ sym (ap length k.queue ∙ length-drop z.heard.client.took (client_output z.place))
 
 front_goes : (C : Config) (past : Past) (s : State) (c : ℕ) (rest : List ℕ) (group : List Note) (t : ConnTurn) (old new : Conn) → IsDistinct nat_eq (shared past).live → (seen past s c).live ≡ true → Served C c (seen past s c) → Continues C (seen past s c) old
     → GoesOnWith (setup_of C (heard c past)) (around (heard c past)) (stand_of C (heard c past) (s.places c)) c old new group t → RanConn C past s c rest group t (Some new)
@@ -134,11 +143,11 @@ front_goes C past s c rest group t old new d live v k w =
       ended = gone_all;
       setup = λ x. ap (λ n. setup_of C (hears c h Runs n)) w.items.noted ∙ setup;
       edges = λ x. ap (λ n. (hears c h Runs n).edges) w.items.noted ∙ run_edges c h w.more over w.items.passes.no_connect x;
-      goes_on = λ x. subst G (sym w.items.noted) (subst Z (sym place) (record {
+      goes_on = λ x. inl (subst G (sym w.items.noted) (subst Z (sym place) (record {
         not_failed = told.failed ∙ ap (λ y. y || failure_told (map tells notes)) k.not_failed ∙ failure_behind c (notes_of c w.more) behind (of_items c w.more) ∙ failure_closing over c;
         holds = to_standing C h' g (z.place ++ w.more) w.at new setup stands (subst T (sym took) w.holds);
         queue = w.queue ∙ ap (λ q. q ++ client_output w.more) k.queue ∙ sym (drop-append-le h.client.took (client_output z.place) (client_output w.more) v.within) ∙ ap (drop h.client.took) (sym (flat_map-append to_client z.place w.more)) ∙ ap (λ n. drop n (client_output (z.place ++ w.more))) same;
-      }));
+      })));
     }
 
 -- what is dropped was sent and not taken
@@ -189,9 +198,12 @@ front_stops C past s c rest group t old o d live v k w =
 
 front_runs : (C : Config) (past : Past) (s : State) (c : ℕ) (rest : List ℕ) (group : List Note) (t : ConnTurn) (S : given.Setup) (o o' : Option Conn) → IsDistinct nat_eq (shared past).live → (seen past s c).live ≡ true → Served C c (seen past s c) → ConnectionContinues C (seen past s c) o
     → conn.Serves S (setup_of C (heard c past)) → LiveRuns S c o o' group t → RanConn C past s c rest group t o'
-front_runs C past s c rest group t S None o' d live v k serves r = front_failed C past s c rest group t o' d live k r.0 r.1
+front_runs C past s c rest group t S None o' d live v k serves r = front_failed C past s c rest group t o' d live k.failed 0 (none_dropped C past s c k) r.0 r.1
 front_runs C past s c rest group t S (Some old) None d live v k serves r = absurd r
-front_runs C past s c rest group t S (Some old) (Some new) d live v k serves r = by_end (r g (around (heard c past)) l serves k.holds (never_asks g (around (heard c past)) l old k.holds))
+front_runs C past s c rest group t S (Some old) (Some new) d live v (inr k) serves r =
+    let x = r.failed k.there in
+    front_failed C past s c rest group t (Some new) d live k.failed (length (queue_of old)) (lacking_dropped C c (seen past s c) old v k) x.0 x.1
+front_runs C past s c rest group t S (Some old) (Some new) d live v (inl k) serves r = by_end (r.runs g (around (heard c past)) l serves k.holds (never_asks g (around (heard c past)) l old k.holds))
   where
     g : Setup
     g = setup_of C (heard c past)

@@ -23,6 +23,7 @@ use Rattle.connection_model.proofs.Hearing.{event_stands, run_stands}
 use Rattle.connection_model.proofs.Taking.{met_more}
 use Rattle.connection_model.proofs.Querying.{met_joins}
 use Rattle.connection_model.proofs.Telling.{notes_tell_cut}
+use Rattle.proxy_core.specs.Live.{taken_more, takes_memory}
 use Rattle.proxy_core.specs.Moves.{is_drained_at, came, may_come, ran}
 use Rattle.proxy_core.specs.Past.{Past, heard, ended_in, without_all, shared}
 use Rattle.proxy_core.specs.Ready.{is_in}
@@ -33,8 +34,8 @@ use Rattle.proxy_core.specs.Sound.{unseen, IsPlain, last_notes, Spot, ServedAt, 
 use Rattle.proxy_core.specs.declared.config.Config.{Config}
 use Rattle.proxy_core.proofs.Entries.{entries_pushed_self, entries_without_self, rest_of, ready_of, entries_ready_self}
 use Rattle.proxy_core.proofs.Framing.{same_seen}
-use Rattle.proxy_core.proofs.GroupNotes.{About, about_joined, about_closing_if, of_items, about_items, tells_all, replies_behind, failure_behind, ended_behind, cut_behind, quiet_closing_if, quiet_closing, quiet_memory}
-use Rattle.proxy_core.proofs.Hearing.{taken_more, Told, come_told, run_told, counts, taken_plain, counts_more, still_plain}
+use Rattle.proxy_core.proofs.GroupNotes.{About, about_joined, about_closing_if, of_items, about_items, tells_all, replies_behind, failure_behind, ended_behind, cut_behind, quiet_closing_if, quiet_closing, quiet_memory, quiet_finish}
+use Rattle.proxy_core.proofs.Hearing.{Told, come_told, run_told, counts, taken_plain, counts_more, still_plain}
 use Rattle.proxy_core.proofs.Members.{eq_self, in_pushed_self, not_in_without}
 use Rattle.proxy_core.proofs.Standing.{served_at, drained_at, sent_at}
 
@@ -185,6 +186,49 @@ come_served C past c input over old may d m j =
       plain = plain;
       no_server = k.no_server;
       spot = subst F (sym failed) (subst L (sym live) (subst R (sym ready) spot));
+    })
+
+-- bytes that found no memory
+spot_lacks : (c : ℕ) (ready : List ℕ) (g : Setup) (took took' : TakenCounts) (l at : TraceState) → Spot false true ready g took l → Spot true true (ready_of c ready) g took' at
+spot_lacks c [] g took took' l at s = tt
+spot_lacks c (x ∷ []) g took took' l at s = tt
+spot_lacks c (x ∷ y ∷ ys) g took took' l at s = absurd s
+
+pub lack_served : (C : Config) (past : Past) (c : ℕ) (input : Input) (old : State) → may_come input ≡ true → MayCome C c input (seen past old c) → (heard c past).failed ≡ false → Served C c (seen_after past (Comes c input) (Finish c Memory ∷ []) (came c false old) c)
+lack_served C past c input old may m found =
+    let z = seen past old c in
+    let h = z.heard in
+    let v = Comes c input in
+    let group : List Note = Finish c Memory ∷ [] in
+    let h' = hears c h v group in
+    let g = setup_of C h in
+    let k = m.served in
+    let l = stand_of C h z.place in
+    let t = come_told c h input group may k.plain.connects (refl, tt) in
+    let a = came_at C c (taken_more input) z v group (quiet_finish c) k t in
+    let at = longer (further_of c h v group) l in
+    let plain = still_plain c h v group (taken_more input) k.plain t refl (λ took. refl) in
+    let failed : h'.failed ≡ true = t.failed ∙ ap (λ b. b || true) found in
+    let z' = seen_after past v group (came c false old) c in
+    let ready : z'.ready ≡ ready_of c z.ready = ring_came false c old in
+    let T : Bool → Type 0 = λ f. Spot f true z.ready g (taken h) l in
+    let L : Bool → Type 0 = λ b. Spot h.failed b z.ready g (taken h) l in
+    let spot = spot_lacks c z.ready g (taken h) (taken h') l at (subst T found (subst L m.live k.spot)) in
+    let F : Bool → Type 0 = λ f. Spot f z'.live z'.ready g (taken h') at in
+    let B : Bool → Type 0 = λ b. Spot true b z'.ready g (taken h') at in
+    let R : List ℕ → Type 0 = λ r. Spot true true r g (taken h') at in
+    let N = notes_of c z.place in
+    served_at C c z' g at a.setup (record {
+      stands = a.stands;
+      met = met_more no_bytes (taken h) (taken h') z.place (takes_more h h' (taken_more input) k.plain plain t.took) k.met;
+      within = omega (arith, t.took, m.within);
+      noted =
+          t.notes ∙ ap (λ ns. ns ++ group) (k.noted ∙ ap (λ b. N ++ last_notes c h.failed b (untaken_all h z.place)) m.live ∙ ap (λ b. N ++ last_notes c b true (untaken_all h z.place)) found)
+          ∙ append_assoc N [] group
+          ∙ ap (λ b. N ++ last_notes c b true (untaken_all h' z.place)) (sym failed) ∙ ap (λ b. N ++ last_notes c h'.failed b (untaken_all h' z.place)) (sym m.live);
+      plain = plain;
+      no_server = k.no_server;
+      spot = subst F (sym failed) (subst B (sym m.live) (subst R (sym ready) spot));
     })
 
 -- Runs: what is behind the items' notes

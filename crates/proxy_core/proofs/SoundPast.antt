@@ -16,10 +16,11 @@ use Rattle.connection_model.specs.Item.{Item, client_output, notes_of}
 use Rattle.connection_model.specs.State.{TraceState}
 use Rattle.connection_model.specs.Setup.{Setup}
 use Rattle.connection_model.proofs.Hearing.{others_not_heard}
-use Rattle.proxy_core.specs.Moves.{Rests, MovesFailed, MovesOn, MovesCome, MovesRing, MovesFront, MovesBy, Moves, RunsOn, RunsOut, RunsFailed, is_drained_at, came, may_come, ran, Leads}
+use Rattle.proxy_core.specs.Live.{taken_more, takes_memory}
+use Rattle.proxy_core.specs.Moves.{Rests, MovesFailed, MovesLacks, MovesOn, MovesCome, MovesRing, MovesFront, MovesBy, Moves, RunsOn, RunsOut, RunsFailed, is_drained_at, came, may_come, ran, Leads}
 use Rattle.proxy_core.specs.Past.{Happened, Past, kind_of, heard, ended_in, without_all, with_accepted, shared, shared_after}
 use Rattle.proxy_core.specs.Ready.{is_in, ring_behind, without}
-use Rattle.proxy_core.specs.Refusal.{Row, standing_by, known, takes_too_much, refusal_rows, first_of, refused}
+use Rattle.proxy_core.specs.Refusal.{Row, wants_at, standing_by, known, takes_too_much, refusal_rows, first_of, refused}
 use Rattle.conn.specs.RunsItems.{asks, closing, closing_if, ends, Passes, StopsAt, out_of_memory}
 use Rattle.conn.specs.declared.turn.ConnTurn.{ConnTurn}
 use Rattle.conn.specs.declared.turn.ConnTurn.TheVariants as turn
@@ -30,10 +31,10 @@ use Rattle.proxy_core.specs.declared.config.Config.{Config}
 use Rattle.proxy_core.proofs.Entries.{entries_behind_self, ready_behind}
 use Rattle.proxy_core.proofs.Framing.{about, front, touches, only_changed, same_seen, each_by}
 use Rattle.proxy_core.proofs.GroupNotes.{about_closing_if}
-use Rattle.proxy_core.proofs.Hearing.{taken_more, Told, come_told, run_told}
+use Rattle.proxy_core.proofs.Hearing.{Told, come_told, run_told}
 use Rattle.proxy_core.proofs.Members.{eq_self}
 use Rattle.proxy_core.proofs.ReadyRing.{distinct_none, distinct_push, distinct_without}
-use Rattle.proxy_core.proofs.SoundEvents.{first_notes, fresh_sound, seen_accept, MayCome, come_served, Behind, behind_closing, behind_memory, run_about, run_served, failed_served}
+use Rattle.proxy_core.proofs.SoundEvents.{lack_served, first_notes, fresh_sound, seen_accept, MayCome, come_served, Behind, behind_closing, behind_memory, run_about, run_served, failed_served}
 use Rattle.proxy_core.proofs.Standing.{is_served, is_unseen, from_served, client_untaken}
 
 -- no row holds
@@ -49,27 +50,27 @@ none_holds (r ∷ rows) h = by_row r.holds refl h (none_holds rows)
     by_row true e k rest = cc
     by_row false e k rest = (e, rest k)
 
-live_by : (b : Bool) (z : Seen) → is_none (standing_by b z) ≡ false → b ≡ true
-live_by true z h = refl
-live_by false z h = cc
+live_by : (C : Config) (b : Bool) (z : Seen) → is_none (standing_by C b z) ≡ false → b ≡ true
+live_by C true z h = refl
+live_by C false z h = cc
 
 -- what a took-count that isn't refused takes is there
-takes_within : (edges : Edges) (input : Input) (took sent left right : ℕ) → took ≤ sent → left ≡ sent - took → takes_too_much (Some (record { edges = edges; to_client = left; to_server = right })) input ≡ false → took + taken_more input ≤ sent
-takes_within edges (Bytes side bytes) took sent left right le e h = omega (arith, le)
-takes_within edges (Ends side) took sent left right le e h = omega (arith, le)
-takes_within edges (Resets side) took sent left right le e h = omega (arith, le)
-takes_within edges (Connects made) took sent left right le e h = omega (arith, le)
-takes_within edges (Takes Client n) took sent left right le e h = let t : nat_lt left n ≡ false = h in grind (arith, nat_tests)
-takes_within edges (Takes Server n) took sent left right le e h = omega (arith, le)
+takes_within : (edges : Edges) (from from_server : ℕ) (input : Input) (took sent left right : ℕ) → took ≤ sent → left ≡ sent - took → takes_too_much (Some (record { edges = edges; from_client = from; from_server = from_server; to_client = left; to_server = right })) input ≡ false → took + taken_more input ≤ sent
+takes_within edges from from_server (Bytes side bytes) took sent left right le e h = omega (arith, le)
+takes_within edges from from_server (Ends side) took sent left right le e h = omega (arith, le)
+takes_within edges from from_server (Resets side) took sent left right le e h = omega (arith, le)
+takes_within edges from from_server (Connects made) took sent left right le e h = omega (arith, le)
+takes_within edges from from_server (Takes Client n) took sent left right le e h = let t : nat_lt left n ≡ false = h in grind (arith, nat_tests)
+takes_within edges from from_server (Takes Server n) took sent left right le e h = omega (arith, le)
 
 pub may_come_at : (C : Config) (past : Past) (old : State) (c : ℕ) (input : Input) → SoundAt C c (seen past old c) → refused C past old (Comes c input) ≡ None → MayCome C c input (seen past old c)
 may_come_at C past old c input s h =
     let z = seen past old c in
-    let r = none_holds (refusal_rows C (known past old (Comes c input)) (Comes c input)) h in
-    let live : z.live ≡ true = live_by z.live z r.0 in
+    let r = none_holds (refusal_rows C (known C past old (Comes c input)) (Comes c input)) h in
+    let live : z.live ≡ true = live_by C z.live z r.0 in
     let k = is_served C c z (λ u. let n : z.live ≡ false = ap (λ y. y.live) u in let m : true ≡ false = sym live ∙ n in cc) s in
-    let P : Bool → Type 0 = λ b. takes_too_much (standing_by b z) input ≡ false in
-    record { live = live; accepted = k.0; served = k.1; within = takes_within z.heard.edges input z.heard.client.took (length (client_output z.place)) (untaken_of z.heard z.place Client) (untaken_of z.heard z.place Server) k.1.within (client_untaken z.heard z.place k.1.plain) (subst P live r.1.1.1.1.1.1.1.0) }
+    let P : Bool → Type 0 = λ b. takes_too_much (standing_by C b z) input ≡ false in
+    record { live = live; accepted = k.0; served = k.1; within = takes_within z.heard.edges (wants_at C z Client) (wants_at C z Server) input z.heard.client.took (length (client_output z.place)) (untaken_of z.heard z.place Client) (untaken_of z.heard z.place Server) k.1.within (client_untaken z.heard z.place k.1.plain) (subst P live r.1.1.1.1.1.1.1.1.0) }
 
 -- an event that changes nothing
 pub unchanged : (past : Past) (v : EventKind) (group : List Note) (old new : State) (q : ℕ) → Rests group old new → ((h : Heard) → hears q h v [] ≡ h) → with_accepted v (shared past).live ≡ (shared past).live → seen_after past v group new q ≡ seen past old q
@@ -94,6 +95,16 @@ own_come C past c input group old new over may d m e f j =
     let Q : State → Type 0 = λ s. SoundAt C c (seen_after past (Comes c input) group s c) in
     let R : List Note → Type 0 = λ g. SoundAt C c (seen_after past (Comes c input) g (came c over old) c) in
     subst Q (sym f) (subst R (sym e) (from_served C c (seen_after past (Comes c input) (closing_if over c) (came c over old) c) (still_accepted c (heard c past) (Comes c input) (closing_if over c) (taken_more input) (come_told c (heard c past) input (closing_if over c) may m.served.plain.connects (about_closing_if over c)) m.accepted) k))
+
+own_lack : (C : Config) (past : Past) (c : ℕ) (input : Input) (group : List Note) (old new : State) → may_come input ≡ true → MayCome C c input (seen past old c) → (heard c past).failed ≡ false → group ≡ Finish c Memory ∷ [] → new ≡ came c false old
+    → SoundAt C c (seen_after past (Comes c input) group new c)
+own_lack C past c input group old new may m found e f =
+    let notes : List Note = Finish c Memory ∷ [] in
+    let z' = seen_after past (Comes c input) notes (came c false old) c in
+    let k = lack_served C past c input old may m found in
+    let Q : State → Type 0 = λ s. SoundAt C c (seen_after past (Comes c input) group s c) in
+    let R : List Note → Type 0 = λ g. SoundAt C c (seen_after past (Comes c input) g (came c false old) c) in
+    subst Q (sym f) (subst R (sym e) (from_served C c z' (still_accepted c (heard c past) (Comes c input) notes (taken_more input) (come_told c (heard c past) input notes may m.served.plain.connects (refl, tt)) m.accepted) k))
 
 -- the front of the ring was accepted
 pub front_served : (C : Config) (past : Past) (c : ℕ) (rest : List ℕ) (old : State) → old.ring ≡ c ∷ rest → SoundAt C c (seen past old c) → (is_some (heard c past).accepted ≡ true) × Served C c (seen past old c)
@@ -166,16 +177,17 @@ own_ring C past [] group old new d e each m = own_rest C past Runs group old new
 own_ring C past (c ∷ rest) group old new d e each m = own_run C past c rest group old new d e (each c) m
 
 own_input : (C : Config) (past : Past) (c : ℕ) (input : Input) (group : List Note) (old new : State) → IsDistinct nat_eq (shared past).live → MayCome C c input (seen past old c) → (b : Bool) → may_come input ≡ b
-    → MatchBool b (MovesCome C (heard c past) (hears c (heard c past) (Comes c input) group) c group old new) ⊥ → SoundAt C c (seen_after past (Comes c input) group new c)
+    → MatchBool b (MovesCome C input (heard c past) (hears c (heard c past) (Comes c input) group) c group old new) ⊥ → SoundAt C c (seen_after past (Comes c input) group new c)
 own_input C past c input group old new d m false e k = absurd k
 own_input C past c input group old new d m true e k = by_failed (heard c past).failed refl k
   where
     now : Heard
     now = hears c (heard c past) (Comes c input) group
 
-    by_failed : (b : Bool) → (heard c past).failed ≡ b → MatchBool b (MovesFailed c group old new) (MovesOn C now c group old new) → SoundAt C c (seen_after past (Comes c input) group new c)
+    by_failed : (b : Bool) → (heard c past).failed ≡ b → MatchBool b (MovesFailed c group old new) (MovesOn C now c group old new ⊎ MovesLacks input c group old new) → SoundAt C c (seen_after past (Comes c input) group new c)
     by_failed true f j = own_come C past c input group old new false e d m j.notes j.state (let P : Bool → Type 0 = λ b. MatchBool b (false ≡ false) (false ≡ is_drained_at C now (old.places c)) in subst P (sym f) refl)
-    by_failed false f j = own_come C past c input group old new (is_drained_at C now (old.places c)) e d m j.notes j.state (let P : Bool → Type 0 = λ b. MatchBool b (is_drained_at C now (old.places c) ≡ false) (is_drained_at C now (old.places c) ≡ is_drained_at C now (old.places c)) in subst P (sym f) refl)
+    by_failed false f (inr j) = own_lack C past c input group old new e m f j.notes j.state
+    by_failed false f (inl j) = own_come C past c input group old new (is_drained_at C now (old.places c)) e d m j.notes j.state (let P : Bool → Type 0 = λ b. MatchBool b (is_drained_at C now (old.places c) ≡ false) (is_drained_at C now (old.places c) ≡ is_drained_at C now (old.places c)) in subst P (sym f) refl)
 
 own_accept : (C : Config) (past : Past) (c : ℕ) (vs : List ℕ) (from : Addr) (group : List Note) (old new : State) → seen past old c ≡ unseen → (group ≡ []) ⊎ (group ≡ Finish c Memory ∷ []) → new ≡ record old { ring = old.ring ++ c ∷ [] }
     → SoundAt C c (seen_after past (Accepts c vs from) group new c)
@@ -193,7 +205,7 @@ own_accept C past c vs from group old new u e f = by_notes e
 -- a connection above the last number wasn't accepted
 pub not_accepted : (C : Config) (past : Past) (c : ℕ) (vs : List ℕ) (from : Addr) (s : State) → Sound C past s → refused C past s (Accepts c vs from) ≡ None → seen past s c ≡ unseen
 not_accepted C past c vs from s k h =
-    let r = (none_holds (refusal_rows C (known past s (Accepts c vs from)) (Accepts c vs from)) h).1.0 in
+    let r = (none_holds (refusal_rows C (known C past s (Accepts c vs from)) (Accepts c vs from)) h).1.0 in
     is_unseen C c (seen past s c) (k.unheard c (grind (arith, nat_tests))) (k.each c)
 
 -- each event owes its own connection
@@ -219,7 +231,7 @@ unheard : (C : Config) (past : Past) (v : EventKind) (group : List Note) (old : 
     → (q : ℕ) → (shared_after v group (shared past)).last < q → is_some (event_marks q v (heard q past)).accepted ≡ false
 unheard C past (Accepts c vs from) group old before h q lt =
     let f : nat_eq c q ≡ false = grind (arith, nat_tests) in
-    let r = (none_holds (refusal_rows C (known past old (Accepts c vs from)) (Accepts c vs from)) h).1.0 in
+    let r = (none_holds (refusal_rows C (known C past old (Accepts c vs from)) (Accepts c vs from)) h).1.0 in
     rw f (before q (grind (arith, nat_tests)))
 unheard C past (Comes c input) group old before h q lt = by_test (nat_eq c q) (before q lt)
   where

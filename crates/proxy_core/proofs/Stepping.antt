@@ -1,17 +1,17 @@
 -- What a step did.
-use Rattle.std.proofs.Common.{◌≡◌, refl, sym, ap, ◌∙◌, ℕ, List, [], ◌++◌, length, true, false, Option, Some, None, Result, Ok, Err, OnOk, IfErr}
+use Rattle.std.proofs.Common.{◌≡◌, inl, inr, refl, sym, ap, ◌∙◌, ℕ, ◌-◌, List, [], ◌++◌, length, map, drop, Bool, true, false, ◌||◌, not, Option, Some, None, Result, Ok, Err, OnOk, IfErr, if◌then◌else◌}
 use Rattle.std.proofs.lemmas.List.{length-map, length-drop}
 use Rattle.px_bytes.specs.declared.addr.Side.TheVariants.{Client, Server}
 use Rattle.connection_model.specs.declared.note.Note.{Note}
-use Rattle.connection_model.specs.Heard.{EventKind, taken}
+use Rattle.connection_model.specs.Heard.{Bytes, Ends, Takes, EventKind, taken}
 use Rattle.connection_model.specs.Item.{client_output}
 use Rattle.proxy_core.specs.Changes.{Changes}
-use Rattle.proxy_core.specs.Live.{pending_in}
+use Rattle.proxy_core.specs.Live.{pending_in, queue_of, wanted_of}
 use Rattle.proxy_core.specs.Past.{Past, kind_of, Shared, shared}
 use Rattle.proxy_core.specs.Ready.{numbers}
-use Rattle.proxy_core.specs.Refusal.{Standing, Known, standing_by, standing_of, named, known, refused, refusal_by, core_standing, core_known, refusal_of, refusal}
+use Rattle.proxy_core.specs.Refusal.{Standing, Known, edges_in, wants_at, standing_by, standing_of, named, known, refused, refusal_by, core_standing, core_known, refusal_of, refusal}
 use Rattle.proxy_core.specs.Refusals.{live_at}
-use Rattle.proxy_core.specs.Represents.{ConnectionContinues, AgreesAt, Represents}
+use Rattle.proxy_core.specs.Represents.{around, ConnectionContinues, AgreesAt, Represents}
 use Rattle.proxy_core.specs.Scheduler.{State, Seen, seen, no_connections, untaken_of}
 use Rattle.proxy_core.specs.Setup.{setup_of, stand_of}
 use Rattle.proxy_core.specs.Sound.{Served, SoundAt}
@@ -25,41 +25,83 @@ use Rattle.proxy_core.specs.declared.event.Event.TheVariants as event
 use Rattle.conn.specs.declared.connection.Conn.{Conn}
 use Rattle.proxy_core.specs.declared.live.Live.{Live}
 use Rattle.proxy_core.proofs.Agreeing.{After, accepts}
-use Rattle.proxy_core.proofs.TookAgrees.{takes}
+use Rattle.conn.specs.Calls.{wanted_in}
+use Rattle.conn.specs.Stages.{has_finished}
+use Rattle.conn.proofs.Wanting.{wants}
+use Rattle.connection_model.specs.Edges.{is_open}
+use Rattle.connection_model.specs.Queries as query
+use Rattle.connection_model.specs.Queries.{arriving, counted_held, unread_at, unread_limit}
+use Rattle.connection_model.specs.Tellings.{tells, finish_told}
+use Rattle.proxy_core.proofs.ComesAgrees.{comes}
+use Rattle.proxy_core.proofs.Finished.{heard_finish, stands_orderly, trace_finished}
 use Rattle.connection_model.specs.declared.edges.Edges.{Edges}
 use Rattle.proxy_core.proofs.Resting.{ticks, turns}
 use Rattle.proxy_core.proofs.RunAgrees.{runs}
 use Rattle.proxy_core.proofs.SoundPast.{sound_start, sound_step}
 use Rattle.proxy_core.proofs.Standing.{is_served, none_untaken, client_untaken, none_to_server}
 
+-- what is queued is what was sent and not taken
+queued : (C : Config) (z : Seen) (conn : Conn) → ConnectionContinues C z (Some conn) → queue_of conn ≡ drop z.heard.client.took (client_output z.place)
+queued C z conn (inl k) = k.queue
+queued C z conn (inr k) = k.queue
+
 -- what is pending on a connection is what the scheduler says
 pub pending_same : (C : Config) (c : ℕ) (z : Seen) (o : Option Conn) → Served C c z → ConnectionContinues C z o → (pending_in o ≡ untaken_of z.heard z.place Client) × (0 ≡ untaken_of z.heard z.place Server)
 pending_same C c z None v k =
     (sym (ap (λ p. untaken_of z.heard p Client) k.no_items ∙ none_untaken (taken z.heard).client), sym (none_to_server (setup_of C z.heard) z.heard z.place (stand_of C z.heard z.place) v.stands v.no_server))
 pending_same C c z (Some conn) v k =
-    (ap length k.queue ∙ length-drop z.heard.client.took (client_output z.place) ∙ sym (client_untaken z.heard z.place v.plain), sym (none_to_server (setup_of C z.heard) z.heard z.place (stand_of C z.heard z.place) v.stands v.no_server))
+    (ap length (queued C z conn k) ∙ length-drop z.heard.client.took (client_output z.place) ∙ sym (client_untaken z.heard z.place v.plain), sym (none_to_server (setup_of C z.heard) z.heard z.place (stand_of C z.heard z.place) v.stands v.no_server))
 
-standing_same : (C : Config) (c : ℕ) (z : Seen) (o : Option Live) → SoundAt C c z → AgreesAt C z o → core_standing o ≡ standing_of z
-standing_same C c z None s a = sym (ap (λ b. standing_by b z) a)
-standing_same C c z (Some l) s a =
-    let make : Edges → ℕ → ℕ → Option Standing = λ e p q. Some (record { edges = e; to_client = p; to_server = q }) in
+-- how many bytes may come is what the scheduler says
+wants_by : (heard trace : Bool) (n : ℕ) → trace ≡ heard → (if trace then unread_limit else n) ≡ (if heard then unread_limit else (if trace then unread_limit else n))
+wants_by true trace n e = ap (λ b. if b then unread_limit else n) e
+wants_by false trace n e = refl
+
+pub wants_same : (C : Config) (c : ℕ) (z : Seen) (o : Option Conn) → Served C c z → z.heard.finished ≡ finish_told (map tells z.heard.notes) → ConnectionContinues C z o → wanted_of o ≡ wants_at C z Client
+wants_same C c z None v told k = ap (λ b. if b then unread_limit else query.wanted Client (stand_of C z.heard z.place)) (sym k.finished)
+wants_same C c z (Some conn) v told (inr k) = ap (λ st. if has_finished st then unread_limit else unread_limit - length conn.client.unread) k.there ∙ ap (λ b. if b then unread_limit else query.wanted Client (stand_of C z.heard z.place)) (sym k.finished)
+wants_same C c z (Some conn) v told (inl k) =
+    let l = stand_of C z.heard z.place in
+    let left = length (unread_at (arriving Client l)) - counted_held Client l in
+    wants conn (wanted_in conn) refl (setup_of C z.heard) (around z.heard) l k.holds (stands_orderly C c z v)
+    ∙ wants_by z.heard.finished l.finished (unread_limit - left) (trace_finished C c z v told k.not_failed)
+
+-- there is no server
+none_from_server : (C : Config) (z : Seen) (l : Live) → z.heard.edges ≡ edges_in l → unread_limit ≡ wants_at C z Server
+none_from_server C z l e = sym (ap (λ x. if z.heard.finished || not (is_open x.server.state) then unread_limit else query.wanted Server (stand_of C z.heard z.place)) e ∙ by_end z.heard.finished)
+  where
+    by_end : (b : Bool) → (if b || true then unread_limit else query.wanted Server (stand_of C z.heard z.place)) ≡ unread_limit
+    by_end true = refl
+    by_end false = refl
+
+standing_same : (C : Config) (c : ℕ) (z : Seen) (o : Option Live) → z.heard.finished ≡ finish_told (map tells z.heard.notes) → SoundAt C c z → AgreesAt C z o → core_standing o ≡ standing_of C z
+standing_same C c z None told s a = sym (ap (λ b. standing_by C b z) a)
+standing_same C c z (Some l) told s a =
+    let make : Edges → ℕ → ℕ → ℕ → ℕ → Option Standing = λ e m n p q. Some (record { edges = e; from_client = m; from_server = n; to_client = p; to_server = q }) in
     let v = (is_served C c z (λ u. let n : z.live ≡ false = ap (λ y. y.live) u in let m : true ≡ false = sym a.live ∙ n in cc) s).1 in
     let e = pending_same C c z l.conn v a.continues in
-    ap (λ x. make x (pending_in l.conn) 0) (sym a.edges) ∙ ap (λ p. make z.heard.edges p 0) e.0 ∙ ap (make z.heard.edges (untaken_of z.heard z.place Client)) e.1 ∙ sym (ap (λ b. standing_by b z) a.live)
+    let m = wants_at C z Client in
+    let n = wants_at C z Server in
+    ap (λ x. make x (wanted_of l.conn) unread_limit (pending_in l.conn) 0) (sym a.edges)
+    ∙ ap (λ x. make z.heard.edges x unread_limit (pending_in l.conn) 0) (wants_same C c z l.conn v told a.continues)
+    ∙ ap (λ x. make z.heard.edges m x (pending_in l.conn) 0) (none_from_server C z l a.edges)
+    ∙ ap (λ p. make z.heard.edges m n p 0) e.0 ∙ ap (make z.heard.edges m n (untaken_of z.heard z.place Client)) e.1 ∙ sym (ap (λ b. standing_by C b z) a.live)
 
-known_same : (C : Config) (past : Past) (s : State) (core : Core) (v : EventKind) → Represents C past s core → core_known core v ≡ known past s v
+known_same : (C : Config) (past : Past) (s : State) (core : Core) (v : EventKind) → Represents C past s core → core_known core v ≡ known C past s v
 known_same C past s core v r =
     let make : ℕ → ℕ → ℕ → Option Standing → Known = λ l m n o. record { last = l; moment = m; live = n; conn = o } in
     ap (λ y. make y.last y.moment (length core.live.items) (core_standing (live_at core.live.items (named v)))) r.agrees.shared
     ∙ ap (λ n. make (shared past).last (shared past).moment n (core_standing (live_at core.live.items (named v)))) (sym (length-map core.live.items (λ l. l.number)) ∙ ap (λ y. length y.live) r.agrees.shared)
-    ∙ ap (λ o. make (shared past).last (shared past).moment (length (shared past).live) o) (standing_same C (named v) (seen past s (named v)) (live_at core.live.items (named v)) (r.sound.each (named v)) (r.agrees.each (named v)))
+    ∙ ap (λ o. make (shared past).last (shared past).moment (length (shared past).live) o) (standing_same C (named v) (seen past s (named v)) (live_at core.live.items (named v)) (heard_finish (named v) past) (r.sound.each (named v)) (r.agrees.each (named v)))
 
 pub refusal_same : (C : Config) (past : Past) (s : State) (core : Core) (v : EventKind) → Represents C past s core → refusal_of core v ≡ refused C past s v
 refusal_same C past s core v r = ap (λ D. refusal_by D (core_known core v) v) r.agrees.config ∙ ap (λ k. refusal_by C k v) (known_same C past s core v r)
 
 by_event : (C : Config) (past : Past) (s : State) (old new : Core) (e : Event) (group : List Note) (steps : ℕ) → Represents C past s old → refused C past s (kind_of e) ≡ None → Changes old new e group steps → After C past s (kind_of e) group new
 by_event C past s old new (event.Accept conn vs from) group steps r h k = accepts C past s old new conn vs from group r h k.0
-by_event C past s old new (event.ClientTook conn n) group steps r h k = takes C past s old new conn n group r h k.0
+by_event C past s old new (event.FromClient conn bytes) group steps r h k = comes C past s old new conn (Bytes Client bytes) group refl r h k.0
+by_event C past s old new (event.ClientEnd conn) group steps r h k = comes C past s old new conn (Ends Client) group refl r h k.0
+by_event C past s old new (event.ClientTook conn n) group steps r h k = comes C past s old new conn (Takes Client n) group refl r h k.0
 by_event C past s old new (event.Tick moment) group steps r h k = ticks C past s old new moment group steps r k
 by_event C past s old new event.Turn group steps r h k = turns C past s old new group steps r k
 by_event C past s old new event.Run group steps r h k = runs C past s old new old.live.ring group steps r (sym r.agrees.ring) k

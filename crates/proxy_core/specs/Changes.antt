@@ -2,19 +2,22 @@
 use Rattle.std.specs.Prelude.{◌≡◌, ℕ, List, [], ◌∷◌, ◌++◌, length, Bool, true, false, Option}
 use Rattle.std.specs.Prelude.{Some, None, slice_get, slice_set, remove}
 use Rattle.px_bytes.specs.declared.addr.Addr.{Addr}
+use Rattle.px_bytes.specs.declared.addr.Side.TheVariants.{Client}
 use Rattle.tcl_vars.specs.Scopes.{Level}
 use Rattle.connection_model.specs.declared.edges.EdgeState.TheVariants.{Open}
 use Rattle.connection_model.specs.declared.note.Cause.TheVariants.{Memory}
 use Rattle.connection_model.specs.declared.note.Note.{Note}
 use Rattle.connection_model.specs.declared.note.Note.TheVariants.{Finish}
 use Rattle.connection_model.specs.Edges.{edge}
+use Rattle.connection_model.specs.Heard.{Input, Bytes, Ends, Takes}
 use Rattle.conn.specs.Calls.{Begins}
 use Rattle.conn.specs.Runs.{IsBounded, IsWhole}
-use Rattle.conn.specs.RunsItems.{closing, ends}
+use Rattle.conn.specs.RunsItems.{ends}
 use Rattle.conn.specs.declared.connection.Conn.{Conn}
 use Rattle.conn.specs.declared.setup.Setup.{Setup}
 use Rattle.conn.specs.declared.turn.ConnTurn.{ConnTurn}
-use Rattle.proxy_core.specs.Live.{LiveRuns, LiveTakes, SamePlace, queue_of}
+use Rattle.proxy_core.specs.Live.{KeepsPlace, LiveComes, LiveRuns, SamePlace, client_met}
+use Rattle.proxy_core.specs.Live.{comes_notes, queue_of}
 use Rattle.proxy_core.specs.Ready.{place_of, ring_behind, with_ready, without}
 use Rattle.proxy_core.specs.Refusals.{virtual_place}
 use Rattle.proxy_core.specs.Serving.{IsSetup}
@@ -61,8 +64,9 @@ abbrev pub Goes : Core → Core → ℕ → Live → Type 0
 Goes old new at l =
     (new.live.items ≡ remove old.live.items at) × (new.live.ring ≡ without l.number old.live.ring)
 
--- The client took bytes: they leave the queue. Where the connection is over then, it is gone.
-pub record Takes (old new : Core) (number n : ℕ) (group : List Note) : Type 0 where
+-- This came of the client. Where the connection is over then, it is gone. Where it found no memory
+-- it goes on, finished with that cause.
+pub record ComesOf (old new : Core) (number : ℕ) (input : Input) (group : List Note) : Type 0 where
   pub keeps : KeepsConfig old new
   pub last : new.last ≡ old.last
   pub moment : new.moment ≡ old.moment
@@ -71,11 +75,14 @@ pub record Takes (old new : Core) (number n : ℕ) (group : List Note) : Type 0 
   pub before : Live
   pub found : slice_get old.live.items at ≡ Some before
   pub after : Live
-  pub same : SamePlace before after
+  pub same : KeepsPlace before after
+  pub client : after.client ≡ client_met input before.client
+  pub lacks : Bool
   pub over : Bool
-  pub taken : LiveTakes n before.conn after.conn over
-  pub goes_on : over ≡ false → (group ≡ []) × Stays old new at after
-  pub ends : over ≡ true → (group ≡ closing number 0) × Goes old new at before
+  pub came : LiveComes input before.conn after.conn lacks over
+  pub notes : group ≡ comes_notes lacks over number
+  pub goes_on : over ≡ false → Stays old new at after
+  pub ends : over ≡ true → Goes old new at before
 
 -- The front of the ring runs, and leaves the ring, or goes to its back where there is more to do. It
 -- goes on with its new state, or is over. It stops in the middle only behind so many steps or notes.
@@ -125,8 +132,12 @@ pub record Becomes (new after : Core) (group : List Note) (steps : ℕ) : Type 0
 abbrev pub Changes : Core → Core → Event → List Note → (steps : ℕ) → Type 0
 Changes old new (event.Accept conn vs from) group steps =
     Accepts old new conn vs from group × (steps ≡ 0)
+Changes old new (event.FromClient conn bytes) group steps =
+    ComesOf old new conn (Bytes Client bytes) group × (steps ≡ 0)
+Changes old new (event.ClientEnd conn) group steps =
+    ComesOf old new conn (Ends Client) group × (steps ≡ 0)
 Changes old new (event.ClientTook conn n) group steps =
-    Takes old new conn n group × (steps ≡ 0)
+    ComesOf old new conn (Takes Client n) group × (steps ≡ 0)
 Changes old new (event.Tick moment) group steps =
     Becomes new (record old { moment = moment }) group steps
 Changes old new event.Turn group steps = Becomes new old group steps

@@ -1,13 +1,31 @@
 -- What the place of a live connection holds, and what calls make of it.
-use Rattle.std.specs.Prelude.{◌≡◌, ℕ, List, Bool, false, Option, Some, None, length, drop}
+use Rattle.std.specs.Prelude.{◌≡◌, ℕ, List, [], ◌∷◌, Bool, true, false, Option, Some, None}
+use Rattle.std.specs.Prelude.{length, drop}
+use Rattle.px_bytes.specs.declared.addr.Side.TheVariants.{Client}
+use Rattle.connection_model.specs.declared.edges.Edge.{Edge}
+use Rattle.connection_model.specs.declared.edges.EdgeState.TheVariants.{Absent}
+use Rattle.connection_model.specs.declared.note.Cause.TheVariants.{Memory}
 use Rattle.connection_model.specs.declared.note.Note.{Note}
-use Rattle.conn.specs.Calls.{Takes, Settles}
+use Rattle.connection_model.specs.declared.note.Note.TheVariants.{Finish}
+use Rattle.connection_model.specs.Edges.{edge}
+use Rattle.connection_model.specs.Further.{longer}
+use Rattle.connection_model.specs.Heard.{Input, Bytes, Ends, Takes, brings_in, edges_met}
+use Rattle.connection_model.specs.Phases.{Orderly}
+use Rattle.connection_model.specs.Queries.{unread_limit}
+use Rattle.connection_model.specs.Setup as model
+use Rattle.connection_model.specs.State.{TraceState}
+use Rattle.conn.specs.Calls.{Settles, over_in, took_more, unless_finished, wanted_in}
+use Rattle.conn.specs.Holds.{Around, Holds}
 use Rattle.conn.specs.Runs.{Runs}
-use Rattle.conn.specs.RunsItems.{closing}
+use Rattle.conn.specs.RunsItems.{closing, closing_if}
+use Rattle.conn.specs.Stages.{has_finished}
 use Rattle.conn.specs.declared.connection.Conn.{Conn}
 use Rattle.conn.specs.declared.setup.Setup.{Setup}
+use Rattle.conn.specs.declared.stage.Stage.TheVariants.{OutOfMemory}
 use Rattle.conn.specs.declared.turn.ConnTurn.{ConnTurn}
 use Rattle.conn.specs.declared.turn.ConnTurn.TheVariants as turn
+use Rattle.proxy_core.specs.declared.input.ClientInput.{ClientInput}
+use Rattle.proxy_core.specs.declared.input.ClientInput.TheVariants as input
 use Rattle.proxy_core.specs.declared.live.Live.{Live}
 
 -- the bytes that its client is to take
@@ -19,28 +37,87 @@ abbrev pub pending_in : Option Conn → ℕ
 pending_in None = 0
 pending_in (Some conn) = length (queue_of conn)
 
--- it keeps its number and virtual server, and its client's end stands where it stood
+-- how many bytes of its client may come; where no memory was found for it, all of them are dropped
+abbrev pub wanted_of : Option Conn → ℕ
+wanted_of None = unread_limit
+wanted_of (Some conn) = wanted_in conn
+
+-- it keeps its number and virtual server
+pub record KeepsPlace (old new : Live) : Type 0 where
+  pub number : new.number ≡ old.number
+  pub vs : new.vs ≡ old.vs
+
+-- and its client's end stands where it stood
 pub record SamePlace (old new : Live) : Type 0 where
   pub number : new.number ≡ old.number
   pub vs : new.vs ≡ old.vs
   pub client : new.client ≡ old.client
 
--- its client took n bytes more, and whether it is over then
-pub record ConnTakes (n : ℕ) (old new : Conn) (over : Bool) : Type 0 where
-  pub takes : Takes n old new
-  pub queue : queue_of new ≡ drop n (queue_of old)
+-- what may come of a client
+abbrev pub input_of : ClientInput → Input
+input_of (input.Bytes bytes) = Bytes Client bytes.now
+input_of input.End = Ends Client
+input_of (input.Took n) = Takes Client n
+
+-- how many bytes more its client took by it
+abbrev pub taken_more : Input → ℕ
+taken_more (Takes Client n) = n
+taken_more other = 0
+
+-- where it puts the client's end
+abbrev pub client_met : Input → Edge → Edge
+client_met input e = (edges_met input (record { client = e; server = edge Absent })).client
+
+-- For each state that its trace may stand at it stands for the one with this input; its queue is what
+-- is left.
+pub record ConnHears (input : Input) (old new : Conn) : Type 0 where
+  pub hears : (g : model.Setup) (a : Around) (l : TraceState) → Holds g a l old → Orderly l
+      → Holds g (took_more (taken_more input) a)
+      (longer (unless_finished l.finished (brings_in input).client) l) new
+  pub queue : queue_of new ≡ drop (taken_more input) (queue_of old)
+  pub stage : new.stage ≡ old.stage
+
+-- its bytes are kept, which may find no memory
+abbrev pub takes_memory : Input → Bool
+takes_memory (Bytes side bytes) = true
+takes_memory other = false
+
+-- whether it is over then
+pub record ConnComes (input : Input) (old new : Conn) (over : Bool) : Type 0 where
+  pub comes : ConnHears input old new
   pub settles : Settles new over
+  pub told : over ≡ over_in new
 
-abbrev pub LiveTakes : ℕ → Option Conn → Option Conn → Bool → Type 0
-LiveTakes n None None over = over ≡ false
-LiveTakes n None (Some new) over = ⊥
-LiveTakes n (Some old) None over = ⊥
-LiveTakes n (Some old) (Some new) over = ConnTakes n old new over
+-- bytes found no memory: it goes on in nothing
+pub record ConnLacks (old new : Conn) (over : Bool) : Type 0 where
+  pub not_over : over ≡ false
+  pub goes_on : has_finished old.stage ≡ false
+  pub there : new.stage ≡ OutOfMemory
+  pub queue : queue_of new ≡ queue_of old
 
--- A connection for which no memory was found ends with its Run. Another one gives the items of its
--- trace from wherever that stands.
+-- by whether memory was found, and whether it is over then
+abbrev pub LiveComes :
+    Input → Option Conn → Option Conn → (lacks over : Bool) → Type 0
+LiveComes input None None false over = over ≡ false
+LiveComes input (Some old) (Some new) false over = ConnComes input old new over
+LiveComes input (Some old) (Some new) true over = (takes_memory input ≡ true) × ConnLacks old new over
+LiveComes input old new lacks over = ⊥
+
+-- the notes of it
+abbrev pub comes_notes : (lacks over : Bool) → ℕ → List Note
+comes_notes true over c = Finish c Memory ∷ []
+comes_notes false over c = closing_if over c
+
+-- A connection for which no memory was found ends with its Run, and what is queued on it is dropped.
+-- Another one gives the items of its trace from wherever that stands.
+pub record ConnRuns (s : Setup) (number : ℕ) (old new : Conn) (group : List Note) (t : ConnTurn)
+    : Type 0 where
+  pub runs : Runs s number old new group t
+  pub failed : old.stage ≡ OutOfMemory
+      → (group ≡ closing number (length (queue_of old))) × (t ≡ turn.Over)
+
 abbrev pub LiveRuns :
     Setup → ℕ → Option Conn → Option Conn → List Note → ConnTurn → Type 0
 LiveRuns s number None new group t = (group ≡ closing number 0) × (t ≡ turn.Over)
 LiveRuns s number (Some old) None group t = ⊥
-LiveRuns s number (Some old) (Some new) group t = Runs s number old new group t
+LiveRuns s number (Some old) (Some new) group t = ConnRuns s number old new group t

@@ -14,6 +14,7 @@ use Rattle.connection_model.specs.State.{TraceState}
 use Rattle.conn.specs.RunsItems.{asks, closing, is_drained, closing_if, Passes, RunsItems}
 use Rattle.conn.specs.RunsItems.{out_of_memory}
 use Rattle.conn.specs.declared.turn.ConnTurn.{ConnTurn}
+use Rattle.proxy_core.specs.Live.{takes_memory}
 use Rattle.proxy_core.specs.Past.{Happened, Past, kind_of, heard}
 use Rattle.proxy_core.specs.Ready.{ring_behind, with_ready, without}
 use Rattle.proxy_core.specs.Refusal.{refused}
@@ -51,10 +52,18 @@ pub record MovesFailed (c : ℕ) (group : List Note) (old new : State) : Type 0 
   pub notes : group ≡ []
   pub state : new ≡ came c false old
 
+-- bytes found no memory: it has finished with that cause, and is ready
+pub record MovesLacks (input : Input) (c : ℕ) (group : List Note) (old new : State) : Type 0 where
+  pub memory : takes_memory input ≡ true
+  pub notes : group ≡ Finish c Memory ∷ []
+  pub state : new ≡ came c false old
+
 -- `before` is what was heard of the connection without this event and its notes, `now` with them
-abbrev pub MovesCome : Config → (before now : Heard) → ℕ → List Note → State → State → Type 0
-MovesCome C before now c group old new =
-    MatchBool before.failed (MovesFailed c group old new) (MovesOn C now c group old new)
+abbrev pub MovesCome :
+    Config → Input → (before now : Heard) → ℕ → List Note → State → State → Type 0
+MovesCome C input before now c group old new =
+    MatchBool before.failed (MovesFailed c group old new)
+    (MovesOn C now c group old new ⊎ MovesLacks input c group old new)
 
 -- what may come of a connection: nothing of a server and no reset yet
 abbrev pub may_come : Input → Bool
@@ -110,7 +119,7 @@ abbrev pub MovesBy : Config → Past → EventKind → List Note → State → S
 MovesBy C past (Accepts c vs from) group old new = MovesAccept c group old new
 MovesBy C past (Comes c input) group old new =
     MatchBool (may_come input)
-    (MovesCome C (heard c past) (hears c (heard c past) (Comes c input) group) c group old new) ⊥
+    (MovesCome C input (heard c past) (hears c (heard c past) (Comes c input) group) c group old new) ⊥
 MovesBy C past (Ticks moment) group old new = Rests group old new
 MovesBy C past Turns group old new = Rests group old new
 MovesBy C past Runs group old new = MovesRing C past old.ring group old new

@@ -1,31 +1,38 @@
 -- Which event is refused, and why: one list of rows over what is known, for the scheduler and the
 -- core alike. The first row that holds is the reason.
 use Rattle.std.specs.Prelude.{ℕ, List, [], ◌∷◌, length, Bool, true, false, Option, Some, None}
-use Rattle.std.specs.Prelude.{is_none, nat_le, nat_lt, not, option_map, if◌then◌else◌}
+use Rattle.std.specs.Prelude.{is_none, nat_le, nat_lt, not, ◌||◌, option_map, if◌then◌else◌}
 use Rattle.px_bytes.specs.declared.addr.Addr.{Addr}
 use Rattle.px_bytes.specs.declared.addr.Side.{Side}
 use Rattle.px_bytes.specs.declared.addr.Side.TheVariants.{Client, Server}
 use Rattle.connection_model.specs.declared.edges.Edges.{Edges}
 use Rattle.connection_model.specs.declared.edges.EdgeState.TheVariants.{Absent}
-use Rattle.connection_model.specs.Edges.{edge, edge_of, is_connecting, may_send, may_take}
+use Rattle.connection_model.specs.Edges.{edge, edge_of, is_connecting, is_open, may_send}
+use Rattle.connection_model.specs.Edges.{may_take}
 use Rattle.connection_model.specs.Heard.{Input, Bytes, Ends, Resets, Connects, Takes, EventKind}
 use Rattle.connection_model.specs.Heard.{Accepts, Comes, Ticks, Marks}
-use Rattle.proxy_core.specs.Live.{pending_in}
+use Rattle.connection_model.specs.Queries as query
+use Rattle.connection_model.specs.Queries.{unread_limit}
+use Rattle.proxy_core.specs.Live.{pending_in, wanted_of}
 use Rattle.proxy_core.specs.Past.{Past, kind_of, shared}
 use Rattle.proxy_core.specs.Refusals.{virtual_place, live_at}
 use Rattle.proxy_core.specs.Scheduler.{State, Seen, seen, untaken_of}
+use Rattle.proxy_core.specs.Setup.{stand_of}
 use Rattle.proxy_core.specs.declared.config.Config.{Config}
 use Rattle.proxy_core.specs.declared.core_state.Core.{Core}
 use Rattle.proxy_core.specs.declared.event.Event.{Event}
 use Rattle.proxy_core.specs.declared.live.Live.{Live}
 use Rattle.proxy_core.specs.declared.event.BadEvent.{BadEvent}
 use Rattle.proxy_core.specs.declared.event.BadEvent.TheVariants.{NoConn, AfterEnd, NotConnecting}
-use Rattle.proxy_core.specs.declared.event.BadEvent.TheVariants.{MomentBack, TookTooMuch, Full}
-use Rattle.proxy_core.specs.declared.event.BadEvent.TheVariants.{NoMember, TwiceConn, NoVirtual}
+use Rattle.proxy_core.specs.declared.event.BadEvent.TheVariants.{MomentBack, TooMuch, TookTooMuch}
+use Rattle.proxy_core.specs.declared.event.BadEvent.TheVariants.{Full, NoMember, TwiceConn, NoVirtual}
 
--- how a live connection stands: its ends, and what is pending to its sides
+-- how a live connection stands: its ends, how many bytes of its sides may come, and how many are
+-- pending to them
 pub record Standing : Type 0 where
   pub edges : Edges
+  pub from_client : ℕ
+  pub from_server : ℕ
   pub to_client : ℕ
   pub to_server : ℕ
 
@@ -37,16 +44,28 @@ pub record Known : Type 0 where
   pub live : ℕ
   pub conn : Option Standing
 
-abbrev pub standing_by : Bool → Seen → Option Standing
-standing_by false z = None
-standing_by true z = Some (record {
+-- How many bytes of a side may come: of the client, as many as its trace wants; of the server too
+-- while it is there. Once the connection has finished, and where there is no server, the most.
+abbrev pub wants_at : Config → Seen → Side → ℕ
+wants_at C z Client =
+    if z.heard.finished then unread_limit
+    else query.wanted Client (stand_of C z.heard z.place)
+wants_at C z Server =
+    if z.heard.finished || not (is_open z.heard.edges.server.state) then unread_limit
+    else query.wanted Server (stand_of C z.heard z.place)
+
+abbrev pub standing_by : Config → Bool → Seen → Option Standing
+standing_by C false z = None
+standing_by C true z = Some (record {
   edges = z.heard.edges;
+  from_client = wants_at C z Client;
+  from_server = wants_at C z Server;
   to_client = untaken_of z.heard z.place Client;
   to_server = untaken_of z.heard z.place Server;
 })
 
-abbrev pub standing_of : Seen → Option Standing
-standing_of z = standing_by z.live z
+abbrev pub standing_of : Config → Seen → Option Standing
+standing_of C z = standing_by C z.live z
 
 -- the connection that comes with an event
 abbrev pub named : EventKind → ℕ
@@ -54,12 +73,12 @@ named (Accepts c vs from) = c
 named (Comes c input) = c
 named other = 0
 
-abbrev pub known : Past → State → EventKind → Known
-known past s v = record {
+abbrev pub known : Config → Past → State → EventKind → Known
+known C past s v = record {
   last = (shared past).last;
   moment = (shared past).moment;
   live = length (shared past).live;
-  conn = standing_of (seen past s (named v));
+  conn = standing_of C (seen past s (named v));
 }
 
 -- the connection isn't live
@@ -121,6 +140,19 @@ abbrev pub has_no_member : Config → EventKind → Bool
 has_no_member C (Marks pool member up) = not (has_member C pool member)
 has_no_member C other = false
 
+abbrev pub wants_of : Side → Standing → ℕ
+wants_of Client p = p.from_client
+wants_of Server p = p.from_server
+
+-- more bytes come than may
+abbrev pub comes_too_much : Option Standing → Input → Bool
+comes_too_much (Some p) (Bytes side bytes) = nat_lt (wants_of side p) (length bytes)
+comes_too_much o other = false
+
+abbrev pub is_too_much : Known → EventKind → Bool
+is_too_much k (Comes c input) = comes_too_much k.conn input
+is_too_much k other = false
+
 abbrev pub pending_on : Side → Option Standing → ℕ
 pending_on side None = 0
 pending_on Client (Some p) = p.to_client
@@ -152,6 +184,7 @@ refusal_rows C k v =
     ∷ row (comes_after_end k v) AfterEnd
     ∷ row (is_not_connecting k v) NotConnecting
     ∷ row (goes_back k v) MomentBack
+    ∷ row (is_too_much k v) TooMuch
     ∷ row (is_taking_too_much k v) TookTooMuch
     ∷ row (has_no_member C v) NoMember
     ∷ []
@@ -165,7 +198,7 @@ refusal_by C k v = first_of (refusal_rows C k v)
 
 -- which event the scheduler refuses, and why
 abbrev pub refused : Config → Past → State → EventKind → Option BadEvent
-refused C past s v = refusal_by C (known past s v) v
+refused C past s v = refusal_by C (known C past s v) v
 
 -- what a core knows of the same; there is no server connection yet
 abbrev pub edges_in : Live → Edges
@@ -174,6 +207,8 @@ edges_in l = record { client = l.client; server = edge Absent }
 abbrev pub core_standing : Option Live → Option Standing
 core_standing o = option_map (λ l. record {
   edges = edges_in l;
+  from_client = wanted_of l.conn;
+  from_server = unread_limit;
   to_client = pending_in l.conn;
   to_server = 0;
 }) o
@@ -182,6 +217,7 @@ core_standing o = option_map (λ l. record {
 abbrev pub client_refusal : Live → Input → Option BadEvent
 client_refusal l input =
     if is_late (edges_in l) input then Some AfterEnd
+    else if comes_too_much (core_standing (Some l)) input then Some TooMuch
     else if takes_too_much (core_standing (Some l)) input then Some TookTooMuch else None
 
 abbrev pub core_known : Core → EventKind → Known

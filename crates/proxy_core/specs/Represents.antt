@@ -1,9 +1,10 @@
 -- What a core stands for: a configuration, a past and a state of the scheduler.
-use Rattle.std.specs.Prelude.{◌≡◌, ℕ, [], true, false, Option, Some, None, drop}
+use Rattle.std.specs.Prelude.{◌≡◌, ◌⊎◌, ℕ, [], true, false, Option, Some, None, drop}
 use Rattle.connection_model.specs.Heard.{Heard, taken}
 use Rattle.connection_model.specs.Item.{client_output}
 use Rattle.conn.specs.Holds.{Around, Holds}
 use Rattle.conn.specs.declared.connection.Conn.{Conn}
+use Rattle.conn.specs.declared.stage.Stage.TheVariants.{OutOfMemory}
 use Rattle.proxy_core.specs.Live.{queue_of}
 use Rattle.proxy_core.specs.Past.{Past, Shared, shared}
 use Rattle.proxy_core.specs.Ready.{numbers}
@@ -28,14 +29,23 @@ pub record Continues (C : Config) (z : Seen) (conn : Conn) : Type 0 where
   pub holds : Holds (setup_of C z.heard) (around z.heard) (stand_of C z.heard z.place) conn
   pub queue : queue_of conn ≡ drop z.heard.client.took (client_output z.place)
 
+-- It found no memory for bytes that came: nothing of it runs any more, and its queue is kept until its
+-- Run.
+pub record Lacks (z : Seen) (conn : Conn) : Type 0 where
+  pub failed : z.heard.failed ≡ true
+  pub finished : z.heard.finished ≡ true
+  pub there : conn.stage ≡ OutOfMemory
+  pub queue : queue_of conn ≡ drop z.heard.client.took (client_output z.place)
+
 -- no memory was found for it when it was accepted
 pub record NeverBegan (z : Seen) : Type 0 where
   pub failed : z.heard.failed ≡ true
+  pub finished : z.heard.finished ≡ true
   pub no_items : z.place ≡ []
 
 abbrev pub ConnectionContinues : Config → Seen → Option Conn → Type 0
 ConnectionContinues C z None = NeverBegan z
-ConnectionContinues C z (Some conn) = Continues C z conn
+ConnectionContinues C z (Some conn) = Continues C z conn ⊎ Lacks z conn
 
 -- a live connection goes on, its rules are those of its virtual server, and its ends stand where
 -- what was heard put them

@@ -7,6 +7,10 @@ use px_bytes::{Addr, Text};
 pub enum Event {
     /// A client connects from `from` to the virtual server `vs`; its connection is numbered `conn`.
     Accept { conn: u32, vs: Text, from: Addr },
+    /// Bytes came from the client.
+    FromClient { conn: u32, bytes: Text },
+    /// The client sends no more.
+    ClientEnd { conn: u32 },
     /// The server that was asked for took the connection.
     Connected { conn: u32 },
     /// The server that was asked for refused.
@@ -38,6 +42,8 @@ pub enum BadEvent {
     NoConn = 1,
     /// The side has ended, was reset or is closed, or there is no server connection.
     AfterEnd = 2,
+    /// More bytes of the side than may come.
+    TooMuch = 3,
     /// No server is asked for a connection.
     NotConnecting = 4,
     /// The moment is below the present one.

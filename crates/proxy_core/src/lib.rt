@@ -2,9 +2,11 @@
 #![tactic(auto)]
 
 mod accept;
+mod comes;
 mod config;
 mod core_state;
 mod event;
+mod input;
 mod late;
 mod laws;
 mod live;
@@ -14,7 +16,6 @@ mod run;
 mod setup;
 mod step;
 mod tick;
-mod took;
 
 pub use config::{Config, Virtual};
 pub use conn::Handler as Rule;

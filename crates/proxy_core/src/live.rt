@@ -1,20 +1,28 @@
 // The place of a live connection.
 
-ghost use Rattle.std.specs.Prelude.{◌≡◌, ◌≤◌, ◌-◌, ◌++◌, List, length};
+ghost use Rattle.std.specs.Prelude.{◌≡◌, ◌≤◌, ◌-◌, ◌++◌, List, Bool, true, false, Some, length};
+ghost use Rattle.std.specs.Prelude.{OnOk, OnErr};
 ghost use Rattle.px_bytes.specs.declared.addr.Side.TheVariants.{Client};
 ghost use Rattle.connection_model.specs.declared.note.Note.{Note};
-ghost use Rattle.connection_model.specs.Heard.{Takes};
+ghost use Rattle.connection_model.specs.Heard.{Bytes, Ends, Takes};
+ghost use Rattle.conn.specs.Stages.{has_finished};
 ghost use Rattle.conn.specs.Runs.{IsBounded, IsWhole};
-ghost use Rattle.conn.specs.RunsItems.{closing, closing_if};
+ghost use Rattle.conn.specs.RunsItems.{closing};
 ghost use Rattle.proxy_core.specs.Refusal.{client_refusal};
-ghost use Rattle.proxy_core.specs.Live.{LiveRuns, LiveTakes, SamePlace, pending_in};
+ghost use Rattle.proxy_core.specs.Live.{ConnHears, KeepsPlace, LiveComes, LiveRuns, SamePlace};
+ghost use Rattle.proxy_core.specs.Live.{client_met, comes_notes, input_of, pending_in, queue_of};
+ghost use Rattle.proxy_core.specs.Live.{taken_more, takes_memory, wanted_of};
 
 use crate::event::BadEvent;
+use crate::input::ClientInput;
 use conn::{Conn, ConnTurn, Setup};
-use connection_model::{Edge, Note, Notes};
-use px_bytes::{Addr, Steps};
+use connection_model::{Cause, Edge, Note, Notes};
+use px_bytes::{Addr, M, Steps};
 use std::alloc::Global;
 use std::sync::ledger::Ledger;
+
+/// The most bytes of a side that may lie unread.
+const UNREAD_LIMIT: usize = 65_536;
 
 /// A connection without its Ended note, with the place of its virtual server in the configuration.
 /// Where no memory was found for it, there is no connection behind the number, and the next Run ends
@@ -40,8 +48,50 @@ impl Live {
         }
     }
 
-    /// Why a took-count of its client is refused.
-    pub fn refuses_took(&self, n: usize) -> Option<BadEvent>
+    /// How many bytes of its client may come.
+    pub fn wants(&self) -> usize
+        ensures { result ≡ wanted_of self.now.conn }
+    {
+        match &self.conn {
+            Some(conn) => conn.wants(),
+            None => UNREAD_LIMIT,
+        }
+    }
+
+    /// Why what comes of its client is refused.
+    pub fn refuses(&self, input: &ClientInput<'_>) -> Option<BadEvent>
+        ensures { result ≡ client_refusal self.now (input_of input.now) }
+    {
+        match input {
+            ClientInput::Bytes(bytes) => self.refuses_bytes(bytes),
+            ClientInput::End => self.refuses_end(),
+            ClientInput::Took(n) => self.refuses_took(*n),
+        }
+    }
+
+    fn refuses_bytes(&self, bytes: &[u8]) -> Option<BadEvent>
+        ensures { result ≡ client_refusal self.now (Bytes Client bytes.now) }
+    {
+        if !self.client.may_send() {
+            return Some(BadEvent::AfterEnd);
+        }
+        if self.wants() < bytes.len() {
+            return Some(BadEvent::TooMuch);
+        }
+        None
+    }
+
+    fn refuses_end(&self) -> Option<BadEvent>
+        ensures { result ≡ client_refusal self.now (Ends Client) }
+    {
+        if self.client.may_send() {
+            None
+        } else {
+            Some(BadEvent::AfterEnd)
+        }
+    }
+
+    fn refuses_took(&self, n: usize) -> Option<BadEvent>
         ensures { result ≡ client_refusal self.now (Takes Client n) }
     {
         if !self.client.may_take() {
@@ -53,20 +103,22 @@ impl Live {
         None
     }
 
-    /// The client took the first `n` bytes. Says whether the connection is over, and gives its last
-    /// notes then.
-    pub fn take(&mut self, n: usize, notes: &mut Notes) -> bool
-        requires taken { n ≤ pending_in self.old.conn }
+    /// This comes of its client. Says whether the connection is over, and gives its last notes then.
+    /// Where bytes find no memory, it has finished with that cause.
+    pub fn comes(&mut self, input: ClientInput<'_>, notes: &mut Notes) -> bool
+        requires within { taken_more (input_of input) ≤ pending_in self.old.conn }
         requires spare { 2 ≤ notes.old.spare }
-        ensures same { SamePlace self.old self.new }
-        ensures takes { LiveTakes n self.old.conn self.new.conn result }
-        ensures notes { notes.new.items ≡ notes.old.items ++ closing_if result self.old.number }
+        ensures place { KeepsPlace self.old self.new }
+        ensures client { self.new.client ≡ client_met (input_of input.entry) self.old.client }
+        ensures comes { (lacks : Bool)
+            × (notes.new.items ≡ notes.old.items ++ comes_notes lacks result self.old.number)
+            × LiveComes (input_of input.entry) self.old.conn self.new.conn lacks result }
     {
+        if let ClientInput::End = input {
+            self.client.ended = true;
+        }
         match &mut self.conn {
-            Some(conn) => {
-                conn.took(n);
-                conn.settle(self.number, notes)
-            }
+            Some(conn) => tell(conn, input, self.number, notes),
             None => false,
         }
     }
@@ -107,4 +159,47 @@ fn close(number: u32, dropped: usize, notes: &mut Notes)
         conn: number,
         dropped,
     });
+}
+
+// This comes of the client of a connection, which may find no memory for it. Says whether the
+// connection is over.
+fn tell(conn: &mut Conn, input: ClientInput<'_>, number: u32, notes: &mut Notes) -> bool
+    requires within { taken_more (input_of input) ≤ length (queue_of conn.old) }
+    requires spare { 2 ≤ notes.old.spare }
+    ensures { (lacks : Bool)
+        × (notes.new.items ≡ notes.old.items ++ comes_notes lacks result number)
+        × LiveComes (input_of input.entry) (Some conn.old) (Some conn.new) lacks result }
+{
+    match hear(conn, &input) {
+        Ok(()) => conn.settle(number, notes),
+        Err(_) => {
+            conn.out_of_memory();
+            notes.push_reserved(Note::Finish {
+                conn: number,
+                cause: Cause::Memory,
+            });
+            false
+        }
+    }
+}
+
+#[tactic(auto, using(crate::proofs::Coming::bytes_heard, crate::proofs::Coming::end_heard, crate::proofs::Coming::took_heard))]
+fn hear(conn: &mut Conn, input: &ClientInput<'_>) -> M<()>
+    requires { taken_more (input_of input.now) ≤ length (queue_of conn.old) }
+    ensures hears { OnOk result (ConnHears (input_of input.now) conn.old conn.new) }
+    ensures memory { OnErr result (takes_memory (input_of input.now) ≡ true) }
+    ensures goes_on { OnErr result (has_finished conn.old.stage ≡ false) }
+    ensures same { OnErr result (conn.new ≡ conn.old) }
+{
+    match input {
+        ClientInput::Bytes(bytes) => conn.arrive(bytes),
+        ClientInput::End => {
+            conn.end();
+            Ok(())
+        }
+        ClientInput::Took(n) => {
+            conn.took(*n);
+            Ok(())
+        }
+    }
 }

@@ -2,15 +2,14 @@
 
 ghost use Rattle.std.specs.Prelude.{◌≡◌, ◌↔◌, [], IsTrue, IfOk, length, option_map};
 ghost use Rattle.proxy_core.specs.Refusals.{live_at};
-ghost use Rattle.conn.specs.Calls.{wanted};
-ghost use Rattle.proxy_core.specs.Queries.{pending_on, queue_on, front_of};
+ghost use Rattle.proxy_core.specs.Queries.{pending_on, queue_on, front_of, wanted_on};
 
 use crate::core_state::Core;
 use crate::live::Live;
 use crate::ring::find;
 use px_bytes::{M, Side, Text};
 
-/// The most bytes of a side that may have arrived and not been read, where there is no connection.
+/// How many bytes of a server may come, where there is none.
 const UNREAD_LIMIT: usize = 65_536;
 
 impl Core {
@@ -61,9 +60,10 @@ impl Core {
 
     /// How many bytes of a side may arrive. None exactly where the connection isn't live.
     pub fn wants(&self, conn: u32, side: Side) -> Option<usize>
-        ensures { result ≡ option_map (λ l. wanted) (live_at self.now.live.items conn) }
+        ensures { result ≡ option_map (λ l. wanted_on side l.conn)
+            (live_at self.now.live.items conn) }
     {
-        Some(self.at(conn)?.wants(side))
+        Some(self.at(conn)?.wanted(side))
     }
 
     // The live connection of a number.
@@ -76,13 +76,13 @@ impl Core {
 }
 
 impl Live {
-    // How many bytes of a side may arrive. There is no server connection.
-    fn wants(&self, side: Side) -> usize
-        ensures { result ≡ wanted }
+    // How many bytes of a side may come. There is no server connection.
+    fn wanted(&self, side: Side) -> usize
+        ensures { result ≡ wanted_on side self.now.conn }
     {
-        match (side, &self.conn) {
-            (Side::Client, Some(conn)) => conn.wants(),
-            _ => UNREAD_LIMIT,
+        match side {
+            Side::Client => self.wants(),
+            Side::Server => UNREAD_LIMIT,
         }
     }
 

@@ -8,6 +8,7 @@ ghost use Rattle.proxy_core.specs.Steps.{Steps, IsRefused};
 
 use crate::core_state::Core;
 use crate::event::{BadEvent, Event};
+use crate::input::ClientInput;
 use connection_model::Notes;
 use std::sync::ledger::Ledger;
 
@@ -54,7 +55,11 @@ impl Core {
     {
         match event {
             Event::Accept { conn, vs, from } => self.accept(conn, vs.as_bytes(), from, notes),
-            Event::ClientTook { conn, n } => self.took(conn, n, notes),
+            Event::FromClient { conn, bytes } => {
+                self.comes(conn, ClientInput::Bytes(bytes.as_bytes()), notes)
+            }
+            Event::ClientEnd { conn } => self.comes(conn, ClientInput::End, notes),
+            Event::ClientTook { conn, n } => self.comes(conn, ClientInput::Took(n), notes),
             Event::Connected { conn } | Event::Refused { conn } => {
                 Err(self.not_connecting(conn))
             }

@@ -16,7 +16,7 @@ returns-clause-moved g c =
     let s = c.args.setup.now in
     let old = c.args.self.now in
     let got : slice_get (bodies_at s c.args.at) c.args.body ≡ Some c.in-Some.handler.now = sym c.body.ensures ∙ ap (option_map (λ h. h.now)) c.in-Some.is in
-    let stepped : Conn = record { stage = old.stage; body = c.step.new.self; vars = c.step.new.vars; host = c.step.new.host } in
+    let stepped : Conn = record { stage = old.stage; body = c.step.new.self; vars = c.step.new.vars; host = c.step.new.host; client = old.client } in
     let G : Said → Type 0 = λ x. GoesOn s c.args.at c.args.body x c.do_made.new.self c.go_on.new.self c.go_on.result in
     let steps : BodySteps s c.in-Some.handler.now c.args.number c.args.at c.args.body old c.go_on.new.self c.args.notes.now.items c.do_made.new.notes.items c.go_on.result = record {
       stepped = stepped;
@@ -24,6 +24,7 @@ returns-clause-moved g c =
       turned = c.in_ok-turn.turn;
       ticks = c.step.new.steps - c.args.steps.now;
       there = refl;
+      client = refl;
       went = rw c.clear.ensures at c.in_ok-turn.ensures.went;
       said_is = c.in_ok-turn.ensures.said;
       does = c.in_ok-do_made.ensures.ok;

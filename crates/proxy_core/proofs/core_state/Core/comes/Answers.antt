@@ -1,0 +1,129 @@
+use Rattle.std.proofs.Common.{◌≡◌, ◌∙◌, ◌++◌, [], ap, arith, false, refl, sym, true}
+use Rattle.proxy_core.specs.Live.{comes_notes, input_of}
+use Rattle.proxy_core.specs.Ready.{with_ready, without}
+use Rattle.proxy_core.proofs.Places.{number_at, number_in, remove_set, live_there}
+use Rattle.proxy_core.proofs.Refusing.{of_client, client_judged}
+use Rattle.proxy_core.proofs.Tables.{gone, kept}
+use Rattle.proxy_core.proofs.core_state.Core.comes.Goals as goal
+
+pub invariant_of-self-clause-numbered : goal.invariant_of-self-clause-numbered
+invariant_of-self-clause-numbered c =
+    let s = c.args.self.now in
+    let l = c.index_mut.result.now in
+    let h = c.index_mut.ensures.value in
+    let k = gone s.last c.in-Some.at s.live.numbers _ s.live.items _ l c.comes.new.self s.numbered s.live_known h c.remove.ensures.numbers c.remove.ensures.items in
+    k.numbered
+
+pub invariant_of-self-clause-live_known : goal.invariant_of-self-clause-live_known
+invariant_of-self-clause-live_known c =
+    let s = c.args.self.now in
+    let l = c.index_mut.result.now in
+    let h = c.index_mut.ensures.value in
+    let k = gone s.last c.in-Some.at s.live.numbers _ s.live.items _ l c.comes.new.self s.numbered s.live_known h c.remove.ensures.numbers c.remove.ensures.items in
+    k.known
+
+pub invariant_of-self-clause-live_limit : goal.invariant_of-self-clause-live_limit
+invariant_of-self-clause-live_limit c =
+    let s = c.args.self.now in
+    let l = c.index_mut.result.now in
+    let h = c.index_mut.ensures.value in
+    let k = gone s.last c.in-Some.at s.live.numbers _ s.live.items _ l c.comes.new.self s.numbered s.live_known h c.remove.ensures.numbers c.remove.ensures.items in
+    omega (arith, k.fewer, s.live_limit)
+
+pub invariant_of-self-else-comes-clause-numbered : goal.invariant_of-self-else-comes-clause-numbered
+invariant_of-self-else-comes-clause-numbered c =
+    let s = c.args.self.now in
+    let l = c.index_mut.result.now in
+    let h = c.index_mut.ensures.value in
+    let k = kept s.last c.in-Some.at s.live.numbers _ s.live.items _ l c.comes.new.self s.numbered s.live_known h c.comes.ensures.place.number c.make_ready.ensures.numbers c.make_ready.ensures.items in
+    k.numbered
+
+pub invariant_of-self-else-comes-clause-live_known : goal.invariant_of-self-else-comes-clause-live_known
+invariant_of-self-else-comes-clause-live_known c =
+    let s = c.args.self.now in
+    let l = c.index_mut.result.now in
+    let h = c.index_mut.ensures.value in
+    let k = kept s.last c.in-Some.at s.live.numbers _ s.live.items _ l c.comes.new.self s.numbered s.live_known h c.comes.ensures.place.number c.make_ready.ensures.numbers c.make_ready.ensures.items in
+    k.known
+
+pub invariant_of-self-else-comes-clause-live_limit : goal.invariant_of-self-else-comes-clause-live_limit
+invariant_of-self-else-comes-clause-live_limit c =
+    let s = c.args.self.now in
+    let l = c.index_mut.result.now in
+    let h = c.index_mut.ensures.value in
+    let k = kept s.last c.in-Some.at s.live.numbers _ s.live.items _ l c.comes.new.self s.numbered s.live_known h c.comes.ensures.place.number c.make_ready.ensures.numbers c.make_ready.ensures.items in
+    omega (arith, k.fewer, s.live_limit)
+
+pub returns-then-comes-clause-accepted : goal.returns-then-comes-clause-accepted
+returns-then-comes-clause-accepted c =
+    let s = c.args.self.now in
+    client_judged s c.args.number (input_of c.args.input) c.index.result.now (of_client c.args.input) (live_there c.args.number c.in-Some.at s.live.items c.index.result.now (sym c.in-Some.ensures.place) c.index.ensures) ∙ (sym c.refuses.ensures ∙ c.in_default-refuses.is)
+
+pub returns-else-comes-clause-accepted : goal.returns-else-comes-clause-accepted
+returns-else-comes-clause-accepted c =
+    let s = c.args.self.now in
+    client_judged s c.args.number (input_of c.args.input) c.index.result.now (of_client c.args.input) (live_there c.args.number c.in-Some.at s.live.items c.index.result.now (sym c.in-Some.ensures.place) c.index.ensures) ∙ (sym c.refuses.ensures ∙ c.in_default-refuses.is)
+
+pub returns-then-comes-clause-comes : goal.returns-then-comes-clause-comes
+returns-then-comes-clause-comes c =
+    let s = c.args.self.now in
+    let l = c.index_mut.result.now in
+    let h = c.index_mut.ensures.value in
+    let at = c.in-Some.at in
+    let place = sym c.in-Some.ensures.place in
+    let number = number_at c.args.number at s.live.items l place h in
+    let before = c.args.notes.now.items in
+    let came = c.comes.ensures.comes in (
+      comes_notes came.0 c.comes.result c.args.number,
+      came.1 ∙ ap (λ n. before ++ comes_notes came.0 c.comes.result n) number,
+      record {
+        keeps = record { config = refl; statics = refl };
+        last = refl;
+        moment = refl;
+        at = at;
+        place = place;
+        before = l;
+        found = h;
+        after = c.comes.new.self;
+        same = c.comes.ensures.place;
+        client = c.comes.ensures.client;
+        lacks = came.0;
+        over = c.comes.result;
+        came = came.2;
+        notes = refl;
+        goes_on = λ e. let t : true ≡ false = sym c.if-comes.true ∙ e in (cc);
+        ends = λ e. (c.remove.ensures.items ∙ remove_set at s.live.items c.comes.new.self, c.remove.ensures.ring ∙ ap (λ n. without n s.live.ring) (number_in at s.live.numbers s.live.items l s.numbered h));
+      },
+    )
+
+pub returns-else-comes-clause-comes : goal.returns-else-comes-clause-comes
+returns-else-comes-clause-comes c =
+    let s = c.args.self.now in
+    let l = c.index_mut.result.now in
+    let h = c.index_mut.ensures.value in
+    let at = c.in-Some.at in
+    let place = sym c.in-Some.ensures.place in
+    let number = number_at c.args.number at s.live.items l place h in
+    let before = c.args.notes.now.items in
+    let came = c.comes.ensures.comes in (
+      comes_notes came.0 c.comes.result c.args.number,
+      came.1 ∙ ap (λ n. before ++ comes_notes came.0 c.comes.result n) number,
+      record {
+        keeps = record { config = refl; statics = refl };
+        last = refl;
+        moment = refl;
+        at = at;
+        place = place;
+        before = l;
+        found = h;
+        after = c.comes.new.self;
+        same = c.comes.ensures.place;
+        client = c.comes.ensures.client;
+        lacks = came.0;
+        over = c.comes.result;
+        came = came.2;
+        notes = refl;
+        goes_on = λ e. (c.make_ready.ensures.items, c.make_ready.ensures.ring ∙ ap (λ n. with_ready s.live.ring n) (number_in at s.live.numbers s.live.items l s.numbered h ∙ sym c.comes.ensures.place.number));
+        ends = λ e. let t : true ≡ false = sym e ∙ c.if-comes.false in (cc);
+      },
+    )

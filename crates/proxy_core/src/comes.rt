@@ -1,0 +1,46 @@
+// Something comes of a client.
+
+ghost use Rattle.std.specs.Prelude.{◌≡◌, ◌≤◌, ◌++◌, Some, None, OnOk, OnErr, IfErr, List};
+ghost use Rattle.connection_model.specs.Heard.{Comes};
+ghost use Rattle.connection_model.specs.declared.note.Note.{Note};
+ghost use Rattle.proxy_core.specs.Changes.{ComesOf};
+ghost use Rattle.proxy_core.specs.Live.{input_of};
+ghost use Rattle.proxy_core.specs.Refusal.{refusal_of};
+
+use crate::core_state::Core;
+use crate::event::BadEvent;
+use crate::input::ClientInput;
+use crate::ring::find;
+use connection_model::Notes;
+
+impl Core {
+    /// This comes of the client of a connection, which ends or gets ready.
+    pub(crate) fn comes(
+        &mut self,
+        number: u32,
+        input: ClientInput<'_>,
+        notes: &mut Notes,
+    ) -> Result<(), BadEvent>
+        requires { 68 ≤ notes.old.spare }
+        ensures accepted { OnOk result (refusal_of self.old (Comes number (input_of input.entry)) ≡ None) }
+        ensures refused { IfErr result
+            (λ why. refusal_of self.old (Comes number (input_of input.entry)) ≡ Some why) }
+        ensures comes { OnOk result
+            ((group : List Note) × (notes.new.items ≡ notes.old.items ++ group)
+            × ComesOf self.old self.new number (input_of input.entry) group) }
+        ensures same { OnErr result ((self.new ≡ self.old) × (notes.new ≡ notes.old)) }
+    {
+        let Some(at) = find(&self.live, number) else {
+            return Err(BadEvent::NoConn);
+        };
+        if let Some(why) = self.live[at].refuses(&input) {
+            return Err(why);
+        }
+        if self.live[at].comes(input, notes) {
+            let _ = self.live.remove(at);
+        } else {
+            self.live.make_ready(at);
+        }
+        Ok(())
+    }
+}
