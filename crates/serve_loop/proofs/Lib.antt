@@ -7,3 +7,4 @@ pub mod Trying
 pub mod Anyone
 pub mod Listing
 pub mod Turning
+pub mod Pairs

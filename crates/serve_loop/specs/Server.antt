@@ -11,15 +11,16 @@ use Rattle.serve_loop.specs.declared.fault.ServeEnd.TheVariants as ending
 use Rattle.serve_loop.specs.declared.server.Server.{Server}
 use Rattle.serve_loop.specs.declared.serving.Serving.{Serving}
 use Rattle.serve_loop.specs.Face.{Face}
-use Rattle.serve_loop.specs.Often.{Tried, Each}
+use Rattle.serve_loop.specs.Often.{Each}
 use Rattle.serve_loop.specs.Part.{Part, Ready, stand}
-use Rattle.serve_loop.specs.Running.{PairOnce}
+use Rattle.serve_loop.specs.Running.{Ran}
 use Rattle.serve_loop.specs.Turn.{Ticks, Waits, CanAccept, IsUntil, listed_slots, listed_links, due_now}
 use Rattle.serve_loop.specs.Turn.{ListenerAt, LinkAt, WritesAt}
 use Rattle.serve_loop.specs.Walk.{Around, Step, calls_in, text_in, Then}
 
 -- what a turn found and left: how long it waited, what was listed, which listeners and links stay due,
--- to which connections it wrote, on which something is pending still, and whether something is ready
+-- whether something is ready, on which connections something was pending, to which it wrote, those and
+-- all that ran, and on which something is pending still
 pub record Round : Type 0 where
   pub now : ℕ
   pub slots : List ℕ
@@ -29,6 +30,7 @@ pub record Round : Type 0 where
   pub slots_stay : List ℕ
   pub links_stay : List ℕ
   pub ready : Bool
+  pub writers_were : List ℕ
   pub writers : List ℕ
   pub writers_stay : List ℕ
 
@@ -41,7 +43,7 @@ pub record WaitsFor {C : Type 0} (face : Face C) (conns : ℕ) (r : Round) (a : 
 -- what is ready is run, then what is pending is written
 abbrev pub RunsAndWrites : {C : Type 0} → Face C → Round → ℕ → Around C → List Step → Around C → Type 0
 RunsAndWrites face r conns a steps b =
-    Then (Tried (PairOnce face) 2048 r.ready) (Each (WritesAt face conns) r.writers r.writers_stay) a steps b
+    Then (Ran face 2048 r.ready r.writers_were r.writers) (Each (WritesAt face conns) r.writers r.writers_stay) a steps b
 
 -- each due link is asked before
 abbrev pub AsksLinks : {C : Type 0} → Face C → Round → ℕ → Around C → List Step → Around C → Type 0
@@ -70,6 +72,7 @@ pub record Turned {C : Type 0} (face : Face C) {S : Type 0} (did : S → Call �
   pub part : Part face did gave (Rounds face round old.serving.conns) old.serving new.serving net net'
   pub slots_were : round.slots ≡ old.slots
   pub links_were : round.links ≡ old.links
+  pub writers_were : round.writers_were ≡ old.writers
   pub slots_are : new.slots ≡ round.slots_stay
   pub links_are : new.links ≡ round.links_stay
   pub writers_are : new.writers ≡ added [] round.writers_stay
@@ -95,6 +98,7 @@ pub record OneTurn {C : Type 0} (face : Face C) {S : Type 0} (did : S → Call �
       → Done face did gave (Rounds face round old.serving.conns) old.serving new.serving net net' before after
   pub slots_were : round.slots ≡ old.slots
   pub links_were : round.links ≡ old.links
+  pub writers_were : round.writers_were ≡ old.writers
   pub slots_are : new.slots ≡ round.slots_stay
   pub links_are : new.links ≡ round.links_stay
   pub writers_are : new.writers ≡ added [] round.writers_stay

@@ -1,14 +1,13 @@
 // What is ready goes on.
 
-ghost use Rattle.std.specs.Prelude.{◌≡◌, IfOk, OnOk, false};
-ghost use Rattle.journal_text.specs.declared.event.Event.TheVariants as event;
-ghost use Rattle.serve_loop.specs.Often.{Tried};
+ghost use Rattle.std.specs.Prelude.{◌≡◌, ℕ, Option, IfOk, OnOk};
 ghost use Rattle.serve_loop.specs.Part.{Part};
-ghost use Rattle.serve_loop.specs.Running.{OnePair, PairOnce};
+ghost use Rattle.serve_loop.specs.Running.{PairOnce, Ran, RunAndTurn, noted};
 
 use crate::serving::Serving;
 use crate::{Asked, Core, ServeFault};
 use journal_text::Event;
+use px_bytes::M;
 use px_outside::Net;
 use served_links::Numbers;
 
@@ -20,8 +19,8 @@ impl<C: Core + Drop> Serving<C> {
         net: &mut N,
         writers: &mut Numbers,
     ) -> Result<bool, ServeFault>
-        ensures part { IfOk result (λ stays. Part C.face N.did N.gave
-            (Tried (PairOnce C.face) 2048 stays) self.old self.new net.old net.new) }
+        ensures part { IfOk result (λ ready. Part C.face N.did N.gave
+            (Ran C.face 2048 ready writers.old writers.new) self.old self.new net.old net.new) }
     {
         for often in 0u32..2048 {
             let _ = often;
@@ -36,22 +35,30 @@ impl<C: Core + Drop> Serving<C> {
 
     fn run_once<N: Net>(&mut self, net: &mut N, writers: &mut Numbers) -> Result<Asked, ServeFault>
         ensures part { IfOk result (λ asked. Part C.face N.did N.gave
-            (PairOnce C.face asked) self.old self.new net.old net.new) }
+            (PairOnce C.face writers.old writers.new asked) self.old self.new net.old net.new) }
     {
         if self.core.settled() {
             return Ok(Asked::Over);
         }
-        if let Some(conn) = self.core.ready() {
-            writers.add(conn)?;
-        }
+        self.note_ready(writers)?;
         self.pair(net)?;
         Ok(Asked::Again)
     }
 
+    // Adds the connection that is ready to the writers.
+    fn note_ready(&self, writers: &mut Numbers) -> M<()>
+        ensures { OnOk result ((ready : Option ℕ) × C.face.ready self.now.core ready
+            × (writers.new ≡ noted ready writers.old)) }
+    {
+        match self.core.ready() {
+            Some(conn) => writers.add(conn),
+            None => Ok(()),
+        }
+    }
+
     fn pair<N: Net>(&mut self, net: &mut N) -> Result<(), ServeFault>
-        requires { C.face.settled self.old.core false }
-        ensures part { OnOk result (Part C.face N.did N.gave
-            (OnePair C.face) self.old self.new net.old net.new) }
+        ensures { OnOk result (Part C.face N.did N.gave
+            (RunAndTurn C.face) self.old self.new net.old net.new) }
     {
         self.give(net, Event::Run)?;
         self.give(net, Event::Turn)?;

@@ -27,6 +27,7 @@ returns g c =
       slots_stay = all_slots.stay;
       links_stay = all_links.stay;
       ready = c.in_ok-run_pairs.field-0;
+      writers_were = c.args.self.now.writers;
       writers = c.run_pairs.new.writers;
       writers_stay = all_writes.stay;
     } in
@@ -49,6 +50,7 @@ returns g c =
             (part_next (λ (conns : ℕ). Each (WritesAt face conns) r.writers r.writers_stay) c.in_ok-run_pairs.ensures.part all_writes.did))));
         slots_were = refl;
         links_were = refl;
+        writers_were = refl;
         slots_are = all_slots.kept ∙ ap (λ (l : List ℕ). l ++ all_slots.stay) c.clear.ensures;
         links_are = all_links.kept ∙ ap (λ (l : List ℕ). l ++ all_links.stay) c.clear-2.ensures;
         writers_are = c.in_ok-add_all.ensures ∙ ap (λ (l : List ℕ). added l c.as_slice-7.result.now) c.clear-3.ensures
