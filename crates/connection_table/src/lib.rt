@@ -85,6 +85,13 @@ impl<T> Table<T> {
         self.ring.is_empty()
     }
 
+    /// The number that is ready for the longest time.
+    pub fn next_ready(&self) -> Option<u32>
+        ensures { result ≡ slice_get self.now.ring 0 }
+    {
+        self.ring.front().copied()
+    }
+
     /// The place of a number, found by halving.
     pub fn place(&self, number: u32) -> Option<usize>
         ensures place { result ≡ place_in self.now.numbers number }

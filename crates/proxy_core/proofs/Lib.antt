@@ -23,3 +23,4 @@ pub mod RunAgrees
 pub mod Resting
 pub mod FrontRuns
 pub mod Stepping
+pub mod Asked

@@ -41,7 +41,7 @@ use Rattle.proxy_core.proofs.SoundPast.{sound_start, sound_step}
 use Rattle.proxy_core.proofs.Standing.{is_served, none_untaken, client_untaken, none_to_server}
 
 -- what is queued is what was sent and not taken
-queued : (C : Config) (z : Seen) (conn : Conn) → ConnectionContinues C z (Some conn) → queue_of conn ≡ drop z.heard.client.took (client_output z.place)
+pub queued : (C : Config) (z : Seen) (conn : Conn) → ConnectionContinues C z (Some conn) → queue_of conn ≡ drop z.heard.client.took (client_output z.place)
 queued C z conn (inl k) = k.queue
 queued C z conn (inr k) = k.queue
 
@@ -67,7 +67,7 @@ wants_same C c z (Some conn) v told (inl k) =
     ∙ wants_by z.heard.finished l.finished (unread_limit - left) (trace_finished C c z v told k.not_failed)
 
 -- there is no server
-none_from_server : (C : Config) (z : Seen) (l : Live) → z.heard.edges ≡ edges_in l → unread_limit ≡ wants_at C z Server
+pub none_from_server : (C : Config) (z : Seen) (l : Live) → z.heard.edges ≡ edges_in l → unread_limit ≡ wants_at C z Server
 none_from_server C z l e = sym (ap (λ x. if z.heard.finished || not (is_open x.server.state) then unread_limit else query.wanted Server (stand_of C z.heard z.place)) e ∙ by_end z.heard.finished)
   where
     by_end : (b : Bool) → (if b || true then unread_limit else query.wanted Server (stand_of C z.heard z.place)) ≡ unread_limit

@@ -11,6 +11,7 @@ pub mod Scheduler
 pub mod Refusal
 pub mod Moves
 pub mod Sound
+pub mod Asked
 pub mod Represents
 pub mod Steps
 pub mod Headline

@@ -16,6 +16,7 @@ mod run;
 mod setup;
 mod step;
 mod tick;
+mod views;
 
 pub use config::{Config, Virtual};
 pub use conn::Handler as Rule;

@@ -1,98 +1,131 @@
-// What a core tells of its connections.
+// What a core tells, for every past that it stands for.
 
 ghost use Rattle.std.specs.Prelude.{◌≡◌, ◌↔◌, [], IsTrue, IfOk, length, option_map};
+ghost use Rattle.proxy_core.specs.Asked.{copy_of, edges_of, live_of, next_due_of, next_of};
+ghost use Rattle.proxy_core.specs.Asked.{pending_of, queue_of, settled_of, wants_of};
+ghost use Rattle.proxy_core.specs.Past.{Past, shared};
+ghost use Rattle.proxy_core.specs.Queries.{front_of, pending_on, queue_on};
 ghost use Rattle.proxy_core.specs.Refusals.{live_at};
-ghost use Rattle.proxy_core.specs.Queries.{pending_on, queue_on, front_of, wanted_on};
+ghost use Rattle.proxy_core.specs.Represents.{Represents};
+ghost use Rattle.proxy_core.specs.Scheduler.{State};
+ghost use Rattle.proxy_core.specs.declared.config.Config.{Config};
 
+use crate::config::Virtual;
 use crate::core_state::Core;
-use crate::live::Live;
-use crate::ring::find;
+use connection_model::Edges;
 use px_bytes::{M, Side, Text};
-
-/// How many bytes of a server may come, where there is none.
-const UNREAD_LIMIT: usize = 65_536;
 
 impl Core {
     /// Whether no connection is ready to run.
     pub fn settled(&self) -> bool
-        ensures { IsTrue result ↔ (self.now.live.ring ≡ []) }
+        ensures exact { IsTrue result ↔ (self.now.live.ring ≡ []) }
+        ensures told { (C : Config) (past : Past) (s : State) → Represents C past s self.now
+            → result ≡ settled_of s }
     {
-        self.live.is_idle()
+        self.is_settled()
+    }
+
+    /// The connection that the next Run runs. None where none is ready.
+    pub fn next(&self) -> Option<u32>
+        ensures { (C : Config) (past : Past) (s : State) → Represents C past s self.now
+            → result ≡ next_of s }
+    {
+        self.live.next_ready()
+    }
+
+    /// The least moment above the present one at which something is due. Nothing is yet.
+    pub fn next_due(&self) -> Option<u64>
+        ensures { (C : Config) (past : Past) (s : State) → Represents C past s self.now
+            → result ≡ next_due_of C past s }
+    {
+        None
+    }
+
+    /// The present moment.
+    pub fn moment(&self) -> u64
+        ensures { (C : Config) (past : Past) (s : State) → Represents C past s self.now
+            → result ≡ (shared past).moment }
+    {
+        self.moment
+    }
+
+    /// The greatest number that was accepted.
+    pub fn last(&self) -> u32
+        ensures { (C : Config) (past : Past) (s : State) → Represents C past s self.now
+            → result ≡ (shared past).last }
+    {
+        self.last
+    }
+
+    /// How many connections may be live at once.
+    pub fn limit(&self) -> u32
+        ensures { (C : Config) (past : Past) (s : State) → Represents C past s self.now
+            → result ≡ C.connections }
+    {
+        self.config.connections
+    }
+
+    /// The virtual servers, each with its name and the address at which it listens.
+    pub fn listens(&self) -> &[Virtual]
+        ensures { (C : Config) (past : Past) (s : State) → Represents C past s self.now
+            → result.now ≡ C.virtuals }
+    {
+        self.config.virtuals.as_slice()
     }
 
     /// How many connections are live.
     pub fn live(&self) -> u32
-        ensures { result ≡ length self.now.live.items }
+        ensures exact { result ≡ length self.now.live.items }
+        ensures told { (C : Config) (past : Past) (s : State) → Represents C past s self.now
+            → result ≡ live_of past }
     {
-        let _limit = self.config.connections;
-        self.live.len() as u32
+        self.live_count()
+    }
+
+    /// Where the ends of a connection stand. None exactly where it isn't live.
+    pub fn edges(&self, conn: u32) -> Option<Edges>
+        ensures { (C : Config) (past : Past) (s : State) → Represents C past s self.now
+            → result ≡ edges_of past conn }
+    {
+        self.edges_at(conn)
     }
 
     /// How many bytes that side is to take. None exactly where the connection isn't live.
     pub fn pending(&self, conn: u32, side: Side) -> Option<usize>
-        ensures { result ≡ option_map (λ l. pending_on side l.conn)
+        ensures exact { result ≡ option_map (λ l. pending_on side l.conn)
             (live_at self.now.live.items conn) }
+        ensures told { (C : Config) (past : Past) (s : State) → Represents C past s self.now
+            → result ≡ pending_of past s conn side }
     {
-        Some(self.at(conn)?.queued(side).len())
+        self.pending_at(conn, side)
     }
 
     /// The bytes that side is to take, all of them. None exactly where the connection isn't live.
     pub fn front(&self, conn: u32, side: Side) -> Option<&[u8]>
-        ensures { option_map (λ bytes. bytes.now) result
+        ensures exact { option_map (λ bytes. bytes.now) result
             ≡ option_map (λ l. queue_on side l.conn) (live_at self.now.live.items conn) }
+        ensures told { (C : Config) (past : Past) (s : State) → Represents C past s self.now
+            → option_map (λ bytes. bytes.now) result ≡ queue_of past s conn side }
     {
-        Some(self.at(conn)?.queued(side))
+        self.front_at(conn, side)
     }
 
     /// The first `n` bytes that side is to take. None exactly where the connection isn't live or
     /// fewer are pending.
     pub fn copy(&self, conn: u32, side: Side, n: usize) -> M<Option<Text>>
-        ensures { IfOk result (λ text. text ≡ front_of side n (live_at self.now.live.items conn)) }
+        ensures exact { IfOk result
+            (λ text. text ≡ front_of side n (live_at self.now.live.items conn)) }
+        ensures told { IfOk result (λ text. (C : Config) (past : Past) (s : State)
+            → Represents C past s self.now → text ≡ copy_of past s conn side n) }
     {
-        let Some(live) = self.at(conn) else {
-            return Ok(None);
-        };
-        match live.queued(side).get(..n) {
-            Some(bytes) => Ok(Some(Text::new(self.alloc, bytes)?)),
-            None => Ok(None),
-        }
+        self.copy_at(conn, side, n)
     }
 
-    /// How many bytes of a side may arrive. None exactly where the connection isn't live.
+    /// How many bytes of a side may come. None exactly where the connection isn't live.
     pub fn wants(&self, conn: u32, side: Side) -> Option<usize>
-        ensures { result ≡ option_map (λ l. wanted_on side l.conn)
-            (live_at self.now.live.items conn) }
+        ensures { (C : Config) (past : Past) (s : State) → Represents C past s self.now
+            → result ≡ wants_of C past s conn side }
     {
-        Some(self.at(conn)?.wanted(side))
-    }
-
-    // The live connection of a number.
-    fn at(&self, conn: u32) -> Option<&Live>
-        ensures { option_map (λ l. l.now) result ≡ live_at self.now.live.items conn }
-    {
-        let at = find(&self.live, conn)?;
-        Some(&self.live[at])
-    }
-}
-
-impl Live {
-    // How many bytes of a side may come. There is no server connection.
-    fn wanted(&self, side: Side) -> usize
-        ensures { result ≡ wanted_on side self.now.conn }
-    {
-        match side {
-            Side::Client => self.wants(),
-            Side::Server => UNREAD_LIMIT,
-        }
-    }
-
-    // The bytes that a side is to take.
-    fn queued(&self, side: Side) -> &[u8]
-        ensures { result.now ≡ queue_on side self.now.conn }
-    {
-        match (side, &self.conn) {
-            (Side::Client, Some(conn)) => conn.front(),
-            _ => &[],
-        }
+        self.wants_at(conn, side)
     }
 }

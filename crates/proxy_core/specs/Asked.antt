@@ -1,0 +1,70 @@
+-- What may be asked of a core, by the past and the scheduler's state.
+use Rattle.std.specs.Prelude.{ℕ, List, [], ◌∷◌, length, take, drop, Bool, true, false, Option, Some}
+use Rattle.std.specs.Prelude.{None, nat_le, slice_get, option_and_then, if◌then◌else◌}
+use Rattle.px_bytes.specs.declared.addr.Side.{Side}
+use Rattle.px_bytes.specs.declared.addr.Side.TheVariants.{Client, Server}
+use Rattle.connection_model.specs.declared.edges.Edges.{Edges}
+use Rattle.connection_model.specs.Gates.{no_bytes, sent_from, taken_of}
+use Rattle.connection_model.specs.Heard.{Heard, taken}
+use Rattle.connection_model.specs.Item.{Item, client_output, server_output}
+use Rattle.proxy_core.specs.Past.{Past, heard, shared}
+use Rattle.proxy_core.specs.Ready.{is_in}
+use Rattle.proxy_core.specs.Refusal.{wants_at}
+use Rattle.proxy_core.specs.Scheduler.{State, Seen, seen, pending}
+use Rattle.proxy_core.specs.declared.config.Config.{Config}
+
+abbrev pub is_none_of : List ℕ → Bool
+is_none_of [] = true
+is_none_of (n ∷ ns) = false
+
+-- nothing is ready; there is no queue of shared calls yet
+abbrev pub settled_of : State → Bool
+settled_of s = is_none_of s.ring
+
+-- the connection that the next Run runs
+abbrev pub next_of : State → Option ℕ
+next_of s = slice_get s.ring 0
+
+-- the moment at which something is due: no call sleeps yet, and nothing is idle for too long
+abbrev pub next_due_of : Config → Past → State → Option ℕ
+next_due_of C past s = None
+
+abbrev pub live_of : Past → ℕ
+live_of past = length (shared past).live
+
+-- of a connection, while it is live
+abbrev pub if_live : {A : Type 0} → Past → ℕ → A → Option A
+if_live past c a = if is_in (shared past).live c then Some a else None
+
+abbrev pub edges_of : Past → ℕ → Option Edges
+edges_of past c = if_live past c (heard c past).edges
+
+-- how many bytes of a side may come, and how many are pending to it
+abbrev pub wants_of : Config → Past → State → ℕ → Side → Option ℕ
+wants_of C past s c side = if_live past c (wants_at C (seen past s c) side)
+
+abbrev pub pending_of : Past → State → ℕ → Side → Option ℕ
+pending_of past s c side = if_live past c (pending past s c side)
+
+-- what is left of bytes of which so many were taken; a reset leaves nothing
+abbrev pub left_of : Option ℕ → List ℕ → List ℕ
+left_of None bytes = []
+left_of (Some n) bytes = drop n bytes
+
+-- The bytes that are pending to a side: those that were sent to it and not taken. To the server's, of
+-- its present connection.
+abbrev pub queue_at : Heard → List Item → Side → List ℕ
+queue_at h place Client = left_of (taken h).client (client_output place)
+queue_at h place Server =
+    let number = (sent_from no_bytes place).number in
+    left_of (taken_of (taken h).servers number) (server_output number place)
+
+abbrev pub queue_of : Past → State → ℕ → Side → Option (List ℕ)
+queue_of past s c side = if_live past c (queue_at (heard c past) (s.places c) side)
+
+-- the first n of them, where there are as many
+abbrev pub first_of : ℕ → List ℕ → Option (List ℕ)
+first_of n bytes = if nat_le n (length bytes) then Some (take n bytes) else None
+
+abbrev pub copy_of : Past → State → ℕ → Side → ℕ → Option (List ℕ)
+copy_of past s c side n = option_and_then (first_of n) (queue_of past s c side)
