@@ -1,6 +1,6 @@
 // A slice of a connection.
 
-ghost use Rattle.std.specs.Prelude.{◌≡◌, ◌-◌, ◌≤◌, ◌++◌, List, length};
+ghost use Rattle.std.specs.Prelude.{◌+◌, ◌≡◌, ◌-◌, ◌≤◌, ◌++◌, List, length};
 ghost use Rattle.connection_model.specs.declared.note.Note.{Note};
 ghost use Rattle.conn.specs.Runs.{DropsQueued, IsBounded, IsFew, IsWhole, Rested, Runs, TellsDropped};
 
@@ -41,6 +41,7 @@ impl Conn {
             self.old.stage ≡ Stage.OutOfMemory
             → DropsQueued number queued self.new notes.old.items after result }
         ensures dropped { TellsDropped result number self.new notes.new.items }
+        ensures few_notes { length notes.new.items ≤ length notes.old.items + 68 }
     {
         if let Stage::OutOfMemory = self.stage {
             let dropped = self.pending();

@@ -1,6 +1,6 @@
 -- What a step did.
-use Rattle.std.proofs.Common.{◌≡◌, inl, inr, refl, sym, ap, ◌∙◌, ℕ, ◌-◌, List, [], ◌++◌, length, map, drop, Bool, true, false, ◌||◌, not, Option, Some, None, Result, Ok, Err, OnOk, IfErr, if◌then◌else◌}
-use Rattle.std.proofs.lemmas.List.{length-map, length-drop}
+use Rattle.std.proofs.Common.{◌≡◌, inl, inr, refl, sym, ap, ◌∙◌, ℕ, ◌+◌, ◌-◌, ◌≤◌, arith, List, [], ◌++◌, length, map, drop, Bool, true, false, ◌||◌, not, Option, Some, None, Result, Ok, Err, OnOk, IfErr, if◌then◌else◌}
+use Rattle.std.proofs.lemmas.List.{length-append, length-map, length-drop}
 use Rattle.px_bytes.specs.declared.addr.Side.TheVariants.{Client, Server}
 use Rattle.connection_model.specs.declared.note.Note.{Note}
 use Rattle.connection_model.specs.Heard.{Bytes, Ends, Takes, EventKind, taken}
@@ -132,10 +132,14 @@ start_represents C core k = record {
   };
 }
 
+-- so many notes were added at most
+at_most : (before after group : List Note) (n : ℕ) → after ≡ before ++ group → length after ≤ length before + n → length group ≤ n
+at_most before after group n e few = omega (arith, ap length e ∙ length-append before group, few)
+
 -- by the answer of the step
-pub steps_of : (old new : Core) (e : Event) (before after : List Note) (steps : ℕ) (res : Result (Unit {0}) BadEvent) → OnOk res (refusal old e ≡ None) → OnOk res ((group : List Note) × (after ≡ before ++ group) × Changes old new e group steps) → OnOk res (Steps old new e before after steps)
-steps_of old new e before after steps (Ok u) h k = record { group = k.0; notes = k.1; changes = k.2; stands = keeps_standing old new e k.0 steps h k.2 }
-steps_of old new e before after steps (Err why) h k = tt
+pub steps_of : (old new : Core) (e : Event) (before after : List Note) (steps : ℕ) (res : Result (Unit {0}) BadEvent) → OnOk res (refusal old e ≡ None) → OnOk res ((group : List Note) × (after ≡ before ++ group) × Changes old new e group steps) → OnOk res (length after ≤ length before + 68) → OnOk res (Steps old new e before after steps)
+steps_of old new e before after steps (Ok u) h k few = record { group = k.0; notes = k.1; few = at_most before after k.0 68 k.1 few; changes = k.2; stands = keeps_standing old new e k.0 steps h k.2 }
+steps_of old new e before after steps (Err why) h k few = tt
 
 pub refused_of : (core : Core) (e : Event) (res : Result (Unit {0}) BadEvent) → IfErr res (λ why. refusal core e ≡ Some why) → IfErr res (λ why. IsRefused core e why)
 refused_of core e (Ok u) h = tt

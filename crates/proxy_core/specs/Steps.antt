@@ -1,5 +1,5 @@
 -- What one event does to a core, for all that it may stand for.
-use Rattle.std.specs.Prelude.{◌≡◌, ℕ, List, ◌∷◌, ◌++◌, Some}
+use Rattle.std.specs.Prelude.{◌≡◌, ◌≤◌, ℕ, List, length, ◌∷◌, ◌++◌, Some}
 use Rattle.connection_model.specs.declared.note.Note.{Note}
 use Rattle.proxy_core.specs.Changes.{Changes}
 use Rattle.proxy_core.specs.Moves.{Moves}
@@ -30,6 +30,7 @@ pub record Steps (old new : Core) (event : Event) (before after : List Note) (st
     : Type 0 where
   pub group : List Note
   pub notes : after ≡ before ++ group
+  pub few : length group ≤ 68
   pub changes : Changes old new event group steps
   pub stands : KeepsStanding old new (record { event = event; group = group })
 

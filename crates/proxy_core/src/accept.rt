@@ -1,6 +1,6 @@
 // A client connects.
 
-ghost use Rattle.std.specs.Prelude.{◌≡◌, ◌≤◌, ◌++◌, Some, None, OnOk, OnErr, IfErr, List};
+ghost use Rattle.std.specs.Prelude.{◌≡◌, ◌≤◌, ◌+◌, ◌++◌, Some, None, OnOk, OnErr, IfErr, List, length};
 ghost use Rattle.std.specs.List.{position_from};
 ghost use Rattle.std.specs.Str.{bytes_eq};
 ghost use Rattle.connection_model.specs.Heard.{Accepts as Accepted};
@@ -34,6 +34,7 @@ impl Core {
         ensures accepts { OnOk result
             ((group : List Note) × (notes.new.items ≡ notes.old.items ++ group)
             × Accepts self.old self.new number vs.now from group) }
+        ensures few_notes { OnOk result (length notes.new.items ≤ length notes.old.items + 68) }
         ensures same { OnErr result ((self.new ≡ self.old) × (notes.new ≡ notes.old)) }
     {
         if number <= self.last {

@@ -1,6 +1,6 @@
 // Something comes of a client.
 
-ghost use Rattle.std.specs.Prelude.{◌≡◌, ◌≤◌, ◌++◌, Some, None, OnOk, OnErr, IfErr, List};
+ghost use Rattle.std.specs.Prelude.{◌≡◌, ◌≤◌, ◌+◌, ◌++◌, Some, None, OnOk, OnErr, IfErr, List, length};
 ghost use Rattle.connection_model.specs.Heard.{Comes};
 ghost use Rattle.connection_model.specs.declared.note.Note.{Note};
 ghost use Rattle.proxy_core.specs.Changes.{ComesOf};
@@ -28,6 +28,7 @@ impl Core {
         ensures comes { OnOk result
             ((group : List Note) × (notes.new.items ≡ notes.old.items ++ group)
             × ComesOf self.old self.new number (input_of input.entry) group) }
+        ensures few_notes { OnOk result (length notes.new.items ≤ length notes.old.items + 68) }
         ensures same { OnErr result ((self.new ≡ self.old) × (notes.new ≡ notes.old)) }
     {
         let Some(at) = find(&self.live, number) else {

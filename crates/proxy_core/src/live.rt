@@ -1,6 +1,6 @@
 // The place of a live connection.
 
-ghost use Rattle.std.specs.Prelude.{◌≡◌, ◌≤◌, ◌-◌, ◌++◌, List, Bool, true, false, Some, length};
+ghost use Rattle.std.specs.Prelude.{◌≡◌, ◌≤◌, ◌+◌, ◌-◌, ◌++◌, List, Bool, true, false, Some, length};
 ghost use Rattle.std.specs.Prelude.{OnOk, OnErr};
 ghost use Rattle.px_bytes.specs.declared.addr.Side.TheVariants.{Client};
 ghost use Rattle.connection_model.specs.declared.note.Note.{Note};
@@ -113,6 +113,7 @@ impl Live {
         ensures comes { (lacks : Bool)
             × (notes.new.items ≡ notes.old.items ++ comes_notes lacks result self.old.number)
             × LiveComes (input_of input.entry) self.old.conn self.new.conn lacks result }
+        ensures few_notes { length notes.new.items ≤ length notes.old.items + 68 }
     {
         if let ClientInput::End = input {
             self.client.ended = true;
@@ -138,6 +139,7 @@ impl Live {
         ensures slice { let given = length notes.new.items - length notes.old.items in
             IsWhole result (steps.new - steps.old) given }
         ensures bounded { IsBounded result (steps.new - steps.old) }
+        ensures few_notes { length notes.new.items ≤ length notes.old.items + 68 }
     {
         match &mut self.conn {
             Some(conn) => conn.run(alloc, setup, self.number, steps, notes),
@@ -166,9 +168,10 @@ fn close(number: u32, dropped: usize, notes: &mut Notes)
 fn tell(conn: &mut Conn, input: ClientInput<'_>, number: u32, notes: &mut Notes) -> bool
     requires within { taken_more (input_of input) ≤ length (queue_of conn.old) }
     requires spare { 2 ≤ notes.old.spare }
-    ensures { (lacks : Bool)
+    ensures comes { (lacks : Bool)
         × (notes.new.items ≡ notes.old.items ++ comes_notes lacks result number)
         × LiveComes (input_of input.entry) (Some conn.old) (Some conn.new) lacks result }
+    ensures few_notes { length notes.new.items ≤ length notes.old.items + 68 }
 {
     match hear(conn, &input) {
         Ok(()) => conn.settle(number, notes),

@@ -20,6 +20,7 @@ impl Core {
             × RunsRing self.old self.new self.old.live.ring group (steps.new - steps.old) }
         ensures bounded { length self.old.live.items ≤ length self.new.live.items
             → steps.new ≤ steps.old + 2000 }
+        ensures few_notes { length notes.new.items ≤ length notes.old.items + 68 }
     {
         let Some(at) = self.live.pop_ready() else {
             return;

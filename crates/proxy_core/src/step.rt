@@ -14,7 +14,8 @@ use std::sync::ledger::Ledger;
 
 impl Core {
     /// Takes an event and adds its notes. A refused event changes nothing, gives no note and counts no
-    /// step. One that ends no connection counts 2,000 steps at most.
+    /// step. An accepted one gives 68 notes at most. One that ends no connection counts 2,000 steps at
+    /// most.
     pub fn step<L: Ledger>(
         &mut self,
         event: Event,
@@ -49,6 +50,7 @@ impl Core {
             ((group : List Note) × (notes.new.items ≡ notes.old.items ++ group)
             × Changes self.old self.new event group (steps.new - steps.old)) }
         ensures same { OnErr result ((self.new ≡ self.old) × (notes.new ≡ notes.old)) }
+        ensures few_notes { OnOk result (length notes.new.items ≤ length notes.old.items + 68) }
         ensures uncounted { OnErr result (steps.new ≡ steps.old) }
         ensures bounded { length self.old.live.items ≤ length self.new.live.items
             → steps.new ≤ steps.old + 2000 }

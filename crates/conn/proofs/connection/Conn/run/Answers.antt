@@ -12,7 +12,7 @@ pub loop-moved-init : goal.loop-moved-init
 loop-moved-init g c =
     let given = c.len-given.ensures in
     let room = c.requires in
-    (at_first c.args.setup.now c.args.number c.args.self.now c.args.notes.now.items, omega (arith, given), omega (arith, given, room), omega arith, omega arith, omega arith)
+    (at_first c.args.setup.now c.args.number c.args.self.now c.args.notes.now.items, omega (arith, given), omega (arith, given, room), omega arith, omega arith, omega arith, omega (arith, given))
 
 pub loop-moved-preserved : goal.loop-moved-preserved
 loop-moved-preserved g c =
@@ -27,7 +27,7 @@ loop-moved-preserved g c =
     let few = c.in-Ok-Goes.ensures.few in
     let sums = c.in-Ok-Goes.ensures.counted in
     let so_far = k.4 in
-    (one_more c.args.setup.now c.args.number c.args.self.now c.loop-moved.self c.advance.new.self c.args.notes.now.items c.loop-moved.notes.items c.advance.new.notes.items k.0 acted, omega (arith, grows, within), omega (arith, room, wide), omega (arith, counted, ticks), omega (arith, so_far, sums), omega (arith, so_far, sums, few, k.5))
+    (one_more c.args.setup.now c.args.number c.args.self.now c.loop-moved.self c.advance.new.self c.args.notes.now.items c.loop-moved.notes.items c.advance.new.notes.items k.0 acted, omega (arith, grows, within), omega (arith, room, wide), omega (arith, counted, ticks), omega (arith, so_far, sums), omega (arith, so_far, sums, few, k.5), omega (arith, room, c.advance.ensures.spare, k.1))
 
 pub returns-then-len-given-ge-MOST_NOTES-clause-ran : goal.returns-then-len-given-ge-MOST_NOTES-clause-ran
 returns-then-len-given-ge-MOST_NOTES-clause-ran g c = runs_more c.args.setup.now c.args.number c.args.self.now c.loop-moved.self c.args.notes.now.items c.loop-moved.notes.items c.loop-moved.invariant.0

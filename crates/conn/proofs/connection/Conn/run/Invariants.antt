@@ -10,3 +10,4 @@ invariant-loop-moved g l =
     × (l.initial.steps + l._moved ≤ l.steps)
     × (l.initial.steps + l.spent ≡ l.steps)
     × (l.spent ≤ 2000)
+    × (length l.notes.items ≤ l.given + 64)
