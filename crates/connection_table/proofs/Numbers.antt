@@ -1,5 +1,5 @@
 -- Numbers that rise, and where one stands.
-use Rattle.std.proofs.Common.{◌≡◌, ◌≢◌, ◌∙◌, refl, sym, ap, ℕ, zero, suc, ◌+◌, ◌<◌, ◌≤◌, List, [], ◌∷◌, ◌++◌, Bool, true, false, ◌||◌, Some, None, Result, Ok, Err, nat_eq, nat_lt, length, arith, remove, set, slice_get, get_or, if◌then◌else◌}
+use Rattle.std.proofs.Common.{map, ◌≡◌, ◌≢◌, ◌∙◌, refl, sym, ap, ℕ, zero, suc, ◌+◌, ◌<◌, ◌≤◌, List, [], ◌∷◌, ◌++◌, Bool, true, false, ◌||◌, Some, None, Result, Ok, Err, nat_eq, nat_lt, length, arith, remove, set, slice_get, get_or, if◌then◌else◌}
 use Rattle.std.specs.List.{AllByRecursion, position_from}
 use Rattle.std.specs.List.Sorted.{IsSearchInRange, IsBinarySearchResult, IsNonDecreasingBy}
 use Rattle.std.specs.Ordering.{nat_cmp, ordering_index}
@@ -7,8 +7,8 @@ use Rattle.std.specs.Result.{result_ok}
 use Rattle.std.proofs.lemmas.Bool.Decides.{nat_tests}
 use Rattle.std.proofs.lemmas.Cmp.{ranked}
 use Rattle.std.proofs.lemmas.List.Sorted.{IsNonDecreasingBy-from_default}
-use Rattle.connection_table.specs.Layout.{Rises, numbers_of}
-use Rattle.connection_table.specs.Table.{is_in, place_in}
+use Rattle.connection_table.specs.Layout.{numbers_of}
+use Rattle.connection_table.specs.Table.{Rises, is_in, place_in}
 use Rattle.connection_table.specs.declared.Entry.{Entry}
 
 pub eq_self : (n : ℕ) → nat_eq n n ≡ true
@@ -130,48 +130,69 @@ found_from i n at (m ∷ ns) h = by_test (nat_eq n m) refl h (found_from (i + 1)
 pub found_at : (n at : ℕ) (ns : List ℕ) → place_in ns n ≡ Some at → (at < length ns) × (get_or ns at 0 ≡ n)
 found_at n at ns h = let f = found_from 0 n at ns h in let e : at ≡ f.0 = omega (arith, f.1.0) in rw e (f.1.1.0, f.1.1.1)
 
--- entries and their numbers, by place
-pub number_or : (i : ℕ) (es : List Entry) (d : Entry) → i < length es → (get_or es i d).number ≡ get_or (numbers_of es) i 0
-number_or i [] d w = absurd (omega arith)
-number_or zero (e ∷ es) d w = refl
-number_or (suc i) (e ∷ es) d w = number_or i es d (omega arith)
-
 pub length_numbers : (es : List Entry) → length (numbers_of es) ≡ length es
 length_numbers [] = refl
 length_numbers (e ∷ es) = ap suc (length_numbers es)
 
--- what a search by halving tells
-blank : Entry
-blank = record { number = 0; key = 0; ready = false }
+eq_flipped : (a b : ℕ) → nat_eq a b ≡ nat_eq b a
+eq_flipped a b = by_cases (nat_eq b a) refl
+  where
+    by_cases : (t : Bool) → nat_eq b a ≡ t → nat_eq a b ≡ t
+    by_cases true e = grind (arith, nat_tests)
+    by_cases false e = grind (arith, nat_tests)
 
-module _ (es : List Entry) (r : Rises (numbers_of es)) (n : ℕ) where
-  rise : IsNonDecreasingBy (λ e. ordering_index (nat_cmp e.number n)) es
-  rise = IsNonDecreasingBy-from_default (λ e. ordering_index (nat_cmp e.number n)) es blank (λ i j le w.
-      let a = number_or i es blank (omega arith) in
-      let b = number_or j es blank w in
-      let up : (get_or es i blank).number ≤ (get_or es j blank).number = by_place i j le w a b in
+-- anything by its number
+module _ {X : Type 0} (number : X → ℕ) (n : ℕ) where
+  placed_by_from : (i : ℕ) (xs : List X) → position_from (nat_eq n) i (map number xs) ≡ position_from (λ x. nat_eq (number x) n) i xs
+  placed_by_from i [] = refl
+  placed_by_from i (x ∷ xs) = rw (eq_flipped n (number x), placed_by_from (i + 1) xs) refl
+
+  -- the place of a number is that of the first that has it
+  pub placed_by : (xs : List X) → place_in (map number xs) n ≡ position_from (λ x. nat_eq (number x) n) 0 xs
+  placed_by xs = placed_by_from 0 xs
+
+  number_or : (i : ℕ) (xs : List X) (d : X) → i < length xs → number (get_or xs i d) ≡ get_or (map number xs) i 0
+  number_or i [] d w = absurd (omega arith)
+  number_or zero (x ∷ xs) d w = refl
+  number_or (suc i) (x ∷ xs) d w = number_or i xs d (omega arith)
+
+  length_map : (xs : List X) → length (map number xs) ≡ length xs
+  length_map [] = refl
+  length_map (x ∷ xs) = ap suc (length_map xs)
+
+  rise : (xs : List X) (d : X) → Rises (map number xs) → IsNonDecreasingBy (λ x. ordering_index (nat_cmp (number x) n)) xs
+  rise xs d r = IsNonDecreasingBy-from_default (λ x. ordering_index (nat_cmp (number x) n)) xs d (λ i j le w.
+      let a = number_or i xs d (omega arith) in
+      let b = number_or j xs d w in
+      let up : number (get_or xs i d) ≤ number (get_or xs j d) = by_place i j le w a b in
       grind (arith, nat_tests))
     where
-      by_place : (i j : ℕ) → i ≤ j → j < length es → (get_or es i blank).number ≡ get_or (numbers_of es) i 0 → (get_or es j blank).number ≡ get_or (numbers_of es) j 0 → (get_or es i blank).number ≤ (get_or es j blank).number
+      by_place : (i j : ℕ) → i ≤ j → j < length xs → number (get_or xs i d) ≡ get_or (map number xs) i 0 → number (get_or xs j d) ≡ get_or (map number xs) j 0 → number (get_or xs i d) ≤ number (get_or xs j d)
       by_place i j le w a b = either (nat_eq i j) refl
         where
-          either : (t : Bool) → nat_eq i j ≡ t → (get_or es i blank).number ≤ (get_or es j blank).number
+          either : (t : Bool) → nat_eq i j ≡ t → number (get_or xs i d) ≤ number (get_or xs j d)
           either true t = let s = eq_same i j t in rw s (omega arith)
-          either false t = let lt : i < j = grind (arith, nat_tests) in let m = below_at i j (numbers_of es) 0 r lt (omega (arith, length_numbers es)) in omega (arith, a, b, m)
+          either false t = let lt : i < j = grind (arith, nat_tests) in let m = below_at i j (map number xs) 0 r lt (omega (arith, length_map xs)) in omega (arith, a, b, m)
 
-  pub searched : (o : Result ℕ ℕ) → IsSearchInRange o (length es) → IsBinarySearchResult (λ e. nat_cmp e.number n) es o → result_ok o ≡ place_in (numbers_of es) n
-  searched (Ok at) w h =
-      let same = number_or at es blank w in
-      let e : (get_or es at blank).number ≡ n = ranked _ n _ (sym (h blank)) in
-      sym (placed at n (numbers_of es) r (omega (arith, length_numbers es)) (sym same ∙ e))
-  searched (Err at) w h = sym (missing_from 0 n (numbers_of es) other)
+  -- what a search by halving tells
+  searched_with : (xs : List X) (d : X) → Rises (map number xs) → (o : Result ℕ ℕ) → IsSearchInRange o (length xs) → IsBinarySearchResult (λ x. nat_cmp (number x) n) xs o → result_ok o ≡ place_in (map number xs) n
+  searched_with xs d r (Ok at) w h =
+      let same = number_or at xs d w in
+      let e : number (get_or xs at d) ≡ n = ranked _ n _ (sym (h d)) in
+      sym (placed at n (map number xs) r (omega (arith, length_map xs)) (sym same ∙ e))
+  searched_with xs d r (Err at) w h = sym (missing_from 0 n (map number xs) other)
     where
-      other : (k : ℕ) → k < length (numbers_of es) → get_or (numbers_of es) k 0 ≢ n
+      other : (k : ℕ) → k < length (map number xs) → get_or (map number xs) k 0 ≢ n
       other k v e =
-          let within : k < length es = omega (arith, length_numbers es) in
-          let same = number_or k es blank within in
+          let within : k < length xs = omega (arith, length_map xs) in
+          let same = number_or k xs d within in
           either (nat_lt k at) refl within same
         where
-          either : (t : Bool) → nat_lt k at ≡ t → k < length es → (get_or es k blank).number ≡ get_or (numbers_of es) k 0 → ⊥
-          either true t v same = let lt : k < at = grind (arith, nat_tests) in let m : (get_or es k blank).number < n = ranked _ n _ (sym ((h rise).0 k blank (omega arith) lt)) in omega (arith, m, same, e)
-          either false t v same = let le : at ≤ k = grind (arith, nat_tests) in let m : n < (get_or es k blank).number = ranked _ n _ (sym ((h rise).1 k blank le v)) in omega (arith, m, same, e)
+          either : (t : Bool) → nat_lt k at ≡ t → k < length xs → number (get_or xs k d) ≡ get_or (map number xs) k 0 → ⊥
+          either true t v same = let lt : k < at = grind (arith, nat_tests) in let m : number (get_or xs k d) < n = ranked _ n _ (sym ((h (rise xs d r)).0 k d (omega arith) lt)) in omega (arith, m, same, e)
+          either false t v same = let le : at ≤ k = grind (arith, nat_tests) in let m : n < number (get_or xs k d) = ranked _ n _ (sym ((h (rise xs d r)).1 k d le v)) in omega (arith, m, same, e)
+
+  pub searched : (xs : List X) → Rises (map number xs) → (o : Result ℕ ℕ) → IsSearchInRange o (length xs) → IsBinarySearchResult (λ x. nat_cmp (number x) n) xs o → result_ok o ≡ place_in (map number xs) n
+  searched [] r (Ok at) w h = absurd (omega (arith, w))
+  searched [] r (Err at) w h = refl
+  searched (x ∷ xs) r o w h = searched_with (x ∷ xs) x r o w h

@@ -5,8 +5,8 @@ use Rattle.std.proofs.lemmas.Bool.Decides.{nat_tests}
 use Rattle.std.proofs.lemmas.Map.Keys.{IsDistinct-cons, IsDistinct-head, IsDistinct-tail}
 use Rattle.std.proofs.lemmas.Map.Made.{length-le_from_is_member}
 use Rattle.std.proofs.lemmas.Cmp.{nat_eq_equiv}
-use Rattle.connection_table.specs.Layout.{Flagged, Rises, numbers_of}
-use Rattle.connection_table.specs.Table.{is_in, without}
+use Rattle.connection_table.specs.Layout.{Flagged, numbers_of}
+use Rattle.connection_table.specs.Table.{Rises, is_in, without}
 use Rattle.connection_table.specs.declared.Entry.{Entry}
 use Rattle.connection_table.proofs.Numbers.{eq_self, eq_same, eq_turned, or_false}
 

@@ -3,16 +3,11 @@ use Rattle.std.specs.Prelude.{◌≡◌, ℕ, ◌<◌, List, [], ◌∷◌, true
 use Rattle.std.specs.Prelude.{Option, Some, None, IsSome, nat_eq}
 use Rattle.std.specs.List.{AllByRecursion, IsDistinct}
 use Rattle.slab.specs.Slab.{Slab, get, slab_len}
-use Rattle.connection_table.specs.Table.{is_in}
+use Rattle.connection_table.specs.Table.{Rises, is_in}
 use Rattle.connection_table.specs.declared.Entry.{Entry}
 
 abbrev pub numbers_of : List Entry → List ℕ
 numbers_of es = map (λ e. e.number) es
-
--- each number is below those behind it
-abbrev pub Rises : List ℕ → Type 0
-Rises [] = Unit {0}
-Rises (n ∷ ns) = AllByRecursion (λ m. n < m) ns × Rises ns
 
 -- no two entries have the same key
 abbrev pub Apart : List Entry → Type 0

@@ -1,8 +1,8 @@
 -- What a contract sees of a `Table`.
-use Rattle.std.specs.Prelude.{◌≡◌, refl, ℕ, List, [], ◌∷◌, ◌++◌, Bool, false, Option, Some, nat_eq}
+use Rattle.std.specs.Prelude.{◌≡◌, refl, ℕ, ◌<◌, List, [], ◌∷◌, ◌++◌, Bool, false, Option, Some, nat_eq}
 use Rattle.std.specs.Prelude.{if◌then◌else◌}
 use Rattle.std.specs.Coded.{Coded, code_by, coded×, coded_ℕ, coded_list}
-use Rattle.std.specs.List.{list_any, position_from}
+use Rattle.std.specs.List.{AllByRecursion, list_any, position_from}
 
 -- the values, by rising number; their numbers; the numbers of those that are ready, the next in
 -- front; and how many values there is room for
@@ -37,6 +37,11 @@ without n (m ∷ ring) = if nat_eq n m then ring else m ∷ without n ring
 -- the place of a number
 abbrev pub place_in : List ℕ → ℕ → Option ℕ
 place_in numbers n = position_from (nat_eq n) 0 numbers
+
+-- each number is below those behind it
+abbrev pub Rises : List ℕ → Type 0
+Rises [] = Unit {0}
+Rises (n ∷ ns) = AllByRecursion (λ m. n < m) ns × Rises ns
 
 -- the front of the ring was taken off, and was there once; this is its place
 pub record Pops {T : Type 0} (old new : Table T) (at : ℕ) : Type 0 where

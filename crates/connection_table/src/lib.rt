@@ -5,8 +5,8 @@ ghost use Rattle.std.specs.Prelude.{◌≡◌, ℕ, ◌+◌, ◌<◌, ◌↔◌,
 ghost use Rattle.std.specs.Prelude.{remove, slice_index, slice_get};
 ghost use Rattle.std.specs.Borrow.{sem};
 ghost use Rattle.std.specs.VecDeque.{deque_capacity};
-ghost use Rattle.connection_table.specs.Layout.{numbers_of, Rises};
-ghost use Rattle.connection_table.specs.Table.{is_in, place_in, with_ready, without, Pops};
+ghost use Rattle.connection_table.specs.Layout.{numbers_of};
+ghost use Rattle.connection_table.specs.Table.{Rises, is_in, place_in, with_ready, without, Pops};
 
 use slab::Slab;
 use std::alloc::{AllocError, Global};

@@ -2,22 +2,17 @@
 use Rattle.std.proofs.Common.{◌≡◌, ◌↔◌, refl, sym, ap, subst, ◌∙◌, ℕ, ◌+◌, List, [], ◌∷◌, ◌++◌}
 use Rattle.std.proofs.Common.{length, true, false, Option, Some, None, Result, Ok, Err}
 use Rattle.std.proofs.Common.{IfOk, IfErr, OnOk, IfSome, arith, inl}
-use Rattle.proxy_core.specs.Past.{Past, kind_of, with_accepted}
-use Rattle.proxy_core.specs.Scheduler.{State}
 use Rattle.proxy_core.specs.declared.config.Config.{Config}
 use Rattle.proxy_core.specs.declared.core_state.Core.{Core}
 use Rattle.proxy_core.specs.declared.event.Event.{Event}
-use Rattle.proxy_core.specs.declared.event.Event.TheVariants.{Accept}
 use Rattle.proxy.specs.declared.replay.Stop.{Stop}
 use Rattle.proxy.specs.declared.replay.Stop.TheVariants as stop
 use Rattle.proxy.specs.declared.schedule.LineFault.{LineFault}
 use Rattle.proxy.specs.declared.taken.Taken.{Taken}
-use Rattle.proxy.specs.Lines.{IsLine, Gives, GivesNone, MayFollow, accepted_in, events_of, Reads}
-use Rattle.proxy.specs.Replay.{accepted, taken_of}
+use Rattle.proxy.specs.Lines.{IsLine, Gives, events_of, Reads}
 use Rattle.journal_text.specs.Line.{IsSkipped}
 use Rattle.proxy.specs.Schedule.{SpellsEvent}
 use Rattle.proxy.specs.Stops.{with_line, StoppedAtEvent, StoppedAtLine}
-use Rattle.proxy.specs.Taken.{is_second}
 use Rattle.proxy.specs.Written.{Stands}
 
 -- a line that is skipped
@@ -41,41 +36,6 @@ skips C text line number core taken events told now s is skipped = record {
   written = s.written;
 }
 
--- whether there was an accept
-none_pushed : (a : List ℕ) (b : ℕ) → a ++ b ∷ [] ≡ [] → ⊥
-none_pushed [] b e = cc
-none_pushed (x ∷ a) b e = cc
-
-none_accepted : (past : Past) → accepted past ≡ [] → accepted_in (events_of past) ≡ []
-none_accepted [] e = refl
-none_accepted (x ∷ past) e = by_event x.event (none_accepted past) e
-  where
-    by_event : (y : Event) → (accepted past ≡ [] → accepted_in (events_of past) ≡ []) → with_accepted (kind_of y) (accepted past) ≡ [] → accepted_in (y ∷ events_of past) ≡ []
-    by_event (Accept conn vs from) rest f = absurd (none_pushed (accepted past) conn f)
-    by_event other rest f = rest f
-
-none_in : (past : Past) → accepted_in (events_of past) ≡ [] → accepted past ≡ []
-none_in [] e = refl
-none_in (x ∷ past) e = by_event x.event (none_in past) e
-  where
-    by_event : (y : Event) → (accepted_in (events_of past) ≡ [] → accepted past ≡ []) → accepted_in (y ∷ events_of past) ≡ [] → with_accepted (kind_of y) (accepted past) ≡ []
-    by_event (Accept conn vs from) rest f = cc
-    by_event other rest f = rest f
-
-none_taken : (past : Past) (s : State) (numbers : List ℕ) → taken_of past s numbers ≡ [] → numbers ≡ []
-none_taken past s [] e = refl
-none_taken past s (c ∷ numbers) e = cc
-
-pub follows : (past : Past) (s : State) (taken : List Taken) (event : Event) → taken ≡ taken_of past s (accepted past) → is_second event taken ≡ false → MayFollow (events_of past) event
-follows past s [] (Accept conn vs from) e h = none_accepted past (none_taken past s (accepted past) (sym e))
-follows past s (t ∷ taken) (Accept conn vs from) e h = cc
-follows past s taken other e h = tt
-
-pub second : (past : Past) (s : State) (taken : List Taken) (event : Event) → taken ≡ taken_of past s (accepted past) → is_second event taken ≡ true → MayFollow (events_of past) event → ⊥
-second past s [] (Accept conn vs from) e h m = cc
-second past s (t ∷ taken) (Accept conn vs from) e h m = (let k : t ∷ taken ≡ [] = e ∙ ap (taken_of past s) (none_in past m) in cc)
-second past s taken other e h m = cc
-
 -- a stop at the event of a line is one at the line
 pub at_line : (C : Config) (text line : List ℕ) (number at : ℕ) (event : Event) (core : Core) (taken : List Taken) (events : ℕ) (old new : Option (List ℕ)) (why : Stop) → StoppedAtEvent C text line number at event core taken events old new why → StoppedAtLine C text line number at core taken events old new why
 at_line C text line number at event core taken events old new (stop.Text l) k = absurd k
@@ -84,20 +44,10 @@ at_line C text line number at event core taken events old new stop.WriteFault k 
 at_line C text line number at event core taken events old new stop.Memory k = k
 
 -- what the reader of a line says of it
-pub event_gives : (line : List ℕ) (before : List Event) (res : Result (Option Event) LineFault) (event : Event) → res ≡ Ok (Some event) → ((res ≡ Ok None) ↔ IsSkipped line) → IfOk res (λ found. IfSome found (SpellsEvent line)) → MayFollow before event → Gives line before event
-event_gives line before res event is skipped spells follows = record {
+pub event_gives : (line : List ℕ) (res : Result (Option Event) LineFault) (event : Event) → res ≡ Ok (Some event) → ((res ≡ Ok None) ↔ IsSkipped line) → IfOk res (λ found. IfSome found (SpellsEvent line)) → Gives line event
+event_gives line res event is skipped spells = record {
   not_skipped = λ k. (let e : res ≡ Ok None = skipped.1 k in cc);
   spells = (let P : Result (Option Event) LineFault → Type 0 = λ r. IfOk r (λ found. IfSome found (SpellsEvent line)) in subst P is spells);
-  may_follow = follows;
-}
-
-pub second_gives_none : (line : List ℕ) (before : List Event) (res : Result (Option Event) LineFault) (event : Event) → res ≡ Ok (Some event) → ((res ≡ Ok None) ↔ IsSkipped line) → IfOk res (λ found. IfSome found (λ e. (other : Event) → SpellsEvent line other → other ≡ e))
-    → (MayFollow before event → ⊥) → GivesNone line before
-second_gives_none line before res event is skipped only follows = record {
-  not_skipped = λ k. (let e : res ≡ Ok None = skipped.1 k in cc);
-  none = λ other k.
-      let one : (o : Event) → SpellsEvent line o → o ≡ event = (let P : Result (Option Event) LineFault → Type 0 = λ r. IfOk r (λ found. IfSome found (λ e. (o : Event) → SpellsEvent line o → o ≡ e)) in subst P is only) in
-      follows (subst (MayFollow before) (one other k.spells) k.may_follow);
 }
 
 pub goes_behind : {T E : Type 0} (r : Result T E) (P Q : Type 0) → (P → Q) → OnOk r P → OnOk r Q

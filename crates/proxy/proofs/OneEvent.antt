@@ -44,4 +44,4 @@ pub same_lined : (e f : Event) → as_lined e ≡ as_lined f → e ≡ f
 same_lined e f same = sym (is_taken_back e) ∙ ap taken_back same ∙ is_taken_back f
 
 pub one_event : (line : List ℕ) (e f : Event) → SpellsEvent line e → SpellsEvent line f → f ≡ e
-one_event line e f p q = same_lined f e (lines.one_event line (as_lined f) (as_lined e) q.spelled p.spelled)
+one_event line e f p q = same_lined f e (lines.one_event line (as_lined f) (as_lined e) q p)

@@ -41,7 +41,7 @@ stops_there C s at len line core taken events told now (stop.Text l) e h k =
       number = line;
       line_is = k.0;
       stands = k.1.0;
-      faulty = (let P : List ℕ → Type 0 = λ t. Faulty (events_of k.1.0.past) t in subst P (sym c.whole) (NoEvent (take len (drop at s)) (drop (len + 1) (drop at s)) c.is_line k.1.1));
+      faulty = (let P : List ℕ → Type 0 = λ t. Faulty t in subst P (sym c.whole) (NoEvent (take len (drop at s)) (drop (len + 1) (drop at s)) c.is_line k.1.1));
     }
 stops_there C s at len line core taken events told now (stop.Event l why) e h k =
     let c = cut len (drop at s) e in

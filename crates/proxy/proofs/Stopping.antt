@@ -91,7 +91,7 @@ pub record Given (core new : Core) (event : Event) (group : List Note) : Type 0 
   pub stands : KeepsStanding core new (record { event = event; group = group })
 
 -- the lines with one more of them, which gives the event
-more_lines : (text line : List ℕ) (number : ℕ) (event : Event) (before : List Event) → Reads text number before → IsLine line → Gives line before event → Reads (with_line text line) (number + 1) (event ∷ before)
+more_lines : (text line : List ℕ) (number : ℕ) (event : Event) (before : List Event) → Reads text number before → IsLine line → Gives line event → Reads (with_line text line) (number + 1) (event ∷ before)
 more_lines text line number event before r is g = record {
   lines = line ∷ r.lines;
   text_is = ap (λ x. x ++ (line ++ 10 ∷ [])) r.text_is;
@@ -104,7 +104,7 @@ after : (C : Config) (past : Past) (s : State) (core new : Core) (event : Event)
 after C past s core new event group r g = g.stands C past s r
 
 pub stands_next : (C : Config) (text line : List ℕ) (number : ℕ) (core next : Core) (event : Event) (group : List Note) (taken kept : List Taken) (events : ℕ) (told old new : Option (List ℕ)) → Given core next event group → kept ≡ with_took (took_of core event) taken
-    → (s : Stands C text number core taken events told old) → IsLine line → Gives line (events_of s.past) event → new ≡ told_more old (note_lines group) → Stands C (with_line text line) (number + 1) next kept (events + 1) told new
+    → (s : Stands C text number core taken events told old) → IsLine line → Gives line event → new ≡ told_more old (note_lines group) → Stands C (with_line text line) (number + 1) next kept (events + 1) told new
 stands_next C text line number core next event group taken kept events told old new g takes s is gives w =
     let k = after C s.past s.state core next event group s.represents g in
     let fine : refused C s.past s.state (kind_of event) ≡ None = sym (refusal_same C s.past s.state core (kind_of event) s.represents) ∙ g.accepted in
@@ -120,7 +120,7 @@ stands_next C text line number core next event group taken kept events told old 
 
 -- a prefix of its notes' lines
 pub front_in_notes : (C : Config) (text line : List ℕ) (number : ℕ) (core next : Core) (event : Event) (group : List Note) (taken : List Taken) (events : ℕ) (told old new : Option (List ℕ)) → Given core next event group
-    → (s : Stands C text number core taken events told old) → IsLine line → Gives line (events_of s.past) event → AddsPrefix (note_lines group) old new → WritesNotes C (with_line text line) told new
+    → (s : Stands C text number core taken events told old) → IsLine line → Gives line event → AddsPrefix (note_lines group) old new → WritesNotes C (with_line text line) told new
 front_in_notes C text line number core next event group taken events told old new g s is gives w =
     let k = after C s.past s.state core next event group s.represents g in
     let past : Past = record { event = event; group = group } ∷ s.past in

@@ -1,5 +1,5 @@
 -- What the program keeps of the bytes that clients took is what the past and the state say.
-use Rattle.std.proofs.Common.{◌≡◌, refl, sym, ap, subst, ◌∙◌, ℕ, zero, suc, ◌+◌, ◌≤◌, ◌<◌}
+use Rattle.std.proofs.Common.{map, ◌≡◌, refl, sym, ap, subst, ◌∙◌, ℕ, zero, suc, ◌+◌, ◌≤◌, ◌<◌}
 use Rattle.std.proofs.Common.{List, [], ◌∷◌, ◌++◌, length, take, drop, Bool, true, false, ◌||◌}
 use Rattle.std.proofs.Common.{Option, Some, None, nat_eq, nat_le, nat_lt, arith, if◌then◌else◌, ◌⊎◌}
 use Rattle.std.proofs.Common.{inl, inr}
@@ -45,14 +45,17 @@ use Rattle.proxy_core.proofs.Members.{eq_self, eq_same, eq_turned, in_pushed_oth
 use Rattle.proxy_core.proofs.ReadyRing.{distinct_none, distinct_push, absent_all}
 use Rattle.proxy_core.proofs.SoundEvents.{seen_accept}
 use Rattle.proxy_core.proofs.SoundPast.{none_holds, may_come_at, not_accepted, front_served, unchanged}
+use Rattle.connection_table.specs.Table.{Rises}
+use Rattle.connection_table.proofs.Numbers.{rises_push}
 use Rattle.proxy.specs.declared.taken.Taken.{Taken}
 use Rattle.proxy.specs.Replay.{accepted, taken_bytes, taken_of}
-use Rattle.proxy.specs.Taken.{took_of, with_took, with_bytes, more_of}
+use Rattle.proxy.specs.Taken.{AreRising, took_of, with_took, with_bytes, more_of}
 
 -- accepted numbers rise
 pub record Rising (past : Past) : Type 0 where
   pub known : (q : ℕ) → is_in (accepted past) q ≡ true → q ≤ (shared past).last
   pub distinct : IsDistinct nat_eq (accepted past)
+  pub rises : Rises (accepted past)
 
 absent : (past : Past) (c : ℕ) → Rising past → (shared past).last < c → is_in (accepted past) c ≡ false
 absent past c r h = by_test (is_in (accepted past) c) refl
@@ -71,16 +74,25 @@ rises_with C past (Accept c vs from) group s r h =
     record {
       known = λ q k. by_number q (nat_eq q c) refl k low;
       distinct = distinct_push c (accepted past) r.distinct (absent past c r low);
+      rises = rises_push c (accepted past) (λ m k. omega (arith, r.known m k, low)) r.rises;
     }
   where
     by_number : (q : ℕ) (b : Bool) → nat_eq q c ≡ b → is_in (accepted past ++ c ∷ []) q ≡ true → (shared past).last < c → q ≤ c
     by_number q true e k low = let f = eq_same q c e in omega (arith, f)
     by_number q false e k low = let f = r.known q (sym (in_pushed_other c q (accepted past) e) ∙ k) in omega (arith, f, low)
-rises_with C past other group s r h = record { known = r.known; distinct = r.distinct }
+rises_with C past other group s r h = record { known = r.known; distinct = r.distinct; rises = r.rises }
 
 pub rising : (C : Config) (past : Past) (s : State) → Leads C past s → Rising past
-rising C [] s leads = record { known = λ q h. cc; distinct = distinct_none }
+rising C [] s leads = record { known = λ q h. cc; distinct = distinct_none; rises = tt }
 rising C (x ∷ past) s (before, leads, accepted, moves) = rises_with C past x.event x.group before (rising C past before leads) accepted
+
+conns_of : (past : Past) (s : State) (numbers : List ℕ) → map (λ t. t.conn) (taken_of past s numbers) ≡ numbers
+conns_of past s [] = refl
+conns_of past s (c ∷ numbers) = ap (λ ns. c ∷ ns) (conns_of past s numbers)
+
+-- so do the numbers of the clients
+pub are_rising : (C : Config) (past : Past) (s : State) (taken : List Taken) → Leads C past s → taken ≡ taken_of past s (accepted past) → AreRising taken
+are_rising C past s taken leads is = rw (is, conns_of past s (accepted past)) ((rising C past s leads).rises)
 
 -- the bytes that one client took, by what is seen of its connection
 abbrev bytes_seen : Seen → List ℕ

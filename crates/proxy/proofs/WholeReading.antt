@@ -69,8 +69,8 @@ longer (l ∷ a) (m ∷ b) rest p q e =
     record { more = k.more; whole = ap (λ x. x ∷ a) c.0 ∙ ap (λ x. m ∷ x) k.whole; rest_is = k.rest_is }
 
 -- the same lines spell the same events
-same_gives : (line : List ℕ) (before : List Event) (a b : Event) → Gives line before a → Gives line before b → a ≡ b
-same_gives line before a b p q = one_event line b a q.spells p.spells
+same_gives : (line : List ℕ) (a b : Event) → Gives line a → Gives line b → a ≡ b
+same_gives line a b p q = one_event line b a q.spells p.spells
 
 same_events : (lines : List (List ℕ)) (a b : List Event) → Spell lines a → Spell lines b → a ≡ b
 same_events [] a b p q = p ∙ sym q
@@ -79,7 +79,7 @@ same_events (line ∷ lines) a b (inl p) (inr q) = absurd (q.3.not_skipped p.0)
 same_events (line ∷ lines) a b (inr p) (inl q) = absurd (p.3.not_skipped q.0)
 same_events (line ∷ lines) a b (inr p) (inr q) =
     let before : p.1 ≡ q.1 = same_events lines p.1 q.1 p.4 q.4 in
-    let event : p.0 ≡ q.0 = same_gives line q.1 p.0 q.0 (subst (λ x. Gives line x p.0) before p.3) q.3 in
+    let event : p.0 ≡ q.0 = same_gives line p.0 q.0 p.3 q.3 in
     p.2 ∙ ap (λ e. e ∷ p.1) event ∙ ap (λ x. q.0 ∷ x) before ∙ sym q.2
 
 -- the front of lines that spell spells too
@@ -89,9 +89,9 @@ front_spells (l ∷ newer) lines events (inl s) = front_spells newer lines event
 front_spells (l ∷ newer) lines events (inr s) = front_spells newer lines s.1 s.4
 
 -- a line that spells isn't faulty
-line_not_faulty : (line : List ℕ) (lines : List (List ℕ)) (events before : List Event) → Spell (line ∷ lines) events → Spell lines before → GivesNone line before → ⊥
-line_not_faulty line lines events before (inl s) t g = g.not_skipped s.0
-line_not_faulty line lines events before (inr s) t g = g.none s.0 (subst (λ x. Gives line x s.0) (same_events lines s.1 before s.4 t) s.3)
+line_not_faulty : (line : List ℕ) (lines : List (List ℕ)) (events : List Event) → Spell (line ∷ lines) events → GivesNone line → ⊥
+line_not_faulty line lines events (inl s) g = g.not_skipped s.0
+line_not_faulty line lines events (inr s) g = g.none s.0 s.3
 
 lf_in : (line rest : List ℕ) → IsLine (line ++ 10 ∷ rest) → ⊥
 lf_in [] rest h = cc
@@ -112,27 +112,27 @@ unfolding forward
 unended_false [] byte rest e is = cc
 unended_false (m ∷ more) byte rest e is = lf_in m (forward more) (subst IsLine e is)
 
-no_event_false : (more lines : List (List ℕ)) (events before : List Event) (line rest : List ℕ) → line ++ 10 ∷ rest ≡ forward more → AllLines more → Spell (reverse more ++ lines) events → Spell lines before → IsLine line → GivesNone line before → ⊥
+no_event_false : (more lines : List (List ℕ)) (events : List Event) (line rest : List ℕ) → line ++ 10 ∷ rest ≡ forward more → AllLines more → Spell (reverse more ++ lines) events → IsLine line → GivesNone line → ⊥
 unfolding forward
-no_event_false [] lines events before line rest e all s t is g = not_nothing line rest e
-no_event_false (m ∷ more) lines events before line rest e all s t is g =
+no_event_false [] lines events line rest e all s is g = not_nothing line rest e
+no_event_false (m ∷ more) lines events line rest e all s is g =
     let c = one_cut line m rest (forward more) is all.0 e in
     let k = behind more m lines events s in
-    line_not_faulty m lines k.0 before k.1 t (subst (λ l. GivesNone l before) c.0 g)
+    line_not_faulty m lines k.0 k.1 (subst GivesNone c.0 g)
 
-faulty_false : (more lines : List (List ℕ)) (events before : List Event) (text : List ℕ) → Faulty before text → text ≡ forward more → AllLines more → Spell (reverse more ++ lines) events → Spell lines before → ⊥
-faulty_false more lines events before text (Unended byte rest is) e all s t = unended_false more byte rest e is
-faulty_false more lines events before text (NoEvent line rest is g) e all s t = no_event_false more lines events before line rest e all s t is g
+faulty_false : (more lines : List (List ℕ)) (events : List Event) (text : List ℕ) → Faulty text → text ≡ forward more → AllLines more → Spell (reverse more ++ lines) events → ⊥
+faulty_false more lines events text (Unended byte rest is) e all s = unended_false more byte rest e is
+faulty_false more lines events text (NoEvent line rest is g) e all s = no_event_false more lines events line rest e all s is g
 
 later_lines : (a b : List (List ℕ)) → AllLines (a ++ b) → AllLines b
 later_lines [] b h = h
 later_lines (l ∷ a) b h = later_lines a b h.1
 
 -- a schedule that spells events has no faulty line behind any front of it
-pub whole_has_no_fault : (schedule text rest : List ℕ) (m n : ℕ) (events before : List Event) → Reads schedule m events → schedule ≡ text ++ rest → Reads text n before → Faulty before rest → ⊥
+pub whole_has_no_fault : (schedule text rest : List ℕ) (m n : ℕ) (events before : List Event) → Reads schedule m events → schedule ≡ text ++ rest → Reads text n before → Faulty rest → ⊥
 whole_has_no_fault schedule text rest m n events before r is f fault =
     let forwards : forward (reverse r.lines) ≡ forward (reverse f.lines) ++ rest = sym (r.text_is ∙ turned r.lines) ∙ is ∙ ap (λ t. t ++ rest) (f.text_is ∙ turned f.lines) in
     let k = longer (reverse r.lines) (reverse f.lines) rest (all_turned r.lines r.all_lines) (all_turned f.lines f.all_lines) forwards in
     let lines : r.lines ≡ reverse k.more ++ f.lines = sym (reverse-reverse r.lines) ∙ ap reverse k.whole ∙ reverse-append (reverse f.lines) k.more ∙ ap (λ x. reverse k.more ++ x) (reverse-reverse f.lines) in
     let more : AllLines k.more = later_lines (reverse f.lines) k.more (subst AllLines k.whole (all_turned r.lines r.all_lines)) in
-    faulty_false k.more f.lines events before rest fault k.rest_is more (subst (λ x. Spell x events) lines r.spell) f.spell
+    faulty_false k.more f.lines events rest fault k.rest_is more (subst (λ x. Spell x events) lines r.spell)

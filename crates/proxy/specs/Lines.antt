@@ -6,7 +6,6 @@ use Rattle.proxy_core.specs.Refusal.{refused}
 use Rattle.proxy_core.specs.Scheduler.{State}
 use Rattle.proxy_core.specs.declared.config.Config.{Config}
 use Rattle.proxy_core.specs.declared.event.Event.{Event}
-use Rattle.proxy_core.specs.declared.event.Event.TheVariants.{Accept}
 use Rattle.proxy_core.specs.declared.event.BadEvent.{BadEvent}
 use Rattle.journal_text.specs.Line.{IsSkipped}
 use Rattle.proxy.specs.Schedule.{SpellsEvent}
@@ -25,22 +24,10 @@ abbrev pub lines_text : List (List ℕ) → List ℕ
 lines_text [] = []
 lines_text (line ∷ lines) = lines_text lines ++ (line ++ 10 ∷ [])
 
--- the numbers that events accept
-abbrev pub accepted_in : List Event → List ℕ
-accepted_in [] = []
-accepted_in (Accept conn vs from ∷ events) = conn ∷ accepted_in events
-accepted_in (other ∷ events) = accepted_in events
-
--- today a schedule has one connection at most
-abbrev pub MayFollow : List Event → Event → Type 0
-MayFollow before (Accept conn vs from) = accepted_in before ≡ []
-MayFollow before other = Unit {0}
-
--- the line isn't skipped, and spells this event, which may stand behind those before
-pub record Gives (line : List ℕ) (before : List Event) (event : Event) : Type 0 where
+-- the line isn't skipped, and spells this event
+pub record Gives (line : List ℕ) (event : Event) : Type 0 where
   pub not_skipped : IsSkipped line → ⊥
   pub spells : SpellsEvent line event
-  pub may_follow : MayFollow before event
 
 -- these lines spell these events, the newest first in both
 abbrev pub Spell : List (List ℕ) → List Event → Type 0
@@ -48,7 +35,7 @@ Spell [] events = events ≡ []
 Spell (line ∷ lines) events =
     (IsSkipped line × Spell lines events)
     ⊎ ((event : Event) × (before : List Event) × (events ≡ event ∷ before)
-    × Gives line before event × Spell lines before)
+    × Gives line event × Spell lines before)
 
 -- the text is these lines, so many of them, and they spell these events
 pub record Reads (text : List ℕ) (number : ℕ) (events : List Event) : Type 0 where
@@ -63,17 +50,16 @@ abbrev pub events_of : Past → List Event
 events_of [] = []
 events_of (x ∷ past) = x.event ∷ events_of past
 
--- the line gives no event behind those before, and isn't skipped
-pub record GivesNone (line : List ℕ) (before : List Event) : Type 0 where
+-- the line gives no event, and isn't skipped
+pub record GivesNone (line : List ℕ) : Type 0 where
   pub not_skipped : IsSkipped line → ⊥
-  pub none : (event : Event) → Gives line before event → ⊥
+  pub none : (event : Event) → Gives line event → ⊥
 
--- The text behind some lines begins with a faulty line: the last one, which has no LF, or one that
+-- The text begins with a faulty line: the last one, which has no LF, or one that
 -- gives no event.
-pub data Faulty (before : List Event) : List ℕ → Type 0 where
-  Unended : (byte : ℕ) → (rest : List ℕ) → IsLine (byte ∷ rest) → Faulty before (byte ∷ rest)
-  NoEvent : (line rest : List ℕ) → IsLine line → GivesNone line before
-      → Faulty before (line ++ 10 ∷ rest)
+pub data Faulty : List ℕ → Type 0 where
+  Unended : (byte : ℕ) → (rest : List ℕ) → IsLine (byte ∷ rest) → Faulty (byte ∷ rest)
+  NoEvent : (line rest : List ℕ) → IsLine line → GivesNone line → Faulty (line ++ 10 ∷ rest)
 
 -- it begins with a line whose event the scheduler refuses
 pub record Refuses (C : Config) (past : Past) (s : State) (why : BadEvent)
@@ -83,5 +69,5 @@ pub record Refuses (C : Config) (past : Past) (s : State) (why : BadEvent)
   pub text_is : text ≡ line ++ 10 ∷ rest
   pub is_line : IsLine line
   pub event : Event
-  pub gives : Gives line (events_of past) event
+  pub gives : Gives line event
   pub refused_for : refused C past s (kind_of event) ≡ Some why

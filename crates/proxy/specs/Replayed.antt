@@ -45,7 +45,7 @@ pub record MeetsFault (C : configured.Config) (schedule : List ℕ)
   pub rest : List ℕ
   pub schedule_is : schedule ≡ text ++ rest
   pub number : ℕ
-  pub faulty : Faulty (events_of past) rest
+  pub faulty : Faulty rest
   pub reports : Reports C past state text number (text_fault (number + 1) 6) old new
 
 -- the first faulty line of the schedule gives an event that is refused

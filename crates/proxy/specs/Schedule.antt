@@ -1,5 +1,5 @@
 -- The lines of a schedule whose events the core of today takes: all but `client-reset`.
-use Rattle.std.specs.Prelude.{ℕ, ◌<◌, List}
+use Rattle.std.specs.Prelude.{ℕ, List}
 use Rattle.proxy_core.specs.declared.event.Event.{Event}
 use Rattle.proxy_core.specs.declared.event.Event.TheVariants as event
 use Rattle.journal_text.specs.Line.{SpellsEvent as Spells}
@@ -27,15 +27,9 @@ as_lined event.Turn = lined.Turn
 as_lined event.Run = lined.Run
 as_lined (event.Mark pool member up) = lined.Mark pool member up
 
--- the number of an accepted connection isn't 0
-abbrev pub IsNumbered : Event → Type 0
-IsNumbered (event.Accept conn vs from) = 0 < conn
-IsNumbered other = Unit {0}
-
 -- the line is that of the event
-pub record SpellsEvent (line : List ℕ) (event : Event) : Type 0 where
-  pub spelled : Spells line (as_lined event)
-  pub numbered : IsNumbered event
+abbrev pub SpellsEvent : (line : List ℕ) → Event → Type 0
+SpellsEvent line event = Spells line (as_lined event)
 
 -- what a replay makes of a line's fault
 abbrev pub line_fault : LineKind → LineFault

@@ -11,7 +11,7 @@ use Rattle.proxy_core.specs.declared.event.Event.{Event}
 use Rattle.proxy.specs.declared.taken.Taken.{Taken}
 use Rattle.proxy.specs.declared.replay.Stop.{Stop}
 use Rattle.proxy.specs.declared.replay.Stop.TheVariants.{Text, Event as Refused, WriteFault, Memory}
-use Rattle.proxy.specs.Lines.{IsLine, Gives, GivesNone, Faulty, Refuses, events_of}
+use Rattle.proxy.specs.Lines.{IsLine, Gives, GivesNone, Faulty, Refuses}
 use Rattle.proxy.specs.Written.{Stands, WritesNotes, WritesFront}
 
 abbrev pub stop_of : Failed → Stop
@@ -22,14 +22,14 @@ stop_of failed.Memory = Memory
 abbrev pub with_line : List ℕ → List ℕ → List ℕ
 with_line text line = text ++ (line ++ 10 ∷ [])
 
--- At an event of a line that may follow what was read: the notes so far are written and nothing
+-- At an event of a line: the notes so far are written and nothing
 -- else, and the scheduler refuses the event; or a prefix of notes is written.
 abbrev pub StoppedAtEvent : Config → (text line : List ℕ) → (number : ℕ) → (at : ℕ) → Event → Core
     → List Taken → ℕ → Option (List ℕ) → Option (List ℕ) → Stop → Type 0
 StoppedAtEvent C text line number at event core taken events old new (Text l) = ⊥
 StoppedAtEvent C text line number at event core taken events old new (Refused l why) =
     (l ≡ at) × ((st : Stands C text number core taken events old new)
-    × Gives line (events_of st.past) event
+    × Gives line event
     × (refused C st.past st.state (kind_of event) ≡ Some why))
 StoppedAtEvent C text line number at event core taken events old new WriteFault =
     WritesNotes C (with_line text line) old new
@@ -41,23 +41,23 @@ abbrev pub StoppedAtLine : Config → (text line : List ℕ) → (number : ℕ) 
     → List Taken → ℕ → Option (List ℕ) → Option (List ℕ) → Stop → Type 0
 StoppedAtLine C text line number at core taken events old new (Text l) =
     (l ≡ at) × ((st : Stands C text number core taken events old new)
-    × GivesNone line (events_of st.past))
+    × GivesNone line)
 StoppedAtLine C text line number at core taken events old new (Refused l why) =
     (l ≡ at) × ((st : Stands C text number core taken events old new) × (event : Event)
-    × Gives line (events_of st.past) event
+    × Gives line event
     × (refused C st.past st.state (kind_of event) ≡ Some why))
 StoppedAtLine C text line number at core taken events old new WriteFault =
     WritesNotes C (with_line text line) old new
 StoppedAtLine C text line number at core taken events old new Memory =
     WritesNotes C (with_line text line) old new
 
--- What stands after an event of a line that may follow what was read.
+-- What stands after an event of a line.
 abbrev pub GoesOnWith : Event → (before after : Core) → (taken taken' : List Taken)
     → (events events' : ℕ) → (old new : Option (List ℕ)) → Type 0
 GoesOnWith event before after taken taken' events events' old new =
     (C : Config) (told : Option (List ℕ)) (text line : List ℕ) (number : ℕ)
     → (st : Stands C text number before taken events told old) → IsLine line
-    → Gives line (events_of st.past) event
+    → Gives line event
     → Stands C (with_line text line) (number + 1) after taken' events' told new
 
 abbrev pub StopsWith : (at : ℕ) → Event → (before after : Core) → (taken taken' : List Taken)
@@ -65,7 +65,7 @@ abbrev pub StopsWith : (at : ℕ) → Event → (before after : Core) → (taken
 StopsWith at event before after taken taken' events events' old new why =
     (C : Config) (told : Option (List ℕ)) (text line : List ℕ) (number : ℕ)
     → (st : Stands C text number before taken events told old) → IsLine line
-    → Gives line (events_of st.past) event
+    → Gives line event
     → StoppedAtEvent C text line number at event after taken' events' told new why
 
 -- what stands after a line
@@ -94,7 +94,7 @@ pub record StoppedText (C : Config) (schedule : List ℕ) (l : ℕ) (core : Core
   pub number : ℕ
   pub line_is : l ≡ number + 1
   pub stands : Stands C text number core taken events old new
-  pub faulty : Faulty (events_of stands.past) rest
+  pub faulty : Faulty rest
 
 pub record StoppedEvent (C : Config) (schedule : List ℕ) (l : ℕ) (why : BadEvent) (core : Core)
     (taken : List Taken) (events : ℕ) (old new : Option (List ℕ)) : Type 0 where

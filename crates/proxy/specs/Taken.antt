@@ -1,6 +1,7 @@
 -- The bytes that the clients took.
-use Rattle.std.specs.Prelude.{ℕ, List, [], ◌∷◌, ◌++◌, Bool, true, false, nat_eq, Option, Some, None}
+use Rattle.std.specs.Prelude.{ℕ, List, [], ◌∷◌, ◌++◌, map, nat_eq, Option, Some, None}
 use Rattle.std.specs.Prelude.{if◌then◌else◌}
+use Rattle.connection_table.specs.Table.{Rises}
 use Rattle.px_bytes.specs.declared.addr.Side.TheVariants.{Client}
 use Rattle.proxy_core.specs.declared.core_state.Core.{Core}
 use Rattle.proxy_core.specs.declared.event.Event.{Event}
@@ -35,8 +36,6 @@ with_took Nothing all = all
 with_took (Begins conn) all = all ++ record { conn = conn; bytes = [] } ∷ []
 with_took (More conn bytes) all = with_bytes conn bytes all
 
--- an accept after another one
-abbrev pub is_second : Event → List Taken → Bool
-is_second (Accept conn vs from) [] = false
-is_second (Accept conn vs from) (t ∷ taken) = true
-is_second other taken = false
+-- the numbers of the clients rise
+abbrev pub AreRising : List Taken → Type 0
+AreRising all = Rises (map (λ t. t.conn) all)

@@ -30,7 +30,7 @@ pub record Stands (C : Config) (text : List ℕ) (number : ℕ) (core : Core) (t
 abbrev pub IsLast : Config → Past → State → (number : ℕ) → (rest : List ℕ) → List ℕ → Type 0
 IsLast C past s number rest last =
     ((rest ≡ []) × (last ≡ end_text (length past)))
-    ⊎ (Faulty (events_of past) rest × (last ≡ text_fault (number + 1) 6))
+    ⊎ (Faulty rest × (last ≡ text_fault (number + 1) 6))
     ⊎ ((why : BadEvent) × Refuses C past s why rest × (last ≡ event_fault (number + 1) why))
 
 -- a past of this configuration, whose events are those of a front of this schedule

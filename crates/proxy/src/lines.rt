@@ -7,12 +7,10 @@ ghost use Rattle.px_outside.specs.Outside.{Rose};
 ghost use Rattle.proxy_core.specs.declared.config.Config.{Config};
 ghost use Rattle.proxy.specs.Lines.{IsLine};
 ghost use Rattle.proxy.specs.Stops.{GoesOnBehind, StopsBehind, Stopped};
-ghost use Rattle.proxy.specs.Taken.{is_second};
 ghost use Rattle.proxy.specs.Written.{Stands};
 
 use crate::replay::{Replay, Stop};
 use crate::schedule::{LineFault, line_event};
-use proxy_core::Event;
 use px_bytes::Steps;
 use px_outside::Sink;
 use std::alloc::Global;
@@ -57,7 +55,7 @@ impl Replay {
         Ok(())
     }
 
-    // Gives the event of one line to the core. Today a schedule has one connection at most.
+    // Gives the event of one line to the core.
     fn line<K: Sink, L: Ledger>(
         &mut self,
         alloc: Global,
@@ -81,22 +79,10 @@ impl Replay {
     {
         match line_event(alloc, text) {
             Ok(None) => Ok(()),
-            Ok(Some(event)) => {
-                if self.is_second(&event) {
-                    return Err(Stop::Text { line });
-                }
-                self.event(alloc, line, event, steps, out)
-            }
+            Ok(Some(event)) => self.event(alloc, line, event, steps, out),
             Err(LineFault::NotBuilt) => Err(Stop::Text { line }),
             Err(LineFault::Memory) => Err(Stop::Memory),
         }
-    }
-
-    // Whether the event accepts a connection after another one.
-    fn is_second(&self, event: &Event) -> bool
-        ensures { result ≡ is_second event.now self.now.taken.items }
-    {
-        matches!(event, Event::Accept { .. }) && !self.taken.is_empty()
     }
 }
 

@@ -2,7 +2,7 @@
 
 ghost use Rattle.std.specs.Prelude.{◌≡◌, ◌↔◌, IfOk, IfSome, IfNone, IsErrOf, None, Ok};
 ghost use Rattle.journal_text.specs.Line.{IsSkipped};
-ghost use Rattle.proxy.specs.Schedule.{IsNumbered, SpellsEvent, as_lined, line_fault};
+ghost use Rattle.proxy.specs.Schedule.{SpellsEvent, as_lined, line_fault};
 
 use journal_text::{Event as Lined, LineKind};
 use proxy_core::Event;
@@ -39,16 +39,11 @@ pub fn line_event(alloc: Global, line: &[u8]) -> Result<Option<Event>, LineFault
 
 // The event as one of the core, where the core of today takes it.
 fn core_event(event: Lined) -> Option<Event>
-    ensures found { IfSome result (λ taken. (as_lined taken ≡ event) × IsNumbered taken) }
-    ensures none { IfNone result ((taken : Event) → IsNumbered taken → ¬ (as_lined taken ≡ event)) }
+    ensures found { IfSome result (λ taken. as_lined taken ≡ event) }
+    ensures none { IfNone result ((taken : Event) → ¬ (as_lined taken ≡ event)) }
 {
     match event {
-        Lined::Accept { conn, vs, from } => {
-            if conn == 0 {
-                return None;
-            }
-            Some(Event::Accept { conn, vs, from })
-        }
+        Lined::Accept { conn, vs, from } => Some(Event::Accept { conn, vs, from }),
         Lined::FromClient { conn, bytes } => Some(Event::FromClient { conn, bytes }),
         Lined::ClientEnd { conn } => Some(Event::ClientEnd { conn }),
         Lined::Connected { conn } => Some(Event::Connected { conn }),

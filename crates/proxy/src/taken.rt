@@ -2,7 +2,7 @@
 
 ghost use Rattle.std.specs.Prelude.{◌≡◌, ◌<◌, IfOk, OnOk, IfSome, length, nat_eq};
 ghost use Rattle.std.specs.List.{position_from};
-ghost use Rattle.proxy.specs.Taken.{took_of, with_took, with_bytes};
+ghost use Rattle.proxy.specs.Taken.{AreRising, took_of, with_took, with_bytes};
 
 use proxy_core::{Core, Event};
 use px_bytes::{M, Side, Text};
@@ -37,9 +37,10 @@ pub fn took_by(core: &Core, event: &Event) -> M<Took>
     })
 }
 
-/// Adds what an event brought.
+/// Adds what an event brought to clients whose numbers rise.
 pub fn add_took(alloc: Global, all: &mut Vec<Taken>, took: Took) -> M<()>
-    ensures { OnOk result (all.new.items ≡ with_took took all.old.items) }
+    ensures { OnOk result (AreRising all.old.items
+        → all.new.items ≡ with_took took all.old.items) }
 {
     match took {
         Took::Nothing => Ok(()),
@@ -55,7 +56,8 @@ pub fn add_took(alloc: Global, all: &mut Vec<Taken>, took: Took) -> M<()>
 }
 
 fn add_bytes(all: &mut Vec<Taken>, conn: u32, bytes: &Text) -> M<()>
-    ensures { OnOk result (all.new.items ≡ with_bytes conn bytes.now all.old.items) }
+    ensures { OnOk result (AreRising all.old.items
+        → all.new.items ≡ with_bytes conn bytes.now all.old.items) }
 {
     let Some(at) = find(all, conn) else {
         return Ok(());
@@ -64,9 +66,11 @@ fn add_bytes(all: &mut Vec<Taken>, conn: u32, bytes: &Text) -> M<()>
     Ok(())
 }
 
+// The place of a client, by halving.
 fn find(all: &[Taken], conn: u32) -> Option<usize>
-    ensures place { result ≡ position_from (λ t. nat_eq t.conn conn) 0 all.now }
+    ensures place { AreRising all.now
+        → result ≡ position_from (λ t. nat_eq t.conn conn) 0 all.now }
     ensures within { IfSome result (λ at. at < length all.now) }
 {
-    all.iter().position(|t| t.conn == conn)
+    all.binary_search_by_key(&conn, |t| t.conn).ok()
 }

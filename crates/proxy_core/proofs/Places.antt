@@ -3,6 +3,7 @@ use Rattle.std.proofs.Common.{◌≡◌, ℕ, zero, suc, ◌+◌, ◌-◌, ◌<�
 use Rattle.std.specs.List.{position_from, slice_get}
 use Rattle.std.proofs.lemmas.Bool.Decides.{nat_tests}
 use Rattle.connection_table.specs.Table.{place_in}
+use Rattle.connection_table.proofs.Numbers.{placed_by}
 use Rattle.proxy_core.specs.declared.live.Live.{Live}
 use Rattle.proxy_core.specs.Ready.{numbers, is_in, place_of}
 use Rattle.proxy_core.specs.Live.{pending_in}
@@ -70,20 +71,9 @@ in_before (suc at) (x ∷ xs) q g = by_cases (nat_eq q x.number) g (in_before at
     by_cases true k rest = refl
     by_cases false k rest = rest k
 
-eq_flipped : (a b : ℕ) → nat_eq a b ≡ nat_eq b a
-eq_flipped a b = by_cases (nat_eq b a) refl
-  where
-    by_cases : (t : Bool) → nat_eq b a ≡ t → nat_eq a b ≡ t
-    by_cases true e = grind (arith, nat_tests)
-    by_cases false e = grind (arith, nat_tests)
-
-placed_from : (number i : ℕ) (ls : List Live) → position_from (nat_eq number) i (numbers ls) ≡ position_from (λ l. nat_eq l.number number) i ls
-placed_from number i [] = refl
-placed_from number i (l ∷ ls) = rw (eq_flipped number l.number, placed_from number (i + 1) ls) refl
-
 -- the place of a number among the numbers is that of its connection
 pub placed : (number : ℕ) (ls : List Live) → place_in (numbers ls) number ≡ place_of ls number
-placed number ls = placed_from number 0 ls
+placed number ls = placed_by (λ l. l.number) number ls
 
 -- the number at a place
 pub number_in : (at : ℕ) (ns : List ℕ) (ls : List Live) (l : Live) → ns ≡ numbers ls → slice_get ls at ≡ Some l → get_or ns at 0 ≡ l.number

@@ -15,14 +15,14 @@ not_memory k built is = let apart : fault.NotBuilt ≡ fault.Memory = sym built 
 pub returns-in-Some-clause-only_event : goal.returns-in-Some-clause-only_event
 returns-in-Some-clause-only_event c other spells =
     let found = c.in-Some.ensures.found in
-    let there : Spells c.args.line.now (as_lined c.in-Some.event) = subst (Spells c.args.line.now) (sym found.0) (rw c.in-Ok-Some.field-0-is at c.in-Ok-Some.ensures.event) in
-    one_event c.args.line.now c.in-Some.event other (record { spelled = there; numbered = found.1 }) spells
+    let there : Spells c.args.line.now (as_lined c.in-Some.event) = subst (Spells c.args.line.now) (sym found) (rw c.in-Ok-Some.field-0-is at c.in-Ok-Some.ensures.event) in
+    one_event c.args.line.now c.in-Some.event other there spells
 
 pub returns-in-None-clause-not_built : goal.returns-in-None-clause-not_built
 returns-in-None-clause-not_built c is event spells =
-    c.in-None.ensures.none event spells.numbered (lines.one_event c.args.line.now (as_lined event) c.in-Ok-Some.event spells.spelled (rw c.in-Ok-Some.field-0-is at c.in-Ok-Some.ensures.event))
+    c.in-None.ensures.none event (lines.one_event c.args.line.now (as_lined event) c.in-Ok-Some.event spells (rw c.in-Ok-Some.field-0-is at c.in-Ok-Some.ensures.event))
 
 pub returns-in-Err-clause-not_built : goal.returns-in-Err-clause-not_built
 returns-in-Err-clause-not_built c is event spells =
     let same : c.line_fault.result ≡ fault.NotBuilt = cc is in
-    fault_spells_none c.args.line.now c.in-Err.kind (not_memory c.in-Err.kind (sym c.line_fault.ensures ∙ same)) c.in-Err.ensures.fault (as_lined event) spells.spelled
+    fault_spells_none c.args.line.now c.in-Err.kind (not_memory c.in-Err.kind (sym c.line_fault.ensures ∙ same)) c.in-Err.ensures.fault (as_lined event) spells

@@ -4,6 +4,7 @@ use Rattle.proxy.specs.Stops.{StopsWith}
 use Rattle.proxy.specs.Taken.{with_took}
 use Rattle.proxy.proofs.Stopping.{out_of_memory, not_written, stands_front, written_front, Given}
 use Rattle.proxy.proofs.Stopping.{stands_next, front_in_notes, only_group}
+use Rattle.proxy.proofs.TakenKept.{are_rising}
 use Rattle.proxy.proofs.replay.Replay.event.Goals as goal
 
 pub returns-in_err-reserve-clause-stops : goal.returns-in_err-reserve-clause-stops
@@ -61,4 +62,4 @@ returns-clause-goes_on g c C told text line number st is gives =
     let said = c.as_bytes-2.ensures ∙ c.in_ok-write_notes.ensures ∙ ap note_lines (c.as_slice.ensures ∙ notes) in
     let given : Given s.core c.step.new.self c.args.event k.group = record { accepted = c.in_default.ensures.accepted; stands = k.stands } in
     stands_next C text line number s.core c.step.new.self c.args.event k.group s.taken.items c.add_took.new.all.items s.events told (g.K.Sink.written c.args.out.now) (g.K.Sink.written c.write_all.new.sink) given
-    (c.in_ok-add_took.ensures ∙ ap (λ t. with_took t s.taken.items) c.in_ok-took.ensures) st is gives (rw said at c.in_ok-write_all.ensures.ok_writes_all)
+    (c.in_ok-add_took.ensures (are_rising C st.past st.state s.taken.items st.represents.sound.leads st.taken_is) ∙ ap (λ t. with_took t s.taken.items) c.in_ok-took.ensures) st is gives (rw said at c.in_ok-write_all.ensures.ok_writes_all)
