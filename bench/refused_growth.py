@@ -1,24 +1,57 @@
 #!/usr/bin/env python3
-"""Refuses each allocation of the first example in turn, and says what the program then wrote.
+"""Refuses each allocation of two replays in turn, and says what the program then wrote.
 
-usage: bench/refused_growth.py            after `./ciravogu` has built the program once
+usage: bench/refused_growth.py [PROXY]    without PROXY after `./ciravogu` has built the program once
 
-A small shim, compiled into a temporary folder, counts the C library's allocations and fails one of
-them. A run must end with status 7 and a prefix of a report, or note `> finish 1 memory` and go on;
-any other end but the whole report is printed, and the status is then 1.
+The replays are the first example, and one of two virtual servers, each with a rule and a connection: one spends its
+whole budget, the other answers its client. A small shim, compiled into a temporary folder, counts the C library's
+allocations and fails one of them. A run must end with status 7 and a prefix of the report, or note `> finish C memory`
+of one connection and go on: then the notes of that one are a front of its own in the whole report up to there, its
+client took a front of the same bytes, and whatever the report says of the other is untouched. Any other end but the
+whole report is printed, and the status is then 1.
 """
 
 import collections
 import os
 import pathlib
+import re
 import subprocess
 import sys
 import tempfile
 
 TOP = pathlib.Path(__file__).resolve().parent.parent
-PROGRAM = TOP / "crates/proxy/out/proxy"
-WORDS = ["replay", "examples/hi.toml", "examples/hi.txt"]
-WHOLE = b"> finish 1 unselected\n> close-client 1\n> ended 1 0\n> client 1 68692037\n> end 3\n"
+PROGRAM = pathlib.Path(sys.argv[1] if len(sys.argv) > 1 else TOP / "crates/proxy/out/proxy").resolve()
+TWO_RULES = """version = 1
+budget = 1000
+
+[[virtual]]
+name = "a"
+listen = "127.0.0.1:9000"
+rules = ["a"]
+
+[[virtual]]
+name = "b"
+listen = "127.0.0.1:9001"
+rules = ["b"]
+
+[[rule]]
+name = "a"
+text = "when CLIENT_ACCEPTED { while {1} {} }"
+
+[[rule]]
+name = "b"
+text = "when CLIENT_ACCEPTED { TCP::respond ok }"
+"""
+TWO_CONNECTIONS = "accept 1 a 10.0.0.9 1\naccept 2 b 10.0.0.9 2\n" + 16 * "run\n" + "client-took 2 2\n"
+# for each replay its configuration, its schedule, and the last lines of its whole report
+REPLAYS = {
+    "the first example": (
+        (TOP / "examples/hi.toml").read_text(),
+        (TOP / "examples/hi.txt").read_text(),
+        b"> client 1 68692037\n> end 3\n",
+    ),
+    "two rules": (TWO_RULES, TWO_CONNECTIONS, b"> client 1 -\n> client 2 6f6b\n> end 19\n"),
+}
 SHIM = r"""
 #define _GNU_SOURCE
 #include <dlfcn.h>
@@ -53,21 +86,72 @@ __attribute__((destructor)) static void end(void) {
 """
 
 
-def run(shim, **more):
+def run(shim, folder, **more):
     environment = {**os.environ, "LD_PRELOAD": str(shim), **more}
-    return subprocess.run([PROGRAM, *WORDS], cwd=TOP, env=environment, capture_output=True, timeout=60)
+    words = [PROGRAM, "replay", "config.toml", "schedule.txt"]
+    return subprocess.run(words, cwd=folder, env=environment, capture_output=True, timeout=60)
 
 
-def kind(ended):
+def parts(report):
+    """The lines of each connection, by its number, and the last line."""
+    lines = report.splitlines()
+    of = collections.defaultdict(list)
+    for line in lines[:-1]:
+        of[re.fullmatch(rb"> \S+ (\d+)(?: .*)?", line).group(1)].append(line)
+    return of, lines[-1] if lines else b""
+
+
+def lacked_memory(whole, report):
+    """Whether the report is that of a run in which one connection found no memory."""
+    wanted, _ = parts(whole)
+    found, last = parts(report)
+    lacking = [conn for conn, lines in found.items() if b"> finish %s memory" % conn in lines]
+    if len(lacking) != 1 or not re.fullmatch(rb"> (?:end \d+|fault line \d+ event \d+)", last):
+        return False
+    (conn,) = lacking
+    if {c: lines for c, lines in found.items() if c != conn} != {c: lines for c, lines in wanted.items() if c != conn}:
+        return False
+    lines = found[conn]
+    front = lines[: lines.index(b"> finish %s memory" % conn)]
+    took = [line for line in lines if line.startswith(b"> client ")]
+    all_took = [line for line in wanted[conn] if line.startswith(b"> client ")]
+    none = b"> client %s -" % conn
+    return wanted[conn][: len(front)] == front and len(took) == 1 and (took[0] == none or all_took[0].startswith(took[0]))
+
+
+def kind(whole, ended):
     """What a run came to, or None where that is a bug."""
-    if ended.returncode == 0 and ended.stdout == WHOLE:
+    if ended.returncode == 0 and ended.stdout == whole:
         return "the whole report"
-    if ended.returncode == 7 and WHOLE.startswith(ended.stdout):
+    if ended.returncode == 7 and whole.startswith(ended.stdout):
         return "status 7 and a prefix of the report"
-    lines = ended.stdout.splitlines()
-    if b"> finish 1 memory" in lines and b"> client 1 -" in lines and ended.returncode in (0, 4):
-        return "`> finish 1 memory`, and no bytes"
+    if ended.returncode in (0, 4) and lacked_memory(whole, ended.stdout):
+        return "`memory` of one connection, the other untouched"
     return None
+
+
+def tried(name, shim, folder):
+    """Refuses each allocation of a replay, and says how many ends are bugs."""
+    config, schedule, last = REPLAYS[name]
+    pathlib.Path(folder, "config.toml").write_text(config)
+    pathlib.Path(folder, "schedule.txt").write_text(schedule)
+    counted = pathlib.Path(folder, "allocations")
+    first = run(shim, folder, ALLOCATIONS_FILE=str(counted))
+    if first.returncode or not first.stdout.endswith(last):
+        sys.exit(f"{name}: status {first.returncode}, {first.stdout!r}")
+    allocations = int(counted.read_text())
+    ends, bugs = collections.Counter(), []
+    for at in range(1, allocations + 1):
+        ended = run(shim, folder, REFUSED_ALLOCATION=str(at))
+        ends[kind(first.stdout, ended)] += 1
+        if kind(first.stdout, ended) is None:
+            bugs.append((at, ended.returncode, ended.stdout))
+    print(f"{name}: {allocations} allocations, each refused in turn:")
+    for end, number in ends.most_common():
+        print(f"{number:5} {end or 'a bug'}")
+    for bug in bugs:
+        print("bug:", *bug)
+    return len(bugs)
 
 
 def main():
@@ -75,21 +159,7 @@ def main():
         source, shim = pathlib.Path(folder, "shim.c"), pathlib.Path(folder, "shim.so")
         source.write_text(SHIM)
         subprocess.run(["gcc", "-O1", "-w", "-shared", "-fPIC", "-o", shim, source], check=True)
-        counted = pathlib.Path(folder, "allocations")
-        run(shim, ALLOCATIONS_FILE=str(counted))
-        allocations = int(counted.read_text())
-        ends, bugs = collections.Counter(), []
-        for at in range(1, allocations + 1):
-            ended = run(shim, REFUSED_ALLOCATION=str(at))
-            ends[kind(ended)] += 1
-            if kind(ended) is None:
-                bugs.append((at, ended.returncode, ended.stdout))
-    print(f"{allocations} allocations, each refused in turn:")
-    for name, number in ends.most_common():
-        print(f"{number:5} {name or 'a bug'}")
-    for bug in bugs:
-        print("bug:", *bug)
-    return 1 if bugs else 0
+        return 1 if sum(tried(name, shim, folder) for name in REPLAYS) else 0
 
 
 if __name__ == "__main__":
