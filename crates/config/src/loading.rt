@@ -8,9 +8,9 @@ ghost use Rattle.config.specs.Loading.{AreLoaded, OfFault, StopsAt};
 
 use crate::fault::ConfigFault;
 use crate::keys::RULE;
-use crate::rule_text::{LoadedRule, rule_of};
+use crate::loaded_rules::LoadedRules;
+use crate::rule_text::rule_of;
 use crate::table::array_at;
-use px_bytes::Seq;
 use px_outside::Files;
 use std::alloc::Global;
 use toml::Table;
@@ -20,14 +20,14 @@ fn rules_of<F: Files>(
     alloc: Global,
     files: &mut F,
     values: &Array,
-) -> Result<Seq<LoadedRule>, ConfigFault>
+) -> Result<LoadedRules, ConfigFault>
     ensures loaded { IfOk result (AreLoaded (F.told files.old) (array_view values.now)) }
     ensures fault { IfErr result (OfFault (StopsAt (F.told files.old) (F.faults files.old)
         (F.faults files.new) 0 (array_view values.now))) }
     ensures same_files { F.told files.new ≡ F.told files.old }
     ensures faults_never_fall { F.faults files.old ≤ F.faults files.new }
 {
-    let mut rules = Seq::new(alloc);
+    let mut rules = LoadedRules::new(alloc);
     let mut at = 0;
     for value in values {
         let rule = rule_of(alloc, files, at, value)?;
@@ -42,7 +42,7 @@ pub(crate) fn rules_at<F: Files>(
     alloc: Global,
     files: &mut F,
     top: &Table,
-) -> Result<Seq<LoadedRule>, ConfigFault>
+) -> Result<LoadedRules, ConfigFault>
     ensures loaded { IfOk result
         (AreLoaded (F.told files.old) (items_at key.rules (table_view top.now))) }
     ensures fault { IfErr result (OfFault (StopsAt (F.told files.old) (F.faults files.old)
@@ -52,6 +52,6 @@ pub(crate) fn rules_at<F: Files>(
 {
     match array_at(top, RULE.name) {
         Some(values) => rules_of(alloc, files, values),
-        None => Ok(Seq::new(alloc)),
+        None => Ok(LoadedRules::new(alloc)),
     }
 }

@@ -14,11 +14,12 @@ use crate::config::Settings;
 use crate::document::{document_fault, index_at};
 use crate::fault::{ConfigFault, FaultKind};
 use crate::keys::{NAME, RULE};
+use crate::loaded_rules::LoadedRules;
 use crate::loading::rules_at;
 use crate::misplaced::{Misplaced, first_misplaced};
 use crate::rule_text::{LoadedRule, file_fault, read_file, rule_fault};
 use crate::settings::settings_of;
-use px_bytes::{M, Seq};
+use px_bytes::M;
 use px_outside::Files;
 use rule_loader::LoadKind;
 use std::alloc::Global;
@@ -28,7 +29,7 @@ use toml::Table;
 #[derive(Drop)]
 pub struct Config {
     pub settings: Settings,
-    pub rules: Seq<LoadedRule>,
+    pub rules: LoadedRules,
 }
 
 // The table of a document's bytes.

@@ -1,7 +1,6 @@
 -- An action is the next items of each state that the connection may stand for.
 use Rattle.std.proofs.Common.{◌≡◌, refl, sym, ap, subst, ◌∙◌, ℕ, zero, suc, List, [], ◌∷◌, ◌++◌, append-nil, map, drop, length, Bool, true, false, Option, Some, None, nat_lt}
 use Rattle.std.specs.Bool.{MatchBool}
-use Rattle.std.specs.Prelude.{slice_get}
 use Rattle.px_bytes.specs.declared.fault.FaultKind.{FaultKind}
 use Rattle.event_order.specs.declared.event.EventName.TheVariants.{LbFailed, ClientClosed}
 use Rattle.connection_model.specs.declared.note.Note.{Note}
@@ -16,16 +15,16 @@ use Rattle.connection_model.specs.State.{Cut, Gated, Running, Failing, InEvent, 
 use Rattle.connection_model.specs.Trace.{next_item, GivesNoMore}
 use Rattle.conn.specs.Acts.{PassesGate, Chooses, Closes, BehindFault, ActedAt, Acted}
 use Rattle.conn.specs.Changes.{StartsBody}
-use Rattle.conn.specs.Steps.{BodyMovedBy}
+use Rattle.conn.specs.Steps.{BodyMovedBy, BodyMoved}
 use Rattle.conn.specs.Events.{event_of}
 use Rattle.conn.specs.Holds.{Around, Between, BodyGoesOn, GatedBefore, RunsFirst, Stands, Holds}
-use Rattle.conn.specs.Hosts.{AsksNothing, seen_host, unselected_host}
-use Rattle.conn.specs.Setups.{handler_of, bodies_at, Serves}
+use Rattle.conn.specs.Hosts.{AsksNothing, logs_of, seen_host, unselected_host}
+use Rattle.conn.specs.Setups.{body_at, places_at, Serves}
 use Rattle.conn.specs.Stages.{reason_for, cause_for, entered_by, is_asking}
 use Rattle.conn.specs.declared.connection.Conn.{Conn}
 use Rattle.conn.specs.declared.events.At.{At}
 use Rattle.conn.specs.declared.events.At.TheVariants.{Accepted, Failed, Closed}
-use Rattle.conn.specs.declared.setup.Handler as code
+use Rattle.conn.specs.declared.setup.Place.{Place}
 use Rattle.conn.specs.declared.setup.Setup as code_setup
 use Rattle.conn.specs.declared.stage.Finish.{Finish}
 use Rattle.conn.specs.declared.stage.Finish.TheVariants as finish
@@ -37,7 +36,7 @@ use Rattle.conn.proofs.Acting.{ActGave}
 use Rattle.conn.proofs.BodyMoves.{next_awake, next_host, next_client, body_gives, step_notes}
 use Rattle.conn.proofs.Doing.{begun_unasked, same_unasked, unselected_unasked}
 use Rattle.conn.proofs.Giving.{gave_none, OneItem, gave_one}
-use Rattle.conn.proofs.Places.{handlers_are, body_begins, next_stands, entered_stands}
+use Rattle.conn.proofs.Places.{none_here, body_begins, next_stands, entered_stands}
 use Rattle.conn.proofs.Resting.{next_at, gate_is, choosing_item, over_next}
 
 -- one item, and then it goes on
@@ -52,7 +51,7 @@ stays g a l c old new a' h rests same stops =
     subst P (sym same) (subst Q (sym rests) (record { at = l; gave = gave_none g a l c old h; stops = stops }))
 
 -- the notes of a body that moved
-abbrev moved_notes : (s : code_setup.Setup) (c : ℕ) (at : At) (number : ℕ) (old new : Conn) (before after : List Note) (did : step_act.Act) (v : Option code.Handler) → BodyMovedBy s v c at number old new before after did → List Note
+abbrev moved_notes : (s : code_setup.Setup) (c : ℕ) (at : At) (number : ℕ) (old new : Conn) (before after : List Note) (did : step_act.Act) (v : Option Handler) → BodyMovedBy s v c at number old new before after did → List Note
 moved_notes s c at number old new before after did None k = []
 moved_notes s c at number old new before after did (Some b) k = step_notes k
 
@@ -99,17 +98,11 @@ module _ (s : code_setup.Setup) (g : Setup) (serves : Serves s g) (a : Around) (
           subst P (sym goes_on) (gate_opens at (g.handlers (event_of at)) refl st.0 st.1 starts e)
       by_test false e (rests, same) = stays g a l c old new did h rests same (gate_shut at (g.handlers (event_of at)) st.0 e)
 
-  none_here : (hs : List code.Handler) (n : ℕ) → slice_get hs n ≡ None → drop n (map handler_of hs) ≡ []
-  none_here [] zero e = refl
-  none_here [] (suc n) e = refl
-  none_here (x ∷ hs) zero e = absurd (cc)
-  none_here (x ∷ hs) (suc n) e = none_here hs n e
-
-  runs : (at : At) (number : ℕ) (before after : List Note) (did : step_act.Act) (v : Option code.Handler) → slice_get (bodies_at s at) number ≡ v → old.stage ≡ stage.Running at number → Stands g (stage.Running at number) l old
+  runs : (at : At) (number : ℕ) (before after : List Note) (did : step_act.Act) (v : Option Handler) → body_at s at number ≡ v → old.stage ≡ stage.Running at number → Stands g (stage.Running at number) l old
       → (k : BodyMovedBy s v c at number old new before after did) → ActGave g a l c old new (moved_notes s c at number old new before after did v k) did
   runs at number before after did None e is st k =
       let R : List Handler → Type 0 = λ hs. RunsFirst g (event_of at) hs 0 l old in
-      let none : drop number (g.handlers (event_of at)) ≡ [] = ap (drop number) (handlers_are s g serves at) ∙ none_here (bodies_at s at) number e in
+      let none : drop number (g.handlers (event_of at)) ≡ [] = none_here (g.handlers (event_of at)) number (serves.each (event_of at) number ∙ e) in
       absurd (subst R none st.0)
   runs at number before after did (Some b) e is st k = body_gives s g serves a l c old new at number b before after did e k is h
 
@@ -174,11 +167,11 @@ module _ (s : code_setup.Setup) (g : Setup) (serves : Serves s g) (a : Around) (
         unasked = unasked;
         client = refl;
         kept = k.client;
-      }) (ap is_asking k.there ∙ entered_awake (bodies_at s Failed))
+      }) (ap is_asking k.there ∙ entered_awake (places_at s Failed))
     where
-      entered_awake : (hs : List code.Handler) → is_asking (entered_by Failed hs) ≡ false
+      entered_awake : (ps : List Place) → is_asking (entered_by Failed ps) ≡ false
       entered_awake [] = refl
-      entered_awake (x ∷ hs) = refl
+      entered_awake (p ∷ ps) = refl
 
   cause_is : (f : Finish) → cause_of (reason_for f) ≡ cause_for f
   cause_is finish.Unselected = refl
@@ -240,9 +233,9 @@ acted_well s c old new before after did k = by_stage old.stage refl k
 
     by_stage : (st : Stage) → old.stage ≡ st → ActedAt st s c old new before after did → ActedWell s c old new before after did
     by_stage (stage.Gated at) is (k, notes) = record { group = []; notes = none notes; along = λ g a l serves h awake. gate s g serves a l c old new h at did (here (stage.Gated at) is g a l h) k }
-    by_stage (stage.Running at n) is k = by_handler (slice_get (bodies_at s at) n) refl k
+    by_stage (stage.Running at n) is k = by_handler (body_at s at n) refl k
       where
-        by_handler : (v : Option code.Handler) → slice_get (bodies_at s at) n ≡ v → BodyMovedBy s v c at n old new before after did → ActedWell s c old new before after did
+        by_handler : (v : Option Handler) → body_at s at n ≡ v → BodyMovedBy s v c at n old new before after did → ActedWell s c old new before after did
         by_handler None e m = record { group = []; notes = none m; along = λ g a l serves h awake. runs s g serves a l c old new h at n before after did None e is (here (stage.Running at n) is g a l h) m }
         by_handler (Some b) e m = record {
           group = step_notes m;

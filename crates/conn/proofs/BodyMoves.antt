@@ -2,11 +2,9 @@
 -- for.
 use Rattle.std.proofs.Common.{◌≡◌, refl, sym, ap, subst, ◌∙◌, ℕ, ◌+◌, List, [], ◌∷◌, ◌++◌, None, Some, Option, true, false, length, map, drop, append_assoc, append-nil, arith, length-append}
 use Rattle.std.specs.Bool.{MatchBool}
-use Rattle.std.specs.Prelude.{slice_get, nat_lt}
+use Rattle.std.specs.Prelude.{nat_lt}
 use Rattle.px_bytes.specs.declared.fault.Reply.{Reply}
 use Rattle.px_bytes.specs.declared.fault.TclFault.{TclFault}
-use Rattle.tcl_compile.specs.Procedures.{procs_view}
-use Rattle.tcl_compile.specs.TreeView.{node_view}
 use Rattle.tcl_vars.specs.Scopes.{Level}
 use Rattle.irule_net.specs.declared.groups.Groups.{Groups}
 use Rattle.rule_model.specs.Evaluator.{evaluate}
@@ -38,13 +36,12 @@ use Rattle.conn.specs.Steps.{BodySteps, GoesOn, ended_of, one_of, said_of}
 use Rattle.conn.specs.Bodies.{SaidIs}
 use Rattle.conn.specs.Events.{event_of}
 use Rattle.conn.specs.Holds.{Around, BodyGoesOn, RunsFirst, Stands, Holds}
-use Rattle.conn.specs.Hosts.{Made, cleared_host, logs_of, seen_host}
-use Rattle.conn.specs.Setups.{handler_of, bodies_at, Serves}
+use Rattle.conn.specs.Hosts.{AsksNothing, Made, cleared_host, logs_of, seen_host}
+use Rattle.conn.specs.Setups.{body_at, places_at, Serves}
 use Rattle.conn.specs.Stages.{after_stage, is_asking}
 use Rattle.conn.specs.declared.connection.Conn.{Conn}
 use Rattle.conn.specs.declared.events.At.{At}
 use Rattle.conn.specs.declared.events.At.TheVariants.{Accepted, Failed, Closed}
-use Rattle.conn.specs.declared.setup.Handler as code
 use Rattle.conn.specs.declared.setup.Setup as code_setup
 use Rattle.conn.specs.declared.stage.Stage.{Stage}
 use Rattle.conn.specs.declared.stage.Stage.TheVariants as stage
@@ -57,11 +54,11 @@ use Rattle.conn.proofs.ActItems.{no_tail, end_tail, called_is_none}
 use Rattle.conn.proofs.Asking.{asking_waits}
 use Rattle.conn.proofs.BodyActs.{acts_come, end_comes}
 use Rattle.conn.proofs.FramesKeep.{acts_stay}
-use Rattle.conn.proofs.Places.{handlers_are, first_left, next_stands}
+use Rattle.conn.proofs.Places.{first_left, next_stands}
 
 -- no call is open behind a body
 pub next_awake : (s : code_setup.Setup) (at : At) (n : ℕ) (mid new : Conn) → NextBody s at n mid new → is_asking new.stage ≡ false
-next_awake s at n mid new k = by_test (nat_lt n (length (bodies_at s at))) k
+next_awake s at n mid new k = by_test (nat_lt n (length (places_at s at))) k
   where
     by_test : (b : _) → MatchBool b (StartsBody s at n mid new) (GoesTo (after_stage at) mid new) → is_asking new.stage ≡ false
     by_test true c = ap is_asking c.there
@@ -73,23 +70,23 @@ next_awake s at n mid new k = by_test (nat_lt n (length (bodies_at s at))) k
         after_awake Closed = refl
 
 pub next_host : (s : code_setup.Setup) (at : At) (n : ℕ) (mid new : Conn) → NextBody s at n mid new → new.host ≡ mid.host
-next_host s at n mid new k = by_test (nat_lt n (length (bodies_at s at))) k
+next_host s at n mid new k = by_test (nat_lt n (length (places_at s at))) k
   where
     by_test : (b : _) → MatchBool b (StartsBody s at n mid new) (GoesTo (after_stage at) mid new) → new.host ≡ mid.host
     by_test true c = c.host
     by_test false c = c.host
 
 pub next_client : (s : code_setup.Setup) (at : At) (n : ℕ) (mid new : Conn) → NextBody s at n mid new → new.client ≡ mid.client
-next_client s at n mid new k = by_test (nat_lt n (length (bodies_at s at))) k
+next_client s at n mid new k = by_test (nat_lt n (length (places_at s at))) k
   where
     by_test : (b : _) → MatchBool b (StartsBody s at n mid new) (GoesTo (after_stage at) mid new) → new.client ≡ mid.client
     by_test true c = c.client
     by_test false c = c.client
 
 -- a step of the body of which the state of the trace tells
-module _ (s : code_setup.Setup) (g : Setup) (serves : Serves s g) (a : Around) (l : TraceState) (c : ℕ) (old mid : Conn) (at : At) (number : ℕ) (h : code.Handler) (bs : List Handler)
-    (holds : Holds g a l old) (k : BodyGoesOn g (event_of at) (handler_of h) bs 0 l old) (said : Turn) (ticks : ℕ) (made : List Effect → Type 0)
-    (w : Went (body_setting g (procs_view h.procs)) (node_view h.body) (place old.body.machine.at old.vars (seen_host old.host)) (place mid.body.machine.at mid.vars (seen_host mid.host)) said made ticks)
+module _ (s : code_setup.Setup) (g : Setup) (serves : Serves s g) (a : Around) (l : TraceState) (c : ℕ) (old mid : Conn) (at : At) (number : ℕ) (h : Handler) (bs : List Handler)
+    (holds : Holds g a l old) (k : BodyGoesOn g (event_of at) h bs 0 l old) (said : Turn) (ticks : ℕ) (made : List Effect → Type 0)
+    (w : Went (body_setting g h.procedures) h.body (place old.body.machine.at old.vars (seen_host old.host)) (place mid.body.machine.at mid.vars (seen_host mid.host)) said made ticks)
     (done_acts : DoesActs w.acts old.host mid.host) (same_client : mid.client ≡ old.client) where
   abbrev group : List Note
   group = logs_of c (effects_in w.acts)
@@ -98,7 +95,7 @@ module _ (s : code_setup.Setup) (g : Setup) (serves : Serves s g) (a : Around) (
   e = event_of at
 
   abbrev b : Handler
-  b = handler_of h
+  b = h
 
   abbrev S : given.Setting HostState
   S = body_setting g b.procedures
@@ -180,7 +177,7 @@ module _ (s : code_setup.Setup) (g : Setup) (serves : Serves s g) (a : Around) (
       let P : List Handler → Type 0 = λ hs. Stands g new.stage (put (next_body g e l.finished Absent hs (seen_host mid.host)) L) new in
       (subst P behind (next_stands s g serves at (number + 1) mid new n L vars none done_acts.unasked l.finished), next_awake s at (number + 1) mid new n)
   ended_stands L vars none behind new (Some fault) did (goes, n) =
-      let line = uncaught_line h.name e fault.text in
+      let line = uncaught_line h.rule e fault.text in
       let L' = record L { phase = InEvent e (Failing fault.kind line bs); host = seen_host mid.host } in
       let P : Stage → Type 0 = λ st. Stands g st L' new in
       let there : Stands g (stage.Failing at (number + 1) fault.kind line) L' new =
@@ -220,10 +217,10 @@ module _ (s : code_setup.Setup) (g : Setup) (serves : Serves s g) (a : Around) (
       })
 
 -- what the step said decides
-module _ (s : code_setup.Setup) (g : Setup) (serves : Serves s g) (a : Around) (l : TraceState) (c : ℕ) (old mid new : Conn) (at : At) (number : ℕ) (h : code.Handler) (bs : List Handler)
-    (holds : Holds g a l old) (k : BodyGoesOn g (event_of at) (handler_of h) bs 0 l old) (left : drop number (g.handlers (event_of at)) ≡ handler_of h ∷ bs) (behind : drop (number + 1) (g.handlers (event_of at)) ≡ bs)
+module _ (s : code_setup.Setup) (g : Setup) (serves : Serves s g) (a : Around) (l : TraceState) (c : ℕ) (old mid new : Conn) (at : At) (number : ℕ) (h : Handler) (bs : List Handler)
+    (holds : Holds g a l old) (k : BodyGoesOn g (event_of at) h bs 0 l old) (left : drop number (g.handlers (event_of at)) ≡ h ∷ bs) (behind : drop (number + 1) (g.handlers (event_of at)) ≡ bs)
     (there : mid.stage ≡ stage.Running at number) (ticks : ℕ) (made : List Effect → Type 0) where
-  said_gives : (said : Turn) (w : Went (body_setting g (procs_view h.procs)) (node_view h.body) (place old.body.machine.at old.vars (seen_host old.host)) (place mid.body.machine.at mid.vars (seen_host mid.host)) said made ticks)
+  said_gives : (said : Turn) (w : Went (body_setting g h.procedures) h.body (place old.body.machine.at old.vars (seen_host old.host)) (place mid.body.machine.at mid.vars (seen_host mid.host)) said made ticks)
       → DoesActs w.acts old.host mid.host → mid.client ≡ old.client → SaidIs said mid.body → (did : step_act.Act) → GoesOn s at number (said_of h at said) mid new did → ActGave g a l c old new (logs_of c (effects_in w.acts)) did
   said_gives turn.More w d kept is did t =
       let P : Conn → Type 0 = λ x. ActGave g a l c old x (logs_of c (effects_in w.acts)) did in
@@ -236,28 +233,27 @@ module _ (s : code_setup.Setup) (g : Setup) (serves : Serves s g) (a : Around) (
   said_gives (turn.Done code) w d kept is did t = over s g serves a l c old mid at number h bs holds k (turn.Done code) ticks made w d kept code refl new did t behind
 
 -- the notes of a body's step
-abbrev pub step_notes : {s : code_setup.Setup} {h : code.Handler} {c : ℕ} {at : At} {number : ℕ} {old new : Conn} {before after : List Note} {did : step_act.Act} → BodySteps s h c at number old new before after did → List Note
+abbrev pub step_notes : {s : code_setup.Setup} {h : Handler} {c : ℕ} {at : At} {number : ℕ} {old new : Conn} {before after : List Note} {did : step_act.Act} → BodySteps s h c at number old new before after did → List Note
 step_notes {c = c} k = logs_of c (one_of k.stepped.host.made)
 
-pub body_gives : (s : code_setup.Setup) (g : Setup) → Serves s g → (a : Around) (l : TraceState) (c : ℕ) (old new : Conn) (at : At) (number : ℕ) (h : code.Handler) (before after : List Note) (did : step_act.Act) → slice_get (bodies_at s at) number ≡ Some h
+pub body_gives : (s : code_setup.Setup) (g : Setup) → Serves s g → (a : Around) (l : TraceState) (c : ℕ) (old new : Conn) (at : At) (number : ℕ) (h : Handler) (before after : List Note) (did : step_act.Act) → body_at s at number ≡ Some h
     → (k : BodySteps s h c at number old new before after did) → old.stage ≡ stage.Running at number → Holds g a l old → ActGave g a l c old new (step_notes k) did
 body_gives s g serves a l c old new at number h before after did got k is holds =
     let e = event_of at in
-    let all = handlers_are s g serves at in
-    let bs = drop (number + 1) (map handler_of (bodies_at s at)) in
-    let left : drop number (g.handlers e) ≡ handler_of h ∷ bs = ap (drop number) all ∙ first_left (bodies_at s at) number h got in
-    let behind : drop (number + 1) (g.handlers e) ≡ bs = ap (drop (number + 1)) all in
+    let bs = drop (number + 1) (g.handlers e) in
+    let left : drop number (g.handlers e) ≡ h ∷ bs = first_left (g.handlers e) number h (serves.each e number ∙ got) in
+    let behind : drop (number + 1) (g.handlers e) ≡ bs = refl in
     let P : Stage → Type 0 = λ st. Stands g st l old in
     let here = subst P is holds.stage in
     let R : List Handler → Type 0 = λ hs. RunsFirst g e hs 0 l old in
-    let goes : BodyGoesOn g e (handler_of h) bs 0 l old = subst R left here.0 in
+    let goes : BodyGoesOn g e h bs 0 l old = subst R left here.0 in
     let made : List Effect → Type 0 = λ es. Made (cleared_host old.host) es k.stepped.host in
-    let W : given.Setting HostState → Conn → Type 0 = λ x y. Went x (node_view h.body) (place old.body.machine.at old.vars (seen_host old.host)) (place y.body.machine.at y.vars (seen_host y.host)) k.turned made k.ticks in
-    let S : Level → Groups → given.Setting HostState = λ lv gs. setting (Some lv) (commands gs) (procs_view h.procs) in
-    let same : S s.statics.now.statics s.groups.now ≡ body_setting g (procs_view h.procs) = ap (λ lv. S lv s.groups.now) (sym serves.statics) ∙ ap (λ gs. S g.statics gs) (sym serves.groups) in
-    let w0 : W (body_setting g (procs_view h.procs)) k.stepped = subst (λ x. W x k.stepped) same (k.went here.1) in
+    let W : given.Setting HostState → Conn → Type 0 = λ x y. Went x h.body (place old.body.machine.at old.vars (seen_host old.host)) (place y.body.machine.at y.vars (seen_host y.host)) k.turned made k.ticks in
+    let S : Level → Groups → given.Setting HostState = λ lv gs. setting (Some lv) (commands gs) h.procedures in
+    let same : S s.statics.now.statics s.groups.now ≡ body_setting g h.procedures = ap (λ lv. S lv s.groups.now) (sym serves.statics) ∙ ap (λ gs. S g.statics gs) (sym serves.groups) in
+    let w0 : W (body_setting g h.procedures) k.stepped = subst (λ x. W x k.stepped) same (k.went here.1) in
     let moved = made_done c k.stepped k.mid before after k.does in
-    let w : W (body_setting g (procs_view h.procs)) k.mid = went_same (body_setting g (procs_view h.procs)) (node_view h.body) (place old.body.machine.at old.vars (seen_host old.host)) k.stepped k.mid k.turned made k.ticks moved w0 in
-    let acted = acts_done g.groups (body_setting g (procs_view h.procs)) refl c old k.stepped k.mid before after k.does holds.unasked w.acts w.called w.once w.by in
+    let w : W (body_setting g h.procedures) k.mid = went_same (body_setting g h.procedures) h.body (place old.body.machine.at old.vars (seen_host old.host)) k.stepped k.mid k.turned made k.ticks moved w0 in
+    let acted = acts_done g.groups (body_setting g h.procedures) refl c old k.stepped k.mid before after k.does holds.unasked w.acts w.called w.once w.by in
     let N : List Effect → Type 0 = λ es. ActGave g a l c old new (logs_of c es) did in
     subst N acted.taken (said_gives s g serves a l c old k.mid new at number h bs holds goes left behind (k.does.there ∙ k.there ∙ is) k.ticks made k.turned w acted.acts (k.does.client ∙ k.client) (said_same k.turned k.stepped.body k.mid.body (sym k.does.body) (k.said_is here.1)) did k.goes_on)

@@ -7,7 +7,7 @@ use Rattle.conn.specs.declared.setup.Setup.{Setup}
 use Rattle.conn.specs.declared.stage.Stage.{Stage}
 use Rattle.conn.specs.declared.stage.Stage.TheVariants as stage
 use Rattle.conn.specs.Bodies.{Fresh}
-use Rattle.conn.specs.Setups.{bodies_at}
+use Rattle.conn.specs.Setups.{places_at}
 use Rattle.conn.specs.Stages.{after_stage}
 
 -- only the stage changes
@@ -27,5 +27,5 @@ pub record StartsBody (s : Setup) (at : At) (number : ℕ) (old new : Conn) : Ty
 
 -- it begins where there is one, and else the event is over
 abbrev pub NextBody : Setup → At → ℕ → Conn → Conn → Type 0
-NextBody s at number old new = MatchBool (nat_lt number (length (bodies_at s at)))
+NextBody s at number old new = MatchBool (nat_lt number (length (places_at s at)))
     (StartsBody s at number old new) (GoesTo (after_stage at) old new)

@@ -2,6 +2,7 @@
 use Rattle.std.specs.Prelude.{◌≡◌, ℕ, List, [], ◌∷◌, ◌++◌, false, None}
 use Rattle.px_bytes.specs.Host.{Effect, Logged, Sent}
 use Rattle.px_bytes.specs.declared.addr.Side.TheVariants.{Client, Server}
+use Rattle.event_order.specs.declared.event.EventName.{EventName}
 use Rattle.irule_net.specs.State.{begun}
 use Rattle.irule_net.specs.declared.state.Asks.TheVariants.{NotAsked}
 use Rattle.irule_net.specs.declared.state.NetState.{NetState}
@@ -14,8 +15,11 @@ use Rattle.conn.specs.declared.events.At.TheVariants.{Accepted}
 use Rattle.conn.specs.declared.host.RuleHost.{RuleHost}
 use Rattle.conn.specs.Events.{event_of}
 
+abbrev pub seen_net : EventName → NetState → HostState
+seen_net e net = record { event = e; net = net }
+
 abbrev pub seen_host : RuleHost → HostState
-seen_host h = record { event = event_of h.event; net = h.net }
+seen_host h = seen_net (event_of h.event) h.net
 
 abbrev pub fresh_host : NetState → RuleHost
 fresh_host net = record { event = Accepted; net = net; made = []; to_client = [] }

@@ -10,9 +10,9 @@ use Rattle.conn.specs.declared.stage.Finish.{Finish}
 use Rattle.conn.specs.declared.stage.Finish.TheVariants as finish
 use Rattle.conn.specs.declared.stage.Stage.{Stage}
 use Rattle.conn.specs.declared.stage.Stage.TheVariants as stage
-use Rattle.conn.specs.declared.setup.Handler.{Handler}
+use Rattle.conn.specs.declared.setup.Place.{Place}
 use Rattle.conn.specs.declared.setup.Setup.{Setup}
-use Rattle.conn.specs.Setups.{bodies_at}
+use Rattle.conn.specs.Setups.{places_at}
 
 abbrev pub reason_for : Finish → Reason
 reason_for finish.Unselected = reason.Unselected
@@ -29,12 +29,12 @@ after_stage Failed = stage.Finishing finish.Unselected
 after_stage Closed = stage.Draining
 
 -- where an event is entered
-abbrev pub entered_by : At → List Handler → Stage
+abbrev pub entered_by : At → List Place → Stage
 entered_by at [] = after_stage at
-entered_by at (h ∷ hs) = stage.Gated at
+entered_by at (p ∷ ps) = stage.Gated at
 
 abbrev pub entered_stage : Setup → At → Stage
-entered_stage s at = entered_by at (bodies_at s at)
+entered_stage s at = entered_by at (places_at s at)
 
 abbrev pub is_asking : Stage → Bool
 is_asking (stage.Asking at number) = true

@@ -1,12 +1,10 @@
 -- What a step of a body changes.
-use Rattle.std.specs.Prelude.{◌≡◌, ℕ, ◌+◌, List, [], ◌∷◌, ◌++◌, true, Option, Some, None, slice_get}
+use Rattle.std.specs.Prelude.{◌≡◌, ℕ, ◌+◌, List, [], ◌∷◌, ◌++◌, true, Option, Some, None}
 use Rattle.px_bytes.specs.Host.{Effect}
 use Rattle.px_bytes.specs.declared.fault.TclFault.{TclFault}
-use Rattle.tcl_compile.specs.Procedures.{procs_view}
-use Rattle.tcl_compile.specs.TreeView.{node_view}
 use Rattle.rule_model.specs.Outcome.{uncaught_of}
 use Rattle.connection_model.specs.Host.{commands}
-use Rattle.connection_model.specs.Setup.{uncaught_line}
+use Rattle.connection_model.specs.Setup.{Handler, uncaught_line}
 use Rattle.connection_model.specs.declared.note.Note.{Note}
 use Rattle.frame_machine.specs.Given.{setting}
 use Rattle.frame_machine.specs.Went.{Went, place}
@@ -16,7 +14,6 @@ use Rattle.conn.specs.declared.body_step.Said.{Said}
 use Rattle.conn.specs.declared.body_step.Said.TheVariants as said
 use Rattle.conn.specs.declared.connection.Conn.{Conn}
 use Rattle.conn.specs.declared.events.At.{At}
-use Rattle.conn.specs.declared.setup.Handler.{Handler}
 use Rattle.conn.specs.declared.setup.Setup.{Setup}
 use Rattle.conn.specs.declared.stage.Stage.TheVariants as stage
 use Rattle.conn.specs.declared.turn.Act.{Act}
@@ -25,7 +22,7 @@ use Rattle.conn.specs.Bodies.{SaidIs}
 use Rattle.conn.specs.Changes.{GoesTo, NextBody}
 use Rattle.conn.specs.Events.{event_of}
 use Rattle.conn.specs.Hosts.{Made, cleared_host, client_bytes, logs_of, seen_host}
-use Rattle.conn.specs.Setups.{bodies_at}
+use Rattle.conn.specs.Setups.{body_at}
 
 -- what one command made
 abbrev pub one_of : List Effect → List Effect
@@ -46,7 +43,7 @@ pub record DoesMade (c : ℕ) (old new : Conn) (before after : List Note) : Type
 -- what a step said, with the line of a fault that it left uncaught
 abbrev pub ended_of : Handler → At → Option TclFault → Said
 ended_of h at None = said.Over
-ended_of h at (Some fault) = said.Fails fault.kind (uncaught_line h.name (event_of at) fault.text)
+ended_of h at (Some fault) = said.Fails fault.kind (uncaught_line h.rule (event_of at) fault.text)
 
 abbrev pub said_of : Handler → At → Turn → Said
 said_of h at turn.More = said.More
@@ -72,8 +69,8 @@ pub record BodySteps (s : Setup) (h : Handler) (c : ℕ) (at : At) (number : ℕ
   pub there : stepped.stage ≡ old.stage
   pub client : stepped.client ≡ old.client
   pub went : old.body.runs ≡ true
-      → Went (setting (Some s.statics.now.statics) (commands s.groups.now) (procs_view h.procs))
-      (node_view h.body) (place old.body.machine.at old.vars (seen_host old.host))
+      → Went (setting (Some s.statics.now.statics) (commands s.groups.now) h.procedures)
+      h.body (place old.body.machine.at old.vars (seen_host old.host))
       (place stepped.body.machine.at stepped.vars (seen_host stepped.host)) turned
       (λ es. Made (cleared_host old.host) es stepped.host) ticks
   pub said_is : old.body.runs ≡ true → SaidIs turned stepped.body
@@ -88,4 +85,4 @@ BodyMovedBy s (Some h) c at number old new before after a =
 
 abbrev pub BodyMoved : Setup → ℕ → At → ℕ → Conn → Conn → List Note → List Note → Act → Type 0
 BodyMoved s c at number old new before after a =
-    BodyMovedBy s (slice_get (bodies_at s at) number) c at number old new before after a
+    BodyMovedBy s (body_at s at number) c at number old new before after a

@@ -68,7 +68,7 @@ impl Body {
     pub fn step<H: Host, L: Ledger>(
         &mut self,
         alloc: Global,
-        handler: &Handler,
+        handler: &Handler<'_>,
         statics: &Vars,
         vars: &mut Vars,
         host: &mut H,
@@ -77,9 +77,9 @@ impl Body {
         spent: &mut u64,
     ) -> M<Turn>
         requires { spent.old < 2000 }
-        ensures went { let procs = procs_view handler.now.procs in
+        ensures went { let procs = procs_view handler.now.procs.now in
             let g = setting (Some statics.now.statics) (H.table env.now) procs in
-            let t = node_view handler.now.body in
+            let t = node_view handler.now.body.now in
             let old = place self.old.machine.at vars.old (H.seen host.old) in
             let new = place self.new.machine.at vars.new (H.seen host.new) in
             let made : List Effect → Type 0 = λ es. H.made host.old es host.new in
@@ -100,8 +100,8 @@ impl Body {
         let statics = Some(statics);
         let turn = self.machine.step::<H, L>(
             alloc,
-            &handler.body,
-            &handler.procs,
+            handler.body,
+            handler.procs,
             statics,
             vars,
             host,

@@ -1,7 +1,7 @@
 // A body goes on, begins or ends.
 
 ghost use Rattle.std.specs.Prelude.{◌≡◌, ◌+◌, ◌<◌, ◌≤◌, length, IfOk, OnErr, OnOk};
-ghost use Rattle.conn.specs.Setups.{bodies_at};
+ghost use Rattle.conn.specs.Setups.{handler_of, places_at};
 ghost use Rattle.conn.specs.Stages.{entered_stage};
 ghost use Rattle.conn.specs.Changes.{NextBody, StartsBody};
 ghost use Rattle.conn.specs.Steps.{BodyMoved, GoesOn, said_of};
@@ -23,7 +23,7 @@ impl Setup<'_> {
     pub(crate) fn enter(&self, at: At) -> Stage
         ensures { result ≡ entered_stage self.now at }
     {
-        if self.bodies(at).is_empty() {
+        if self.places(at).is_empty() {
             return Stage::after(at);
         }
         Stage::Gated { at }
@@ -35,7 +35,7 @@ impl Conn {
     pub(crate) fn next_body(&mut self, setup: &Setup<'_>, at: At, number: usize)
         ensures { NextBody setup.now at number self.old self.new }
     {
-        if number < setup.bodies(at).len() {
+        if number < setup.places(at).len() {
             self.start_body(setup, at, number);
         } else {
             self.stage = Stage::after(at);
@@ -84,7 +84,7 @@ impl Conn {
         self.host.made.clear();
         let turn = self.body.step(
             alloc,
-            handler,
+            &handler,
             setup.statics,
             &mut self.vars,
             &mut self.host,
@@ -92,17 +92,17 @@ impl Conn {
             steps,
             spent,
         )?;
-        let said = said_of(alloc, handler, at, turn)?;
+        let said = said_of(alloc, &handler, at, turn)?;
         self.do_made(number, notes)?;
         Ok(self.go_on(setup, at, body, said))
     }
 
     // What the step said decides.
     fn go_on(&mut self, setup: &Setup<'_>, at: At, body: usize, said: Said) -> Act
-        requires { body < length (bodies_at setup.now at) }
+        requires { body < length (places_at setup.now at) }
         ensures { GoesOn setup.now at body said self.old self.new result }
     {
-        let _bodies = setup.bodies(at).len();
+        let _places = setup.places(at).len();
         match said {
             Said::More => Act::Goes,
             Said::Asks(call) => {
@@ -135,8 +135,8 @@ pub(crate) enum Said {
     Fails(FaultKind, Text),
 }
 
-fn said_of(alloc: Global, handler: &Handler, at: At, turn: Turn) -> M<Said>
-    ensures { IfOk result (λ said. said ≡ said_of handler.now at turn) }
+fn said_of(alloc: Global, handler: &Handler<'_>, at: At, turn: Turn) -> M<Said>
+    ensures { IfOk result (λ said. said ≡ said_of (handler_of handler.now) at turn) }
 {
     let code = match turn {
         Turn::More => return Ok(Said::More),
@@ -146,6 +146,6 @@ fn said_of(alloc: Global, handler: &Handler, at: At, turn: Turn) -> M<Said>
     let Some(fault) = uncaught(alloc, code)? else {
         return Ok(Said::Over);
     };
-    let line = uncaught_line(alloc, &handler.name, at.name(), &fault.text)?;
+    let line = uncaught_line(alloc, handler.name, at.name(), &fault.text)?;
     Ok(Said::Fails(fault.kind, line))
 }

@@ -1,11 +1,13 @@
 // The host of a connection's rules.
 
-ghost use Rattle.std.specs.Prelude.{◌≡◌, [], MatchResult};
-ghost use Rattle.connection_model.specs.Host.{first_word};
-ghost use Rattle.conn.specs.Hosts.{begun_host, fresh_host, unselected_host};
+ghost use Rattle.std.specs.Prelude.{◌≡◌, ◌++◌, [], MatchResult};
+ghost use Rattle.px_bytes.specs.Answered.{DidStep};
+ghost use Rattle.connection_model.specs.Host.{commands, first_word};
+ghost use Rattle.conn.specs.Hosts.{begun_host, fresh_host, seen_net, unselected_host};
 
 use crate::events::At;
 use connection_model::is_there;
+use event_order::EventName;
 use frame_machine::Host;
 use irule_net::{Effects, Groups, NetState, net_command};
 use px_bytes::{HostAnswer, M, TclFault, Texts};
@@ -70,17 +72,34 @@ impl Host for RuleHost {
     ghost table = { commands };
 
     fn call(&mut self, alloc: Global, groups: &Groups, words: &Texts) -> HostAnswer {
-        let name = first_word(words);
-        if !is_there(name) {
-            return raised(TclFault::no_command(alloc, name));
-        }
         let event = self.event.name();
-        net_command(alloc, &mut self.net, groups, event, words, &mut self.made)
+        host_command(alloc, groups, event, &mut self.net, words, &mut self.made)
     }
 
     ghost made_none = { made_none };
 
     ghost made_both = { made_both };
+}
+
+/// Carries out the host command that the first word names, in an event. What it does outside the
+/// script stands behind what was made before. Where memory is refused nothing is said of the state.
+pub fn host_command(
+    alloc: Global,
+    groups: &Groups,
+    event: EventName,
+    net: &mut NetState,
+    words: &Texts,
+    made: &mut Effects,
+) -> HostAnswer
+    ensures { let old = seen_net event net.old in
+        let new = seen_net event net.new in
+        DidStep (commands groups.now old words.now) result new (λ es. made.new ≡ made.old ++ es) }
+{
+    let name = first_word(words);
+    if !is_there(name) {
+        return raised(TclFault::no_command(alloc, name));
+    }
+    net_command(alloc, net, groups, event, words, made)
 }
 
 fn first_word(words: &Texts) -> &[u8]

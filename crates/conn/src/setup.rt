@@ -1,52 +1,110 @@
 // What a connection runs on.
 
-ghost use Rattle.std.specs.Prelude.{◌≡◌, option_map, slice_get};
-ghost use Rattle.conn.specs.Setups.{bodies_at};
+ghost use Rattle.std.specs.Prelude.{◌≡◌, option_map};
+ghost use Rattle.conn.specs.Setups.{body_at, body_in, handler_of, handler_view, places_at};
+ghost use Rattle.conn.specs.Setups.{places_in};
+ghost use Rattle.rule_loader.specs.Events.{event_place};
 
 use crate::events::At;
+use event_order::EventName;
 use irule_net::Groups;
-use px_bytes::Text;
+use px_bytes::{Seq, Text};
+use rule_loader::Rule;
 use tcl_compile::{Node, Procs};
 use tcl_vars::Vars;
 
-/// A body that a rule has for an event, with the rule's name and procedures.
-#[derive(Drop)]
-pub struct Handler {
-    pub name: Text,
-    pub procs: Procs,
-    pub body: Node,
+/// Where a body stands that runs at an event: the number of its rule, its own number among those that
+/// its rule has for the event, and its priority.
+#[derive(Clone, Copy)]
+pub struct Place {
+    pub rule: usize,
+    pub number: usize,
+    pub priority: u16,
+}
+
+/// The bodies of an event, in the order in which they run.
+pub type Places = Seq<Place>;
+
+/// A body, with its rule's name and procedures.
+#[derive(Clone, Copy)]
+pub struct Handler<'a> {
+    pub name: &'a Text,
+    pub procs: &'a Procs,
+    pub body: &'a Node,
 }
 
 /// What a connection only reads: the port of its virtual server, how many units each body may spend,
-/// the static variables that RULE_INIT left, the data groups and pools that rules name, and the bodies
-/// of each event in their order.
+/// the static variables that RULE_INIT left, the data groups and pools that rules name, all rules, and
+/// where the bodies of its virtual server stand in them, with a list for each event in the order of
+/// `EventName::ALL`.
 #[derive(Clone, Copy)]
 pub struct Setup<'a> {
     pub port: u16,
     pub budget: u32,
     pub statics: &'a Vars,
     pub groups: &'a Groups,
-    pub accepted: &'a [Handler],
-    pub failed: &'a [Handler],
-    pub closed: &'a [Handler],
+    pub rules: &'a [Rule],
+    pub places: &'a [Places],
 }
 
 impl<'a> Setup<'a> {
-    /// The bodies of an event.
-    pub fn bodies(&self, at: At) -> &'a [Handler]
-        ensures { result.now ≡ bodies_at self.now at }
+    /// Where the bodies of an event stand.
+    pub fn places(&self, at: At) -> &'a [Place]
+        ensures { result.now ≡ places_at self.now at }
     {
-        match at {
-            At::Accepted => self.accepted,
-            At::Failed => self.failed,
-            At::Closed => self.closed,
-        }
+        places_in(self.places, at.name())
     }
 
     /// The body of this number of an event.
-    pub fn body(&self, at: At, number: usize) -> Option<&'a Handler>
-        ensures { option_map (λ h. h.now) result ≡ slice_get (bodies_at self.now at) number }
+    pub fn body(&self, at: At, number: usize) -> Option<Handler<'a>>
+        ensures { option_map handler_of result ≡ body_at self.now at number }
     {
-        self.bodies(at).get(number)
+        match self.places(at).get(number) {
+            Some(place) => body_in(self.rules, at.name(), *place),
+            None => None,
+        }
     }
+}
+
+fn places_in(lists: &[Places], event: EventName) -> &[Place]
+    ensures { result.now ≡ places_in lists.now event }
+{
+    match lists.get(event_place(event)) {
+        Some(places) => places.as_slice(),
+        None => &[],
+    }
+}
+
+// The place of an event among them all.
+fn event_place(event: EventName) -> usize
+    ensures { result ≡ event_place event }
+{
+    match event {
+        EventName::RuleInit => 0,
+        EventName::ClientAccepted => 1,
+        EventName::ClientData => 2,
+        EventName::ClientClosed => 3,
+        EventName::ServerConnected => 4,
+        EventName::ServerData => 5,
+        EventName::ServerClosed => 6,
+        EventName::LbSelected => 7,
+        EventName::LbFailed => 8,
+        EventName::HttpRequest => 9,
+        EventName::HttpRequestData => 10,
+        EventName::HttpResponse => 11,
+        EventName::HttpResponseData => 12,
+    }
+}
+
+/// The body at a place of rules.
+pub fn body_in(rules: &[Rule], event: EventName, place: Place) -> Option<Handler<'_>>
+    ensures { option_map handler_of result ≡ body_in rules.now event place }
+{
+    let rule = rules.get(place.rule)?;
+    let handler = rule.handlers(event).get(place.number)?;
+    Some(Handler {
+        name: &rule.name,
+        procs: &rule.procs,
+        body: &handler.body,
+    })
 }

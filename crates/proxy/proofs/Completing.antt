@@ -1,5 +1,6 @@
 -- From what the program promises of its end to when that is the whole text.
-use Rattle.std.proofs.Common.{◌≡◌, ◌⊎◌, inl, inr, refl, sym, subst, ◌∙◌, ℕ, List, Option, Some, None}
+use Rattle.std.proofs.Common.{◌≡◌, ◌⊎◌, inl, inr, refl, sym, ap, subst, ◌∙◌, ℕ, List, Option, true, false}
+use Rattle.std.specs.Prelude.{is_none}
 use Rattle.config.specs.declared.reader.Config as loaded
 use Rattle.proxy_core.specs.declared.config.Config as core
 use Rattle.proxy.specs.declared.end.End.{End}
@@ -19,8 +20,8 @@ module _ (told : List ℕ → Option (List ℕ)) (rb rn : ℕ) (name : List ℕ)
 
   runs_rightly : (K : core.Config) → IsRun C K → IsNotBuilt told name → ⊥
   runs_rightly K is n =
-      let none : run_of C ≡ None = sym (same_run told name C m n.C n.loads) ∙ n.not_built in
-      let some : run_of C ≡ Some is.run = is.can_run in
+      let none : is_none (run_of C) ≡ true = sym (same_run told name C m n.C n.loads) ∙ ap is_none n.not_built in
+      let some : is_none (run_of C) ≡ false = ap is_none is in
       cc
 
   no_refusal : (K : core.Config) → IsRun C K → (text : List ℕ) → IsRefusal told rb rn name text → ⊥

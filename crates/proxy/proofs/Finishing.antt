@@ -12,9 +12,11 @@ use Rattle.proxy.specs.declared.end.End.TheVariants.{Done, Usage, Config, Schedu
 use Rattle.proxy.specs.declared.end.End.TheVariants.{WriteFault, Memory}
 use Rattle.proxy.specs.declared.replay.Replay.{Replay}
 use Rattle.proxy.specs.End.{end_unless}
-use Rattle.proxy.specs.Replay.{past_text, accepted, connections_text, conns_text, report_text}
+use Rattle.proxy.specs.Replay.{notes_text, accepted, connections_text, conns_text, report_text}
 use Rattle.proxy.specs.Report.{end_text, text_fault, event_fault}
-use Rattle.proxy.specs.Stops.{StoppedText, StoppedEvent}
+use Rattle.proxy.specs.declared.replay.Stop.{Stop}
+use Rattle.proxy.specs.declared.replay.Stop.TheVariants as stop
+use Rattle.proxy.specs.Stops.{StopsAtStart, StoppedText, StoppedEvent}
 use Rattle.proxy.specs.Written.{Stands, IsLast, WritesFront, WritesFrontOf}
 use Rattle.proxy.specs.Replayed.{Reports, ReplaysAll, Replayed, Finished}
 use Rattle.proxy.specs.Replayed.{FinishFault}
@@ -36,7 +38,7 @@ reports C r text number last old mid new s w = record {
   represents = s.represents;
   output_matches_evaluator = every_past_matches C s.past s.state s.represents.sound.leads;
   reads = s.reads;
-  report_bytes = w ∙ ap (told_more mid) (ends_same C r text number last old mid s) ∙ ap (λ o. told_more o (connections_text s.past s.state (accepted s.past) ++ last)) s.written ∙ told_twice old (past_text s.past) _;
+  report_bytes = w ∙ ap (told_more mid) (ends_same C r text number last old mid s) ∙ ap (λ o. told_more o (connections_text s.past s.state (accepted s.past) ++ last)) s.written ∙ told_twice old (notes_text C s.past) _;
 }
 
 -- a part of its end was written
@@ -45,7 +47,7 @@ part_written C r schedule text rest number last old mid new s e is w =
     let P : List ℕ → Type 0 = λ l. WritesFrontOf l mid new in (
       report_text C s.past s.state last,
       inr (record { past = s.past; state = s.state; of_front = front_of C text rest schedule number r.core r.taken.items r.events old mid e s; last = last; is_last = is; text_is = refl }),
-      front_more (past_text s.past) (connections_text s.past s.state (accepted s.past) ++ last) old mid new s.written (subst P (ends_same C r text number last old mid s) w),
+      front_more (notes_text C s.past) (connections_text s.past s.state (accepted s.past) ++ last) old mid new s.written (subst P (ends_same C r text number last old mid s) w),
     )
 
 fault_replayed : (C : configured.Config) (schedule : List ℕ) (old new : Option (List ℕ)) (before between now : ℕ) (e : End) → before ≤ between → FinishFault between now e → WritesFront C schedule old new → Replayed C schedule old new before now e
@@ -101,3 +103,10 @@ event_replayed C schedule r line why last old mid new before between now res k h
     (if_ok last (λ l. l ≡ event_fault line why) (λ l. IsLast C s.past s.state k.number k.rest l) (λ l e. inr (inr (why, k.refuses, is l e))) i)
     (if_ok last (λ l. l ≡ event_fault line why) (λ l. Reports C s.past s.state k.text k.number l old new → Replayed C schedule old new before now Schedule)
     (λ l e x. inr (record { past = s.past; state = s.state; text = k.text; rest = k.rest; schedule_is = k.schedule_is; number = k.number; why = why; refuses = k.refuses; reports = (let P : List ℕ → Type 0 = λ y. Reports C s.past s.state k.text k.number y old new in subst P (is l e) x) })) i) f
+
+-- it stopped at the start
+pub start_stopped : (C : configured.Config) (schedule : List ℕ) (old new : Option (List ℕ)) (why : Stop) → StopsAtStart C old new why → WritesFront C schedule old new
+start_stopped C schedule old new (stop.Text line) k = absurd k
+start_stopped C schedule old new (stop.Event line why) k = absurd k
+start_stopped C schedule old new stop.WriteFault k = front_longer C [] schedule schedule old new refl k
+start_stopped C schedule old new stop.Memory k = front_longer C [] schedule schedule old new refl k

@@ -1,3 +1,4 @@
+pub mod Tests
 pub mod TakenBytes
 pub mod TakenKept
 pub mod LineCuts
@@ -7,7 +8,6 @@ pub mod ReportRows
 pub mod DocumentFaults
 pub mod ConfigAnswers
 pub mod OneRun
-pub mod Runs
 pub mod Ends
 pub mod Stopping
 pub mod LineStops

@@ -1,11 +1,13 @@
 -- What is read of files that are told: a configuration that loads isn't faulty, and what the core
 -- runs for it is told by its document alone.
 use Rattle.std.proofs.Common.{◌≡◌, ◌⊎◌, ℕ, ◌+◌, zero, suc, Bool, true, false, if◌then◌else◌, ◌&&◌, ◌==◌, List, [], ◌∷◌, Option, Some, None, IfSome, IsSome, inl, inr, refl, sym, ap, ap₂, subst, ◌∙◌, length, map}
-use Rattle.std.specs.Prelude.{Result, Ok, Err, option_map, option_and_then, slice_get}
+use Rattle.std.specs.Prelude.{Result, Ok, Err, is_none, option_map, option_and_then, slice_get}
 use Rattle.std.specs.List.{list_all}
 use Rattle.std.specs.Option.{option_or}
+use Rattle.event_order.specs.Event.{every_event}
 use Rattle.event_order.specs.declared.event.EventName.{EventName}
-use Rattle.event_order.specs.declared.event.EventName.TheVariants.{ClientAccepted}
+use Rattle.interim_rules.specs.HostCommands.{is_built}
+use Rattle.irule_net.specs.declared.groups.Groups.{Groups}
 use Rattle.rule_loader.specs.Loading.{Loaded, rule_of}
 use Rattle.rule_loader.specs.Outcome.{Gives}
 use Rattle.rule_loader.specs.declared.load_fault.RuleFault.{RuleFault}
@@ -31,7 +33,8 @@ use Rattle.config.specs.declared.reader.Config.{Config}
 use Rattle.config.specs.declared.rule_text.LoadedRule.{LoadedRule}
 use Rattle.proxy.specs.Complete.{AreTold, IsTold, MayLoad}
 use Rattle.proxy.specs.Loads.{Loads, is_read_fault}
-use Rattle.proxy.specs.Runnable.{bodies_at, has_none, is_alone, only, other_events, run_for, run_of, seen}
+use Rattle.proxy.specs.Groups.{made_groups}
+use Rattle.proxy.specs.Runnable.{are_built, bodies_at, can_run, core_of, has_built_bodies, has_few, is_plain, is_rule_built, run_of}
 use Rattle.proxy.proofs.ConfigAnswers.{other_kind}
 
 -- the contents of a file that is told
@@ -49,29 +52,26 @@ same_text told None file a b (inr some) one other = same_held (told file) some a
 
 -- ---- what is seen of a rule
 
-same_alone : (r s : Rule) → procs_view r.procs ≡ procs_view s.procs → ((event : EventName) → bodies_at event r ≡ bodies_at event s) → is_alone r ≡ is_alone s
-same_alone r s procs bodies = ap₂ (λ a b. a && b) (ap (λ ps. length ps == 0) procs) (each other_events)
+-- whether it can be run
+abbrev built : LoadedRule → Bool
+built r = is_rule_built r.rule
+
+same_built : (r s : Rule) → procs_view r.procs ≡ procs_view s.procs → ((event : EventName) → bodies_at event r ≡ bodies_at event s) → is_rule_built r ≡ is_rule_built s
+same_built r s procs bodies = ap₂ (λ a b. a && b) (each every_event) (ap (λ ps. has_few ps && are_built ps) procs)
   where
-    each : (events : List EventName) → list_all (has_none r) events ≡ list_all (has_none s) events
+    each : (events : List EventName) → list_all (has_built_bodies r) events ≡ list_all (has_built_bodies s) events
     each [] = refl
-    each (e ∷ events) = ap₂ (λ a b. a && b) (ap (λ hs. length hs == 0) (bodies e)) (each events)
+    each (e ∷ events) = ap₂ (λ a b. a && b) (ap (λ hs. list_all (λ h. is_built h.body) hs) (bodies e)) (each events)
 
-same_seen : (r s : LoadedRule) → r.rule.name ≡ s.rule.name → procs_view r.rule.procs ≡ procs_view s.rule.procs → ((event : EventName) → bodies_at event r.rule ≡ bodies_at event s.rule) → seen r ≡ seen s
-same_seen r s name procs bodies =
-    let alone = same_alone r.rule s.rule procs bodies in
-    ap (λ n. record { name = n; is_alone = is_alone r.rule; bodies = bodies_at ClientAccepted r.rule }) name
-    ∙ ap₂ (λ a b. record { name = s.rule.name; is_alone = a; bodies = b }) alone (bodies ClientAccepted)
-
-by_text : (r s : LoadedRule) (says : Result Loaded RuleFault) → Gives (Ok r.rule) says → Gives (Ok s.rule) says → seen r ≡ seen s
-by_text r s (Ok of) one other =
-    same_seen r s (one.name ∙ sym other.name) (one.procedures ∙ sym other.procedures) (λ event. one.bodies event ∙ sym (other.bodies event))
+by_text : (r s : LoadedRule) (says : Result Loaded RuleFault) → Gives (Ok r.rule) says → Gives (Ok s.rule) says → built r ≡ built s
+by_text r s (Ok of) one other = same_built r.rule s.rule (one.procedures ∙ sym other.procedures) (λ event. one.bodies event ∙ sym (other.bodies event))
 by_text r s (Err f) one other = absurd one
 
 module _ (told : List ℕ → Option (List ℕ)) where
   one_text : (d : Data) (r s : LoadedRule) → IsTold told d → (p : IsLoaded told d r) (q : IsLoaded told d s) → p.bytes ≡ q.bytes
   one_text d r s is p q = same_text told (text_in (Some rule_text.name) d) (file_name d) p.bytes q.bytes is p.contents q.contents
 
-  same_rule : (d : Data) (r s : LoadedRule) → IsTold told d → IsLoaded told d r → IsLoaded told d s → seen r ≡ seen s
+  same_rule : (d : Data) (r s : LoadedRule) → IsTold told d → IsLoaded told d r → IsLoaded told d s → built r ≡ built s
   same_rule d r s is p q =
       by_text r s (rule_of (rule_name d) q.bytes) (subst (λ b. Gives (Ok r.rule) (rule_of (rule_name d) b)) (one_text d r s is p q) p.rule.rule) q.rule.rule
 
@@ -125,10 +125,18 @@ module _ (index : List ℕ → Option ℕ) (rs ss : List LoadedRule) (same : map
 some_is : {A : Type 0} (x y : A) → Some x ≡ Some y → x ≡ y
 some_is x y e = cc
 
-only_seen : (rs : List LoadedRule) → option_map seen (only rs) ≡ only (map seen rs)
-only_seen [] = refl
-only_seen (r ∷ []) = refl
-only_seen (r ∷ s ∷ rs) = refl
+all_built : (rs : List LoadedRule) → list_all built rs ≡ list_all (λ b. b) (map built rs)
+all_built [] = refl
+all_built (r ∷ rs) = ap (λ b. built r && b) (all_built rs)
+
+none_run : (C : Config) → is_none (run_of C) ≡ (if can_run C then is_none (made_groups C.settings) else true)
+unfolding run_of
+none_run C = by_test (can_run C) (made_groups C.settings)
+  where
+    by_test : (b : Bool) (groups : Option Groups) → is_none (if b then option_map (core_of C) groups else None) ≡ (if b then is_none groups else true)
+    by_test true None = refl
+    by_test true (Some groups) = refl
+    by_test false groups = refl
 
 module _ (told : List ℕ → Option (List ℕ)) (name : List ℕ) (C : Config) (m : MayLoad told name C) where
   same_bytes : (bytes : List ℕ) → IsContents told name bytes → bytes ≡ m.bytes
@@ -138,15 +146,17 @@ module _ (told : List ℕ → Option (List ℕ)) (name : List ℕ) (C : Config) 
   same_document bytes top contents document =
       some_is top m.top (sym document.table ∙ ap parse_document (same_bytes bytes contents) ∙ m.document.table)
 
-  -- another one that loads is run alike
-  pub same_run : (D : Config) → Loads told name D → run_of D ≡ run_of C
-  unfolding run_of
+  -- another one that loads can be run, or not, alike
+  pub same_run : (D : Config) → Loads told name D → is_none (run_of D) ≡ is_none (run_of C)
   same_run D l =
       let top : l.top ≡ m.top = same_document l.holds.bytes l.top l.holds.contents l.holds.document in
       let D_is : Configures told m.top D = subst (λ t. Configures told t D) top l.configures in
       let settings : D.settings ≡ C.settings = D_is.settings ∙ sym m.configures.settings in
-      let seen_alike : map seen D.rules ≡ map seen C.rules = all_same told seen (same_rule told) (items_at rules m.top) D.rules C.rules m.texts D_is.loaded m.configures.loaded in
-      ap₂ (λ st o. run_for st (only st.virtuals) o) settings (only_seen D.rules ∙ ap only seen_alike ∙ sym (only_seen C.rules))
+      let alike : map built D.rules ≡ map built C.rules = all_same told built (same_rule told) (items_at rules m.top) D.rules C.rules m.texts D_is.loaded m.configures.loaded in
+      let all : list_all built D.rules ≡ list_all built C.rules = all_built D.rules ∙ ap (λ bs. list_all (λ b. b) bs) alike ∙ sym (all_built C.rules) in
+      none_run D
+      ∙ ap₂ (λ st b. if list_all is_plain st.virtuals && b then is_none (made_groups st) else true) settings all
+      ∙ sym (none_run C)
 
   -- it isn't faulty
   module _ (before now : ℕ) (f : Fault) (was : is_read_fault f.kind ≡ false) where

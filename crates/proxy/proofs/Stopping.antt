@@ -14,6 +14,7 @@ use Rattle.proxy_core.specs.Past.{Past, kind_of}
 use Rattle.proxy_core.specs.Refusal.{refusal, refused}
 use Rattle.proxy_core.specs.Represents.{Represents}
 use Rattle.proxy_core.specs.Scheduler.{State, no_connections}
+use Rattle.proxy_core.specs.Setup.{init_notes}
 use Rattle.proxy_core.specs.Steps.{KeepsStanding, StandsAfter}
 use Rattle.proxy_core.specs.declared.config.Config.{Config}
 use Rattle.proxy_core.specs.declared.core_state.Core.{Core}
@@ -23,7 +24,7 @@ use Rattle.proxy.specs.declared.taken.Taken.{Taken}
 use Rattle.proxy.specs.declared.replay.Stop.{Stop}
 use Rattle.proxy.specs.declared.replay.Stop.TheVariants as stop
 use Rattle.proxy.specs.Lines.{IsLine, Gives, Reads, events_of}
-use Rattle.proxy.specs.Replay.{past_text, conn_text, conns_text}
+use Rattle.proxy.specs.Replay.{past_text, notes_text, conn_text, conns_text}
 use Rattle.journal_text.specs.Notes.{note_lines}
 use Rattle.proxy.specs.Stops.{stop_of, with_line}
 use Rattle.proxy.specs.Taken.{took_of, with_took}
@@ -61,9 +62,9 @@ front_of C text rest whole number core taken events old new is s = record { lead
 -- what stands has written the notes of it
 pub stands_front : (C : Config) (text rest : List ℕ) (number : ℕ) (core : Core) (taken : List Taken) (events : ℕ) (old new : Option (List ℕ)) → Stands C text number core taken events old new → WritesNotes C (text ++ rest) old new
 stands_front C text rest number core taken events old new s = (
-  past_text s.past,
+  notes_text C s.past,
   record { past = s.past; state = s.state; of_front = front_of C text rest (text ++ rest) number core taken events old new refl s; text_is = refl },
-  (length (past_text s.past), s.written ∙ ap (told_more old) (sym (take-length (past_text s.past)))),
+  (length (notes_text C s.past), s.written ∙ ap (told_more old) (sym (take-length (notes_text C s.past)))),
 )
 
 -- the same of just what was read
@@ -115,7 +116,7 @@ stands_next C text line number core next event group taken kept events told old 
       reads = more_lines text line number event (events_of s.past) s.reads is gives;
       count = omega (arith, s.count);
       taken_is = takes ∙ ap (with_took (took_of core event)) s.taken_is ∙ taken_kept C s.past s.state k.next core event group s.represents fine g.accepted k.moves;
-      written = w ∙ ap (λ o. told_more o (note_lines group)) s.written ∙ told_twice told (past_text s.past) (note_lines group);
+      written = w ∙ ap (λ o. told_more o (note_lines group)) s.written ∙ told_twice told (notes_text C s.past) (note_lines group) ∙ ap (told_more told) (append_assoc (note_lines (init_notes C)) (past_text s.past) (note_lines group));
     }
 
 -- a prefix of its notes' lines
@@ -132,9 +133,9 @@ front_in_notes C text line number core next event group taken events told old ne
       number = number + 1;
       reads = more_lines text line number event (events_of s.past) s.reads is gives;
     } in (
-      past_text past,
+      notes_text C past,
       record { past = past; state = k.next; of_front = front; text_is = refl },
-      front_more (past_text s.past) (note_lines group) told old new s.written (w.taken, w.written),
+      subst (λ text. WritesFrontOf text told new) (append_assoc (note_lines (init_notes C)) (past_text s.past) (note_lines group)) (front_more (notes_text C s.past) (note_lines group) told old new s.written (w.taken, w.written)),
     )
 
 told_none : (o : Option (List ℕ)) → o ≡ told_more o []
@@ -142,16 +143,32 @@ told_none None = refl
 told_none (Some x) = ap Some (sym (append-nil x))
 
 -- before any event
-pub stands_first : (C : Config) (core : Core) (taken : List Taken) (told : Option (List ℕ)) → Represents C [] no_connections core → taken ≡ [] → Stands C [] 0 core taken 0 told told
-stands_first C core taken told r none = record {
+no_lines : Reads [] 0 []
+no_lines = record { lines = []; text_is = refl; all_lines = tt; number_is = refl; spell = refl }
+
+pub stands_first : (C : Config) (core : Core) (taken : List Taken) (told new : Option (List ℕ)) → Represents C [] no_connections core → taken ≡ [] → new ≡ told_more told (note_lines (init_notes C)) → Stands C [] 0 core taken 0 told new
+stands_first C core taken told new r none w = record {
   past = [];
   state = no_connections;
   represents = r;
-  reads = record { lines = []; text_is = refl; all_lines = tt; number_is = refl; spell = refl };
+  reads = no_lines;
   count = refl;
   taken_is = none;
-  written = told_none told;
+  written = w ∙ ap (told_more told) (sym (append-nil (note_lines (init_notes C))));
 }
+
+-- a prefix of the notes of the start
+pub start_front : (C : Config) (old new : Option (List ℕ)) → WritesFrontOf (note_lines (init_notes C)) old new → WritesNotes C [] old new
+start_front C old new w = (
+  notes_text C [],
+  record {
+    past = [];
+    state = no_connections;
+    of_front = record { leads = refl; read = []; rest = []; front = refl; number = 0; reads = no_lines };
+    text_is = refl;
+  },
+  subst (λ text. WritesFrontOf text old new) (sym (append-nil (note_lines (init_notes C)))) w,
+)
 
 -- the notes of a list that was empty before are those of the group
 pub only_group : (empty now : List Note) (group : List Note) → empty ≡ [] → now ≡ empty ++ group → now ≡ group

@@ -121,3 +121,10 @@ IsOutside (Text line) = ⊥
 IsOutside (Refused line why) = ⊥
 IsOutside WriteFault = Unit {0}
 IsOutside Memory = Unit {0}
+
+-- at the start no line is read yet, and a prefix of the notes of the start was written
+abbrev pub StopsAtStart : Config → Option (List ℕ) → Option (List ℕ) → Stop → Type 0
+StopsAtStart C old new (Text line) = ⊥
+StopsAtStart C old new (Refused line why) = ⊥
+StopsAtStart C old new WriteFault = WritesNotes C [] old new
+StopsAtStart C old new Memory = WritesNotes C [] old new

@@ -77,7 +77,7 @@ fn replay_files<F: Files, K: Sink>(
         Ok(loaded) => loaded,
         Err(why) => return refuse(alloc, why, out),
     };
-    let Ok(config) = core_config(alloc, &loaded) else {
+    let Ok(config) = core_config(alloc, loaded) else {
         return End::Memory;
     };
     let Some(config) = config else {

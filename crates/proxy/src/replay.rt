@@ -1,15 +1,15 @@
 // A replay of a schedule, line by line.
 
-ghost use Rattle.std.specs.Prelude.{◌≡◌, ◌≤◌, ◌<◌, ◌+◌, ◌^◌, IfOk, OnOk, IfErr, Option, List, ℕ};
+ghost use Rattle.std.specs.Prelude.{◌≡◌, ◌≤◌, ◌<◌, ◌+◌, ◌^◌, IfOk, OnOk, IfErr, Option, List};
 ghost use Rattle.std.specs.Prelude.{[]};
 ghost use Rattle.px_outside.specs.Outside.{Rose};
 ghost use Rattle.proxy.specs.Written.{Stands};
-ghost use Rattle.proxy.specs.Stops.{GoesOnWith, StopsWith};
+ghost use Rattle.proxy.specs.Stops.{GoesOnWith, StopsAtStart, StopsWith};
 
 use crate::taken::{Taken, add_took, took_by};
 use journal_text::write_notes;
 use proxy_core::{BadEvent, Config, Core, Event, Notes};
-use px_bytes::{M, Memory, Steps};
+use px_bytes::{Memory, Steps};
 use px_outside::{Failed, Sink, write_all};
 use std::alloc::Global;
 use std::sync::ledger::Ledger;
@@ -63,13 +63,18 @@ impl From<Failed> for Stop {
 }
 
 impl Replay {
-    /// A replay that was given no event.
-    pub fn new(alloc: Global, config: Config) -> M<Replay>
-        ensures stands { IfOk result (λ replay. (told : Option (List ℕ)) →
-            Stands config [] 0 replay.core replay.taken.items replay.events told told) }
+    /// A replay that was given no event, and the notes of the start, which are written.
+    pub fn start<K: Sink>(alloc: Global, config: Config, out: &mut K) -> Result<Replay, Stop>
+        ensures stands { IfOk result (λ replay. Stands config [] 0 replay.core replay.taken.items
+            replay.events (K.written out.old) (K.written out.new)) }
         ensures no_event { IfOk result (λ replay. replay.events ≡ 0) }
+        ensures stops { IfErr result (StopsAtStart config (K.written out.old) (K.written out.new)) }
+        ensures failed_is_counted { IfErr result
+            (λ why. why ≡ Stop.WriteFault → Rose (K.faults out.old) (K.faults out.new)) }
+        ensures faults_never_fall { K.faults out.old ≤ K.faults out.new }
     {
         let (core, notes) = Core::new(alloc, config)?;
+        write_all(out, write_notes(alloc, notes.as_slice())?.as_bytes())?;
         Ok(Replay {
             core,
             notes,

@@ -41,8 +41,10 @@ fn counted_replay<K: Sink, L: Ledger>(
     ensures faults_never_fall { K.faults out.old ≤ K.faults out.new }
 {
     let mut steps = Steps::<L>::new(blank);
-    let Ok(mut replay) = Replay::new(alloc, config) else {
-        return End::Memory;
+    let mut replay = match Replay::start(alloc, config, out) {
+        Ok(replay) => replay,
+        Err(Stop::WriteFault) => return End::WriteFault,
+        Err(_) => return End::Memory,
     };
     match replay.lines(alloc, schedule, &mut steps, out) {
         Ok(()) => {

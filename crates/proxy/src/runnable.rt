@@ -1,97 +1,86 @@
 // What can be run today of the configurations that load.
 
-ghost use Rattle.std.specs.Prelude.{◌≡◌, IfOk, ◌==◌, length, option_map, Some};
-ghost use Rattle.std.specs.List.{list_all};
+ghost use Rattle.std.specs.Prelude.{◌≡◌, ◌<◌, ◌++◌, IfOk, IfSome, OnOk, length, map, option_map};
+ghost use Rattle.std.specs.Prelude.{slice_get, true};
+ghost use Rattle.std.specs.List.{list_all, position_from};
+ghost use Rattle.event_order.specs.Event.{every_event};
+ghost use Rattle.interim_rules.specs.HostCommands.{is_built};
 ghost use Rattle.tcl_compile.specs.Procedures.{procs_view};
 ghost use Rattle.tcl_compile.specs.TreeView.{node_view};
-ghost use Rattle.proxy.specs.Runnable.{Makes, body_of, bodies_at, core_of, has_none, is_alone};
-ghost use Rattle.proxy.specs.Runnable.{is_plain, keeps_none, names_only, only, other_events};
-ghost use Rattle.proxy.specs.Runnable.{run_with, seen, serves};
-ghost use Rattle.event_order.specs.declared.event.EventName.TheVariants.{ClientAccepted as Accepted};
+ghost use Rattle.proxy.specs.Runnable.{are_built, can_run, core_of, has_built_bodies, has_few};
+ghost use Rattle.proxy.specs.Runnable.{is_plain, is_rule_built, keeps_none, listed, number_of};
+ghost use Rattle.proxy.specs.Runnable.{numbers_of, run_of, server_of};
 
 use crate::groups::core_groups;
-use config::{Config as Loaded, LoadedRule, Persist, Settings, Virtual};
+use config::{Config as Loaded, LoadedRule, Persist, Virtual};
 use event_order::EventName;
-use interim_rules::{copy_tree, is_built};
+use interim_rules::is_built;
 use irule_net::Groups;
-use proxy_core::{Config, Rule as CoreRule, Virtual as CoreVirtual};
+use proxy_core::{Config, Virtual as CoreVirtual};
 use px_bytes::{M, Seq, Text};
 use rule_loader::{Handler, Rule};
 use std::alloc::Global;
-use tcl_compile::{Node, Procs};
+use tcl_compile::Procs;
 
-/// All events but CLIENT_ACCEPTED.
-const OTHER_EVENTS: [EventName; 12] = [
-    EventName::RuleInit,
-    EventName::ClientData,
-    EventName::ClientClosed,
-    EventName::ServerConnected,
-    EventName::ServerData,
-    EventName::ServerClosed,
-    EventName::LbSelected,
-    EventName::LbFailed,
-    EventName::HttpRequest,
-    EventName::HttpRequestData,
-    EventName::HttpResponse,
-    EventName::HttpResponseData,
-];
+/// The most procedures of a rule that can be run today.
+const MOST_PROCEDURES: usize = 65_536;
 
-fn has_none(rule: &Rule, event: EventName) -> bool
-    ensures { result ≡ has_none rule.now event }
+fn has_built_bodies(rule: &Rule, event: EventName) -> bool
+    ensures { result ≡ has_built_bodies rule.now event }
 {
-    rule.handlers(event).len() == 0
+    are_bodies_built(rule.handlers(event).as_slice())
 }
 
-fn has_no_others(rule: &Rule) -> bool
-    ensures { result ≡ list_all (has_none rule.now) other_events }
+fn are_bodies_built(handlers: &[Handler]) -> bool
+    ensures { result ≡ list_all (λ h. is_built (node_view h.body)) handlers.now }
 {
-    OTHER_EVENTS.iter().all(|event| has_none(rule, *event))
+    handlers.iter().all(|handler| is_built(&handler.body))
 }
 
-fn has_no_procedures(rule: &Rule) -> bool
-    ensures { result ≡ (length (procs_view rule.now.procs) == 0) }
+fn has_all_built_bodies(rule: &Rule) -> bool
+    ensures { result ≡ list_all (has_built_bodies rule.now) every_event }
 {
-    rule.procs.at(0).is_none()
+    EventName::ALL
+        .iter()
+        .all(|event| has_built_bodies(rule, *event))
 }
 
-fn is_alone(rule: &Rule) -> bool
-    ensures { result ≡ is_alone rule.now }
+fn has_few(procs: &Procs) -> bool
+    ensures { result ≡ has_few (procs_view procs.now) }
 {
-    has_no_procedures(rule) && has_no_others(rule)
+    procs.at(MOST_PROCEDURES).is_none()
 }
 
-fn only_handler(handlers: &[Handler]) -> Option<&Handler>
-    ensures { option_map (λ h. h.now) result ≡ only handlers.now }
+// Whether the procedure of this number, if there is one, names no command that can't be run.
+fn built_at(procs: &Procs, number: usize) -> Option<bool>
+    ensures { result
+        ≡ option_map (λ p. is_built p.body) (slice_get (procs_view procs.now) number) }
 {
-    match handlers {
-        [handler] => Some(handler),
-        _ => None,
-    }
-}
-
-// The body of CLIENT_ACCEPTED, where there is just one.
-fn only_body(rule: &Rule) -> Option<&Node>
-    ensures { option_map (λ n. node_view n.now) result
-        ≡ option_map (λ h. h.body) (only (bodies_at Accepted rule.now)) }
-{
-    let handlers = rule.handlers(EventName::ClientAccepted);
-    match only_handler(handlers.as_slice()) {
-        Some(handler) => Some(&handler.body),
+    match procs.at(number) {
+        Some(procedure) => Some(is_built(&procedure.body)),
         None => None,
     }
 }
 
-// The body that a rule runs.
-fn body_of(rule: &LoadedRule) -> Option<&Node>
-    ensures { option_map (λ n. node_view n.now) result ≡ body_of (seen rule.now) }
+fn are_built(procs: &Procs) -> bool
+    requires { has_few (procs_view procs.now) ≡ true }
+    ensures { result ≡ are_built (procs_view procs.now) }
 {
-    if !is_alone(&rule.rule) {
-        return None;
+    for number in 0..MOST_PROCEDURES {
+        let Some(built) = built_at(procs, number) else {
+            return true;
+        };
+        if !built {
+            return false;
+        }
     }
-    match only_body(&rule.rule) {
-        Some(body) if is_built(body) => Some(body),
-        _ => None,
-    }
+    true
+}
+
+fn is_rule_built(rule: &Rule) -> bool
+    ensures { result ≡ is_rule_built rule.now }
+{
+    has_all_built_bodies(rule) && has_few(&rule.procs) && are_built(&rule.procs)
 }
 
 fn keeps_none(persist: Persist) -> bool
@@ -109,92 +98,95 @@ fn is_plain(server: &Virtual) -> bool
     !server.http && server.pool.is_none() && keeps_none(server.persist)
 }
 
-fn names_only(names: &[Text], name: &[u8]) -> bool
-    ensures { result ≡ names_only name.now (only names.now) }
+fn are_plain(servers: &[Virtual]) -> bool
+    ensures { result ≡ list_all is_plain servers.now }
 {
-    match names {
-        [only] => only.as_bytes() == name,
-        _ => false,
+    servers.iter().all(is_plain)
+}
+
+fn are_rules_built(rules: &[LoadedRule]) -> bool
+    ensures { result ≡ list_all (λ r. is_rule_built r.rule) rules.now }
+{
+    rules.iter().all(|rule| is_rule_built(&rule.rule))
+}
+
+fn can_run(loaded: &Loaded) -> bool
+    ensures { result ≡ can_run loaded.now }
+{
+    are_plain(loaded.settings.virtuals.as_slice()) && are_rules_built(loaded.rules.as_slice())
+}
+
+fn number_of(rules: &[LoadedRule], name: &[u8]) -> Option<usize>
+    ensures number { result ≡ number_of rules.now name.now }
+    ensures within { IfSome result (λ at. at < length rules.now) }
+{
+    rules.iter().position(|r| r.rule.name.as_bytes() == name)
+}
+
+fn add_number(numbers: &mut Seq<usize>, rules: &[LoadedRule], name: &[u8]) -> M<()>
+    ensures { OnOk result (numbers.new ≡ numbers.old ++ listed (number_of rules.now name.now)) }
+{
+    match number_of(rules, name) {
+        Some(number) => numbers.push(number),
+        None => Ok(()),
     }
 }
 
-fn serves(server: &Virtual, rule: &[u8]) -> bool
-    ensures { result ≡ serves server.now rule.now }
+fn numbers_of(alloc: Global, rules: &[LoadedRule], names: &[Text]) -> M<Seq<usize>>
+    ensures { IfOk result (λ numbers. numbers ≡ numbers_of rules.now names.now) }
 {
-    is_plain(server) && names_only(server.rules.as_slice(), rule)
-}
-
-fn only_server(servers: &[Virtual]) -> Option<&Virtual>
-    ensures { option_map (λ v. v.now) result ≡ only servers.now }
-{
-    match servers {
-        [server] => Some(server),
-        _ => None,
+    let mut numbers = Seq::new(alloc);
+    for name in names {
+        add_number(&mut numbers, rules, name.as_bytes())?;
     }
+    Ok(numbers)
 }
 
-fn only_rule(rules: &[LoadedRule]) -> Option<&LoadedRule>
-    ensures { option_map (λ r. r.now) result ≡ only rules.now }
+fn server_of(alloc: Global, rules: &[LoadedRule], server: &Virtual) -> M<CoreVirtual>
+    ensures { IfOk result (λ v. v ≡ server_of rules.now server.now) }
 {
-    match rules {
-        [rule] => Some(rule),
-        _ => None,
-    }
-}
-
-// The core's configuration of one virtual server with one rule.
-fn core_of(
-    alloc: Global,
-    settings: &Settings,
-    server: &Virtual,
-    rule: &Text,
-    groups: Groups,
-    body: Node,
-) -> M<Config>
-    ensures { IfOk result (λ K. K ≡ core_of
-        (run_with settings.now server.now rule.now (node_view body) groups) body) }
-{
-    let mut rules = Seq::new(alloc);
-    rules.push(CoreRule {
-        name: rule.copy()?,
-        procs: Procs::new(alloc),
-        body,
-    })?;
-    let mut virtuals = Seq::new(alloc);
-    virtuals.push(CoreVirtual {
+    Ok(CoreVirtual {
         name: server.name.copy()?,
         listen: server.listen,
-        rules,
-    })?;
+        rules: numbers_of(alloc, rules, server.rules.as_slice())?,
+    })
+}
+
+fn servers_of(alloc: Global, rules: &[LoadedRule], servers: &[Virtual]) -> M<Seq<CoreVirtual>>
+    ensures { IfOk result (λ made. made ≡ map (server_of rules.now) servers.now) }
+{
+    let mut made = Seq::new(alloc);
+    for server in servers {
+        made.push(server_of(alloc, rules, server)?)?;
+    }
+    Ok(made)
+}
+
+// The core's configuration, with these groups.
+fn core_of(alloc: Global, loaded: Loaded, groups: Groups) -> M<Config>
+    ensures { IfOk result (λ K. K ≡ core_of loaded groups) }
+{
+    let Loaded { settings, rules } = loaded;
+    let virtuals = servers_of(alloc, rules.as_slice(), settings.virtuals.as_slice())?;
     Ok(Config {
         budget: settings.budget,
         connections: settings.connections,
         groups,
+        rules: rules.into_rules(alloc)?,
         virtuals,
     })
 }
 
 /// What the core runs for a configuration, if that can be run.
 #[tactic(auto, unfolding(crate::specs::Runnable::run_of))]
-pub fn core_config(alloc: Global, loaded: &Loaded) -> M<Option<Config>>
-    ensures { IfOk result (Makes loaded.now) }
+pub fn core_config(alloc: Global, loaded: Loaded) -> M<Option<Config>>
+    ensures { IfOk result (λ K. K ≡ run_of loaded) }
 {
-    let Some(server) = only_server(loaded.settings.virtuals.as_slice()) else {
-        return Ok(None);
-    };
-    let Some(rule) = only_rule(loaded.rules.as_slice()) else {
-        return Ok(None);
-    };
-    if !serves(server, rule.rule.name.as_bytes()) {
+    if !can_run(&loaded) {
         return Ok(None);
     }
-    let Some(body) = body_of(rule) else {
-        return Ok(None);
-    };
     let Some(groups) = core_groups(alloc, &loaded.settings)? else {
         return Ok(None);
     };
-    let body = copy_tree(alloc, body)?;
-    let name = &rule.rule.name;
-    Ok(Some(core_of(alloc, &loaded.settings, server, name, groups, body)?))
+    Ok(Some(core_of(alloc, loaded, groups)?))
 }

@@ -11,6 +11,8 @@ use Rattle.connection_model.specs.Trace.{Unfolds}
 use Rattle.conn.specs.Holds.{Holds}
 use Rattle.conn.specs.RunsItems.{closing_if}
 use Rattle.conn.specs.declared.connection.Conn.{Conn}
+use Rattle.conn.specs.declared.setup.Place.{Place}
+use Rattle.proxy_core.specs.Bodies.{all_places}
 use Rattle.proxy_core.specs.Changes as code
 use Rattle.proxy_core.specs.Live.{SamePlace}
 use Rattle.proxy_core.specs.Moves.{MovesBy}
@@ -20,7 +22,7 @@ use Rattle.proxy_core.specs.Refusals.{live_at, virtual_place}
 use Rattle.proxy_core.specs.Represents.{around, ConnectionContinues, AgreesLive, AgreesAt, AgreesBy, Represents}
 use Rattle.proxy_core.specs.Scheduler.{State, Seen, seen_after}
 use Rattle.proxy_core.specs.Serving.{Serves}
-use Rattle.proxy_core.specs.Setup.{statics_of, setup_of, stand_of, rules_in, handlers_in, setup_in, port_in}
+use Rattle.proxy_core.specs.Setup.{statics_of, setup_of, stand_of, handlers_in, setup_in, port_in}
 use Rattle.proxy_core.specs.declared.config.Config.{Config}
 use Rattle.proxy_core.specs.declared.core_state.Core.{Core}
 use Rattle.proxy_core.specs.declared.live.Live.{Live}
@@ -60,6 +62,7 @@ assemble C past s next v group old new r moves keeps last moment live ring other
       agrees = record {
         config = keeps.config ∙ r.agrees.config;
         statics = ap (λ x. x.statics) keeps.statics ∙ r.agrees.statics;
+        places = keeps.places ∙ r.agrees.places;
         shared = ap (λ l. make l new.moment (numbers new.live.items)) last ∙ ap (λ m. make (last_after v old.last) m (numbers new.live.items)) moment ∙ ap (make (last_after v old.last) (moment_after v old.moment)) live
             ∙ ap (shared_after v group) r.agrees.shared;
         ring = ring;
@@ -126,15 +129,15 @@ serves_named C vs from place e = record {
   budget = refl;
   statics = refl;
   groups = refl;
-  handlers = λ x. ap (λ o. handlers_in (rules_in (option_and_then (λ p. slice_get C.virtuals p) o)) x) e;
+  handlers = λ x. ap (λ o. handlers_in C (option_and_then (λ p. slice_get C.virtuals p) o) x) e;
 }
 
-begun : (C : Config) (c place : ℕ) (vs : List ℕ) (from : Addr) (conn : Option Conn) (group : List Note) → virtual_place C vs ≡ Some place → code.BeginsAt (statics_of C) C c place from conn group
+begun : (C : Config) (places : List (List (List Place))) (c place : ℕ) (vs : List ℕ) (from : Addr) (conn : Option Conn) (group : List Note) → places ≡ all_places C.rules C.virtuals → virtual_place C vs ≡ Some place → code.BeginsAt (statics_of C) places C c place from conn group
     → (group ≡ first_notes c (not (is_some conn))) × ConnectionContinues C (fresh c (record { virtual = vs; from = from }) (not (is_some conn))) conn
-begun C c place vs from None group e b = (b, record { failed = refl; finished = refl; no_items = refl })
-begun C c place vs from (Some conn) group e b =
+begun C places c place vs from None group all e b = (b, record { failed = refl; finished = refl; no_items = refl })
+begun C places c place vs from (Some conn) group all e b =
     let g = setup_in C (Some (record { virtual = vs; from = from })) in
-    (b.2, inl (record { not_failed = refl; holds = b.0.2 g (serves_code C (statics_of C) place b.0.0 g b.0.1 (serves_named C vs from place e)) refl; queue = b.1 }))
+    (b.2, inl (record { not_failed = refl; holds = b.0.2 g (serves_code C (statics_of C) places place b.0.0 g all b.0.1 (serves_named C vs from place e)) refl; queue = b.1 }))
 
 accept_moves : (c : ℕ) (failed : Bool) (group : List Note) → group ≡ first_notes c failed → (group ≡ []) ⊎ (group ≡ Finish c Memory ∷ [])
 accept_moves c true group e = inr e
@@ -153,9 +156,9 @@ accepts C past s old new c vs from group r h k =
     let l : Live = record { number = c; vs = k.place; from = from; client = edge Open; conn = k.conn } in
     let next : State = record s { ring = s.ring ++ c ∷ [] } in
     let place_is : virtual_place C vs ≡ Some k.place = ap (λ D. virtual_place D vs) (sym r.agrees.config) ∙ k.virtual in
-    let D : Config → Type 0 = λ x. code.BeginsAt (statics_of C) x c k.place from k.conn group in
-    let L : Level → Type 0 = λ x. code.BeginsAt x old.config c k.place from k.conn group in
-    let b = begun C c k.place vs from k.conn group place_is (subst D r.agrees.config (subst L r.agrees.statics k.begins)) in
+    let D : Config → Type 0 = λ x. code.BeginsAt (statics_of C) old.places x c k.place from k.conn group in
+    let L : Level → Type 0 = λ x. code.BeginsAt x old.places old.config c k.place from k.conn group in
+    let b = begun C old.places c k.place vs from k.conn group r.agrees.places place_is (subst D r.agrees.config (subst L r.agrees.statics k.begins)) in
     let moves : MovesBy C past v group s next = record { notes = accept_moves c failed group b.0; state = refl } in
     let absent : is_in (numbers old.live.items) c ≡ false = ap (λ y. is_in y.live c) r.agrees.shared ∙ ap (λ z. z.live) u in
     let there : live_at new.live.items c ≡ Some l = ap (λ ls. live_at ls c) k.live ∙ live_pushed_self old.live.items l absent in

@@ -16,6 +16,10 @@ pub mod SoundPast
 pub mod Ending
 pub mod Finished
 pub mod Promises
+pub mod Order
+pub mod Ordering
+pub mod BodyPlaces
+pub mod InitRuns
 pub mod Setups
 pub mod Agreeing
 pub mod ComesAgrees

@@ -23,7 +23,7 @@ ticks C past s old new moment group steps r k =
     let v = Ticks moment in
     let A : Seen → Type 0 = λ z. AgreesAt C z (live_at new.live.items 0) in
     let B : Core → Type 0 = λ x. AgreesAt C (seen past s 0) (live_at x.live.items 0) in
-    assemble C past s s v group old new r (k.notes, refl) (record { config = ap (λ x. x.config) k.core; statics = ap (λ x. x.statics) k.core }) (ap (λ x. x.last) k.core) (ap (λ x. x.moment) k.core)
+    assemble C past s s v group old new r (k.notes, refl) (record { config = ap (λ x. x.config) k.core; statics = ap (λ x. x.statics) k.core; places = ap (λ x. x.places) k.core }) (ap (λ x. x.last) k.core) (ap (λ x. x.moment) k.core)
     (ap (λ x. numbers x.live.items) k.core ∙ sym (none_ended group (numbers old.live.items) k.notes)) (ap (λ x. x.live.ring) k.core ∙ r.agrees.ring) (λ q n. ap (λ x. live_at x.live.items q) k.core)
     (subst A (sym (unchanged past v group s s 0 (k.notes, refl) (λ h. others_not_heard 0 h v [] refl refl) refl)) (subst B (sym k.core) (r.agrees.each 0)))
 
@@ -31,6 +31,6 @@ pub turns : (C : Config) (past : Past) (s : State) (old new : Core) (group : Lis
 turns C past s old new group steps r k =
     let A : Seen → Type 0 = λ z. AgreesAt C z (live_at new.live.items 0) in
     let B : Core → Type 0 = λ x. AgreesAt C (seen past s 0) (live_at x.live.items 0) in
-    assemble C past s s Turns group old new r (k.notes, refl) (record { config = ap (λ x. x.config) k.core; statics = ap (λ x. x.statics) k.core }) (ap (λ x. x.last) k.core) (ap (λ x. x.moment) k.core)
+    assemble C past s s Turns group old new r (k.notes, refl) (record { config = ap (λ x. x.config) k.core; statics = ap (λ x. x.statics) k.core; places = ap (λ x. x.places) k.core }) (ap (λ x. x.last) k.core) (ap (λ x. x.moment) k.core)
     (ap (λ x. numbers x.live.items) k.core ∙ sym (none_ended group (numbers old.live.items) k.notes)) (ap (λ x. x.live.ring) k.core ∙ r.agrees.ring) (λ q n. ap (λ x. live_at x.live.items q) k.core)
     (subst A (sym (unchanged past Turns group s s 0 (k.notes, refl) (λ h. others_not_heard 0 h Turns [] refl refl) refl)) (subst B (sym k.core) (r.agrees.each 0)))

@@ -221,9 +221,9 @@ runs_front C past s old new c rest group steps r front_is k =
     let there = live_there c k.at old.live.items k.before k.place k.found in
     let i = its C z (live_at old.live.items c) k.before (r.agrees.each c) there in
     let v = (is_served C c z (λ u. let n : z.live ≡ false = ap (λ y. y.live) u in let m : true ≡ false = sym i.live ∙ n in cc) (r.sound.each c)).1 in
-    let D : Config → Type 0 = λ x. IsSetup x (statics_of C) k.before.vs k.setup in
-    let L : Level → Type 0 = λ x. IsSetup old.config x k.before.vs k.setup in
-    let serves = serves_code C (statics_of C) k.before.vs k.setup (setup_of C z.heard) (subst D r.agrees.config (subst L r.agrees.statics k.setup_is)) i.serves in
+    let D : Config → Type 0 = λ x. IsSetup x (statics_of C) old.places k.before.vs k.setup in
+    let L : Level → Type 0 = λ x. IsSetup old.config x old.places k.before.vs k.setup in
+    let serves = serves_code C (statics_of C) old.places k.before.vs k.setup (setup_of C z.heard) r.agrees.places (subst D r.agrees.config (subst L r.agrees.statics k.setup_is)) i.serves in
     let w = front_runs C past s c rest group k.turn k.setup k.before.conn k.after.conn r.sound.distinct i.live v i.continues serves k.runs in
     let over = ends k.turn in
     let number = number_at c k.at old.live.items k.before k.place k.found in

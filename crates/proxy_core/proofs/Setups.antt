@@ -1,39 +1,32 @@
 -- What the code's connections run on is the setup of their traces.
-use Rattle.std.proofs.Common.{◌≡◌, refl, sym, ap, ◌∙◌, ℕ, List, [], map}
+use Rattle.std.proofs.Common.{◌≡◌, sym, ap, ◌∙◌, ℕ, List, [], length}
+use Rattle.std.specs.Prelude.{option_and_then, slice_get, slice_index_or}
 use Rattle.tcl_vars.specs.Scopes.{Level}
 use Rattle.event_order.specs.declared.event.EventName.{EventName}
-use Rattle.event_order.specs.declared.event.EventName.TheVariants as event
 use Rattle.connection_model.specs.Setup.{Setup}
 use Rattle.conn.specs.Setups as conn
-use Rattle.conn.specs.Setups.{handler_of, handlers_at}
-use Rattle.conn.specs.declared.setup.Handler as code_handler
+use Rattle.conn.specs.Setups.{body_in, places_in}
+use Rattle.conn.specs.declared.setup.Place.{Place}
 use Rattle.conn.specs.declared.setup.Setup as code
+use Rattle.proxy_core.specs.Bodies.{all_places, bodies_of, places_of}
 use Rattle.proxy_core.specs.Serving.{Serves, IsSetup}
-use Rattle.proxy_core.specs.Setup.{rules_of, handlers_in}
+use Rattle.proxy_core.specs.Setup.{numbers_in}
 use Rattle.proxy_core.specs.declared.config.Config.{Config}
+use Rattle.proxy_core.proofs.BodyPlaces.{found_count, found_each, places_found, stand_at}
 
-handlers_same : (s : code.Setup) (rules : List code_handler.Handler) → s.accepted.now ≡ rules → s.failed.now ≡ [] → s.closed.now ≡ [] → (e : EventName) → handlers_in rules e ≡ handlers_at s e
-handlers_same s rules a f c event.RuleInit = refl
-handlers_same s rules a f c event.ClientAccepted = sym (ap (map handler_of) a)
-handlers_same s rules a f c event.ClientData = refl
-handlers_same s rules a f c event.ClientClosed = sym (ap (map handler_of) c)
-handlers_same s rules a f c event.ServerConnected = refl
-handlers_same s rules a f c event.ServerData = refl
-handlers_same s rules a f c event.ServerClosed = refl
-handlers_same s rules a f c event.LbSelected = refl
-handlers_same s rules a f c event.LbFailed = sym (ap (map handler_of) f)
-handlers_same s rules a f c event.HttpRequest = refl
-handlers_same s rules a f c event.HttpRequestData = refl
-handlers_same s rules a f c event.HttpResponse = refl
-handlers_same s rules a f c event.HttpResponseData = refl
-
-pub serves_code : (C : Config) (level : Level) (vs : ℕ) (s : code.Setup) (g : Setup) → IsSetup C level vs s → Serves C level vs g → conn.Serves s g
-serves_code C level vs s g i k = record {
-  port = k.port ∙ sym i.port;
-  pool = k.pool;
-  http = k.http;
-  budget = k.budget ∙ sym i.budget;
-  statics = k.statics ∙ sym i.statics;
-  groups = k.groups ∙ sym i.groups;
-  handlers = λ e. k.handlers e ∙ handlers_same s (rules_of C vs) i.accepted i.failed i.closed e;
-}
+pub serves_code : (C : Config) (level : Level) (places : List (List (List Place))) (vs : ℕ) (s : code.Setup) (g : Setup) → places ≡ all_places C.rules C.virtuals → IsSetup C level places vs s → Serves C level vs g → conn.Serves s g
+serves_code C level places vs s g all i k =
+    let numbers = numbers_in (slice_get C.virtuals vs) in
+    let same : (e : EventName) → places_in s.places.now e ≡ places_of C.rules numbers e = λ e. ap (λ x. places_in x e) (i.places ∙ ap (λ ps. slice_index_or ps vs []) all) ∙ stand_at C.rules C.virtuals vs e in
+    record {
+      port = k.port ∙ sym i.port;
+      pool = k.pool;
+      http = k.http;
+      budget = k.budget ∙ sym i.budget;
+      statics = k.statics ∙ sym i.statics;
+      groups = k.groups ∙ sym i.groups;
+      count = λ e. ap length (k.handlers e) ∙ found_count C.rules e (places_of C.rules numbers e) (bodies_of C.rules numbers e) (places_found C.rules e numbers) ∙ ap length (sym (same e));
+      each = λ e n. ap (λ hs. slice_get hs n) (k.handlers e) ∙ found_each C.rules e (places_of C.rules numbers e) (bodies_of C.rules numbers e) (places_found C.rules e numbers) n
+          ∙ ap (λ ps. option_and_then (body_in C.rules e) (slice_get ps n)) (sym (same e))
+          ∙ ap (λ rules. option_and_then (body_in rules e) (slice_get (places_in s.places.now e) n)) (sym i.rules);
+    }

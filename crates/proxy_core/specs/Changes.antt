@@ -14,6 +14,7 @@ use Rattle.conn.specs.Calls.{Begins}
 use Rattle.conn.specs.Runs.{IsBounded, IsWhole}
 use Rattle.conn.specs.RunsItems.{ends}
 use Rattle.conn.specs.declared.connection.Conn.{Conn}
+use Rattle.conn.specs.declared.setup.Place.{Place}
 use Rattle.conn.specs.declared.setup.Setup.{Setup}
 use Rattle.conn.specs.declared.turn.ConnTurn.{ConnTurn}
 use Rattle.proxy_core.specs.Live.{KeepsPlace, LiveComes, LiveRuns, SamePlace, client_met}
@@ -27,17 +28,19 @@ use Rattle.proxy_core.specs.declared.event.Event.{Event}
 use Rattle.proxy_core.specs.declared.event.Event.TheVariants as event
 use Rattle.proxy_core.specs.declared.live.Live.{Live}
 
--- the configuration and the static variables never change
+-- the configuration, the static variables and where bodies stand never change
 pub record KeepsConfig (old new : Core) : Type 0 where
   pub config : new.config ≡ old.config
   pub statics : new.statics ≡ old.statics
+  pub places : new.places ≡ old.places
 
 -- the connection begins; where no memory was found for it, it has finished with that cause
-abbrev pub BeginsAt : Level → Config → ℕ → ℕ → Addr → Option Conn → List Note → Type 0
-BeginsAt statics C number place from (Some conn) group =
-    ((s : Setup) × IsSetup C statics place s × Begins s from conn)
+abbrev pub BeginsAt : Level → List (List (List Place)) → Config → ℕ → ℕ → Addr → Option Conn
+    → List Note → Type 0
+BeginsAt statics places C number place from (Some conn) group =
+    ((s : Setup) × IsSetup C statics places place s × Begins s from conn)
     × (queue_of conn ≡ []) × (group ≡ [])
-BeginsAt statics C number place from None group = group ≡ Finish number Memory ∷ []
+BeginsAt statics places C number place from None group = group ≡ Finish number Memory ∷ []
 
 -- an accepted connection goes to the back of the ring
 pub record Accepts (old new : Core) (number : ℕ) (vs : List ℕ) (from : Addr)
@@ -48,7 +51,7 @@ pub record Accepts (old new : Core) (number : ℕ) (vs : List ℕ) (from : Addr)
   pub place : ℕ
   pub virtual : virtual_place old.config vs ≡ Some place
   pub conn : Option Conn
-  pub begins : BeginsAt old.statics.statics old.config number place from conn group
+  pub begins : BeginsAt old.statics.statics old.places old.config number place from conn group
   pub live : new.live.items ≡ old.live.items
       ++ record { number = number; vs = place; from = from; client = edge Open; conn = conn } ∷ []
   pub ring : new.live.ring ≡ old.live.ring ++ number ∷ []
@@ -98,7 +101,7 @@ pub record RunsFront (old new : Core) (number : ℕ) (rest : List ℕ) (group : 
   pub after : Live
   pub same : SamePlace before after
   pub setup : Setup
-  pub setup_is : IsSetup old.config old.statics.statics before.vs setup
+  pub setup_is : IsSetup old.config old.statics.statics old.places before.vs setup
   pub turn : ConnTurn
   pub runs : LiveRuns setup number before.conn after.conn group turn
   pub whole : IsWhole turn steps (length group)

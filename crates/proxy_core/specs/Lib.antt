@@ -2,6 +2,10 @@ pub mod Live
 pub mod Ready
 pub mod Start
 pub mod Refusals
+pub mod Order
+pub mod Bodies
+pub mod Init
+pub mod InitPlaces
 pub mod Setup
 pub mod Serving
 pub mod Changes
@@ -15,3 +19,4 @@ pub mod Asked
 pub mod Represents
 pub mod Steps
 pub mod Headline
+pub mod Laws

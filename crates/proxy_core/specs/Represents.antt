@@ -5,6 +5,7 @@ use Rattle.connection_model.specs.Item.{client_output}
 use Rattle.conn.specs.Holds.{Around, Holds}
 use Rattle.conn.specs.declared.connection.Conn.{Conn}
 use Rattle.conn.specs.declared.stage.Stage.TheVariants.{OutOfMemory}
+use Rattle.proxy_core.specs.Bodies.{all_places}
 use Rattle.proxy_core.specs.Live.{queue_of}
 use Rattle.proxy_core.specs.Past.{Past, Shared, shared}
 use Rattle.proxy_core.specs.Ready.{numbers}
@@ -68,6 +69,7 @@ pub record AgreesBy (C : Config) (all : Shared) (each_seen : ℕ → Seen) (s : 
     (core : Core) : Type 0 where
   pub config : core.config ≡ C
   pub statics : core.statics.statics ≡ statics_of C
+  pub places : core.places ≡ all_places C.rules C.virtuals
   pub shared : shared_of core ≡ all
   pub ring : core.live.ring ≡ s.ring
   pub each : (c : ℕ) → AgreesAt C (each_seen c) (live_at core.live.items c)

@@ -1,10 +1,11 @@
 -- The setups of a virtual server's connections, of the code and of the trace.
-use Rattle.std.specs.Prelude.{◌≡◌, ℕ, [], false}
+use Rattle.std.specs.Prelude.{◌≡◌, ℕ, List, [], false, slice_get, slice_index_or}
 use Rattle.tcl_vars.specs.Scopes.{Level}
 use Rattle.event_order.specs.declared.event.EventName.{EventName}
 use Rattle.connection_model.specs.Setup.{Setup}
+use Rattle.conn.specs.declared.setup.Place.{Place}
 use Rattle.conn.specs.declared.setup.Setup as code
-use Rattle.proxy_core.specs.Setup.{rules_of, port_of, handlers_in}
+use Rattle.proxy_core.specs.Setup.{port_of, handlers_in}
 use Rattle.proxy_core.specs.declared.config.Config.{Config}
 
 -- it is the setup of a trace, of the virtual server at a place
@@ -15,14 +16,14 @@ pub record Serves (C : Config) (level : Level) (vs : ℕ) (g : Setup) : Type 0 w
   pub budget : g.budget ≡ C.budget
   pub statics : g.statics ≡ level
   pub groups : g.groups ≡ C.groups
-  pub handlers : (e : EventName) → g.handlers e ≡ handlers_in (rules_of C vs) e
+  pub handlers : (e : EventName) → g.handlers e ≡ handlers_in C (slice_get C.virtuals vs) e
 
--- it is what the code's connections of that virtual server run on
-pub record IsSetup (C : Config) (level : Level) (vs : ℕ) (s : code.Setup) : Type 0 where
+-- it is what the code's connections of that virtual server run on, where the bodies of all stand there
+pub record IsSetup (C : Config) (level : Level) (all : List (List (List Place))) (vs : ℕ)
+    (s : code.Setup) : Type 0 where
   pub port : s.port ≡ port_of C vs
   pub budget : s.budget ≡ C.budget
   pub statics : s.statics.now.statics ≡ level
   pub groups : s.groups.now ≡ C.groups
-  pub accepted : s.accepted.now ≡ rules_of C vs
-  pub failed : s.failed.now ≡ []
-  pub closed : s.closed.now ≡ []
+  pub rules : s.rules.now ≡ C.rules
+  pub places : s.places.now ≡ slice_index_or all vs []

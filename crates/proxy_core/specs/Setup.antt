@@ -3,28 +3,25 @@
 use Rattle.std.specs.Prelude.{ℕ, List, [], map, length, false, slice_get, option_and_then}
 use Rattle.std.specs.Prelude.{Option, Some, None}
 use Rattle.px_bytes.specs.declared.addr.Addr.{Addr}
-use Rattle.tcl_vars.specs.Scopes.{Level, no_scopes}
+use Rattle.tcl_vars.specs.Scopes.{Level}
 use Rattle.event_order.specs.declared.event.EventName.{EventName}
-use Rattle.event_order.specs.declared.event.EventName.TheVariants.{ClientAccepted}
 use Rattle.connection_model.specs.declared.note.Note.{Note}
+use Rattle.connection_model.specs.declared.note.Note.TheVariants.{Log}
 use Rattle.connection_model.specs.Heard.{Accepted, Heard, start_of}
 use Rattle.connection_model.specs.Item.{Item}
 use Rattle.connection_model.specs.Setup.{Handler, Setup}
 use Rattle.connection_model.specs.State.{TraceState}
 use Rattle.connection_model.specs.Trace.{behind}
-use Rattle.conn.specs.Setups.{handler_of}
-use Rattle.conn.specs.declared.setup.Handler as code
+use Rattle.proxy_core.specs.Bodies.{bodies_of}
+use Rattle.proxy_core.specs.Init.{init}
 use Rattle.proxy_core.specs.Refusals.{virtual_place}
 use Rattle.proxy_core.specs.declared.config.Config.{Config}
 use Rattle.proxy_core.specs.declared.config.Virtual.{Virtual}
 
--- the rules of the virtual server at a place
-abbrev pub rules_in : Option Virtual → List code.Handler
-rules_in None = []
-rules_in (Some v) = v.rules
-
-abbrev pub rules_of : Config → ℕ → List code.Handler
-rules_of C place = rules_in (slice_get C.virtuals place)
+-- the numbers of the rules of a virtual server
+abbrev pub numbers_in : Option Virtual → List ℕ
+numbers_in None = []
+numbers_in (Some v) = v.rules
 
 -- its port
 abbrev pub port_in : Option Virtual → ℕ
@@ -34,22 +31,21 @@ port_in (Some v) = v.listen.port
 abbrev pub port_of : Config → ℕ → ℕ
 port_of C place = port_in (slice_get C.virtuals place)
 
--- the bodies of an event, in order: today's rules have one for CLIENT_ACCEPTED
-abbrev pub handlers_in : List code.Handler → EventName → List Handler
-handlers_in rules ClientAccepted = map handler_of rules
-handlers_in rules event = []
+-- the bodies of an event, in their order
+abbrev pub handlers_in : Config → Option Virtual → EventName → List Handler
+handlers_in C v e = map (λ b. b.handler) (bodies_of C.rules (numbers_in v) e)
 
 -- the virtual server of a name
 abbrev pub virtual_named : Config → List ℕ → Option Virtual
 virtual_named C name = option_and_then (λ place. slice_get C.virtuals place) (virtual_place C name)
 
--- What the rules' RULE_INIT leave in the static variables, and the notes of it: today's rules have
--- none.
+-- what the rules' RULE_INIT leave in the static variables, and the notes of the lines that they log,
+-- which are about no connection
 abbrev pub statics_of : Config → Level
-statics_of C = no_scopes.statics
+statics_of C = (init C).vars.statics
 
 abbrev pub init_notes : Config → List Note
-init_notes C = []
+init_notes C = map (λ line. Log 0 line) (init C).lines
 
 -- the setup of a connection that the virtual server of this name accepts from an address; those of
 -- today have no pool and no HTTP
@@ -63,7 +59,7 @@ setup_for C name from = record {
   budget = C.budget;
   statics = statics_of C;
   groups = C.groups;
-  handlers = handlers_in (rules_in (virtual_named C name));
+  handlers = handlers_in C (virtual_named C name);
 }
 
 abbrev pub setup_in : Config → Option Accepted → Setup

@@ -46,7 +46,7 @@ impl Core {
         if self.config.connections as usize <= self.live.len() {
             return Err(BadEvent::Full);
         }
-        let setup = setup_at(&self.config, &self.statics, place);
+        let setup = setup_at(&self.config, &self.statics, &self.places, place);
         let conn = Some(Conn::new(self.alloc, &setup, from));
         self.last = number;
         let live = Live {

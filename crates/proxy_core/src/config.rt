@@ -1,15 +1,15 @@
 // What a proxy serves.
 
-use conn::Handler;
 use irule_net::Groups;
 use px_bytes::{Addr, Seq, Text};
+use rule_loader::Rule;
 
-/// A virtual server, with the bodies that its rules run at CLIENT_ACCEPTED, in order.
+/// A virtual server, with the numbers of its rules in their order.
 #[derive(Drop)]
 pub struct Virtual {
     pub name: Text,
     pub listen: Addr,
-    pub rules: Seq<Handler>,
+    pub rules: Seq<usize>,
 }
 
 /// A configuration that was read.
@@ -21,5 +21,7 @@ pub struct Config {
     pub connections: u32,
     /// The data groups and pools that rules name.
     pub groups: Groups,
+    /// All rules, in the order of their file.
+    pub rules: Seq<Rule>,
     pub virtuals: Seq<Virtual>,
 }

@@ -5,10 +5,12 @@ ghost use Rattle.std.specs.Prelude.{IfOk};
 ghost use Rattle.proxy_core.specs.Ready.{numbers, is_in};
 
 use crate::config::Config;
+use crate::init::{init, start_notes};
 use crate::live::Live;
+use crate::server_bodies::{EventPlaces, all_places};
 use connection_model::Notes;
 use connection_table::Table;
-use px_bytes::M;
+use px_bytes::{M, Seq};
 use std::alloc::Global;
 use tcl_vars::Vars;
 
@@ -19,6 +21,8 @@ pub struct Core {
     pub(crate) config: Config,
     /// What RULE_INIT left in the static variables.
     pub(crate) statics: Vars,
+    /// Where the bodies of each virtual server stand.
+    pub(crate) places: Seq<EventPlaces>,
     /// The present moment: that of the last Tick.
     pub(crate) moment: u64,
     /// The greatest number that was accepted.
@@ -44,16 +48,20 @@ impl Core {
         ensures stands { IfOk result (λ made. Represents config [] no_connections made.0) }
         ensures notes { IfOk result (λ made. made.1.items ≡ init_notes config) }
     {
+        let places = all_places(alloc, config.rules.as_slice(), config.virtuals.as_slice())?;
+        let left = init(alloc, &config)?;
+        let notes = start_notes(alloc, left.lines.as_slice())?;
         let room = config.connections as usize;
         let live = Table::with_capacity(alloc, room)?;
         let core = Core {
             alloc,
             config,
-            statics: Vars::new(alloc),
+            statics: left.vars,
+            places,
             moment: 0,
             last: 0,
             live,
         };
-        Ok((core, Notes::new(alloc)))
+        Ok((core, notes))
     }
 }

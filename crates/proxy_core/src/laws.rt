@@ -1,10 +1,22 @@
 // What holds of every past.
 
 ghost use Rattle.proxy_core.specs.Headline.{EveryPastMatches};
+ghost use Rattle.proxy_core.specs.Laws.{BodiesRunInOrder, StaticsStay};
 
 /// For every configuration and every past that leads to a state of the scheduler: the bytes that each
 /// client took are a front of what the evaluator gives, all of it when nothing is ready and nothing
 /// pending; the notes are those of its items; and a connection ends for its named cause.
 pub fn output_matches_evaluator()
     ensures { EveryPastMatches }
+{}
+
+/// The bodies of rules run at an event each once, by their priorities, and those of one priority in the
+/// order of the rules and of their places.
+pub fn bodies_run_in_order()
+    ensures { BodiesRunInOrder }
+{}
+
+/// A connection sees the static variables that RULE_INIT left, for ever.
+pub fn statics_stay()
+    ensures { StaticsStay }
 {}

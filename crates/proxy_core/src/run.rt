@@ -25,7 +25,7 @@ impl Core {
         let Some(at) = self.live.pop_ready() else {
             return;
         };
-        let setup = setup_at(&self.config, &self.statics, self.live[at].vs);
+        let setup = setup_at(&self.config, &self.statics, &self.places, self.live[at].vs);
         let turn = self.live[at].run(self.alloc, &setup, steps, notes);
         ready_behind(&mut self.live, at, &turn);
         if turn.is_over() {

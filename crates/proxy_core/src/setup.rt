@@ -1,26 +1,31 @@
 // What the connections of a virtual server run on.
 
-ghost use Rattle.std.specs.Prelude.{◌≡◌};
+ghost use Rattle.std.specs.Prelude.{◌≡◌, [], slice_index_or};
 ghost use Rattle.proxy_core.specs.Serving.{IsSetup};
-ghost use Rattle.proxy_core.specs.Setup.{port_of, rules_of};
+ghost use Rattle.proxy_core.specs.Setup.{port_of};
 
 use crate::config::Config;
-use conn::{Handler, Setup};
+use crate::server_bodies::EventPlaces;
+use conn::{Places, Setup};
+use px_bytes::Seq;
 use tcl_vars::Vars;
 
-/// What the connections of the virtual server at a place run on: rules of today have no bodies for
-/// other events.
-pub fn setup_at<'a>(config: &'a Config, statics: &'a Vars, place: usize) -> Setup<'a>
-    ensures { IsSetup config.now statics.now.statics place result }
+/// What the connections of the virtual server at a place run on, where the bodies of all stand there.
+pub fn setup_at<'a>(
+    config: &'a Config,
+    statics: &'a Vars,
+    places: &'a Seq<EventPlaces>,
+    place: usize,
+) -> Setup<'a>
+    ensures { IsSetup config.now statics.now.statics places.now place result }
 {
     Setup {
         port: port_at(config, place),
         budget: config.budget,
         statics,
         groups: &config.groups,
-        accepted: rules_at(config, place),
-        failed: &[],
-        closed: &[],
+        rules: config.rules.as_slice(),
+        places: places_at(places, place),
     }
 }
 
@@ -33,11 +38,11 @@ fn port_at(config: &Config, place: usize) -> u16
     }
 }
 
-fn rules_at(config: &Config, place: usize) -> &[Handler]
-    ensures { result.now ≡ rules_of config.now place }
+fn places_at(places: &Seq<EventPlaces>, place: usize) -> &[Places]
+    ensures { result.now ≡ slice_index_or places.now place [] }
 {
-    match config.virtuals.get(place) {
-        Some(server) => server.rules.as_slice(),
+    match places.get(place) {
+        Some(places) => places.as_slice(),
         None => &[],
     }
 }

@@ -1,4 +1,4 @@
-use Rattle.std.proofs.Common.{refl, ap, ◌∙◌}
+use Rattle.std.proofs.Common.{refl, sym, ap, ◌∙◌}
 use Rattle.std.specs.Prelude.{Err}
 use Rattle.proxy.specs.Command.{named_of}
 use Rattle.proxy.specs.Offline.{Runs}
@@ -27,7 +27,7 @@ returns-in_default-config g c =
     let new = g.K.Sink.written c.tell_fault.new.out in
     let b = g.K.Sink.faults c.args.out.now in
     let n = g.K.Sink.faults c.tell_fault.new.out in
-    not_built told old new rb rn b n (named_of c.args.named) c.in-Ok.loaded c.in-Ok.ensures.answer (rw c.in_default-config.is at c.in-Ok-core_config.ensures) c.tell_fault.result c.tell_fault.ensures
+    not_built told old new rb rn b n (named_of c.args.named) c.in-Ok.loaded c.in-Ok.ensures.answer (sym (rw c.in_default-config.is at c.in-Ok-core_config.ensures)) c.tell_fault.result c.tell_fault.ensures
 
 pub returns-in-Ok-read : goal.returns-in-Ok-read
 returns-in-Ok-read g c =
@@ -43,13 +43,13 @@ returns-in-Ok-read g c =
     let runs : Runs told named c.in-Some.config c.in-Ok-read.schedule = record {
       C = c.in-Ok.loaded;
       loads = loads told rb mid named.config c.in-Ok.loaded c.in-Ok.ensures.answer;
-      is_run = rw c.in-Some.is at c.in-Ok-core_config.ensures;
+      is_run = sym (rw c.in-Some.is at c.in-Ok-core_config.ensures);
       schedule_contents = rw c.in-Ok.ensures.same_files at c.in-Ok-read.ensures.contents;
     } in
     replayed told old new rb rn b n named c.in-Some.config c.in-Ok-read.schedule runs c.replay.result (rw c.as_bytes.ensures at c.replay.ensures.replayed)
 
-pub returns : goal.returns
-returns g c =
+pub returns-in-Err-read : goal.returns-in-Err-read
+returns-in-Err-read g c =
     let told = g.F.Files.told c.args.files.now in
     let rb = g.F.Files.faults c.args.files.now in
     let mid = g.F.Files.faults c.read_config.new.files in
@@ -58,5 +58,5 @@ returns g c =
     let b = g.K.Sink.faults c.args.out.now in
     let named = named_of c.args.named in
     rw c.read_end.ensures (unread told old old rb rn b b named c.in-Ok.loaded c.in-Some.config (loads told rb mid named.config c.in-Ok.loaded c.in-Ok.ensures.answer)
-    (rw c.in-Some.is at c.in-Ok-core_config.ensures) c.in-Err-read.failed
+    (sym (rw c.in-Some.is at c.in-Ok-core_config.ensures)) c.in-Err-read.failed
     (λ e. rose_earlier rb mid rn c.in-Ok.ensures.faults_never_fall (c.read.ensures.failed_is_counted (c.in-Err-read.is ∙ ap Err e))) refl)

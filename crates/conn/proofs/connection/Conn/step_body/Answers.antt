@@ -1,24 +1,24 @@
-use Rattle.std.proofs.Common.{◌≡◌, refl, sym, ap, subst, ◌∙◌, ◌-◌, Option, Some, option_map}
-use Rattle.std.specs.Prelude.{slice_get}
-use Rattle.conn.specs.Setups.{bodies_at}
+use Rattle.std.proofs.Common.{◌≡◌, refl, sym, ap, subst, ◌∙◌, ◌-◌, List, Option, Some, option_map}
+use Rattle.connection_model.specs.Setup.{Handler}
+use Rattle.connection_model.specs.declared.note.Note.{Note}
+use Rattle.conn.specs.Setups.{body_at, handler_of}
 use Rattle.conn.specs.Steps.{BodyMovedBy, BodySteps, GoesOn}
 use Rattle.conn.specs.declared.body_step.Said.{Said}
 use Rattle.conn.specs.declared.connection.Conn.{Conn}
-use Rattle.conn.specs.declared.setup.Handler.{Handler}
 use Rattle.conn.proofs.Places.{within}
 use Rattle.conn.proofs.connection.Conn.step_body.Goals as goal
 
 pub go_on-requires : goal.go_on-requires
-go_on-requires g c = within (bodies_at c.args.setup.now c.args.at) c.args.body c.in-Some.handler.now (sym c.body.ensures ∙ ap (option_map (λ h. h.now)) c.in-Some.is)
+go_on-requires g c = within c.args.setup.now c.args.at c.args.body (handler_of c.in-Some.handler) (sym c.body.ensures ∙ ap (option_map handler_of) c.in-Some.is)
 
 pub returns-clause-moved : goal.returns-clause-moved
 returns-clause-moved g c =
     let s = c.args.setup.now in
     let old = c.args.self.now in
-    let got : slice_get (bodies_at s c.args.at) c.args.body ≡ Some c.in-Some.handler.now = sym c.body.ensures ∙ ap (option_map (λ h. h.now)) c.in-Some.is in
+    let got : body_at s c.args.at c.args.body ≡ Some (handler_of c.in-Some.handler) = sym c.body.ensures ∙ ap (option_map handler_of) c.in-Some.is in
     let stepped : Conn = record { stage = old.stage; body = c.step.new.self; vars = c.step.new.vars; host = c.step.new.host; client = old.client } in
     let G : Said → Type 0 = λ x. GoesOn s c.args.at c.args.body x c.do_made.new.self c.go_on.new.self c.go_on.result in
-    let steps : BodySteps s c.in-Some.handler.now c.args.number c.args.at c.args.body old c.go_on.new.self c.args.notes.now.items c.do_made.new.notes.items c.go_on.result = record {
+    let steps : BodySteps s (handler_of c.in-Some.handler) c.args.number c.args.at c.args.body old c.go_on.new.self c.args.notes.now.items c.do_made.new.notes.items c.go_on.result = record {
       stepped = stepped;
       mid = c.do_made.new.self;
       turned = c.in_ok-turn.turn;

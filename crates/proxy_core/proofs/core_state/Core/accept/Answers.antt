@@ -24,7 +24,7 @@ returns-clause-accepts c = (
   [],
   sym (append-nil _),
   record {
-    keeps = record { config = refl; statics = refl };
+    keeps = record { config = refl; statics = refl; places = refl };
     last = refl;
     moment = refl;
     place = c.in-Some.place;

@@ -77,7 +77,7 @@ returns-then-comes-clause-comes c =
       comes_notes came.0 c.comes.result c.args.number,
       came.1 ∙ ap (λ n. before ++ comes_notes came.0 c.comes.result n) number,
       record {
-        keeps = record { config = refl; statics = refl };
+        keeps = record { config = refl; statics = refl; places = refl };
         last = refl;
         moment = refl;
         at = at;
@@ -109,7 +109,7 @@ returns-else-comes-clause-comes c =
       comes_notes came.0 c.comes.result c.args.number,
       came.1 ∙ ap (λ n. before ++ comes_notes came.0 c.comes.result n) number,
       record {
-        keeps = record { config = refl; statics = refl };
+        keeps = record { config = refl; statics = refl; places = refl };
         last = refl;
         moment = refl;
         at = at;

@@ -109,7 +109,7 @@ returns-then-is_over-clause-runs g c =
     let n = number_at number at ls l place h in
     let k = rw i at c.index.ensures in
     let same = read_again ls at c.index.result.now l k h in
-    let P : ℕ → Type 0 = λ v. IsSetup s.config s.statics.statics v c.setup_at-setup.result in
+    let P : ℕ → Type 0 = λ v. IsSetup s.config s.statics.statics s.places v c.setup_at-setup.result in
     let told = ap (λ x. get_or x at 0) c.pop_ready.ensures.numbers ∙ number_in at s.live.numbers ls l s.numbered h ∙ n in
     let ring = c.ready_behind.ensures.ring ∙ ap (λ x. ring_behind c.run-turn.result x rest) told in
     let told' = ap (λ x. get_or x at 0) ns ∙ number_in at s.live.numbers ls l s.numbered h ∙ n in
@@ -119,7 +119,7 @@ returns-then-is_over-clause-runs g c =
       c.run-turn.ensures.runs.0,
       c.run-turn.ensures.runs.1,
       front_runs _ _ s.live.ring rest number c.run-turn.ensures.runs.0 _ p.ring (record {
-        keeps = record { config = refl; statics = refl };
+        keeps = record { config = refl; statics = refl; places = refl };
         last = refl;
         moment = refl;
         at = at;
@@ -158,14 +158,14 @@ returns-clause-runs g c =
     let n = number_at number at ls l place h in
     let k = rw i at c.index.ensures in
     let same = read_again ls at c.index.result.now l k h in
-    let P : ℕ → Type 0 = λ v. IsSetup s.config s.statics.statics v c.setup_at-setup.result in
+    let P : ℕ → Type 0 = λ v. IsSetup s.config s.statics.statics s.places v c.setup_at-setup.result in
     let told = ap (λ x. get_or x at 0) c.pop_ready.ensures.numbers ∙ number_in at s.live.numbers ls l s.numbered h ∙ n in
     let ring = c.ready_behind.ensures.ring ∙ ap (λ x. ring_behind c.run-turn.result x rest) told in
     let over = sym c.is_over.ensures ∙ c.if-is_over.false in (
       c.run-turn.ensures.runs.0,
       c.run-turn.ensures.runs.1,
       front_runs _ _ s.live.ring rest number c.run-turn.ensures.runs.0 _ p.ring (record {
-        keeps = record { config = refl; statics = refl };
+        keeps = record { config = refl; statics = refl; places = refl };
         last = refl;
         moment = refl;
         at = at;
@@ -211,7 +211,7 @@ returns-in_default-clause-runs g c =
       [],
       sym (append-nil _),
       idle_runs s _ s.live.ring _ e.0 (record {
-        keeps = record { config = refl; statics = refl };
+        keeps = record { config = refl; statics = refl; places = refl };
         last = refl;
         moment = refl;
         live = c.pop_ready.ensures.items;

@@ -1,0 +1,15 @@
+use Rattle.std.proofs.Common.{ap, ap₂, ◌∙◌, refl}
+use Rattle.proxy_core.specs.Bodies.{all_places}
+use Rattle.proxy_core.proofs.Stepping.{start_represents}
+use Rattle.proxy_core.proofs.core_state.Core.new.Goals as goal
+
+pub returns-clause-stands : goal.returns-clause-stands
+returns-clause-stands c = start_represents c.args.config _ (record {
+  config = refl;
+  statics = ap (λ left. left.vars.statics) c.in_ok-left.ensures;
+  places = c.in_ok-places.ensures ∙ ap₂ all_places c.as_slice.ensures c.as_slice-2.ensures;
+  last = refl;
+  moment = refl;
+  live = c.in_ok-live.ensures.items;
+  ring = c.in_ok-live.ensures.ring;
+})

@@ -1,0 +1,13 @@
+use Rattle.std.proofs.Common.{◌≡◌, refl, Option, Some, None}
+use Rattle.connection_model.specs.Heard.{Accepted}
+use Rattle.proxy_core.specs.Init.{init}
+use Rattle.proxy_core.specs.Setup.{setup_in}
+use Rattle.proxy_core.specs.declared.config.Config.{Config}
+use Rattle.proxy_core.proofs.laws.statics_stay.Goals as goal
+
+by_accepted : (C : Config) (a : Option Accepted) → (setup_in C a).statics ≡ (init C).vars.statics
+by_accepted C None = refl
+by_accepted C (Some a) = refl
+
+pub returns : goal.returns
+returns c C h = by_accepted C h.accepted
