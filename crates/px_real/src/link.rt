@@ -22,6 +22,8 @@ pub(crate) struct Link {
     hung_up: bool,
     // room for writes is reported too
     both: bool,
+    // the end was read, or the link failed
+    over: bool,
 }
 
 impl Link {
@@ -33,6 +35,7 @@ impl Link {
             writable: true,
             hung_up: false,
             both: false,
+            over: false,
         }
     }
 
@@ -45,6 +48,7 @@ impl Link {
             writable: false,
             hung_up: refused,
             both: true,
+            over: refused,
         }
     }
 
@@ -89,6 +93,7 @@ impl Link {
         match stream.read(room) {
             Ok(0) => {
                 self.readable = false;
+                self.over = true;
                 ReadAnswer::End
             }
             Ok(n) => {
@@ -99,7 +104,10 @@ impl Link {
                 self.readable = false;
                 match error.kind() {
                     ErrorKind::WouldBlock => ReadAnswer::NotYet,
-                    _ => ReadAnswer::Reset,
+                    _ => {
+                        self.over = true;
+                        ReadAnswer::Reset
+                    }
                 }
             }
         }
@@ -128,7 +136,10 @@ impl Link {
                 self.writable = false;
                 match error.kind() {
                     ErrorKind::WouldBlock => WriteAnswer::NotYet,
-                    _ => WriteAnswer::Reset,
+                    _ => {
+                        self.over = true;
+                        WriteAnswer::Reset
+                    }
                 }
             }
         }
@@ -154,8 +165,8 @@ impl Link {
         }
     }
 
-    /// Its stream, where bytes of the peer may be unread.
+    /// Its stream, where bytes of the peer may be unread, or come still.
     pub(crate) fn unread(self) -> Option<TcpStream> {
-        if self.readable { self.stream } else { None }
+        if self.over { None } else { self.stream }
     }
 }

@@ -1,0 +1,4 @@
+pub mod Asked
+pub mod Told
+pub mod Served
+pub mod Always
