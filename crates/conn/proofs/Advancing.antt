@@ -1,5 +1,5 @@
 -- An action is the next items of each state that the connection may stand for.
-use Rattle.std.proofs.Common.{◌≡◌, refl, sym, ap, subst, ◌∙◌, ℕ, zero, suc, List, [], ◌∷◌, ◌++◌, append-nil, map, drop, length, Bool, true, false, Option, Some, None, nat_lt}
+use Rattle.std.proofs.Common.{◌≡◌, refl, sym, ap, subst, ◌∙◌, ℕ, List, [], ◌∷◌, ◌++◌, append-nil, drop, length, Bool, true, false, Option, Some, None, nat_lt}
 use Rattle.std.specs.Bool.{MatchBool}
 use Rattle.px_bytes.specs.declared.fault.FaultKind.{FaultKind}
 use Rattle.event_order.specs.declared.event.EventName.TheVariants.{LbFailed, ClientClosed}
@@ -15,10 +15,10 @@ use Rattle.connection_model.specs.State.{Cut, Gated, Running, Failing, InEvent, 
 use Rattle.connection_model.specs.Trace.{next_item, GivesNoMore}
 use Rattle.conn.specs.Acts.{PassesGate, Chooses, Closes, BehindFault, ActedAt, Acted}
 use Rattle.conn.specs.Changes.{StartsBody}
-use Rattle.conn.specs.Steps.{BodyMovedBy, BodyMoved}
+use Rattle.conn.specs.Steps.{BodyMovedBy}
 use Rattle.conn.specs.Events.{event_of}
 use Rattle.conn.specs.Holds.{Around, Between, BodyGoesOn, GatedBefore, RunsFirst, Stands, Holds}
-use Rattle.conn.specs.Hosts.{AsksNothing, logs_of, seen_host, unselected_host}
+use Rattle.conn.specs.Hosts.{AsksNothing, seen_host, unselected_host}
 use Rattle.conn.specs.Setups.{body_at, places_at, Serves}
 use Rattle.conn.specs.Stages.{reason_for, cause_for, entered_by, is_asking}
 use Rattle.conn.specs.declared.connection.Conn.{Conn}

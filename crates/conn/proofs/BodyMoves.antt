@@ -36,7 +36,7 @@ use Rattle.conn.specs.Steps.{BodySteps, GoesOn, ended_of, one_of, said_of}
 use Rattle.conn.specs.Bodies.{SaidIs}
 use Rattle.conn.specs.Events.{event_of}
 use Rattle.conn.specs.Holds.{Around, BodyGoesOn, RunsFirst, Stands, Holds}
-use Rattle.conn.specs.Hosts.{AsksNothing, Made, cleared_host, logs_of, seen_host}
+use Rattle.conn.specs.Hosts.{Made, cleared_host, logs_of, seen_host}
 use Rattle.conn.specs.Setups.{body_at, places_at, Serves}
 use Rattle.conn.specs.Stages.{after_stage, is_asking}
 use Rattle.conn.specs.declared.connection.Conn.{Conn}

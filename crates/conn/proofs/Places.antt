@@ -1,5 +1,5 @@
 -- Where a connection goes stands for where its trace goes.
-use Rattle.std.proofs.Common.{◌≡◌, refl, sym, ap, subst, ◌∙◌, ℕ, zero, suc, ◌+◌, ◌<◌, List, [], ◌∷◌, ◌++◌, map, drop, length, Bool, true, false, nat_lt, arith, ◌≤◌, Option, Some, None, if◌then◌else◌}
+use Rattle.std.proofs.Common.{◌≡◌, refl, sym, ap, subst, ◌∙◌, ℕ, zero, suc, ◌+◌, ◌<◌, List, [], ◌∷◌, ◌++◌, drop, length, Bool, true, false, nat_lt, arith, ◌≤◌, Option, Some, None, if◌then◌else◌}
 use Rattle.std.specs.Bool.{MatchBool}
 use Rattle.std.specs.Prelude.{option_and_then, slice_get}
 use Rattle.std.proofs.lemmas.Bool.Decides.{nat_tests}

@@ -1,5 +1,5 @@
 -- What a connection of the code runs on, and the setup of a trace.
-use Rattle.std.specs.Prelude.{◌≡◌, ℕ, List, [], length, false, Option, Some, None, option_map}
+use Rattle.std.specs.Prelude.{◌≡◌, ℕ, List, [], length, false, Option, option_map}
 use Rattle.std.specs.Prelude.{option_and_then, slice_get, slice_index_or}
 use Rattle.tcl_compile.specs.Procedures.{procs_view}
 use Rattle.tcl_compile.specs.TreeView.{node_view}

@@ -1,4 +1,4 @@
-pub mod Tests
+pub mod ListTests
 pub mod TakenBytes
 pub mod TakenKept
 pub mod LineCuts

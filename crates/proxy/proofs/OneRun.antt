@@ -1,6 +1,6 @@
 -- What is read of files that are told: a configuration that loads isn't faulty, and what the core
 -- runs for it is told by its document alone.
-use Rattle.std.proofs.Common.{◌≡◌, ◌⊎◌, ℕ, ◌+◌, zero, suc, Bool, true, false, if◌then◌else◌, ◌&&◌, ◌==◌, List, [], ◌∷◌, Option, Some, None, IfSome, IsSome, inl, inr, refl, sym, ap, ap₂, subst, ◌∙◌, length, map}
+use Rattle.std.proofs.Common.{◌≡◌, ◌⊎◌, ℕ, ◌+◌, zero, suc, Bool, true, false, if◌then◌else◌, ◌&&◌, List, [], ◌∷◌, Option, Some, None, IfSome, IsSome, inl, inr, refl, sym, ap, ap₂, subst, ◌∙◌, map}
 use Rattle.std.specs.Prelude.{Result, Ok, Err, is_none, option_map, option_and_then, slice_get}
 use Rattle.std.specs.List.{list_all}
 use Rattle.std.specs.Option.{option_or}

@@ -6,7 +6,6 @@ use Rattle.event_order.specs.declared.event.EventName.TheVariants as event
 use Rattle.rule_loader.specs.Handlers.{handlers_at}
 use Rattle.rule_loader.specs.declared.handler.Handler as loaded
 use Rattle.rule_loader.specs.declared.rule.Rule.{Rule}
-use Rattle.connection_model.specs.Setup.{Handler}
 use Rattle.conn.specs.Setups.{body_in, body_of, handler_view, places_in}
 use Rattle.conn.specs.declared.setup.Place.{Place}
 use Rattle.proxy_core.specs.Bodies.{Body, all_places, bodies_in, bodies_of, body_view, gathered, place_priority, placed, placed_in, places_of, rule_bodies, rule_places, server_places}

@@ -1,5 +1,5 @@
 -- What RULE_INIT leaves, body by body.
-use Rattle.std.proofs.Common.{◌≡◌, refl, sym, ap, ◌∙◌, ℕ, zero, suc, ◌+◌, List, [], ◌∷◌, ◌++◌, map, append-nil, append_assoc, Option}
+use Rattle.std.proofs.Common.{◌≡◌, refl, sym, ap, ◌∙◌, ℕ, List, [], ◌∷◌, ◌++◌, map, append-nil}
 use Rattle.px_bytes.specs.Answered.{DidStep}
 use Rattle.px_bytes.specs.Host.{Effect, HostStep, Gives, Faults, Asks}
 use Rattle.px_bytes.specs.declared.fault.HostAnswer.{HostAnswer}

@@ -1,5 +1,5 @@
 -- Places in order.
-use Rattle.std.proofs.Common.{◌≡◌, refl, sym, ap, ◌∙◌, ℕ, zero, suc, ◌+◌, ◌<◌, List, [], ◌∷◌, ◌++◌, take, drop, length, get_or, Bool, true, false, Option, Some, None, nat_le, arith, if◌then◌else◌, flat_map, append_assoc, append-nil}
+use Rattle.std.proofs.Common.{◌≡◌, refl, sym, ap, ◌∙◌, ℕ, zero, suc, ◌+◌, ◌<◌, List, [], ◌∷◌, ◌++◌, take, length, get_or, Bool, true, false, Some, None, nat_le, arith, if◌then◌else◌, flat_map, append_assoc, append-nil}
 use Rattle.std.specs.List.{insert, position_from}
 use Rattle.std.specs.Prelude.{slice_get, slice_index_or}
 use Rattle.rule_loader.specs.declared.handler.Handler as loaded

@@ -1,6 +1,6 @@
-use Rattle.std.proofs.Common.{◌≡◌, ap, ap₂, subst, ◌∙◌, List, [], ◌++◌}
+use Rattle.std.proofs.Common.{ap, ap₂, subst, ◌∙◌, List, [], ◌++◌}
 use Rattle.px_bytes.specs.declared.fault.Reply.{Reply}
-use Rattle.tcl_vars.specs.Scopes.{Scopes, in_proc, out_of_proc}
+use Rattle.tcl_vars.specs.Scopes.{Scopes, in_proc}
 use Rattle.rule_model.specs.Evaluator.{evaluate}
 use Rattle.plain_eval.specs.Plain.{IsOutcome}
 use Rattle.connection_model.specs.Setup.{Handler}

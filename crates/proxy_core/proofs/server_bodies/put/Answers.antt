@@ -1,5 +1,5 @@
-use Rattle.std.proofs.Common.{◌≡◌, sym, ap, ◌∙◌, ◌++◌, ◌∷◌, [], Option, Some, None}
-use Rattle.std.specs.List.{insert, position_from}
+use Rattle.std.proofs.Common.{◌≡◌, sym, ap, ◌∙◌, Some, None}
+use Rattle.std.specs.List.{position_from}
 use Rattle.std.specs.Prelude.{nat_le}
 use Rattle.proxy_core.proofs.Ordering.{put_found, put_none}
 use Rattle.proxy_core.proofs.server_bodies.put.Goals as goal
