@@ -2,3 +2,4 @@ pub mod Asked
 pub mod Told
 pub mod Served
 pub mod Always
+pub mod Serves

@@ -4,6 +4,8 @@
 mod edges;
 mod face;
 mod served;
+mod serves;
 mod told;
 
 pub use served::Served;
+pub use serves::serve_config;

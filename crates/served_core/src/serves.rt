@@ -1,0 +1,48 @@
+// A configuration is served.
+
+ghost use Rattle.std.specs.Prelude.{◌≡◌, IfOk, OnOk};
+ghost use Rattle.journal_text.specs.Notes.{note_lines};
+ghost use Rattle.px_outside.specs.Outside.{told_more};
+ghost use Rattle.served_core.specs.Serves.{ServesConfig};
+
+use crate::served::Served;
+use connection_model::Note;
+use journal_text::write_notes;
+use proxy_core::{Config, Core};
+use px_outside::{Clock, Failed, Net, Sink, write_all};
+use serve_loop::{ServeEnd, ServeFault, Server, serve};
+use std::alloc::Global;
+
+/// Serves a configuration: so many turns, or so many connections. The notes of its start and all
+/// events with their notes go to the journal.
+pub fn serve_config<N: Net, T: Clock, K: Sink>(
+    alloc: Global,
+    config: Config,
+    net: &mut N,
+    clock: &mut T,
+    journal: &mut K,
+    conns: u32,
+    turns: u64,
+) -> Result<ServeEnd, ServeFault>
+    ensures { IfOk result (ServesConfig N.did N.gave T.gave config conns turns net.old net.new
+        clock.old clock.new (K.written journal.old) (K.written journal.new)) }
+{
+    let (core, notes) = Core::new(alloc, config)?;
+    write_start(alloc, notes.as_slice(), journal)?;
+    let mut server = Server::new(alloc, Served { core }, net, conns)?;
+    let end = serve(&mut server, net, clock, journal, turns)?;
+    Ok(end)
+}
+
+// Writes the notes of the start.
+fn write_start<K: Sink>(alloc: Global, notes: &[Note], journal: &mut K) -> Result<(), ServeFault>
+    ensures { OnOk result
+        (K.written journal.new ≡ told_more (K.written journal.old) (note_lines notes.now)) }
+{
+    let text = write_notes(alloc, notes)?;
+    match write_all(journal, text.as_bytes()) {
+        Ok(()) => Ok(()),
+        Err(Failed::Failed) => Err(ServeFault::Write),
+        Err(Failed::Memory) => Err(ServeFault::Memory),
+    }
+}
