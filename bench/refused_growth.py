@@ -1,17 +1,19 @@
 #!/usr/bin/env python3
-"""Refuses each allocation of two replays in turn, and says what the program then wrote.
+"""Refuses each allocation of three replays in turn, and says what the program then wrote.
 
 usage: bench/refused_growth.py [PROXY]    without PROXY after `./ciravogu` has built the program once
 
-The replays are the first example, and one of two virtual servers, each with a rule and a connection: one spends its
-whole budget, the other answers its client. A small shim, compiled into a temporary folder, counts the C library's
+The replays are the first example, that of two services with a RULE_INIT, and one of two virtual servers, each with a
+rule and a connection: one spends its whole budget, the other answers its client. A small shim, compiled into a temporary folder, counts the C library's
 allocations and fails one of them. A run must end with status 7 and a prefix of the report, or note `> finish C memory`
 of one connection and go on: then the notes of that one are a front of its own in the whole report up to there, its
-client took a front of the same bytes, and whatever the report says of the other is untouched. Any other end but the
-whole report is printed, and the status is then 1.
+client took a front of the same bytes, and whatever the report says of the other is untouched. Where it stops at a line
+that the connection can't take any more, the whole report is that of the lines before. Any other end but the whole
+report is printed, and the status is then 1.
 """
 
 import collections
+import functools
 import os
 import pathlib
 import re
@@ -49,6 +51,11 @@ REPLAYS = {
         (TOP / "examples/hi.toml").read_text(),
         (TOP / "examples/hi.txt").read_text(),
         b"> client 1 68692037\n> end 3\n",
+    ),
+    "two services": (
+        (TOP / "examples/services.toml").read_text(),
+        (TOP / "examples/services.txt").read_text(),
+        b"> end 6\n",
     ),
     "two rules": (TWO_RULES, TWO_CONNECTIONS, b"> client 1 -\n> client 2 6f6b\n> end 19\n"),
 }
@@ -119,13 +126,15 @@ def lacked_memory(whole, report):
     return wanted[conn][: len(front)] == front and len(took) == 1 and (took[0] == none or all_took[0].startswith(took[0]))
 
 
-def kind(whole, ended):
+def kind(whole, ended, report_before):
     """What a run came to, or None where that is a bug."""
     if ended.returncode == 0 and ended.stdout == whole:
         return "the whole report"
     if ended.returncode == 7 and whole.startswith(ended.stdout):
         return "status 7 and a prefix of the report"
-    if ended.returncode in (0, 4) and lacked_memory(whole, ended.stdout):
+    stops = re.search(rb"\n> fault line (\d+) event \d+\n\Z", ended.stdout)
+    there = report_before(int(stops.group(1))) if stops else whole
+    if ended.returncode == (4 if stops else 0) and lacked_memory(there, ended.stdout):
         return "`memory` of one connection, the other untouched"
     return None
 
@@ -140,11 +149,20 @@ def tried(name, shim, folder):
     if first.returncode or not first.stdout.endswith(last):
         sys.exit(f"{name}: status {first.returncode}, {first.stdout!r}")
     allocations = int(counted.read_text())
+
+    @functools.cache
+    def report_before(line):
+        pathlib.Path(folder, "schedule.txt").write_text("".join(schedule.splitlines(True)[: line - 1]))
+        report = run(shim, folder).stdout
+        pathlib.Path(folder, "schedule.txt").write_text(schedule)
+        return report
+
     ends, bugs = collections.Counter(), []
     for at in range(1, allocations + 1):
         ended = run(shim, folder, REFUSED_ALLOCATION=str(at))
-        ends[kind(first.stdout, ended)] += 1
-        if kind(first.stdout, ended) is None:
+        came_to = kind(first.stdout, ended, report_before)
+        ends[came_to] += 1
+        if came_to is None:
             bugs.append((at, ended.returncode, ended.stdout))
     print(f"{name}: {allocations} allocations, each refused in turn:")
     for end, number in ends.most_common():
