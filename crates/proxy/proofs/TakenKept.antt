@@ -38,7 +38,8 @@ use Rattle.proxy_core.specs.declared.event.Event.{Event}
 use Rattle.proxy_core.specs.declared.event.Event.TheVariants.{Accept, FromClient, ClientEnd, Tick, Turn, ClientTook, Run, Mark}
 use Rattle.proxy_core.specs.declared.event.BadEvent.TheVariants.{NoMember}
 use Rattle.proxy_core.specs.declared.live.Live.{Live}
-use Rattle.proxy_core.proofs.Framing.{about, front, touches, only_changed}
+use Rattle.proxy_core.specs.Others.{about, front}
+use Rattle.proxy_core.proofs.Framing.{touches, only_changed}
 use Rattle.proxy_core.proofs.GroupNotes.{About}
 use Rattle.proxy_core.proofs.Hearing.{come_told, run_told}
 use Rattle.proxy_core.proofs.Members.{eq_self, eq_same, eq_turned, in_pushed_other}

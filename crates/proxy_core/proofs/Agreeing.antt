@@ -33,7 +33,8 @@ use Rattle.connection_model.specs.declared.note.Note.TheVariants.{Finish}
 use Rattle.proxy_core.specs.Refusal.{edges_in, refused}
 use Rattle.connection_model.specs.declared.edges.EdgeState.TheVariants.{Open}
 use Rattle.connection_model.specs.Edges.{edge}
-use Rattle.proxy_core.proofs.Framing.{about, touches, only_changed, each_by}
+use Rattle.proxy_core.specs.Others.{about}
+use Rattle.proxy_core.proofs.Framing.{touches, only_changed, each_by}
 use Rattle.proxy_core.proofs.LiveLookups.{live_absent, live_set_self, live_set_other, live_removed_other, numbers_removed, live_pushed_other, live_pushed_self}
 use Rattle.proxy_core.proofs.Members.{not_in_without}
 use Rattle.proxy_core.proofs.Places.{numbers_set}

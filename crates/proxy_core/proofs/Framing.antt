@@ -10,6 +10,7 @@ use Rattle.connection_model.specs.Item.{Item, notes_of}
 use Rattle.connection_model.specs.Tellings.{tells, conn_of}
 use Rattle.connection_model.proofs.Hearing.{others_not_heard}
 use Rattle.proxy_core.specs.Moves.{Rests, is_drained_at, came, may_come, ran, MovesFailed, MovesLacks, MovesOn, MovesCome, RunsOn, RunsOut, RunsFailed, MovesRing, MovesBy}
+use Rattle.proxy_core.specs.Others.{about, front}
 use Rattle.proxy_core.specs.Past.{Past, heard, ended_in, without_all, with_accepted, shared}
 use Rattle.proxy_core.specs.Ready.{is_in, ring_behind, without}
 use Rattle.conn.specs.RunsItems.{closing, closing_if, ends, out_of_memory}
@@ -18,17 +19,6 @@ use Rattle.proxy_core.specs.declared.config.Config.{Config}
 use Rattle.proxy_core.proofs.Entries.{entries_behind, entries_pushed, entries_rest, entries_without, entries_ready}
 use Rattle.proxy_core.proofs.GroupNotes.{About, about_joined, about_closing_if, about_items, of_items, own_none}
 use Rattle.proxy_core.proofs.Members.{eq_same, eq_turned, in_pushed_other, in_without_other}
-
--- the connection that an event is about
-abbrev pub front : List ℕ → ℕ
-front [] = 0
-front (c ∷ rest) = c
-
-abbrev pub about : EventKind → State → ℕ
-about (Accepts c vs from) s = c
-about (Comes c input) s = c
-about Runs s = front s.ring
-about other s = 0
 
 not_concerned : (q : ℕ) (v : EventKind) (s : State) → nat_eq (about v s) q ≡ false → concerns q v ≡ false
 not_concerned q (Accepts c vs from) s e = e

@@ -11,6 +11,7 @@ pub mod Coming
 pub mod Hearing
 pub mod Standing
 pub mod Framing
+pub mod Others
 pub mod SoundEvents
 pub mod SoundPast
 pub mod Ending

@@ -45,7 +45,7 @@ use Rattle.connection_model.specs.declared.edges.EdgeState.TheVariants.{Absent}
 use Rattle.connection_model.specs.Edges.{edge}
 use Rattle.proxy_core.specs.Refusal.{edges_in}
 use Rattle.proxy_core.proofs.EdgeNotes.{run_edges}
-use Rattle.proxy_core.proofs.Framing.{about, front}
+use Rattle.proxy_core.specs.Others.{about, front}
 use Rattle.proxy_core.proofs.GroupNotes.{of_items, ended_behind, failure_behind}
 use Rattle.proxy_core.proofs.Hearing.{run_told}
 use Rattle.proxy_core.proofs.Members.{eq_self, not_in_without}

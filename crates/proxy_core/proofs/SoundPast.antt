@@ -29,7 +29,8 @@ use Rattle.proxy_core.specs.Setup.{setup_of, stand_of}
 use Rattle.proxy_core.specs.Sound.{unseen, Spot, Served, SoundAt, Sound}
 use Rattle.proxy_core.specs.declared.config.Config.{Config}
 use Rattle.proxy_core.proofs.Entries.{entries_behind_self, ready_behind}
-use Rattle.proxy_core.proofs.Framing.{about, front, touches, only_changed, same_seen, each_by}
+use Rattle.proxy_core.specs.Others.{about, front}
+use Rattle.proxy_core.proofs.Framing.{touches, only_changed, same_seen, each_by}
 use Rattle.proxy_core.proofs.GroupNotes.{about_closing_if}
 use Rattle.proxy_core.proofs.Hearing.{Told, come_told, run_told}
 use Rattle.proxy_core.proofs.Members.{eq_self}

@@ -16,6 +16,7 @@ pub mod Refusal
 pub mod Moves
 pub mod Sound
 pub mod Asked
+pub mod Others
 pub mod Represents
 pub mod Steps
 pub mod Headline

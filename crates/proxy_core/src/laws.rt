@@ -2,6 +2,7 @@
 
 ghost use Rattle.proxy_core.specs.Headline.{EveryPastMatches};
 ghost use Rattle.proxy_core.specs.Laws.{BodiesRunInOrder, StaticsStay};
+ghost use Rattle.proxy_core.specs.Others.{OnlyItsOwnChanges};
 
 /// For every configuration and every past that leads to a state of the scheduler: the bytes that each
 /// client took are a front of what the evaluator gives, all of it when nothing is ready and nothing
@@ -19,4 +20,10 @@ pub fn bodies_run_in_order()
 /// A connection sees the static variables that RULE_INIT left, for ever.
 pub fn statics_stay()
     ensures { StaticsStay }
+{}
+
+/// An event changes what may be asked of its own connection alone, a Run of the one at the ring's front:
+/// of all others the ends, what is wanted and what is pending stay.
+pub fn only_changed()
+    ensures { OnlyItsOwnChanges }
 {}
