@@ -14,6 +14,7 @@ pub mod Framing
 pub mod Others
 pub mod SoundEvents
 pub mod SoundPast
+pub mod Fitting
 pub mod Ending
 pub mod Finished
 pub mod Promises

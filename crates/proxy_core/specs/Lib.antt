@@ -17,6 +17,7 @@ pub mod Moves
 pub mod Sound
 pub mod Asked
 pub mod Others
+pub mod Fitting
 pub mod Represents
 pub mod Steps
 pub mod Headline

@@ -1,5 +1,6 @@
 // What holds of every past.
 
+ghost use Rattle.proxy_core.specs.Fitting.{NotesFitEdges};
 ghost use Rattle.proxy_core.specs.Headline.{EveryPastMatches};
 ghost use Rattle.proxy_core.specs.Laws.{BodiesRunInOrder, StaticsStay};
 ghost use Rattle.proxy_core.specs.Others.{OnlyItsOwnChanges};
@@ -26,4 +27,10 @@ pub fn statics_stay()
 /// of all others the ends, what is wanted and what is pending stay.
 pub fn only_changed()
     ensures { OnlyItsOwnChanges }
+{}
+
+/// Behind every past, each note of an event fits where the notes before it put the ends of its connection:
+/// a server is asked for where there is none, and what is half closed or closed is there.
+pub fn notes_fit_edges()
+    ensures { NotesFitEdges }
 {}

@@ -1,0 +1,49 @@
+-- The notes of an event fit where the ends of their connection stand.
+use Rattle.std.specs.Prelude.{◌≡◌, ℕ, List, [], ◌∷◌, Bool, true, false, None}
+use Rattle.connection_model.specs.declared.edges.Edges.{Edges}
+use Rattle.connection_model.specs.declared.edges.EdgeState.{EdgeState}
+use Rattle.connection_model.specs.declared.edges.EdgeState.TheVariants.{Absent, Connecting}
+use Rattle.connection_model.specs.declared.edges.EdgeState.TheVariants.{Open, Closed}
+use Rattle.connection_model.specs.declared.note.Note.{Note}
+use Rattle.connection_model.specs.declared.note.Note.TheVariants as note
+use Rattle.connection_model.specs.Edges.{edge_of, edges_by}
+use Rattle.connection_model.specs.Heard.{event_edges}
+use Rattle.connection_model.specs.Tellings.{own}
+use Rattle.proxy_core.specs.Moves.{Leads, Moves}
+use Rattle.proxy_core.specs.Past.{Happened, Past, kind_of, heard}
+use Rattle.proxy_core.specs.Refusal.{refused}
+use Rattle.proxy_core.specs.Scheduler.{State}
+use Rattle.proxy_core.specs.declared.config.Config.{Config}
+
+-- there is a link: a connection, or one that is asked for
+abbrev pub is_used : EdgeState → Bool
+is_used Absent = false
+is_used Connecting = true
+is_used Open = true
+is_used Closed = false
+
+abbrev pub is_free : EdgeState → Bool
+is_free Absent = true
+is_free Connecting = false
+is_free Open = false
+is_free Closed = true
+
+-- A server is asked for where there is none. A link that sends no more or is closed is there.
+abbrev pub fits : Note → Edges → Bool
+fits (note.Connect c to) e = is_free e.server.state
+fits (note.HalfClose c side) e = is_used (edge_of side e).state
+fits (note.CloseServer c) e = is_used e.server.state
+fits (note.CloseClient c) e = is_used e.client.state
+fits other e = true
+
+-- each note, where those before it put them
+abbrev pub Fit : List Note → Edges → Type 0
+Fit [] e = Unit {0}
+Fit (n ∷ notes) e = (fits n e ≡ true) × Fit notes (edges_by n e)
+
+-- for each connection, behind every past
+abbrev pub NotesFitEdges : Type 0
+NotesFitEdges =
+    (C : Config) (past : Past) (s : State) (x : Happened) (next : State) → Leads C past s
+    → refused C past s (kind_of x.event) ≡ None → Moves C past x s next
+    → (c : ℕ) → Fit (own c x.group) (event_edges c (kind_of x.event) (heard c past).edges)
