@@ -12,12 +12,16 @@ mod report;
 mod run_schedule;
 mod runnable;
 mod schedule;
+mod serve;
+mod serve_words;
 mod taken;
 #[cfg(test)]
 mod tests;
 
 use crate::end::Status;
 use crate::offline::offline;
+use crate::serve::serve_command;
+use crate::serve_words::is_serve;
 use px_bytes::{Text, Texts};
 use px_real::{RealFiles, StdoutSink};
 use std::alloc::Global;
@@ -44,6 +48,9 @@ fn run(rt: &HostRuntime) -> io::Result<Status> {
         Err(error) if error.kind() == ErrorKind::InvalidData => Texts::new(alloc),
         Err(error) => return Err(error),
     };
+    if is_serve(&words) {
+        return serve_command(rt, &words);
+    }
     let mut files = RealFiles::new(rt.clone()?);
     let mut out = StdoutSink::new(rt.clone()?);
     Ok(offline(alloc, &words, &mut files, &mut out))
