@@ -8,3 +8,4 @@ pub mod Anyone
 pub mod Listing
 pub mod Turning
 pub mod Pairs
+pub mod Walking

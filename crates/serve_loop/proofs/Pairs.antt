@@ -1,5 +1,5 @@
 -- Pairs after pairs.
-use Rattle.std.proofs.Common.{◌≡◌, ◌≤◌, ℕ, ◌+◌, List, [], Bool, true, false, refl, sym, subst, add-one}
+use Rattle.std.proofs.Common.{◌≡◌, ◌≤◌, ℕ, ◌+◌, List, [], true, false, refl, sym, subst, add-one}
 use Rattle.std.proofs.lemmas.List.{append-nil}
 use Rattle.px_outside.specs.Net.{Call}
 use Rattle.serve_loop.specs.declared.asked.Asked.TheVariants as is

@@ -1,9 +1,10 @@
-use Rattle.std.proofs.Common.{◌≡◌, List, ℕ, Option, ap, ◌∙◌, subst}
+use Rattle.std.proofs.Common.{List, ℕ, Option, ap, ◌∙◌, subst}
 use Rattle.px_outside.specs.Outside.{told_more}
 use Rattle.connection_model.specs.declared.note.Note.{Note}
 use Rattle.journal_text.specs.Notes.{note_lines}
 use Rattle.serve_loop.specs.Server.{Served}
 use Rattle.served_core.specs.Served.{served_face}
+use Rattle.served_core.proofs.Promising.{kept}
 use Rattle.served_core.proofs.serves.serve_config.Goals as goal
 
 pub returns : goal.returns
@@ -20,4 +21,5 @@ returns g c =
           (record { server = c.in_ok-server.server; net = c.new-2.new.net; clock = c.args.clock.now; written = w })
           (record { server = c.serve.new.server; net = c.serve.new.net; clock = c.serve.new.clock; written = g.K.Sink.written c.serve.new.journal }) c.in_ok-end.end)
           written c.in_ok-end.ensures.served;
+      keeps = kept c.args.config c.in_ok-core.core c.in_ok-core.ensures.stands c.in_ok-server.ensures.begins c.in_ok-end.ensures.served;
     }

@@ -1,4 +1,4 @@
-use Rattle.std.proofs.Common.{◌≡◌, ℕ, ◌≤◌, ◌<◌, ◌+◌, subst, arith}
+use Rattle.std.proofs.Common.{◌≡◌, ◌≤◌, subst, arith}
 use Rattle.serve_loop.specs.Part.{Part}
 use Rattle.serve_loop.specs.Running.{PairOnce}
 use Rattle.serve_loop.proofs.Pairs.{pairs_none, pairs_next, ran_over, ran_all, ran_never}
