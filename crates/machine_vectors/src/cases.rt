@@ -2,8 +2,10 @@
 
 use crate::body::Body;
 use crate::plain::plain;
-use crate::read::{read_reply, read_text};
+use crate::read::{read_replies, read_text};
 use crate::stepped::stepped;
+use crate::suspended::run_suspended;
+use conn::Handler;
 use event_order::EventName;
 use plain_eval::Replies;
 use px_bytes::{M, Memory, Reply, Text, print_hex};
@@ -94,13 +96,9 @@ pub fn replies(alloc: Global, rule: &str, words: &[&str]) -> M<Option<Text>> {
     let Some(text) = read_text(alloc, rule)? else {
         return Ok(None);
     };
-    let mut replies = Replies::new(alloc);
-    for word in words {
-        let Some(reply) = read_reply(alloc, word)? else {
-            return Ok(None);
-        };
-        replies.push(reply)?;
-    }
+    let Some(replies) = read_replies(alloc, words)? else {
+        return Ok(None);
+    };
     match load_rule(alloc, b"r", text.as_bytes()) {
         Ok(rule) => replies_answer(alloc, &rule, &text, &replies),
         Err(LoadFault::Fault(_)) => Ok(Some(Text::new(alloc, b"refused")?)),
@@ -117,6 +115,34 @@ fn replies_answer(alloc: Global, rule: &Rule, text: &Text, replies: &Replies) ->
     out.push(run.end.as_bytes())?;
     out.push(judged(is_same(alloc, body, replies)?))?;
     Ok(Some(out))
+}
+
+/// A rule's body on these replies as a connection keeps it: the calls, its end, and what it sent.
+pub fn connection(alloc: Global, rule: &str, words: &[&str]) -> M<Option<Text>> {
+    let Some(text) = read_text(alloc, rule)? else {
+        return Ok(None);
+    };
+    let Some(replies) = read_replies(alloc, words)? else {
+        return Ok(None);
+    };
+    match load_rule(alloc, b"r", text.as_bytes()) {
+        Ok(rule) => connection_answer(alloc, &rule, &replies),
+        Err(LoadFault::Fault(_)) => Ok(Some(Text::new(alloc, b"refused")?)),
+        Err(LoadFault::Memory) => Err(Memory),
+    }
+}
+
+fn connection_answer(alloc: Global, rule: &Rule, replies: &Replies) -> M<Option<Text>> {
+    let handlers = rule.handlers(EventName::ClientAccepted);
+    let Some(first) = handlers.get(0) else {
+        return Ok(None);
+    };
+    let handler = Handler {
+        name: &rule.name,
+        procs: &rule.procs,
+        body: &first.body,
+    };
+    Ok(Some(run_suspended(alloc, handler, BUDGET, replies.as_slice())?))
 }
 
 /// The value of a script, or what it returns, by steps with a budget that is hardly spent.

@@ -10,6 +10,7 @@ mod plain;
 mod read;
 mod run;
 mod stepped;
+mod suspended;
 
 use px_bytes::{M, Text};
 use std::alloc::Global;
@@ -42,6 +43,7 @@ fn answer(alloc: Global, words: &[&str]) -> M<Option<Text>> {
     match words {
         ["case", rule] => cases::case(alloc, rule),
         ["replies", rule, replies @ ..] => cases::replies(alloc, rule, replies),
+        ["connection", rule, replies @ ..] => cases::connection(alloc, rule, replies),
         ["body", script] => cases::body(alloc, script),
         _ => Ok(None),
     }

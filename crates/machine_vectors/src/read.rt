@@ -1,6 +1,7 @@
 // The words of a question.
 
 use hex::FromHexError;
+use plain_eval::Replies;
 use px_bytes::{FaultKind, M, Memory, Reply, TclFault, Text, read_decimal};
 use std::alloc::Global;
 
@@ -45,8 +46,20 @@ fn read_digits(alloc: Global, word: &str) -> M<Option<Text>> {
     }
 }
 
+/// The replies that words write.
+pub fn read_replies(alloc: Global, words: &[&str]) -> M<Option<Replies>> {
+    let mut replies = Replies::new(alloc);
+    for word in words {
+        let Some(reply) = read_reply(alloc, word)? else {
+            return Ok(None);
+        };
+        replies.push(reply)?;
+    }
+    Ok(Some(replies))
+}
+
 /// The reply that a word writes: `ok:TEXT`, or `full:TEXT`, a fault of a full table.
-pub fn read_reply(alloc: Global, word: &str) -> M<Option<Reply>> {
+fn read_reply(alloc: Global, word: &str) -> M<Option<Reply>> {
     let Some((kind, text)) = word.split_once(':') else {
         return Ok(None);
     };

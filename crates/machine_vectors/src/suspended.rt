@@ -1,0 +1,121 @@
+// A body as a connection keeps it from one Run to the next.
+
+ghost use Rattle.std.specs.Prelude.{◌<◌, ◌≡◌};
+
+use crate::echo::Echo;
+use crate::outcome::{asks, ended};
+use conn::{Body, Handler};
+use frame_machine::Turn;
+use px_bytes::{M, Reply, Steps, Text, print_hex};
+use std::alloc::Global;
+use std::marker::Brand;
+use std::sync::ledger::{Blank, Ledger};
+use tcl_vars::Vars;
+
+/// A slice goes on while it counted no more steps.
+const MOST_STEPS: u64 = 1_990;
+
+/// More slices than a body of that budget can have.
+const MOST_SLICES: u32 = 4_000;
+
+/// A body with the variables and the host of its connection.
+#[derive(Drop)]
+struct Suspended<'a> {
+    handler: Handler<'a>,
+    body: Body,
+    statics: Vars,
+    vars: Vars,
+    host: Echo,
+}
+
+impl<'a> Suspended<'a> {
+    fn new(alloc: Global, handler: Handler<'a>, budget: u32) -> Suspended<'a> {
+        let mut body = Body::new(alloc);
+        body.begin(budget);
+        Suspended {
+            handler,
+            body,
+            statics: Vars::new(alloc),
+            vars: Vars::new(alloc),
+            host: Echo::new(alloc),
+        }
+    }
+
+    // Goes on until it asks, ends, or counted more than 1,990 steps.
+    fn slice<L: Ledger>(&mut self, alloc: Global, steps: &mut Steps<L>) -> M<Turn> {
+        let mut spent = 0;
+        for _ in 0..MOST_STEPS + 1 {
+            if spent > MOST_STEPS {
+                return Ok(Turn::More);
+            }
+            match self.step(alloc, steps, &mut spent)? {
+                Turn::More => {}
+                turn => return Ok(turn),
+            }
+        }
+        Ok(Turn::More)
+    }
+
+    fn step<L: Ledger>(&mut self, alloc: Global, steps: &mut Steps<L>, spent: &mut u64) -> M<Turn>
+        requires { spent.old < 2000 }
+    {
+        let (vars, host) = (&mut self.vars, &mut self.host);
+        let (handler, statics) = (&self.handler, &self.statics);
+        self.body
+            .step(alloc, handler, statics, vars, host, &false, steps, spent)
+    }
+}
+
+/// What a body comes to on these replies, and what it sent: each call stops it, and its reply lets it go on.
+pub fn run_suspended(
+    alloc: Global,
+    handler: Handler<'_>,
+    budget: u32,
+    replies: &[Reply],
+) -> M<Text> {
+    let body = Suspended::new(alloc, handler, budget);
+    run_counted::<Brand>(alloc, body, replies, Blank::new(1))
+}
+
+fn run_counted<L: Ledger>(
+    alloc: Global,
+    body: Suspended<'_>,
+    replies: &[Reply],
+    blank: Blank,
+) -> M<Text>
+    requires name { blank.name ≡ L.name }
+    requires parts { blank.parts ≡ L.parts }
+    requires some { 0 < blank.parts }
+{
+    let mut steps = Steps::<L>::new(blank);
+    let mut body = body;
+    let mut out = Text::empty(alloc);
+    let mut left = replies;
+    for _ in 0..MOST_SLICES {
+        match body.slice(alloc, &mut steps)? {
+            Turn::More => {}
+            Turn::Asks(call) => {
+                out.push(asks(alloc, &call)?.as_bytes())?;
+                let Some((reply, more)) = left.split_first() else {
+                    return told(alloc, out, &body.host);
+                };
+                out.push(b"; ")?;
+                body.body.resume(reply)?;
+                left = more;
+            }
+            Turn::Done(code) => {
+                out.push(ended(alloc, &code)?.as_bytes())?;
+                return told(alloc, out, &body.host);
+            }
+        }
+    }
+    Text::new(alloc, b"unfinished")
+}
+
+// The same with what was sent.
+fn told(alloc: Global, out: Text, host: &Echo) -> M<Text> {
+    let mut out = out;
+    out.push(b" sent ")?;
+    out.push(print_hex(alloc, host.sent().as_bytes())?.as_bytes())?;
+    Ok(out)
+}
