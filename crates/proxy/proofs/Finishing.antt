@@ -1,5 +1,4 @@
 -- From what stands and the end of a report to what a replay comes to.
-use Rattle.std.proofs.lemmas.List.{append-nil}
 use Rattle.std.proofs.Common.{◌≡◌, inl, inr, refl, sym, ap, subst, ◌∙◌, ℕ, ◌+◌, ◌≤◌, List, []}
 use Rattle.std.proofs.Common.{◌++◌, length, Option, Result, Ok, Err, IfOk, arith}
 use Rattle.px_bytes.specs.declared.memory.Memory as want
@@ -17,7 +16,7 @@ use Rattle.proxy.specs.Report.{end_text, text_fault, event_fault}
 use Rattle.proxy.specs.declared.replay.Stop.{Stop}
 use Rattle.proxy.specs.declared.replay.Stop.TheVariants as stop
 use Rattle.proxy.specs.Stops.{StopsAtStart, StoppedText, StoppedEvent}
-use Rattle.proxy.specs.Written.{Stands, IsLast, WritesFront, WritesFrontOf}
+use Rattle.proxy.specs.Written.{Stands, StandsAtEnd, IsLast, WritesFront, WritesFrontOf}
 use Rattle.proxy.specs.Replayed.{Reports, ReplaysAll, Replayed, Finished}
 use Rattle.proxy.specs.Replayed.{FinishFault}
 use Rattle.proxy.proofs.ConnectionLines.{lines_same}
@@ -75,14 +74,15 @@ if_ok : {T : Type 0} (r : Result T want.Memory) (P Q : T → Type 0) → ((x : T
 if_ok (Ok x) P Q f h = f x h
 if_ok (Err w) P Q f h = tt
 
-pub done_replayed : (C : configured.Config) (schedule : List ℕ) (r : Replay) (last : Result (List ℕ) want.Memory) (old mid new : Option (List ℕ)) (before between now : ℕ) (res : Result (Unit {0}) End) → (number : ℕ) × Stands C schedule number r.core r.taken.items r.events old mid
+pub done_replayed : (C : configured.Config) (schedule : List ℕ) (r : Replay) (last : Result (List ℕ) want.Memory) (old mid new : Option (List ℕ)) (before between now : ℕ) (res : Result (Unit {0}) End) → StandsAtEnd C schedule r.core r.taken.items r.events old mid
     → before ≤ between → IfOk last (λ l. l ≡ end_text r.events) → Finished r last mid new between now res → Replayed C schedule old new before now (end_unless Done res)
-done_replayed C schedule r last old mid new before between now res (number, s) h i f =
+done_replayed C schedule r last old mid new before between now res k h i f =
+    let s = k.stands in
     let is : (l : List ℕ) → l ≡ end_text r.events → l ≡ end_text (length s.past) = λ l e. e ∙ ap end_text s.count in
-    ended C schedule r schedule [] number last old mid new before between now Done res (sym (append-nil schedule)) s h
-    (if_ok last (λ l. l ≡ end_text r.events) (λ l. IsLast C s.past s.state number [] l) (λ l e. inl (refl, is l e)) i)
-    (if_ok last (λ l. l ≡ end_text r.events) (λ l. Reports C s.past s.state schedule number l old new → ReplaysAll C schedule old new)
-    (λ l e k. record { past = s.past; state = s.state; number = number; reports = (let P : List ℕ → Type 0 = λ x. Reports C s.past s.state schedule number x old new in subst P (is l e) k) }) i) f
+    ended C schedule r k.text k.rest k.number last old mid new before between now Done res k.schedule_is s h
+    (if_ok last (λ l. l ≡ end_text r.events) (λ l. IsLast C s.past s.state k.number k.rest l) (λ l e. inl (k.is_end, is l e)) i)
+    (if_ok last (λ l. l ≡ end_text r.events) (λ l. Reports C s.past s.state k.text k.number l old new → ReplaysAll C schedule old new)
+    (λ l e x. record { past = s.past; state = s.state; text = k.text; rest = k.rest; schedule_is = k.schedule_is; is_end = k.is_end; number = k.number; reports = (let P : List ℕ → Type 0 = λ y. Reports C s.past s.state k.text k.number y old new in subst P (is l e) x) }) i) f
 
 pub text_replayed : (C : configured.Config) (schedule : List ℕ) (r : Replay) (line : ℕ) (last : Result (List ℕ) want.Memory) (old mid new : Option (List ℕ)) (before between now : ℕ) (res : Result (Unit {0}) End) → StoppedText C schedule line r.core r.taken.items r.events old mid
     → before ≤ between → IfOk last (λ l. l ≡ text_fault line 6) → Finished r last mid new between now res → Replayed C schedule old new before now (end_unless Schedule res)

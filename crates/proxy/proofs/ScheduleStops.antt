@@ -1,6 +1,7 @@
 -- A schedule: what stands behind its lines, and where the replay stops.
 use Rattle.std.proofs.Common.{◌≡◌, refl, sym, ap, subst, ◌∙◌, ℕ, ◌+◌, ◌-◌, ◌<◌}
 use Rattle.std.proofs.Common.{List, [], ◌∷◌, ◌++◌, length, take, drop, Option, Some, None, arith}
+use Rattle.std.specs.Prelude.{Result, Ok, Err, OnOk, IfErr}
 use Rattle.std.specs.List.{position_from}
 use Rattle.std.proofs.lemmas.List.{take-append-drop, take_rest, length-drop}
 use Rattle.proxy_core.specs.declared.config.Config.{Config}
@@ -8,9 +9,10 @@ use Rattle.proxy_core.specs.declared.core_state.Core.{Core}
 use Rattle.proxy.specs.declared.replay.Stop.{Stop}
 use Rattle.proxy.specs.declared.replay.Stop.TheVariants as stop
 use Rattle.proxy.specs.declared.taken.Taken.{Taken}
+use Rattle.journal_text.specs.Line.{IsSkipped}
 use Rattle.proxy.specs.Lines.{IsLine, Faulty, Unended, NoEvent, events_of}
 use Rattle.proxy.specs.Stops.{with_line, StoppedAtLine, Stopped}
-use Rattle.proxy.specs.Written.{Stands}
+use Rattle.proxy.specs.Written.{Stands, StandsAtEnd}
 use Rattle.proxy.proofs.LineCuts.{is_lf, cut, no_lf, next_line}
 use Rattle.proxy.proofs.Stopping.{front_longer}
 
@@ -59,10 +61,25 @@ stops_there C s at len line core taken events told now stop.WriteFault e h k =
 stops_there C s at len line core taken events told now stop.Memory e h k =
     front_longer C (with_line (take at s) (take len (drop at s))) (drop (at + (len + 1)) s) s told now (split (at + (len + 1)) s ∙ ap (λ t. t ++ drop (at + (len + 1)) s) (sym (next_line at len s e h))) k
 
--- a last line without LF
-unended : (C : Config) (s rest : List ℕ) (line : ℕ) (text : List ℕ) (core : Core) (taken : List Taken) (events : ℕ) (told now : Option (List ℕ)) → s ≡ text ++ rest → 0 < length rest → IsLine rest → Stands C text line core taken events told now → Stopped C s core taken events told now (stop.Text (line + 1))
-unended C s [] line text core taken events told now e h is st = absurd (let f : 0 < 0 = h in omega (arith, f))
-unended C s (b ∷ rest) line text core taken events told now e h is st = record { text = text; rest = b ∷ rest; schedule_is = e; number = line; line_is = refl; stands = st; faulty = Unended b rest is }
+-- a last line without LF, which is skipped or not
+pub skips_last : (C : Config) (s : List ℕ) (at line : ℕ) (core : Core) (taken : List Taken) (events : ℕ) (told now : Option (List ℕ)) → position_from is_lf 0 (drop at s) ≡ None → IsSkipped (drop at s) → Stands C (take at s) line core taken events told now
+    → StandsAtEnd C s core taken events told now
+skips_last C s at line core taken events told now e is st =
+    record { text = take at s; rest = drop at s; schedule_is = split at s; is_end = (no_lf (drop at s) e, is); number = line; stands = st }
 
-pub stops_unended : (C : Config) (s : List ℕ) (at line : ℕ) (core : Core) (taken : List Taken) (events : ℕ) (told now : Option (List ℕ)) → at < length s → position_from is_lf 0 (drop at s) ≡ None → Stands C (take at s) line core taken events told now → Stopped C s core taken events told now (stop.Text (line + 1))
-stops_unended C s at line core taken events told now h e st = unended C s (drop at s) line (take at s) core taken events told now (split at s) (let k = length-drop at s in omega (arith, k, h)) (no_lf (drop at s) e) st
+pub stops_unended : (C : Config) (s : List ℕ) (at line : ℕ) (core : Core) (taken : List Taken) (events : ℕ) (told now : Option (List ℕ)) (why : Stop) → position_from is_lf 0 (drop at s) ≡ None → (why ≡ stop.Text (line + 1)) × (IsSkipped (drop at s) → ⊥) → Stands C (take at s) line core taken events told now
+    → Stopped C s core taken events told now why
+stops_unended C s at line core taken events told now why e k st =
+    subst (λ w. Stopped C s core taken events told now w) (sym k.0) (record { text = take at s; rest = drop at s; schedule_is = split at s; number = line; line_is = refl; stands = st; faulty = Unended (drop at s) (no_lf (drop at s) e) k.1 })
+
+-- the same, by what was said of it, where what stands before it is known of whatever came before
+module _ (s : List ℕ) (at line : ℕ) (core : Core) (taken : List Taken) (events : ℕ) (now : Option (List ℕ)) (Before : Config → Option (List ℕ) → Type 0) (e : position_from is_lf 0 (drop at s) ≡ None)
+    (st : (C : Config) (told : Option (List ℕ)) → Before C told → Stands C (take at s) line core taken events told now) where
+  pub last_skipped : (r : Result (Unit {0}) Stop) → OnOk r (IsSkipped (take (length s - at) (drop at s))) → OnOk r ((C : Config) (told : Option (List ℕ)) → Before C told → StandsAtEnd C s core taken events told now)
+  last_skipped (Ok u) is = λ C told h. skips_last C s at line core taken events told now e (subst IsSkipped (take_rest s at) is) (st C told h)
+  last_skipped (Err why) is = tt
+
+  pub last_unended : (r : Result (Unit {0}) Stop) → IfErr r (λ why. (why ≡ stop.Text (line + 1)) × (IsSkipped (take (length s - at) (drop at s)) → ⊥))
+      → IfErr r (λ why. (C : Config) (told : Option (List ℕ)) → Before C told → Stopped C s core taken events told now why)
+  last_unended (Ok u) k = tt
+  last_unended (Err why) k = λ C told h. stops_unended C s at line core taken events told now why e (k.0, λ is. k.1 (subst IsSkipped (sym (take_rest s at)) is)) (st C told h)

@@ -4,7 +4,8 @@ use Rattle.std.proofs.Common.{reverse, true, false, nat_eq, append_assoc, arith}
 use Rattle.std.proofs.lemmas.Bool.Decides.{nat_tests}
 use Rattle.std.proofs.lemmas.List.{reverse-append, reverse-reverse}
 use Rattle.proxy_core.specs.declared.event.Event.{Event}
-use Rattle.proxy.specs.Lines.{IsLine, AllLines, lines_text, Gives, GivesNone, Spell, Reads, Faulty}
+use Rattle.journal_text.specs.Line.{IsSkipped}
+use Rattle.proxy.specs.Lines.{IsEnd, IsLine, AllLines, lines_text, Gives, GivesNone, Spell, Reads, Faulty}
 use Rattle.proxy.specs.Lines.{Unended, NoEvent}
 use Rattle.proxy.proofs.OneEvent.{one_event}
 
@@ -49,23 +50,23 @@ all_turned (line ∷ lines) h =
     let e : reverse (line ∷ lines) ≡ reverse lines ++ line ∷ [] = reverse-append (line ∷ []) lines in
     subst AllLines (sym e) (all_joined (reverse lines) (line ∷ []) (all_turned lines h.1) (h.0, tt))
 
--- the lines of a longer text begin with those of its front
-record Longer (a b : List (List ℕ)) (rest : List ℕ) : Type 0 where
+-- the lines of a longer text, behind which no LF stands, begin with those of its front
+record Longer (a b : List (List ℕ)) (last rest : List ℕ) : Type 0 where
   more : List (List ℕ)
   whole : a ≡ b ++ more
-  rest_is : rest ≡ forward more
+  rest_is : rest ≡ forward more ++ last
 
-longer : (a b : List (List ℕ)) (rest : List ℕ) → AllLines a → AllLines b → forward a ≡ forward b ++ rest → Longer a b rest
+lf_in : (line rest : List ℕ) → IsLine (line ++ 10 ∷ rest) → ⊥
+lf_in [] rest h = cc
+lf_in (b ∷ line) rest h = lf_in line rest h.1
+
+longer : (a b : List (List ℕ)) (last rest : List ℕ) → AllLines a → AllLines b → IsLine last → forward a ++ last ≡ forward b ++ rest → Longer a b last rest
 unfolding forward
-longer a [] rest p q e = record { more = a; whole = refl; rest_is = sym e }
-longer [] (m ∷ b) rest p q e = absurd (nothing m (forward b ++ rest) (e ∙ append_assoc m (10 ∷ forward b) rest))
-  where
-    nothing : (m t : List ℕ) → [] ≡ m ++ 10 ∷ t → ⊥
-    nothing [] t e = cc
-    nothing (c ∷ m) t e = cc
-longer (l ∷ a) (m ∷ b) rest p q e =
-    let c = one_cut l m (forward a) (forward b ++ rest) p.0 q.0 (e ∙ append_assoc m (10 ∷ forward b) rest) in
-    let k = longer a b rest p.1 q.1 c.1 in
+longer a [] last rest p q i e = record { more = a; whole = refl; rest_is = sym e }
+longer [] (m ∷ b) last rest p q i e = absurd (lf_in m (forward b ++ rest) (subst IsLine (e ∙ append_assoc m (10 ∷ forward b) rest) i))
+longer (l ∷ a) (m ∷ b) last rest p q i e =
+    let c = one_cut l m (forward a ++ last) (forward b ++ rest) p.0 q.0 (sym (append_assoc l (10 ∷ forward a) last) ∙ e ∙ append_assoc m (10 ∷ forward b) rest) in
+    let k = longer a b last rest p.1 q.1 i c.1 in
     record { more = k.more; whole = ap (λ x. x ∷ a) c.0 ∙ ap (λ x. m ∷ x) k.whole; rest_is = k.rest_is }
 
 -- the same lines spell the same events
@@ -93,46 +94,40 @@ line_not_faulty : (line : List ℕ) (lines : List (List ℕ)) (events : List Eve
 line_not_faulty line lines events (inl s) g = g.not_skipped s.0
 line_not_faulty line lines events (inr s) g = g.none s.0 s.3
 
-lf_in : (line rest : List ℕ) → IsLine (line ++ 10 ∷ rest) → ⊥
-lf_in [] rest h = cc
-lf_in (b ∷ line) rest h = lf_in line rest h.1
-
 -- the oldest of the lines behind a front
 behind : (newer : List (List ℕ)) (line : List ℕ) (lines : List (List ℕ)) (events : List Event) → Spell (reverse (line ∷ newer) ++ lines) events → (before : List Event) × Spell (line ∷ lines) before
 behind newer line lines events s =
     let e : reverse (line ∷ newer) ++ lines ≡ reverse newer ++ (line ∷ lines) = ap (λ x. x ++ lines) (reverse-append (line ∷ []) newer) ∙ append_assoc (reverse newer) (line ∷ []) lines in
     front_spells (reverse newer) (line ∷ lines) events (subst (λ x. Spell x events) e s)
 
-not_nothing : (line rest : List ℕ) → line ++ 10 ∷ rest ≡ [] → ⊥
-not_nothing [] rest e = cc
-not_nothing (b ∷ line) rest e = cc
-
-unended_false : (more : List (List ℕ)) (byte : ℕ) (rest : List ℕ) → byte ∷ rest ≡ forward more → IsLine (byte ∷ rest) → ⊥
+unended_false : (more : List (List ℕ)) (last rest : List ℕ) → rest ≡ forward more ++ last → IsEnd last → IsLine rest → (IsSkipped rest → ⊥) → ⊥
 unfolding forward
-unended_false [] byte rest e is = cc
-unended_false (m ∷ more) byte rest e is = lf_in m (forward more) (subst IsLine e is)
+unended_false [] last rest e end is bare = bare (subst IsSkipped (sym e) end.1)
+unended_false (m ∷ more) last rest e end is bare = lf_in m (forward more ++ last) (subst IsLine (e ∙ append_assoc m (10 ∷ forward more) last) is)
 
-no_event_false : (more lines : List (List ℕ)) (events : List Event) (line rest : List ℕ) → line ++ 10 ∷ rest ≡ forward more → AllLines more → Spell (reverse more ++ lines) events → IsLine line → GivesNone line → ⊥
+no_event_false : (more lines : List (List ℕ)) (events : List Event) (last line rest : List ℕ) → line ++ 10 ∷ rest ≡ forward more ++ last → AllLines more → IsEnd last → Spell (reverse more ++ lines) events → IsLine line → GivesNone line → ⊥
 unfolding forward
-no_event_false [] lines events line rest e all s is g = not_nothing line rest e
-no_event_false (m ∷ more) lines events line rest e all s is g =
-    let c = one_cut line m rest (forward more) is all.0 e in
+no_event_false [] lines events last line rest e all end s is g = lf_in line rest (subst IsLine (sym e) end.0)
+no_event_false (m ∷ more) lines events last line rest e all end s is g =
+    let c = one_cut line m rest (forward more ++ last) is all.0 (e ∙ append_assoc m (10 ∷ forward more) last) in
     let k = behind more m lines events s in
     line_not_faulty m lines k.0 k.1 (subst GivesNone c.0 g)
 
-faulty_false : (more lines : List (List ℕ)) (events : List Event) (text : List ℕ) → Faulty text → text ≡ forward more → AllLines more → Spell (reverse more ++ lines) events → ⊥
-faulty_false more lines events text (Unended byte rest is) e all s = unended_false more byte rest e is
-faulty_false more lines events text (NoEvent line rest is g) e all s = no_event_false more lines events line rest e all s is g
+faulty_false : (more lines : List (List ℕ)) (events : List Event) (last text : List ℕ) → Faulty text → text ≡ forward more ++ last → AllLines more → IsEnd last → Spell (reverse more ++ lines) events → ⊥
+faulty_false more lines events last text (Unended rest is bare) e all end s = unended_false more last text e end is bare
+faulty_false more lines events last text (NoEvent line rest is g) e all end s = no_event_false more lines events last line rest e all end s is g
 
 later_lines : (a b : List (List ℕ)) → AllLines (a ++ b) → AllLines b
 later_lines [] b h = h
 later_lines (l ∷ a) b h = later_lines a b h.1
 
--- a schedule that spells events has no faulty line behind any front of it
-pub whole_has_no_fault : (schedule text rest : List ℕ) (m n : ℕ) (events before : List Event) → Reads schedule m events → schedule ≡ text ++ rest → Reads text n before → Faulty rest → ⊥
-whole_has_no_fault schedule text rest m n events before r is f fault =
-    let forwards : forward (reverse r.lines) ≡ forward (reverse f.lines) ++ rest = sym (r.text_is ∙ turned r.lines) ∙ is ∙ ap (λ t. t ++ rest) (f.text_is ∙ turned f.lines) in
-    let k = longer (reverse r.lines) (reverse f.lines) rest (all_turned r.lines r.all_lines) (all_turned f.lines f.all_lines) forwards in
+-- a schedule whose lines spell events, behind which a line may be skipped, has no faulty line behind any front of it
+pub whole_has_no_fault : (schedule whole last text rest : List ℕ) (m n : ℕ) (events before : List Event) → Reads whole m events → schedule ≡ whole ++ last → IsEnd last → schedule ≡ text ++ rest → Reads text n before → Faulty rest → ⊥
+whole_has_no_fault schedule whole last text rest m n events before r all end is f fault =
+    let of_whole = r.text_is ∙ turned r.lines in
+    let of_text = f.text_is ∙ turned f.lines in
+    let forwards : forward (reverse r.lines) ++ last ≡ forward (reverse f.lines) ++ rest = ap (λ t. t ++ last) (sym of_whole) ∙ sym all ∙ is ∙ ap (λ t. t ++ rest) of_text in
+    let k = longer (reverse r.lines) (reverse f.lines) last rest (all_turned r.lines r.all_lines) (all_turned f.lines f.all_lines) end.0 forwards in
     let lines : r.lines ≡ reverse k.more ++ f.lines = sym (reverse-reverse r.lines) ∙ ap reverse k.whole ∙ reverse-append (reverse f.lines) k.more ∙ ap (λ x. reverse k.more ++ x) (reverse-reverse f.lines) in
     let more : AllLines k.more = later_lines (reverse f.lines) k.more (subst AllLines k.whole (all_turned r.lines r.all_lines)) in
-    faulty_false k.more f.lines events rest fault k.rest_is more (subst (λ x. Spell x events) lines r.spell)
+    faulty_false k.more f.lines events last rest fault k.rest_is more end (subst (λ x. Spell x events) lines r.spell)

@@ -55,10 +55,14 @@ pub record GivesNone (line : List ℕ) : Type 0 where
   pub not_skipped : IsSkipped line → ⊥
   pub none : (event : Event) → Gives line event → ⊥
 
--- The text begins with a faulty line: the last one, which has no LF, or one that
+-- what may stand behind the last LF: nothing, or a line that is skipped
+abbrev pub IsEnd : List ℕ → Type 0
+IsEnd rest = IsLine rest × IsSkipped rest
+
+-- The text begins with a faulty line: the last one, which has no LF and isn't skipped, or one that
 -- gives no event.
 pub data Faulty : List ℕ → Type 0 where
-  Unended : (byte : ℕ) → (rest : List ℕ) → IsLine (byte ∷ rest) → Faulty (byte ∷ rest)
+  Unended : (rest : List ℕ) → IsLine rest → (IsSkipped rest → ⊥) → Faulty rest
   NoEvent : (line rest : List ℕ) → IsLine line → GivesNone line → Faulty (line ++ 10 ∷ rest)
 
 -- it begins with a line whose event the scheduler refuses

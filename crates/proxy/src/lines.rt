@@ -5,9 +5,10 @@ ghost use Rattle.std.specs.Prelude.{ℕ, length, nat_eq};
 ghost use Rattle.std.specs.List.{position_from};
 ghost use Rattle.px_outside.specs.Outside.{Rose};
 ghost use Rattle.proxy_core.specs.declared.config.Config.{Config};
+ghost use Rattle.journal_text.specs.Line.{IsSkipped};
 ghost use Rattle.proxy.specs.Lines.{IsLine};
 ghost use Rattle.proxy.specs.Stops.{GoesOnBehind, StopsBehind, Stopped};
-ghost use Rattle.proxy.specs.Written.{Stands};
+ghost use Rattle.proxy.specs.Written.{Stands, StandsAtEnd};
 
 use crate::replay::{Replay, Stop};
 use crate::schedule::{LineFault, line_event};
@@ -28,8 +29,8 @@ impl Replay {
         requires { self.old.events ≡ 0 }
         ensures goes_on { OnOk result ((C : Config) (told : Option (List ℕ)) →
             Stands C [] 0 self.old.core self.old.taken.items self.old.events told
-            (K.written out.old) → (number : ℕ)
-            × Stands C schedule.now number self.new.core self.new.taken.items self.new.events told
+            (K.written out.old) →
+            StandsAtEnd C schedule.now self.new.core self.new.taken.items self.new.events told
             (K.written out.new)) }
         ensures stops { IfErr result (λ why. (C : Config) (told : Option (List ℕ)) →
             Stands C [] 0 self.old.core self.old.taken.items self.old.events told
@@ -45,7 +46,7 @@ impl Replay {
         while at < schedule.len() {
             line += 1;
             let Some(len) = line_len(&schedule[at..]) else {
-                return Err(Stop::Text { line });
+                return last_line(alloc, line, &schedule[at..]);
             };
             if let Err(why) = self.line(alloc, line, &schedule[at..at + len], steps, out) {
                 return Err(why);
@@ -83,6 +84,17 @@ impl Replay {
             Err(LineFault::NotBuilt) => Err(Stop::Text { line }),
             Err(LineFault::Memory) => Err(Stop::Memory),
         }
+    }
+}
+
+// A last line without its newline is a fault, unless it is skipped.
+fn last_line(alloc: Global, line: u64, text: &[u8]) -> Result<(), Stop>
+    ensures skipped { OnOk result (IsSkipped text.now) }
+    ensures unended { IfErr result (λ why. (why ≡ Stop.Text line) × (IsSkipped text.now → ⊥)) }
+{
+    match line_event(alloc, text) {
+        Ok(None) => Ok(()),
+        _ => Err(Stop::Text { line }),
     }
 }
 
