@@ -1,6 +1,7 @@
 -- What an action gives, by what it comes to.
 use Rattle.std.proofs.Common.{◌≡◌, sym, ap, ◌∙◌, ℕ, ◌+◌, List, ◌++◌, length, map, false, arith, length-append}
 use Rattle.rule_model.specs.Outcome.{Act}
+use Rattle.connection_model.specs.Heard.{taken_by}
 use Rattle.connection_model.specs.declared.note.Note.{Note}
 use Rattle.connection_model.specs.Bodies.{act_item}
 use Rattle.connection_model.specs.Gates.{sent_from}
@@ -13,7 +14,7 @@ use Rattle.frame_machine.specs.Went.{effects_in}
 use Rattle.conn.specs.Arrivals.{arrived}
 use Rattle.conn.specs.Holds.{Around, Stands, Holds}
 use Rattle.conn.specs.Hosts.{AsksNothing, ToClientAlone, client_bytes, logs_of}
-use Rattle.conn.specs.Stages.{is_asking}
+use Rattle.conn.specs.Stages.{is_asking, is_draining}
 use Rattle.conn.specs.declared.connection.Conn.{Conn}
 use Rattle.conn.specs.declared.host.RuleHost.{RuleHost}
 use Rattle.conn.specs.declared.turn.Act as code
@@ -25,7 +26,8 @@ use Rattle.conn.proofs.Giving.{Gave}
 abbrev pub ActStops : Setup → Around → TraceState → Conn → code.Act → Type 0
 ActStops g a at new done.Goes = is_asking new.stage ≡ false
 ActStops g a at new (done.Asks call) = next_item g at ≡ Waits (ForReply call)
-ActStops g a at new done.Rests = GivesNoMore false at.sent a.took (next_item g at)
+ActStops g a at new done.Rests =
+    GivesNoMore false at.sent a.took (next_item g at) × (is_draining new.stage ≡ false → new.client.reset ≡ false)
 
 pub record ActGave (g : Setup) (a : Around) (l : TraceState) (c : ℕ) (old new : Conn) (group : List Note) (did : code.Act) : Type 0 where
   pub at : TraceState
@@ -53,8 +55,7 @@ acts_gave g a l at c old new xs tail t h made u stands server cut client kept =
       holds = record {
         stage = stands;
         unasked = made.unasked;
-        taken = h.taken;
-        not_reset = h.not_reset;
+        counts = h.counts ∙ ap (λ x. taken_by x.reset a.counted) (sym kept);
         untaken =
             (let s : at.sent.client ≡ l.sent.client + length (client_output items) = ap (λ x. x.client) sent ∙ sent_output l.sent items in
             let q : length new.host.to_client ≡ length old.host.to_client + length (client_output items) = ap length queue ∙ length-append old.host.to_client (client_output items) in

@@ -1,5 +1,5 @@
 -- An action is the next items of each state that the connection may stand for.
-use Rattle.std.proofs.Common.{◌≡◌, refl, sym, ap, subst, ◌∙◌, ℕ, List, [], ◌∷◌, ◌++◌, append-nil, drop, length, Bool, true, false, Option, Some, None, nat_lt}
+use Rattle.std.proofs.Common.{◌≡◌, refl, sym, ap, subst, ◌∙◌, ℕ, List, [], ◌∷◌, ◌++◌, append-nil, drop, length, Bool, true, false, Option, Some, None, nat_lt, if◌then◌else◌}
 use Rattle.std.specs.Bool.{MatchBool}
 use Rattle.px_bytes.specs.declared.fault.FaultKind.{FaultKind}
 use Rattle.event_order.specs.declared.event.EventName.TheVariants.{LbFailed, ClientClosed}
@@ -20,7 +20,8 @@ use Rattle.conn.specs.Events.{event_of}
 use Rattle.conn.specs.Holds.{Around, Between, BodyGoesOn, GatedBefore, RunsFirst, Stands, Holds}
 use Rattle.conn.specs.Hosts.{AsksNothing, seen_host, unselected_host}
 use Rattle.conn.specs.Setups.{body_at, places_at, Serves}
-use Rattle.conn.specs.Stages.{reason_for, cause_for, entered_by, is_asking}
+use Rattle.conn.specs.Queues.{queue_in}
+use Rattle.conn.specs.Stages.{reason_for, cause_for, entered_by, is_asking, is_draining}
 use Rattle.conn.specs.declared.connection.Conn.{Conn}
 use Rattle.conn.specs.declared.events.At.{At}
 use Rattle.conn.specs.declared.events.At.TheVariants.{Accepted, Failed, Closed}
@@ -44,19 +45,24 @@ goes : (g : Setup) (a : Around) (l : TraceState) (c : ℕ) (old new : Conn) (i :
 goes g a l c old new i h o awake = record { at = o.at; gave = gave_one g a l c old new i h o; stops = awake }
 
 -- nothing is given
-stays : (g : Setup) (a : Around) (l : TraceState) (c : ℕ) (old new : Conn) (a' : step_act.Act) → Holds g a l old → a' ≡ done.Rests → new ≡ old → GivesNoMore false l.sent a.took (next_item g l) → ActGave g a l c old new [] a'
-stays g a l c old new a' h rests same stops =
+stays : (g : Setup) (a : Around) (l : TraceState) (c : ℕ) (old new : Conn) (a' : step_act.Act) → Holds g a l old → a' ≡ done.Rests → new ≡ old → GivesNoMore false l.sent a.took (next_item g l) → (is_draining old.stage ≡ false → old.client.reset ≡ false) → ActGave g a l c old new [] a'
+stays g a l c old new a' h rests same stops kept =
     let P : Conn → Type 0 = λ x. ActGave g a l c old x [] a' in
     let Q : step_act.Act → Type 0 = λ x. ActGave g a l c old old [] x in
-    subst P (sym same) (subst Q (sym rests) (record { at = l; gave = gave_none g a l c old h; stops = stops }))
+    subst P (sym same) (subst Q (sym rests) (record { at = l; gave = gave_none g a l c old h; stops = (stops, kept) }))
 
 -- the notes of a body that moved
 abbrev moved_notes : (s : code_setup.Setup) (c : ℕ) (at : At) (number : ℕ) (old new : Conn) (before after : List Note) (did : step_act.Act) (v : Option Handler) → BodyMovedBy s v c at number old new before after did → List Note
 moved_notes s c at number old new before after did None k = []
 moved_notes s c at number old new before after did (Some b) k = step_notes k
 
+-- where there is no room it wasn't reset
+full_kept : (b : Bool) (q : List ℕ) → nat_lt (length (if b then [] else q)) room_limit ≡ false → b ≡ false
+full_kept true q e = cc
+full_kept false q e = refl
+
 module _ (s : code_setup.Setup) (g : Setup) (serves : Serves s g) (a : Around) (l : TraceState) (c : ℕ) (old new : Conn) (h : Holds g a l old) where
-  gate_opens : (at : At) (hs : List Handler) → g.handlers (event_of at) ≡ hs → GatedBefore (event_of at) hs l.phase → Between l old → StartsBody s at 0 old new → nat_lt (length old.host.to_client) room_limit ≡ true → ActGave g a l c old new [] done.Goes
+  gate_opens : (at : At) (hs : List Handler) → g.handlers (event_of at) ≡ hs → GatedBefore (event_of at) hs l.phase → Between l old → StartsBody s at 0 old new → nat_lt (length (queue_in old)) room_limit ≡ true → ActGave g a l c old new [] done.Goes
   gate_opens at [] e k b starts room = absurd k
   gate_opens at (x ∷ xs) e k b starts room =
       let ev = event_of at in
@@ -83,20 +89,20 @@ module _ (s : code_setup.Setup) (g : Setup) (serves : Serves s g) (a : Around) (
         kept = starts.client;
       }) (ap is_asking starts.there)
 
-  gate_shut : (at : At) (hs : List Handler) → GatedBefore (event_of at) hs l.phase → nat_lt (length old.host.to_client) room_limit ≡ false → GivesNoMore false l.sent a.took (next_item g l)
+  gate_shut : (at : At) (hs : List Handler) → GatedBefore (event_of at) hs l.phase → nat_lt (length (queue_in old)) room_limit ≡ false → GivesNoMore false l.sent a.took (next_item g l)
   gate_shut at [] k room = absurd k
   gate_shut at (x ∷ xs) k room =
       let P : Next → Type 0 = λ o. GivesNoMore false l.sent a.took o in
       subst P (sym (next_at g l (InEvent (event_of at) (Gated x xs)) h.no_cut k)) (gate_is g a l old h ∙ room)
 
   gate : (at : At) (did : step_act.Act) → Stands g (stage.Gated at) l old → PassesGate s at old new did → ActGave g a l c old new [] did
-  gate at did st k = by_test (nat_lt (length old.host.to_client) room_limit) refl k
+  gate at did st k = by_test (nat_lt (length (queue_in old)) room_limit) refl k
     where
-      by_test : (b : Bool) → nat_lt (length old.host.to_client) room_limit ≡ b → MatchBool b ((did ≡ done.Goes) × StartsBody s at 0 old new) ((did ≡ done.Rests) × (new ≡ old)) → ActGave g a l c old new [] did
+      by_test : (b : Bool) → nat_lt (length (queue_in old)) room_limit ≡ b → MatchBool b ((did ≡ done.Goes) × StartsBody s at 0 old new) ((did ≡ done.Rests) × (new ≡ old)) → ActGave g a l c old new [] did
       by_test true e (goes_on, starts) =
           let P : step_act.Act → Type 0 = λ x. ActGave g a l c old new [] x in
           subst P (sym goes_on) (gate_opens at (g.handlers (event_of at)) refl st.0 st.1 starts e)
-      by_test false e (rests, same) = stays g a l c old new did h rests same (gate_shut at (g.handlers (event_of at)) st.0 e)
+      by_test false e (rests, same) = stays g a l c old new did h rests same (gate_shut at (g.handlers (event_of at)) st.0 e) (λ f. full_kept old.client.reset old.host.to_client e)
 
   runs : (at : At) (number : ℕ) (before after : List Note) (did : step_act.Act) (v : Option Handler) → body_at s at number ≡ v → old.stage ≡ stage.Running at number → Stands g (stage.Running at number) l old
       → (k : BodyMovedBy s v c at number old new before after did) → ActGave g a l c old new (moved_notes s c at number old new before after did v k) did
@@ -208,10 +214,10 @@ module _ (s : code_setup.Setup) (g : Setup) (serves : Serves s g) (a : Around) (
         kept = next_client s Closed 0 k.mid new k.begins ∙ k.client;
       }) (next_awake s Closed 0 k.mid new k.begins))
 
-  drains : (did : step_act.Act) → Stands g stage.Draining l old → did ≡ done.Rests → new ≡ old → ActGave g a l c old new [] did
-  drains did st rests same =
+  drains : (did : step_act.Act) → old.stage ≡ stage.Draining → Stands g stage.Draining l old → did ≡ done.Rests → new ≡ old → ActGave g a l c old new [] did
+  drains did is st rests same =
       let P : Next → Type 0 = λ o. GivesNoMore false l.sent a.took o in
-      stays g a l c old new did h rests same (subst P (sym (over_next g a l old h st.0)) tt)
+      stays g a l c old new did h rests same (subst P (sym (over_next g a l old h st.0)) tt) (λ f. let t : true ≡ false = sym (ap is_draining is) ∙ f in cc)
 
 -- what one action gave, with its notes
 pub record ActedWell (s : code_setup.Setup) (c : ℕ) (old new : Conn) (before after : List Note) (did : step_act.Act) : Type 0 where
@@ -246,6 +252,6 @@ acted_well s c old new before after did k = by_stage old.stage refl k
     by_stage (stage.Failing at n kind line) is (e, k, notes) = record { group = note.Log c line ∷ []; notes = notes; along = λ g a l serves h awake. as_goes e g a l (note.Log c line ∷ []) (logs s g serves a l c old new h at n kind line (here (stage.Failing at n kind line) is g a l h) k) }
     by_stage stage.Choosing is (e, k, notes) = record { group = []; notes = none notes; along = λ g a l serves h awake. as_goes e g a l [] (chooses s g serves a l c old new h (here stage.Choosing is g a l h) k) }
     by_stage (stage.Finishing f) is (e, k, notes) = record { group = note.Finish c (cause_for f) ∷ []; notes = notes; along = λ g a l serves h awake. as_goes e g a l (note.Finish c (cause_for f) ∷ []) (finishes s g serves a l c old new h f (here (stage.Finishing f) is g a l h) k) }
-    by_stage stage.Draining is (rests, same, notes) = record { group = []; notes = none notes; along = λ g a l serves h awake. drains s g serves a l c old new h did (here stage.Draining is g a l h) rests same }
+    by_stage stage.Draining is (rests, same, notes) = record { group = []; notes = none notes; along = λ g a l serves h awake. drains s g serves a l c old new h did is (here stage.Draining is g a l h) rests same }
     by_stage stage.OutOfMemory is (rests, same, notes) = record { group = []; notes = none notes; along = λ g a l serves h awake. absurd (here stage.OutOfMemory is g a l h) }
     by_stage (stage.Dropped n) is (rests, same, notes) = record { group = []; notes = none notes; along = λ g a l serves h awake. absurd (here (stage.Dropped n) is g a l h) }

@@ -2,10 +2,11 @@
 use Rattle.std.proofs.Common.{◌≡◌, refl, sym, ap, subst, ◌∙◌, ℕ, List, [], ◌∷◌, ◌++◌, append-nil, drop, Bool, true, false, None}
 use Rattle.event_order.specs.declared.event.EventName.{EventName}
 use Rattle.connection_model.specs.Further.{Coming, nothing_further, longer_by, longer_stream, longer}
+use Rattle.connection_model.specs.Heard.{taken_by}
 use Rattle.connection_model.specs.Setup.{Handler, Setup}
 use Rattle.connection_model.specs.State.{Stream, TraceState}
 use Rattle.conn.specs.Arrivals.{arrived}
-use Rattle.conn.specs.Calls.{Hears, unless_finished}
+use Rattle.conn.specs.Calls.{Hears, Resets, unless_finished}
 use Rattle.conn.specs.Events.{event_of}
 use Rattle.conn.specs.Holds.{Around, Between, RunsFirst, Stands, Holds}
 use Rattle.conn.specs.Stages.{has_finished}
@@ -58,12 +59,11 @@ stands g stage.Draining l s c x k = (k.0, between l s c x k.1)
 stands g stage.OutOfMemory l s c x k = k
 stands g (stage.Dropped n) l s c x k = k
 
-holds : (g : Setup) (a : Around) (l : TraceState) (s : Stream) (c : Conn) (x : Arrived) → Holds g a l c → s ≡ arrived x → Holds g a (record l { client = s }) (with_client x c)
-holds g a l s c x h is = record {
+holds : (g : Setup) (a : Around) (l : TraceState) (s : Stream) (c : Conn) (x : Arrived) → Holds g a l c → s ≡ arrived x → x.reset ≡ c.client.reset → Holds g a (record l { client = s }) (with_client x c)
+holds g a l s c x h is same = record {
   stage = stands g c.stage l s c x h.stage;
   unasked = h.unasked;
-  taken = h.taken;
-  not_reset = h.not_reset;
+  counts = h.counts ∙ ap (λ b. taken_by b a.counted) (sym same);
   untaken = h.untaken;
   client = is;
   no_server = h.no_server;
@@ -83,8 +83,8 @@ abbrev pub heard_by : Bool → Coming → Stream → Stream
 heard_by true coming s = s
 heard_by false coming s = longer_stream coming s
 
-pub hears : (coming : Coming) (old : Conn) (x : Arrived) → arrived x ≡ heard_by (has_finished old.stage) coming (arrived old.client) → Hears coming old (with_client x old)
-hears coming old x is g a l h order =
+pub hears : (coming : Coming) (old : Conn) (x : Arrived) → arrived x ≡ heard_by (has_finished old.stage) coming (arrived old.client) → x.reset ≡ old.client.reset → Hears coming old (with_client x old)
+hears coming old x is same g a l h order =
     let f = finished_at g l old order old.stage h.stage in
     let P : Bool → Type 0 = λ b. Holds g a (longer (unless_finished b coming) l) (with_client x old) in
     subst P (sym f) (by_end (has_finished old.stage) is)
@@ -92,14 +92,28 @@ hears coming old x is g a l h order =
     by_end : (b : Bool) → arrived x ≡ heard_by b coming (arrived old.client) → Holds g a (longer (unless_finished b coming) l) (with_client x old)
     by_end true e =
         let Q : TraceState → Type 0 = λ m. Holds g a m (with_client x old) in
-        subst Q (sym (longer_nothing l h.no_cut)) (holds g a l l.client old x h (h.client ∙ sym e))
+        subst Q (sym (longer_nothing l h.no_cut)) (holds g a l l.client old x h (h.client ∙ sym e) same)
     by_end false e =
         let Q : TraceState → Type 0 = λ m. Holds g a m (with_client x old) in
-        subst Q (sym (longer_client coming l h.no_cut)) (holds g a l (longer_stream coming l.client) old x h (ap (longer_stream coming) h.client ∙ sym e))
+        subst Q (sym (longer_client coming l h.no_cut)) (holds g a l (longer_stream coming l.client) old x h (ap (longer_stream coming) h.client ∙ sym e) same)
 
 -- by where it stands
 pub hears_finished : (coming : Coming) (old : Conn) → has_finished old.stage ≡ true → Hears coming old old
-hears_finished coming old e = hears coming old old.client (ap (λ b. heard_by b coming (arrived old.client)) (sym e))
+hears_finished coming old e = hears coming old old.client (ap (λ b. heard_by b coming (arrived old.client)) (sym e)) refl
 
-pub hears_more : (coming : Coming) (old : Conn) (x : Arrived) → has_finished old.stage ≡ false → arrived x ≡ longer_stream coming (arrived old.client) → Hears coming old (with_client x old)
-hears_more coming old x e is = hears coming old x (is ∙ ap (λ b. heard_by b coming (arrived old.client)) (sym e))
+pub hears_more : (coming : Coming) (old : Conn) (x : Arrived) → has_finished old.stage ≡ false → arrived x ≡ longer_stream coming (arrived old.client) → x.reset ≡ old.client.reset → Hears coming old (with_client x old)
+hears_more coming old x e is same = hears coming old x (is ∙ ap (λ b. heard_by b coming (arrived old.client)) (sym e)) same
+
+-- once its client was reset it counts as having taken all
+pub resets : (old : Conn) → Resets old (with_client (record old.client { reset = true }) old)
+resets old g a l h = record {
+  stage = stands g old.stage l l.client old (record old.client { reset = true }) h.stage;
+  unasked = h.unasked;
+  counts = refl;
+  untaken = h.untaken;
+  client = h.client;
+  no_server = h.no_server;
+  none_sent = h.none_sent;
+  no_number = h.no_number;
+  no_cut = h.no_cut;
+}

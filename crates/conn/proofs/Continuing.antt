@@ -79,8 +79,7 @@ counts client server number = record { client = client; server = server; number 
 
 sent_is : (g : Setup) (a : Around) (l : TraceState) (c : Conn) → Holds g a l c → l.sent ≡ sent_by a c
 sent_is g a l c h =
-    let n = length c.host.to_client in
-    ap (λ x. counts x l.sent.server l.sent.number) (sym h.untaken ∙ ap (λ t. n + t) (sym (ap (λ t. unwrap_or t 0) h.not_reset)))
+    ap (λ x. counts x l.sent.server l.sent.number) (sym h.untaken)
     ∙ ap (λ x. counts (sent_by a c).client x l.sent.number) h.none_sent
     ∙ ap (λ x. counts (sent_by a c).client 0 x) h.no_number
 

@@ -5,6 +5,7 @@ use Rattle.px_bytes.specs.declared.fault.Reply.{Reply}
 use Rattle.connection_model.specs.declared.note.Note.{Note}
 use Rattle.connection_model.specs.Gates.{Counts, TakenCounts, Met, may_give}
 use Rattle.connection_model.specs.Item.{Item, Choice, shown, listed, to_client, client_output, note_of, notes_of, choices_in}
+use Rattle.connection_model.specs.Heard.{taken_by}
 use Rattle.connection_model.specs.HeardLaws.{cut_for, cut_in, taken_by_items}
 use Rattle.connection_model.specs.Further.{longer, first_cut, nothing_comes, choosing}
 use Rattle.connection_model.proofs.Streams.{nothing_stream, nothing_server, nothing_on_last}
@@ -77,9 +78,8 @@ gave_one g a l c old new i h o = record {
   holds = record {
     stage = o.stands;
     unasked = o.unasked;
-    taken = h.taken;
-    not_reset = h.not_reset;
-    untaken = ap (λ q. length q + h.taken) o.queue ∙ h.untaken ∙ ap (λ s. s.client) (sym o.sent);
+    counts = h.counts ∙ ap (λ x. taken_by x.reset a.counted) (sym o.kept);
+    untaken = ap (λ q. length q + a.counted) o.queue ∙ h.untaken ∙ ap (λ s. s.client) (sym o.sent);
     client = o.client ∙ h.client ∙ ap arrived (sym o.kept);
     no_server = o.server ∙ h.no_server;
     none_sent = ap (λ s. s.server) o.sent ∙ h.none_sent;

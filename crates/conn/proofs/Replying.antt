@@ -7,6 +7,7 @@ use Rattle.event_order.specs.declared.event.EventName.{EventName}
 use Rattle.rule_model.specs.Evaluator.{evaluate}
 use Rattle.rule_model.specs.Outcome.{Act, Called, reply_code}
 use Rattle.rule_model.specs.Setting as given
+use Rattle.connection_model.specs.Heard.{taken_by}
 use Rattle.connection_model.specs.Further.{longer, longer_server, left_for, first_cut, nothing_comes, replies_only}
 use Rattle.connection_model.specs.Host.{body_setting}
 use Rattle.connection_model.specs.Setup.{Handler, Setup}
@@ -78,9 +79,8 @@ replies reply old new at n was is hears vars host client g a l h =
     record {
       unasked = (let P' : RuleHost → Type 0 = λ x. AsksNothing x.net in subst P' (sym host) h.unasked);
       stage = subst Q (sym is) (first_hears g e (drop n (g.handlers e)) l old new reply here.0 (old.body.asking here.1) heard vars host, heard.runs);
-      taken = h.taken;
-      not_reset = h.not_reset;
-      untaken = ap (λ x. length x.to_client + h.taken) host ∙ h.untaken;
+      counts = h.counts ∙ ap (λ x. taken_by x.reset a.counted) (sym client);
+      untaken = ap (λ x. length x.to_client + a.counted) host ∙ h.untaken;
       client = nothing_stream nothing_comes l.client refl ∙ h.client ∙ ap arrived (sym client);
       no_server = ap (longer_server (left_for nothing_comes l.answers.connects)) h.no_server;
       none_sent = h.none_sent;

@@ -1,5 +1,5 @@
 -- Where a connection can't go on.
-use Rattle.std.proofs.Common.{◌≡◌, refl, sym, ap, subst, ◌∙◌, ℕ, ◌+◌, List, [], ◌∷◌, length, drop, Bool, true, false, ◌&&◌, Option, Some, None, nat_eq, nat_lt, arith}
+use Rattle.std.proofs.Common.{◌≡◌, refl, sym, ap, subst, ◌∙◌, ℕ, ◌+◌, ◌-◌, List, [], ◌∷◌, length, drop, Bool, true, false, ◌&&◌, Option, Some, None, nat_eq, nat_lt, arith, if◌then◌else◌}
 use Rattle.std.proofs.lemmas.Bool.Decides.{nat_tests}
 use Rattle.seg_buffer.specs.Bytes.{is_empty}
 use Rattle.px_bytes.specs.declared.addr.Side.TheVariants.{Client, Server}
@@ -17,10 +17,12 @@ use Rattle.connection_model.specs.Places.{at as put, enter}
 use Rattle.connection_model.specs.Trace.{choosing_next, default_next, counted, phase_next, next_item}
 use Rattle.connection_model.proofs.Longer.{plain_next}
 use Rattle.std.specs.Prelude.{slice_get}
-use Rattle.conn.specs.Calls.{over_in, Settles}
+use Rattle.conn.specs.Calls.{over_in, Settles, DropsReset, lost_by}
 use Rattle.conn.specs.Events.{event_of}
 use Rattle.conn.specs.Holds.{Around, Between, GatedBefore, RunsFirst, Stands, Holds}
 use Rattle.conn.specs.Hosts.{AsksNothing, seen_host, unselected_host}
+use Rattle.conn.specs.Queues.{queue_in, dropped_at, dropped_by}
+use Rattle.connection_model.specs.Heard.{taken_by}
 use Rattle.conn.specs.RunsItems.{is_over, is_drained}
 use Rattle.conn.specs.Stages.{dropped_in, is_draining, reason_for}
 use Rattle.conn.specs.declared.connection.Conn.{Conn}
@@ -32,8 +34,12 @@ pub next_at : (g : Setup) (l : TraceState) (p : Phase) → l.answers.cut ≡ Non
 next_at g l p none is = plain_next g l none ∙ ap (λ x. counted l.sent (phase_next g x l)) is
 
 -- nothing is untaken but what waits
-pub waits_client : (g : Setup) (a : Around) (l : TraceState) (c : Conn) → Holds g a l c → to_take l.sent a.took Client ≡ length c.host.to_client
-waits_client g a l c h = ap (λ o. untaken l.sent.client o) h.not_reset ∙ (let k = h.untaken in omega (arith, k))
+pub waits_client : (g : Setup) (a : Around) (l : TraceState) (c : Conn) → Holds g a l c → to_take l.sent a.took Client ≡ length (queue_in c)
+waits_client g a l c h = ap (λ o. untaken l.sent.client o) h.counts ∙ by_reset c.client.reset
+  where
+    by_reset : (b : Bool) → untaken l.sent.client (taken_by b a.counted) ≡ length (if b then [] else c.host.to_client)
+    by_reset true = refl
+    by_reset false = let k = h.untaken in omega (arith, k)
 
 none_untaken : (o : Option ℕ) → untaken 0 o ≡ 0
 none_untaken None = refl
@@ -47,11 +53,11 @@ and_true true = refl
 and_true false = refl
 
 -- the gate before bodies
-pub gate_is : (g : Setup) (a : Around) (l : TraceState) (c : Conn) → Holds g a l c → is_open BeforeBodies l.sent a.took ≡ nat_lt (length c.host.to_client) room_limit
+pub gate_is : (g : Setup) (a : Around) (l : TraceState) (c : Conn) → Holds g a l c → is_open BeforeBodies l.sent a.took ≡ nat_lt (length (queue_in c)) room_limit
 gate_is g a l c h =
     ap (λ n. nat_lt n room_limit && has_room l.sent a.took Server) (waits_client g a l c h)
-    ∙ ap (λ n. nat_lt (length c.host.to_client) room_limit && nat_lt n room_limit) (waits_server g a l c h)
-    ∙ and_true (nat_lt (length c.host.to_client) room_limit)
+    ∙ ap (λ n. nat_lt (length (queue_in c)) room_limit && nat_lt n room_limit) (waits_server g a l c h)
+    ∙ and_true (nat_lt (length (queue_in c)) room_limit)
 
 -- no server is found
 pub choosing_item : (g : Setup) (l : TraceState) (c : Conn) → Between l c → AsksNothing c.host.net → l.answers.cut ≡ None → l.server ≡ NoServer → l.phase ≡ Choosing
@@ -98,12 +104,12 @@ module _ (g : Setup) (a : Around) (l : TraceState) (c : Conn) (h : Holds g a l c
   pub over_next : l.phase ≡ Draining → next_item g l ≡ Over
   over_next is = next_at g l Draining h.no_cut is
 
-  drained_by : (b : Bool) → is_over (next_item g l) ≡ b → is_drained g a.took l ≡ (b && nat_eq (length c.host.to_client) 0)
+  drained_by : (b : Bool) → is_over (next_item g l) ≡ b → is_drained g a.took l ≡ (b && nat_eq (length (queue_in c)) 0)
   drained_by b e =
       ap (λ x. x && (nat_eq (to_take l.sent a.took Client) 0 && nat_eq (to_take l.sent a.took Server) 0)) e
       ∙ ap (λ n. b && (nat_eq n 0 && nat_eq (to_take l.sent a.took Server) 0)) (waits_client g a l c h)
-      ∙ ap (λ n. b && (nat_eq (length c.host.to_client) 0 && nat_eq n 0)) (waits_server g a l c h)
-      ∙ ap (λ x. b && x) (and_true (nat_eq (length c.host.to_client) 0))
+      ∙ ap (λ n. b && (nat_eq (length (queue_in c)) 0 && nat_eq n 0)) (waits_server g a l c h)
+      ∙ ap (λ x. b && x) (and_true (nat_eq (length (queue_in c)) 0))
 
   over_at : (st : Stage) → c.stage ≡ st → is_over (next_item g l) ≡ is_draining st
   over_at st e = by_test (is_draining st) refl
@@ -133,10 +139,41 @@ empty_test (b ∷ q) = grind (arith, nat_tests)
 -- it is over exactly where its fields say so
 pub settles : (c : Conn) (over : Bool) → over ≡ over_in c → Settles c over
 settles c over e g a l h =
-    e ∙ ap (λ x. is_draining c.stage && x) (empty_test c.host.to_client)
+    e ∙ ap (λ x. is_draining c.stage && x) (empty_test (queue_in c))
     ∙ sym (drained_by g a l c h (is_draining c.stage) (over_at g a l c h c.stage refl))
 
--- where only what is queued is left, nothing was dropped
-pub draining_drops_none : (st : Stage) (b : Bool) → (is_draining st && b) ≡ true → dropped_in st ≡ 0
-draining_drops_none (stage.Dropped n) b e = absurd (let f : false ≡ true = e in cc)
-draining_drops_none other b e = refl
+-- where only what is queued is left, what was dropped is what a reset left
+pub draining_drops : (st : Stage) (b : Bool) (q : List ℕ) → (is_draining st && is_empty (if b then [] else q)) ≡ true → dropped_at st (if b then length q else 0) ≡ length q
+draining_drops (stage.Dropped n) b q e = absurd (let f : false ≡ true = e in cc)
+draining_drops stage.Draining true q e = refl
+draining_drops stage.Draining false [] e = refl
+draining_drops stage.Draining false (x ∷ q) e = absurd (let f : false ≡ true = e in cc)
+draining_drops (stage.Gated at) b q e = absurd (let f : false ≡ true = e in cc)
+draining_drops (stage.Running at n) b q e = absurd (let f : false ≡ true = e in cc)
+draining_drops (stage.Asking at n) b q e = absurd (let f : false ≡ true = e in cc)
+draining_drops (stage.Failing at n kind line) b q e = absurd (let f : false ≡ true = e in cc)
+draining_drops stage.Choosing b q e = absurd (let f : false ≡ true = e in cc)
+draining_drops (stage.Finishing f') b q e = absurd (let f : false ≡ true = e in cc)
+draining_drops stage.OutOfMemory b q e = absurd (let f : false ≡ true = e in cc)
+
+-- what was dropped, where it stands for a state
+pub drops_reset : (c : Conn) → DropsReset c (dropped_by c)
+drops_reset c g a l h = by_stage c.stage h.stage
+  where
+    lost : (b : Bool) → (if b then length c.host.to_client else 0) ≡ lost_by (taken_by b a.counted) (l.sent.client - a.counted)
+    lost true = let k = h.untaken in omega (arith, k)
+    lost false = refl
+
+    lost_is : (if c.client.reset then length c.host.to_client else 0) ≡ lost_by a.took.client (l.sent.client - a.counted)
+    lost_is = lost c.client.reset ∙ ap (λ o. lost_by o (l.sent.client - a.counted)) (sym h.counts)
+
+    by_stage : (st : Stage) → Stands g st l c → dropped_at st (if c.client.reset then length c.host.to_client else 0) ≡ lost_by a.took.client (l.sent.client - a.counted)
+    by_stage (stage.Dropped n) k = absurd k
+    by_stage stage.OutOfMemory k = absurd k
+    by_stage (stage.Gated at) k = lost_is
+    by_stage (stage.Running at n) k = lost_is
+    by_stage (stage.Asking at n) k = lost_is
+    by_stage (stage.Failing at n kind line) k = lost_is
+    by_stage stage.Choosing k = lost_is
+    by_stage (stage.Finishing f) k = lost_is
+    by_stage stage.Draining k = lost_is

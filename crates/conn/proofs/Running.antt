@@ -1,5 +1,5 @@
 -- A Run, action by action.
-use Rattle.std.proofs.Common.{None, ◌≡◌, ◌≤◌, inl, inr, refl, sym, ap, subst, ◌∙◌, ℕ, ◌+◌, List, [], ◌∷◌, ◌++◌, append-nil, append_assoc, length, length-append, false}
+use Rattle.std.proofs.Common.{None, ◌≡◌, ◌≤◌, inl, inr, refl, sym, ap, subst, ◌∙◌, ℕ, ◌+◌, List, [], ◌∷◌, ◌++◌, append-nil, append_assoc, length, length-append, Bool, true, false, is_none, ◌&&◌, if◌then◌else◌}
 use Rattle.connection_model.specs.declared.note.Note.{Note}
 use Rattle.connection_model.specs.declared.note.Note.TheVariants as note
 use Rattle.connection_model.specs.declared.note.Cause.TheVariants.{Memory}
@@ -12,7 +12,11 @@ use Rattle.conn.specs.Holds.{Around, Holds}
 use Rattle.conn.specs.Runs.{DropsQueued, IsBounded, IsWhole, GoesOnWith, Runs, Rested, TellsDropped}
 use Rattle.conn.specs.RunsItems.{closing, closing_if, ends, Passes, StopsAt}
 use Rattle.conn.specs.Setups.{Serves}
-use Rattle.conn.specs.Stages.{dropped_in, is_asking}
+use Rattle.conn.specs.Calls.{over_in}
+use Rattle.conn.specs.Queues.{dropped_at}
+use Rattle.conn.specs.Stages.{is_asking, is_draining}
+use Rattle.connection_model.specs.Heard.{taken_by}
+use Rattle.seg_buffer.specs.Bytes.{is_empty}
 use Rattle.conn.specs.declared.connection.Conn.{Conn}
 use Rattle.conn.specs.declared.setup.Setup as code
 use Rattle.conn.specs.declared.turn.Act.TheVariants as done
@@ -62,7 +66,7 @@ passes_of g a l at c old new group none p = record {
 }
 
 -- a Run that gave these items
-gives : (g : Setup) (a : Around) (l at : TraceState) (c : ℕ) (old new : Conn) (group last : List Note) (t : ConnTurn) → l.answers.cut ≡ None → Gave g a l at c old new group → last ≡ closing_if (ends t) c → StopsAt g a.took at t → GoesOnWith g a l c old new (group ++ last) t
+gives : (g : Setup) (a : Around) (l at : TraceState) (c : ℕ) (old new : Conn) (group last : List Note) (t : ConnTurn) → l.answers.cut ≡ None → Gave g a l at c old new group → last ≡ closing_if (ends t) c (length new.host.to_client) → StopsAt g a.took at t → GoesOnWith g a l c old new (group ++ last) t
 gives g a l at c old new group last t none p is stops = record {
   more = p.more;
   at = at;
@@ -92,6 +96,15 @@ runs_asks s c old mid new before notes after call r acted =
           inl (gives g a l q.at c old new (r.group ++ k.group) [] (turn.Asks call) h.no_cut (gave_more g a l p.at q.at c old mid new r.group k.group p.gave q.gave) refl q.stops)),
     )
 
+-- one that rests wasn't reset: it waits for its client to take, or its client is to take the rest
+kept_by : (draining b : Bool) (q : List ℕ) → (draining ≡ false → b ≡ false) → (draining && is_empty (if b then [] else q)) ≡ false → b ≡ false
+kept_by draining false q k e = refl
+kept_by false true q k e = k refl
+kept_by true true q k e = cc
+
+not_reset : (g : Setup) (a : Around) (at : TraceState) (new : Conn) → Holds g a at new → (is_draining new.stage ≡ false → new.client.reset ≡ false) → over_in new ≡ false → is_none a.took.client ≡ false
+not_reset g a at new h k left = ap is_none h.counts ∙ ap (λ b. is_none (taken_by b a.counted)) (kept_by (is_draining new.stage) new.client.reset new.host.to_client k left)
+
 pub runs_rests : (s : code.Setup) (c : ℕ) (old mid new : Conn) (before notes after last : List Note) (t : ConnTurn) → RunsOn s c old mid before notes → Acted s c mid new notes after done.Rests → Rested c new after last t → RunsBy s c old new before last t
 runs_rests s c old mid new before notes after last t r acted rested = by_turn t rested
   where
@@ -101,21 +114,21 @@ runs_rests s c old mid new before notes after last t r acted rested = by_turn t 
     by_turn : (t : ConnTurn) → Rested c new after last t → RunsBy s c old new before last t
     by_turn turn.More x = absurd x
     by_turn (turn.Asks call) x = absurd x
-    by_turn turn.NotYet (settles, same) = (
+    by_turn turn.NotYet (settles, (same, left)) = (
       (r.group ++ k.group) ++ [],
       same ∙ both_notes before r.group k.group notes after r.notes k.notes ∙ ap (λ x. before ++ x) (sym (append-nil (r.group ++ k.group))),
       λ g a l serves h awake.
           (let p = r.along g a l serves h awake in
           let q = k.along g a p.at serves p.gave.holds p.awake in
-          inl (gives g a l q.at c old new (r.group ++ k.group) [] turn.NotYet h.no_cut (gave_more g a l p.at q.at c old mid new r.group k.group p.gave q.gave) refl (q.stops, sym (settles g a q.at q.gave.holds)))),
+          inl (gives g a l q.at c old new (r.group ++ k.group) [] turn.NotYet h.no_cut (gave_more g a l p.at q.at c old mid new r.group k.group p.gave q.gave) refl (q.stops.0, (sym (settles g a q.at q.gave.holds), not_reset g a q.at new q.gave.holds q.stops.1 left)))),
     )
     by_turn turn.Over (settles, more) = (
-      (r.group ++ k.group) ++ closing c 0,
-      both_notes before (r.group ++ k.group) (closing c 0) after last (both_notes before r.group k.group notes after r.notes k.notes) more,
+      (r.group ++ k.group) ++ closing c (length new.host.to_client),
+      both_notes before (r.group ++ k.group) (closing c (length new.host.to_client)) after last (both_notes before r.group k.group notes after r.notes k.notes) more,
       λ g a l serves h awake.
           (let p = r.along g a l serves h awake in
           let q = k.along g a p.at serves p.gave.holds p.awake in
-          inl (gives g a l q.at c old new (r.group ++ k.group) (closing c 0) turn.Over h.no_cut (gave_more g a l p.at q.at c old mid new r.group k.group p.gave q.gave) refl (sym (settles g a q.at q.gave.holds)))),
+          inl (gives g a l q.at c old new (r.group ++ k.group) (closing c (length new.host.to_client)) turn.Over h.no_cut (gave_more g a l p.at q.at c old mid new r.group k.group p.gave q.gave) refl (sym (settles g a q.at q.gave.holds)))),
     )
 
 pub runs_out : (s : code.Setup) (c pending : ℕ) (old mid new : Conn) (before notes after : List Note) → RunsOn s c old mid before notes → pending ≡ length mid.host.to_client → after ≡ (notes ++ note.Finish c Memory ∷ []) ++ closing c pending
@@ -154,4 +167,4 @@ rests_bounded c conn before after turn.Over steps r few = tt
 pub drops_told : (c given : ℕ) (new : Conn) (before after : List Note) (t : ConnTurn) → DropsQueued c given new before after t → TellsDropped t c new after
 drops_told c given new before after t d =
     let P : ConnTurn → Type 0 = λ x. TellsDropped x c new after in
-    subst P (sym d.over) (before, d.noted ∙ ap (λ n. before ++ closing c n) (sym (ap dropped_in d.there)))
+    subst P (sym d.over) (before, d.noted ∙ ap (λ n. before ++ closing c n) (sym (ap (λ st. dropped_at st (if new.client.reset then length new.host.to_client else 0)) d.there)))

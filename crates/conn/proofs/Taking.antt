@@ -1,5 +1,5 @@
 -- A connection of which more is taken, and one that begins.
-use Rattle.std.proofs.Common.{◌≡◌, refl, sym, ap, subst, ◌∙◌, ℕ, ◌+◌, ◌-◌, ◌≤◌, List, [], ◌∷◌, length, drop, arith, Bool, false, option_map}
+use Rattle.std.proofs.Common.{◌≡◌, refl, sym, ap, subst, ◌∙◌, ℕ, ◌+◌, ◌-◌, ◌≤◌, List, [], ◌∷◌, length, drop, arith, Bool, true, false, option_map, if◌then◌else◌}
 use Rattle.std.proofs.lemmas.List.{length-drop}
 use Rattle.event_order.specs.declared.event.EventName.{EventName}
 use Rattle.event_order.specs.declared.event.EventName.TheVariants.{ClientAccepted}
@@ -12,6 +12,8 @@ use Rattle.connection_model.specs.Places.{at as put, begun, entered}
 use Rattle.connection_model.specs.Setup.{Handler, Setup}
 use Rattle.connection_model.specs.State.{Absent, Draining, NoServer, TraceState, no_stream, no_answers}
 use Rattle.connection_model.specs.Trace.{start}
+use Rattle.conn.specs.Queues.{queue_in}
+use Rattle.connection_model.specs.Heard.{taken_by}
 use Rattle.conn.specs.Arrivals.{nothing_arrived, arrived}
 use Rattle.conn.specs.Calls.{Begins, Takes}
 use Rattle.conn.specs.Events.{event_of}
@@ -49,13 +51,24 @@ same_stands g stage.Draining l c q k = (k.0, same_between l c q k.1)
 same_stands g stage.OutOfMemory l c q k = k
 same_stands g (stage.Dropped n) l c q k = k
 
-pub takes : (n : ℕ) (old : Conn) (q : List ℕ) → n ≤ length old.host.to_client → q ≡ drop n old.host.to_client → Takes n old (with_queue q old)
+-- no more is queued than wasn't taken
+pub queue_within : (c : Conn) → length (queue_in c) ≤ length c.host.to_client
+queue_within c = by_reset c.client.reset
+  where
+    by_reset : (b : Bool) → length (if b then [] else c.host.to_client) ≤ length c.host.to_client
+    by_reset true = omega arith
+    by_reset false = omega arith
+
+counted_more : (b : Bool) (k n : ℕ) → option_map (λ x. x + n) (taken_by b k) ≡ taken_by b (k + n)
+counted_more true k n = refl
+counted_more false k n = refl
+
+pub takes : (n : ℕ) (old : Conn) (q : List ℕ) → n ≤ length (queue_in old) → q ≡ drop n old.host.to_client → Takes n old (with_queue q old)
 takes n old q within is g a l h = record {
   stage = same_stands g old.stage l old q h.stage;
   unasked = h.unasked;
-  taken = h.taken + n;
-  not_reset = ap (option_map (λ k. k + n)) h.not_reset;
-  untaken = (let s : length q ≡ length old.host.to_client - n = ap length is ∙ length-drop n old.host.to_client in let u = h.untaken in omega (arith, s, u, within));
+  counts = ap (option_map (λ k. k + n)) h.counts ∙ counted_more old.client.reset a.counted n;
+  untaken = (let s : length q ≡ length old.host.to_client - n = ap length is ∙ length-drop n old.host.to_client in let u = h.untaken in let most = queue_within old in omega (arith, s, u, within, most));
   client = h.client;
   no_server = h.no_server;
   none_sent = h.none_sent;
@@ -77,8 +90,7 @@ begins s from new there vars host client g serves came =
     record {
       stage = subst P (sym first) (entered_stands s g serves Accepted new there l0 (sym vars) refl unasked);
       unasked = unasked;
-      taken = 0;
-      not_reset = refl;
+      counts = ap (λ x. taken_by x.reset 0) (sym client);
       untaken = sent_none;
       client = ap arrived (sym client);
       no_server = refl;

@@ -16,12 +16,13 @@ use Rattle.conn.specs.declared.turn.Act.{Act}
 use Rattle.conn.specs.declared.turn.Act.TheVariants as act
 use Rattle.conn.specs.Changes.{GoesTo, NextBody, StartsBody}
 use Rattle.conn.specs.Hosts.{begun_host, unselected_host}
+use Rattle.conn.specs.Queues.{queue_in}
 use Rattle.conn.specs.Stages.{entered_stage, cause_for}
 use Rattle.conn.specs.Steps.{BodyMoved}
 
 -- with room for its client the bodies begin
 abbrev pub PassesGate : Setup → At → Conn → Conn → Act → Type 0
-PassesGate s at old new a = MatchBool (nat_lt (length old.host.to_client) room_limit)
+PassesGate s at old new a = MatchBool (nat_lt (length (queue_in old)) room_limit)
     ((a ≡ act.Goes) × StartsBody s at 0 old new) ((a ≡ act.Rests) × (new ≡ old))
 
 -- no server is found

@@ -4,7 +4,7 @@ use Rattle.connection_model.specs.State.{Stream}
 use Rattle.conn.specs.declared.arrived.Arrived.{Arrived}
 
 abbrev pub nothing_arrived : Arrived
-nothing_arrived = record { unread = []; ended = false }
+nothing_arrived = record { unread = []; ended = false; reset = false }
 
 abbrev pub arrived : Arrived → Stream
 arrived a = record { unread = a.unread; ended = a.ended }

@@ -1,6 +1,6 @@
 -- What the calls of a connection make of it, for each state that its trace may stand at.
 use Rattle.std.specs.Prelude.{◌≡◌, ℕ, ◌+◌, ◌-◌, [], ◌∷◌, length, Bool, true, false, ◌&&◌}
-use Rattle.std.specs.Prelude.{option_map, if◌then◌else◌}
+use Rattle.std.specs.Prelude.{Option, Some, None, option_map, if◌then◌else◌}
 use Rattle.px_bytes.specs.declared.addr.Addr.{Addr}
 use Rattle.px_bytes.specs.declared.addr.Side.TheVariants.{Client}
 use Rattle.px_bytes.specs.declared.fault.Reply.{Reply}
@@ -15,6 +15,7 @@ use Rattle.connection_model.specs.Trace.{start}
 use Rattle.conn.specs.declared.connection.Conn.{Conn}
 use Rattle.conn.specs.declared.setup.Setup.{Setup}
 use Rattle.conn.specs.Holds.{Around, fresh, Holds}
+use Rattle.conn.specs.Queues.{queue_in}
 use Rattle.conn.specs.RunsItems.{is_drained}
 use Rattle.conn.specs.Setups.{Serves}
 use Rattle.conn.specs.Stages.{has_finished, is_draining}
@@ -50,16 +51,27 @@ Begins s from new =
 
 -- n bytes more are taken
 abbrev pub took_more : ℕ → Around → Around
-took_more n a = record a { took = record a.took { client = option_map (λ k. k + n) a.took.client } }
+took_more n a = record a {
+  took = record a.took { client = option_map (λ k. k + n) a.took.client };
+  counted = a.counted + n;
+}
 
 abbrev pub Takes : ℕ → Conn → Conn → Type 0
 Takes n old new =
     (g : model.Setup) (a : Around) (l : TraceState) → Holds g a l old
     → Holds g (took_more n a) l new
 
+-- its client was reset: nothing more is queued to it
+abbrev pub reset_in : Around → Around
+reset_in a = record a { took = record a.took { client = None } }
+
+abbrev pub Resets : Conn → Conn → Type 0
+Resets old new =
+    (g : model.Setup) (a : Around) (l : TraceState) → Holds g a l old → Holds g (reset_in a) l new
+
 -- what is left is taken
 abbrev pub over_in : Conn → Bool
-over_in c = is_draining c.stage && is_empty c.host.to_client
+over_in c = is_draining c.stage && is_empty (queue_in c)
 
 -- its trace is over, and its client took all
 abbrev pub Settles : Conn → Bool → Type 0
@@ -73,7 +85,12 @@ Replies reply old new =
     (g : model.Setup) (a : Around) (l : TraceState) → Holds g a l old
     → Holds g a (longer (replies_only (reply ∷ [])) l) new
 
--- while it stands for a state nothing was dropped
-abbrev pub DropsNone : Conn → ℕ → Type 0
-DropsNone c dropped =
-    (g : model.Setup) (a : Around) (l : TraceState) → Holds g a l c → dropped ≡ 0
+-- while it stands for a state what was dropped is what a reset left untaken
+abbrev pub lost_by : Option ℕ → ℕ → ℕ
+lost_by None n = n
+lost_by (Some taken) n = 0
+
+abbrev pub DropsReset : Conn → ℕ → Type 0
+DropsReset c dropped =
+    (g : model.Setup) (a : Around) (l : TraceState) → Holds g a l c
+    → dropped ≡ lost_by a.took.client (l.sent.client - a.counted)

@@ -1,7 +1,7 @@
 -- What a connection is followed by, from its own fields: whatever may still come, its trace is what
 -- was given, and then this.
 use Rattle.std.specs.Prelude.{◌≡◌, ℕ, ◌+◌, List, [], ◌∷◌, ◌++◌, length, map, take, drop}
-use Rattle.std.specs.Prelude.{Option, Some, None, unwrap_or}
+use Rattle.std.specs.Prelude.{Option, Some, None}
 use Rattle.px_bytes.specs.declared.fault.Reply.{Reply}
 use Rattle.event_order.specs.declared.event.EventName.{EventName}
 use Rattle.rule_model.specs.Laws.{state_after}
@@ -66,7 +66,7 @@ phase_at g other = phase.Draining
 -- what was taken, and what waits for its client, was sent
 abbrev pub sent_by : Around → Conn → Counts
 sent_by a c = record {
-  client = length c.host.to_client + unwrap_or a.took.client 0;
+  client = length c.host.to_client + a.counted;
   server = 0;
   number = 0;
 }

@@ -5,6 +5,7 @@ use Rattle.event_order.specs.declared.event.EventName.{EventName}
 use Rattle.rule_model.specs.Evaluator.{evaluate}
 use Rattle.rule_model.specs.Outcome.{Act}
 use Rattle.connection_model.specs.Gates.{TakenCounts, none_taken}
+use Rattle.connection_model.specs.Heard.{taken_by}
 use Rattle.irule_net.specs.declared.state.Asks.TheVariants.{NotAsked}
 use Rattle.connection_model.specs.Host.{body_setting}
 use Rattle.connection_model.specs.Setup.{Handler, Setup}
@@ -20,12 +21,14 @@ use Rattle.conn.specs.Events.{event_of}
 use Rattle.conn.specs.Hosts.{AsksNothing, seen_host}
 use Rattle.conn.specs.Stages.{reason_for}
 
--- what was told of it from outside
+-- What was told of it from outside: what was taken, where a client that was reset counts as having
+-- taken all, and how many bytes its client was told to have taken.
 pub record Around : Type 0 where
   pub took : TakenCounts
+  pub counted : ℕ
 
 abbrev pub fresh : Around
-fresh = record { took = none_taken }
+fresh = record { took = none_taken; counted = 0 }
 
 -- between bodies nothing is kept back
 pub record Between (l : TraceState) (c : Conn) : Type 0 where
@@ -80,9 +83,8 @@ Stands g (stage.Dropped n) l c = ⊥
 pub record Holds (g : Setup) (a : Around) (l : TraceState) (c : Conn) : Type 0 where
   pub stage : Stands g c.stage l c
   pub unasked : AsksNothing c.host.net
-  pub taken : ℕ
-  pub not_reset : a.took.client ≡ Some taken
-  pub untaken : length c.host.to_client + taken ≡ l.sent.client
+  pub counts : a.took.client ≡ taken_by c.client.reset a.counted
+  pub untaken : length c.host.to_client + a.counted ≡ l.sent.client
   pub client : l.client ≡ arrived c.client
   pub no_server : l.server ≡ NoServer
   pub none_sent : l.sent.server ≡ 0

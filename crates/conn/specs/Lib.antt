@@ -11,6 +11,7 @@ pub mod Steps
 pub mod Acts
 pub mod Holds
 pub mod RunsItems
+pub mod Queues
 pub mod Calls
 pub mod Runs
 pub mod Continues

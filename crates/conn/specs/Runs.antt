@@ -12,16 +12,17 @@ use Rattle.conn.specs.declared.turn.ConnTurn.{ConnTurn}
 use Rattle.conn.specs.declared.turn.ConnTurn.TheVariants as turn
 use Rattle.conn.specs.Holds.{Around, Holds}
 use Rattle.conn.specs.RunsItems.{Passes, RunsItems, closing, out_of_memory}
-use Rattle.conn.specs.Calls.{Settles}
+use Rattle.conn.specs.Calls.{Settles, over_in}
 use Rattle.conn.specs.Setups.{Serves}
-use Rattle.conn.specs.Stages.{dropped_in, is_asking}
+use Rattle.conn.specs.Queues.{dropped_by}
+use Rattle.conn.specs.Stages.{is_asking}
 
 -- it goes on with these items, and its queue grew by what they send
 pub record GoesOnWith (g : model.Setup) (a : Around) (l : TraceState) (c : ℕ) (old new : Conn)
     (group : List Note) (t : ConnTurn) : Type 0 where
   pub more : List Item
   pub at : TraceState
-  pub items : RunsItems g a.took l c more at group t
+  pub items : RunsItems g a.took l c more at group t (length new.host.to_client)
   pub holds : Holds g a at new
   pub queue : new.host.to_client ≡ old.host.to_client ++ client_output more
 
@@ -46,8 +47,10 @@ Runs s c old new group t =
 abbrev pub Rested : ℕ → Conn → List Note → List Note → ConnTurn → Type 0
 Rested c conn before after turn.More = ⊥
 Rested c conn before after (turn.Asks call) = ⊥
-Rested c conn before after turn.NotYet = Settles conn false × (after ≡ before)
-Rested c conn before after turn.Over = Settles conn true × (after ≡ before ++ closing c 0)
+Rested c conn before after turn.NotYet =
+    Settles conn false × ((after ≡ before) × (over_in conn ≡ false))
+Rested c conn before after turn.Over =
+    Settles conn true × (after ≡ before ++ closing c (length conn.host.to_client))
 
 -- a slice that stops in the middle counted more steps than these, or gave so many notes
 abbrev pub IsWhole : ConnTurn → (steps notes : ℕ) → Type 0
@@ -75,5 +78,5 @@ pub record DropsQueued (c given : ℕ) (new : Conn) (before after : List Note) (
 -- where it is over its last notes tell what was dropped
 abbrev pub TellsDropped : ConnTurn → ℕ → Conn → List Note → Type 0
 TellsDropped turn.Over c new after =
-    (before : List Note) × (after ≡ before ++ closing c (dropped_in new.stage))
+    (before : List Note) × (after ≡ before ++ closing c (dropped_by new))
 TellsDropped other c new after = Unit {0}

@@ -1,7 +1,7 @@
 -- What a connection gives in one Run, from where its trace stands: the code's promise and the
 -- scheduler's move alike.
 use Rattle.std.specs.Prelude.{◌≡◌, ℕ, List, [], ◌∷◌, ◌++◌, Bool, true, false, ◌&&◌, nat_eq}
-use Rattle.std.specs.Prelude.{if◌then◌else◌, None}
+use Rattle.std.specs.Prelude.{if◌then◌else◌, None, is_none}
 use Rattle.std.specs.List.{flat_map}
 use Rattle.px_bytes.specs.declared.addr.Addr.{Addr}
 use Rattle.px_bytes.specs.declared.addr.Side.TheVariants.{Client, Server}
@@ -33,20 +33,22 @@ is_drained g took at =
     is_over (next_item g at)
     && (nat_eq (to_take at.sent took Client) 0 && nat_eq (to_take at.sent took Server) 0)
 
--- then it ends
-abbrev pub closing_if : Bool → ℕ → List Note
-closing_if over c = if over then closing c 0 else []
+-- then it ends, and what a reset left is dropped
+abbrev pub closing_if : Bool → ℕ → (dropped : ℕ) → List Note
+closing_if over c dropped = if over then closing c dropped else []
 
 abbrev pub ends : ConnTurn → Bool
 ends turn.Over = true
 ends other = false
 
--- where a Run stops: in the middle, at a call, where no more may be given, or at the end
+-- where a Run stops: in the middle, at a call, where no more may be given, but not behind a reset, or
+-- at the end
 abbrev pub StopsAt : Setup → TakenCounts → TraceState → ConnTurn → Type 0
 StopsAt g took at turn.More = Unit {0}
 StopsAt g took at (turn.Asks call) = next_item g at ≡ Waits (ForReply call)
 StopsAt g took at turn.NotYet =
-    GivesNoMore false at.sent took (next_item g at) × (is_drained g took at ≡ false)
+    GivesNoMore false at.sent took (next_item g at)
+    × ((is_drained g took at ≡ false) × (is_none took.client ≡ false))
 StopsAt g took at turn.Over = is_drained g took at ≡ true
 
 -- whether it stopped at a call
@@ -76,9 +78,10 @@ pub record Passes (g : Setup) (took : TakenCounts) (l : TraceState) (more : List
 -- It gave these items, and stops there; its notes are those of the items, and then the last ones
 -- where it ends.
 pub record RunsItems (g : Setup) (took : TakenCounts) (l : TraceState) (c : ℕ)
-    (more : List Item) (at : TraceState) (group : List Note) (t : ConnTurn) : Type 0 where
+    (more : List Item) (at : TraceState) (group : List Note) (t : ConnTurn) (dropped : ℕ)
+    : Type 0 where
   pub passes : Passes g took l more at
-  pub noted : group ≡ notes_of c more ++ closing_if (ends t) c
+  pub noted : group ≡ notes_of c more ++ closing_if (ends t) c dropped
   pub stops : StopsAt g took at t
 
 -- it found no memory behind these items, and ends: so many bytes are dropped

@@ -83,7 +83,7 @@ impl Conn {
     fn pass_gate(&mut self, setup: &Setup<'_>, at: At) -> Act
         ensures { PassesGate setup.now at self.old self.new result }
     {
-        if self.host.to_client.len() < ROOM {
+        if self.pending() < ROOM {
             self.start_body(setup, at, 0);
             Act::Goes
         } else {

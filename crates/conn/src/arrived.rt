@@ -13,6 +13,8 @@ use std::alloc::Global;
 pub struct Arrived {
     pub(crate) unread: Held,
     pub(crate) ended: bool,
+    /// Whether the side was reset. Nothing more is queued to it then.
+    pub(crate) reset: bool,
 }
 
 impl Arrived {
@@ -22,6 +24,7 @@ impl Arrived {
         Arrived {
             unread: Held::new(alloc),
             ended: false,
+            reset: false,
         }
     }
 
@@ -29,6 +32,7 @@ impl Arrived {
     pub fn push(&mut self, bytes: &[u8]) -> M<()>
         ensures ok { OnOk result (arrived self.new
             ≡ longer_stream (record { bytes = bytes.now; ended = false }) (arrived self.old)) }
+        ensures reset { self.new.reset ≡ self.old.reset }
         ensures err { OnErr result (self.new ≡ self.old) }
     {
         if self.ended {
@@ -39,8 +43,9 @@ impl Arrived {
 
     /// No more follows.
     pub fn end(&mut self)
-        ensures { arrived self.new
+        ensures ended { arrived self.new
             ≡ longer_stream (record { bytes = []; ended = true }) (arrived self.old) }
+        ensures reset { self.new.reset ≡ self.old.reset }
     {
         self.ended = true;
     }

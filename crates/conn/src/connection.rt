@@ -2,7 +2,8 @@
 
 ghost use Rattle.std.specs.Prelude.{◌≡◌, ◌≤◌, ◌++◌, [], true, false, IfOk, OnOk, OnErr};
 ghost use Rattle.std.specs.Prelude.{length, take, drop};
-ghost use Rattle.conn.specs.Calls.{Begins, Hears, Replies, Takes, Settles, Wants, over_in};
+ghost use Rattle.conn.specs.Calls.{Begins, Hears, Replies, Resets, Takes, Settles, Wants, over_in};
+ghost use Rattle.conn.specs.Queues.{queue_in};
 ghost use Rattle.conn.specs.Calls.{wanted_in};
 ghost use Rattle.conn.specs.Stages.{has_finished, is_asking};
 ghost use Rattle.conn.specs.RunsItems.{closing_if};
@@ -51,12 +52,23 @@ impl Conn {
 
     /// Its client took the first `n` bytes.
     pub fn took(&mut self, n: usize)
-        requires { n ≤ length self.old.host.to_client }
+        requires { n ≤ length (queue_in self.old) }
         ensures takes { Takes n self.old self.new }
         ensures queue { self.new.host.to_client ≡ drop n self.old.host.to_client }
         ensures stage { self.new.stage ≡ self.old.stage }
+        ensures client { self.new.client ≡ self.old.client }
     {
         self.host.to_client.drop_front(n);
+    }
+
+    /// Its client was reset: what is queued to it is dropped, and all that is given to it later.
+    pub fn reset(&mut self)
+        ensures resets { Resets self.old self.new }
+        ensures host { self.new.host ≡ self.old.host }
+        ensures stage { self.new.stage ≡ self.old.stage }
+        ensures client { self.new.client ≡ record self.old.client { reset = true } }
+    {
+        self.client.reset = true;
     }
 
     /// Whether it waits for the reply to a shared call.
@@ -90,6 +102,17 @@ impl Conn {
 
     /// How many bytes its client is to take.
     pub fn pending(&self) -> usize
+        ensures { result ≡ length (queue_in self.now) }
+    {
+        if self.client.reset {
+            0
+        } else {
+            self.queued()
+        }
+    }
+
+    /// How many bytes were queued to it and weren't taken, also behind a reset.
+    pub(crate) fn queued(&self) -> usize
         ensures { result ≡ length self.now.host.to_client }
     {
         self.host.to_client.len()
@@ -97,15 +120,19 @@ impl Conn {
 
     /// The bytes that its client is to take.
     pub fn front(&self) -> &[u8]
-        ensures { result.now ≡ self.now.host.to_client }
+        ensures { result.now ≡ queue_in self.now }
     {
-        self.host.to_client.front()
+        if self.client.reset {
+            &[]
+        } else {
+            self.host.to_client.front()
+        }
     }
 
     /// The first `n` of them.
     pub fn copy(&self, n: usize) -> M<Text>
-        requires { n ≤ length self.now.host.to_client }
-        ensures { IfOk result (λ text. text ≡ take n self.now.host.to_client) }
+        requires { n ≤ length (queue_in self.now) }
+        ensures { IfOk result (λ text. text ≡ take n (queue_in self.now)) }
     {
         self.host.to_client.copy(n)
     }
@@ -133,6 +160,7 @@ impl Conn {
             (Hears (record { bytes = bytes.now; ended = false }) self.old self.new) }
         ensures host { self.new.host ≡ self.old.host }
         ensures stage { self.new.stage ≡ self.old.stage }
+        ensures reset { self.new.client.reset ≡ self.old.client.reset }
         ensures err { OnErr result (self.new ≡ self.old) }
         ensures goes_on { OnErr result (has_finished self.old.stage ≡ false) }
     {
@@ -147,6 +175,7 @@ impl Conn {
         ensures hears { Hears (record { bytes = []; ended = true }) self.old self.new }
         ensures host { self.new.host ≡ self.old.host }
         ensures stage { self.new.stage ≡ self.old.stage }
+        ensures reset { self.new.client.reset ≡ self.old.client.reset }
     {
         if !self.stage.has_finished() {
             self.client.end();
@@ -158,7 +187,7 @@ impl Conn {
         requires { 2 ≤ notes.old.spare }
         ensures settles { Settles self.now result }
         ensures over { result ≡ over_in self.now }
-        ensures notes { notes.new.items ≡ notes.old.items ++ closing_if result number }
+        ensures notes { notes.new.items ≡ notes.old.items ++ closing_if result number (length self.now.host.to_client) }
     {
         self.close_if_over(number, notes)
     }
@@ -166,11 +195,11 @@ impl Conn {
     fn close_if_over(&self, number: u32, notes: &mut Notes) -> bool
         requires { 2 ≤ notes.old.spare }
         ensures over { result ≡ over_in self.now }
-        ensures notes { notes.new.items ≡ notes.old.items ++ closing_if result number }
+        ensures notes { notes.new.items ≡ notes.old.items ++ closing_if result number (length self.now.host.to_client) }
     {
         let over = self.is_over();
         if over {
-            close(number, 0, notes);
+            close(number, self.queued(), notes);
         }
         over
     }
@@ -178,7 +207,7 @@ impl Conn {
     fn is_over(&self) -> bool
         ensures { result ≡ over_in self.now }
     {
-        self.stage.is_draining() && self.host.to_client.is_empty()
+        self.stage.is_draining() && self.pending() == 0
     }
 }
 

@@ -44,7 +44,7 @@ impl Conn {
         ensures few_notes { length notes.new.items ≤ length notes.old.items + 68 }
     {
         if let Stage::OutOfMemory = self.stage {
-            let dropped = self.pending();
+            let dropped = self.queued();
             return self.drop_queued(number, dropped, notes);
         }
         let given = notes.len();
@@ -56,7 +56,7 @@ impl Conn {
             if notes.len() - given >= MOST_NOTES {
                 return ConnTurn::More;
             }
-            let pending = self.pending();
+            let pending = self.queued();
             match self.advance(alloc, setup, number, steps, &mut spent, notes) {
                 Ok(Act::Goes) => {}
                 Ok(Act::Asks(call)) => return ConnTurn::Asks(call),

@@ -3,9 +3,10 @@
 ghost use Rattle.std.specs.Prelude.{◌≡◌, ◌≤◌, [], ◌∷◌, ◌++◌};
 ghost use Rattle.connection_model.specs.declared.note.Note.TheVariants as noted;
 ghost use Rattle.connection_model.specs.declared.note.Cause.TheVariants as causes;
-ghost use Rattle.conn.specs.Calls.{DropsNone};
+ghost use Rattle.conn.specs.Calls.{DropsReset};
+ghost use Rattle.conn.specs.Queues.{dropped_by};
 ghost use Rattle.conn.specs.Runs.{DropsQueued};
-ghost use Rattle.conn.specs.Stages.{dropped_in, failed};
+ghost use Rattle.conn.specs.Stages.{failed};
 
 use crate::connection::{Conn, close};
 use crate::stage::Stage;
@@ -23,10 +24,25 @@ impl Conn {
 
     /// How many bytes were queued, weren't taken, and were dropped.
     pub fn dropped(&self) -> usize
-        ensures exact { result ≡ dropped_in self.now.stage }
-        ensures none { DropsNone self.now result }
+        ensures exact { result ≡ dropped_by self.now }
+        ensures reset { DropsReset self.now result }
     {
-        self.stage.dropped()
+        self.lost()
+    }
+
+    fn lost(&self) -> usize
+        ensures { result ≡ dropped_by self.now }
+    {
+        match self.stage {
+            Stage::Dropped(dropped) => dropped,
+            _ => {
+                if self.client.reset {
+                    self.queued()
+                } else {
+                    0
+                }
+            }
+        }
     }
 
     /// No memory was found, where so many bytes were queued.
@@ -47,7 +63,7 @@ impl Conn {
         requires { 2 ≤ notes.old.spare }
         ensures { DropsQueued number given self.new notes.old.items notes.new.items result }
     {
-        let queued = self.pending();
+        let queued = self.queued();
         self.host.to_client.drop_front(queued);
         self.stage = Stage::Dropped(given);
         close(number, given, notes);

@@ -11,6 +11,7 @@ taken_back : Lined → Event
 taken_back (lined.Accept conn vs from) = event.Accept conn vs from
 taken_back (lined.FromClient conn bytes) = event.FromClient conn bytes
 taken_back (lined.ClientEnd conn) = event.ClientEnd conn
+taken_back (lined.ClientReset conn) = event.ClientReset conn
 taken_back (lined.Connected conn) = event.Connected conn
 taken_back (lined.Refused conn) = event.Refused conn
 taken_back (lined.FromServer conn bytes) = event.FromServer conn bytes
@@ -28,6 +29,7 @@ unfolding taken_back
 is_taken_back (event.Accept conn vs from) = refl
 is_taken_back (event.FromClient conn bytes) = refl
 is_taken_back (event.ClientEnd conn) = refl
+is_taken_back (event.ClientReset conn) = refl
 is_taken_back (event.Connected conn) = refl
 is_taken_back (event.Refused conn) = refl
 is_taken_back (event.FromServer conn bytes) = refl

@@ -1,5 +1,5 @@
 -- What the program keeps of the bytes that clients took is what the past and the state say.
-use Rattle.std.proofs.Common.{map, ◌≡◌, refl, sym, ap, subst, ◌∙◌, ℕ, zero, suc, ◌+◌, ◌≤◌, ◌<◌}
+use Rattle.std.proofs.Common.{map, ◌≡◌, refl, sym, ap, subst, ◌∙◌, ℕ, zero, suc, ◌+◌, ◌≤◌, ◌<◌, if◌then◌else◌, length, Bool, true, false}
 use Rattle.std.proofs.Common.{List, [], ◌∷◌, ◌++◌, length, take, drop, Bool, true, false, ◌||◌}
 use Rattle.std.proofs.Common.{Option, Some, None, nat_eq, nat_le, nat_lt, arith, if◌then◌else◌, ◌⊎◌}
 use Rattle.std.proofs.Common.{inl, inr}
@@ -15,11 +15,12 @@ use Rattle.px_bytes.specs.declared.addr.Side.TheVariants.{Client}
 use Rattle.connection_model.specs.declared.note.Cause.TheVariants.{Memory}
 use Rattle.connection_model.specs.declared.note.Note.{Note}
 use Rattle.connection_model.specs.declared.note.Note.TheVariants.{Finish}
-use Rattle.connection_model.specs.Heard.{Input, Bytes, Ends, Takes, EventKind, Accepts, Comes, Runs, Ticks, Turns, Accepted, Heard, hears}
+use Rattle.connection_model.specs.Heard.{Input, Bytes, Ends, Takes, EventKind, Accepts, Comes, Runs, Ticks, Turns, Accepted, Heard, hears, Resets}
 use Rattle.connection_model.specs.Item.{Item, to_client, client_output}
 use Rattle.connection_model.proofs.Hearing.{others_not_heard}
 use Rattle.conn.specs.declared.connection.Conn.{Conn}
-use Rattle.proxy_core.specs.Live.{pending_in, queue_of}
+use Rattle.conn.specs.Queues.{queue_in}
+use Rattle.proxy_core.specs.Live.{pending_in}
 use Rattle.proxy_core.specs.Live.{taken_more}
 use Rattle.proxy_core.specs.Moves.{Leads, Moves, MovesBy, MovesCome, Rests, MovesFailed, MovesLacks, MovesOn, may_come}
 use Rattle.proxy_core.specs.Moves.{MovesRing, RunsOn, RunsOut, RunsFailed}
@@ -35,7 +36,7 @@ use Rattle.proxy_core.specs.Sound.{unseen, Served}
 use Rattle.proxy_core.specs.declared.config.Config.{Config}
 use Rattle.proxy_core.specs.declared.core_state.Core.{Core}
 use Rattle.proxy_core.specs.declared.event.Event.{Event}
-use Rattle.proxy_core.specs.declared.event.Event.TheVariants.{Accept, FromClient, ClientEnd, Tick, Turn, ClientTook, Run, Mark}
+use Rattle.proxy_core.specs.declared.event.Event.TheVariants.{Accept, FromClient, ClientEnd, ClientReset, Tick, Turn, ClientTook, Run, Mark}
 use Rattle.proxy_core.specs.declared.event.BadEvent.TheVariants.{NoMember}
 use Rattle.proxy_core.specs.declared.live.Live.{Live}
 use Rattle.proxy_core.specs.Others.{about, front}
@@ -199,12 +200,18 @@ front_is n l h = by_conn l.conn h
   where
     by_conn : (o : Option Conn) → n ≤ pending_in o → front_in n (queue_on Client o) ≡ Some (take n (queue_on Client o))
     by_conn None h = let e : nat_le n 0 ≡ true = grind (arith, nat_tests) in rw e refl
-    by_conn (Some conn) h = let e : nat_le n (length (queue_of conn)) ≡ true = grind (arith, nat_tests) in rw e refl
+    by_conn (Some conn) h = let e : nat_le n (length (queue_in conn)) ≡ true = grind (arith, nat_tests) in rw e refl
 
-queue_is : (C : Config) (z : Seen) (o : Option Conn) → ConnectionContinues C z o → queue_on Client o ≡ drop z.heard.client.took (client_output z.place)
-queue_is C z None k = rw k.no_items (sym (drop_nothing z.heard.client.took))
-queue_is C z (Some conn) (inl k) = k.queue
-queue_is C z (Some conn) (inr k) = k.queue
+front_left : (b : Bool) (n : ℕ) (q : List ℕ) → n ≤ length (if b then [] else q) → take n (if b then [] else q) ≡ take n q
+front_left false n q few = refl
+front_left true zero q few = refl
+front_left true (suc n) q few = absurd (omega (arith, few))
+
+-- what is taken is the front of what was sent and not taken
+queue_front : (C : Config) (z : Seen) (o : Option Conn) (n : ℕ) → ConnectionContinues C z o → n ≤ pending_in o → take n (queue_on Client o) ≡ take n (drop z.heard.client.took (client_output z.place))
+queue_front C z None n k few = rw k.no_items (ap (take n) (sym (drop_nothing z.heard.client.took)))
+queue_front C z (Some conn) n (inl k) few = front_left conn.client.reset n conn.host.to_client few ∙ ap (take n) k.queue
+queue_front C z (Some conn) n (inr k) few = front_left conn.client.reset n conn.host.to_client few ∙ ap (take n) k.queue
 
 -- what comes of a client leaves the places
 came_places : (C : Config) (past : Past) (s next : State) (c : ℕ) (input : Input) (group : List Note) → may_come input ≡ true → MovesBy C past (Comes c input) group s next → (q : ℕ) → next.places q ≡ s.places q
@@ -250,7 +257,7 @@ took_kept C past s next core c n group r fine h m =
     let took : (heard c (x ∷ past)).client.took ≡ (heard c past).client.took + n = (come_told c (heard c past) (Takes Client n) group refl may.served.plain.connects (touches C past (Comes c (Takes Client n)) group s next m).notes).took in
     let own : taken_bytes (x ∷ past) next c ≡ taken_bytes past s c ++ bytes =
     ap (λ p. take (heard c (x ∷ past)).client.took (client_output p)) (came_places C past s next c (Takes Client n) group refl m c) ∙ ap (λ t. take t out) took ∙ sym (more_taken (heard c past).client.took n out)
-    ∙ ap (λ q. take (heard c past).client.took out ++ take n q) (sym (queue_is C z f.0.conn a.continues)) in
+    ∙ ap (λ q. take (heard c past).client.took out ++ q) (sym (queue_front C z f.0.conn n a.continues f.2)) in
     ap (λ o. with_took (more_of c o) (taken_of past s (accepted past))) front
     ∙ one_more past (x ∷ past) s next c bytes (accepted past) (rising C past s r.sound.leads).distinct
     (λ q e. bytes_stay C past s next (ClientTook c n) group m q (eq_turned q c e))
@@ -301,6 +308,7 @@ pub taken_kept : (C : Config) (past : Past) (s next : State) (core : Core) (e : 
 taken_kept C past s next core (Accept c vs from) group r h k m = accept_kept C past s next core c vs from group r h m
 taken_kept C past s next core (FromClient c bytes) group r h k m = came_kept C past s next core c (Bytes Client bytes) (FromClient c bytes) group refl refl refl r h m
 taken_kept C past s next core (ClientEnd c) group r h k m = came_kept C past s next core c (Ends Client) (ClientEnd c) group refl refl refl r h m
+taken_kept C past s next core (ClientReset c) group r h k m = came_kept C past s next core c (Resets Client) (ClientReset c) group refl refl refl r h m
 taken_kept C past s next core (ClientTook c n) group r h k m = took_kept C past s next core c n group r h k m
 taken_kept C past s next core (Tick moment) group r h k m = rests_kept past s next (Tick moment) group m refl (λ q y. others_not_heard q y (Ticks moment) [] refl refl)
 taken_kept C past s next core Turn group r h k m = rests_kept past s next Turn group m refl (λ q y. others_not_heard q y Turns [] refl refl)

@@ -1,4 +1,4 @@
--- The lines of a schedule whose events the core of today takes: all but `client-reset`.
+-- The lines of a schedule, of which each spells an event of the core.
 use Rattle.std.specs.Prelude.{ℕ, List}
 use Rattle.proxy_core.specs.declared.event.Event.{Event}
 use Rattle.proxy_core.specs.declared.event.Event.TheVariants as event
@@ -15,6 +15,7 @@ abbrev pub as_lined : Event → Lined
 as_lined (event.Accept conn vs from) = lined.Accept conn vs from
 as_lined (event.FromClient conn bytes) = lined.FromClient conn bytes
 as_lined (event.ClientEnd conn) = lined.ClientEnd conn
+as_lined (event.ClientReset conn) = lined.ClientReset conn
 as_lined (event.Connected conn) = lined.Connected conn
 as_lined (event.Refused conn) = lined.Refused conn
 as_lined (event.FromServer conn bytes) = lined.FromServer conn bytes

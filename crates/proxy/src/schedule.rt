@@ -1,6 +1,6 @@
-// The lines of a schedule whose events the core of today takes.
+// The lines of a schedule.
 
-ghost use Rattle.std.specs.Prelude.{◌≡◌, ◌↔◌, IfOk, IfSome, IfNone, IsErrOf, None, Ok};
+ghost use Rattle.std.specs.Prelude.{◌≡◌, ◌↔◌, IfOk, IfSome, IsErrOf, None, Ok};
 ghost use Rattle.journal_text.specs.Line.{IsSkipped};
 ghost use Rattle.proxy.specs.Schedule.{SpellsEvent, as_lined, line_fault};
 
@@ -11,7 +11,7 @@ use std::alloc::Global;
 /// Why a line gives no event.
 #[derive(Clone, Copy, Debug, PartialEq, Eq)]
 pub enum LineFault {
-    /// The line spells no event that the core of today takes.
+    /// The line spells no event.
     NotBuilt,
     /// Memory was refused.
     Memory,
@@ -29,35 +29,31 @@ pub fn line_event(alloc: Global, line: &[u8]) -> Result<Option<Event>, LineFault
 {
     match journal_text::line_event(alloc, line) {
         Ok(None) => Ok(None),
-        Ok(Some(event)) => match core_event(event) {
-            Some(event) => Ok(Some(event)),
-            None => Err(LineFault::NotBuilt),
-        },
+        Ok(Some(event)) => Ok(Some(core_event(event))),
         Err(kind) => Err(line_fault(kind)),
     }
 }
 
-// The event as one of the core, where the core of today takes it.
-fn core_event(event: Lined) -> Option<Event>
-    ensures found { IfSome result (λ taken. as_lined taken ≡ event) }
-    ensures none { IfNone result ((taken : Event) → ¬ (as_lined taken ≡ event)) }
+// The event as one of the core.
+fn core_event(event: Lined) -> Event
+    ensures { as_lined result ≡ event }
 {
     match event {
-        Lined::Accept { conn, vs, from } => Some(Event::Accept { conn, vs, from }),
-        Lined::FromClient { conn, bytes } => Some(Event::FromClient { conn, bytes }),
-        Lined::ClientEnd { conn } => Some(Event::ClientEnd { conn }),
-        Lined::Connected { conn } => Some(Event::Connected { conn }),
-        Lined::Refused { conn } => Some(Event::Refused { conn }),
-        Lined::FromServer { conn, bytes } => Some(Event::FromServer { conn, bytes }),
-        Lined::ServerEnd { conn } => Some(Event::ServerEnd { conn }),
-        Lined::ServerReset { conn } => Some(Event::ServerReset { conn }),
-        Lined::ClientTook { conn, n } => Some(Event::ClientTook { conn, n }),
-        Lined::ServerTook { conn, n } => Some(Event::ServerTook { conn, n }),
-        Lined::Tick { moment } => Some(Event::Tick { moment }),
-        Lined::Turn => Some(Event::Turn),
-        Lined::Run => Some(Event::Run),
-        Lined::Mark { pool, member, up } => Some(Event::Mark { pool, member, up }),
-        _ => None,
+        Lined::Accept { conn, vs, from } => Event::Accept { conn, vs, from },
+        Lined::FromClient { conn, bytes } => Event::FromClient { conn, bytes },
+        Lined::ClientEnd { conn } => Event::ClientEnd { conn },
+        Lined::ClientReset { conn } => Event::ClientReset { conn },
+        Lined::Connected { conn } => Event::Connected { conn },
+        Lined::Refused { conn } => Event::Refused { conn },
+        Lined::FromServer { conn, bytes } => Event::FromServer { conn, bytes },
+        Lined::ServerEnd { conn } => Event::ServerEnd { conn },
+        Lined::ServerReset { conn } => Event::ServerReset { conn },
+        Lined::ClientTook { conn, n } => Event::ClientTook { conn, n },
+        Lined::ServerTook { conn, n } => Event::ServerTook { conn, n },
+        Lined::Tick { moment } => Event::Tick { moment },
+        Lined::Turn => Event::Turn,
+        Lined::Run => Event::Run,
+        Lined::Mark { pool, member, up } => Event::Mark { pool, member, up },
     }
 }
 

@@ -101,9 +101,9 @@ one_changed c false olds news at before after d get nb na e =
       numbers_are = ap numbers e ∙ numbers_set at olds before after get same;
     }
 
-pub closing_live : (over : Bool) (c : ℕ) (live : List ℕ) → without_all (ended_in (closing_if over c)) live ≡ (if over then without c live else live)
-closing_live true c live = refl
-closing_live false c live = refl
+pub closing_live : (over : Bool) (c d : ℕ) (live : List ℕ) → without_all (ended_in (closing_if over c d)) live ≡ (if over then without c live else live)
+closing_live true c d live = refl
+closing_live false c d live = refl
 
 pub is_live_over : (c : ℕ) (over : Bool) (olds news : List Live) (after : Live) (z : Seen) (C : Config) → OneChanged c over olds news after → z.live ≡ not over → (over ≡ false → ConnectionContinues C z after.conn) → (over ≡ false → Serves C (statics_of C) after.vs (setup_of C z.heard)) → (over ≡ false → z.heard.edges ≡ edges_in after) → AgreesAt C z (live_at news c)
 is_live_over c true olds news after z C o live k s e = let P : Option Live → Type 0 = λ x. AgreesAt C z x in subst P (sym o.own) live

@@ -28,9 +28,8 @@ use Rattle.proxy_core.specs.declared.config.Config.{Config}
 use Rattle.proxy_core.specs.declared.core_state.Core.{Core}
 use Rattle.proxy_core.specs.declared.live.Live.{Live}
 use Rattle.proxy_core.proofs.Finished.{heard_finish}
-use Rattle.proxy_core.proofs.Hearing.{taken_plain, counts}
 use Rattle.proxy_core.proofs.Standing.{as_live, sent_at}
-use Rattle.proxy_core.proofs.Stepping.{pending_same, wants_same, none_from_server, queued}
+use Rattle.proxy_core.proofs.Stepping.{pending_same, wants_same, none_from_server, queue_told as queue_told_of}
 
 -- of a live connection, by its number
 asked : {A : Type 0} (f : Live → A) (x : A) (C : Config) (past : Past) (s : State) (core : Core) (c : ℕ) → Represents C past s core → ((l : Live) → Served C c (seen past s c) → AgreesLive C (seen past s c) l → f l ≡ x)
@@ -123,13 +122,11 @@ none_to_server C past s c v =
 
 queue_side : (C : Config) (past : Past) (s : State) (c : ℕ) (side : Side) (l : Live) → Served C c (seen past s c) → AgreesLive C (seen past s c) l → queue_on side l.conn ≡ queue_at (heard c past) (s.places c) side
 queue_side C past s c Client l v a =
-    let h = heard c past in
-    let took : (taken h).client ≡ Some h.client.took = ap (λ t. t.client) (taken_plain h v.plain.not_reset v.plain.connects) in
-    by_conn l.conn a.continues ∙ ap (λ o. left_of o (client_output (s.places c))) (sym took)
+    by_conn l.conn a.continues
   where
-    by_conn : (o : Option Conn) → ConnectionContinues C (seen past s c) o → queue_on Client o ≡ drop (heard c past).client.took (client_output (s.places c))
-    by_conn None k = sym (ap (λ p. drop (heard c past).client.took (client_output p)) k.no_items ∙ drop_none (heard c past).client.took)
-    by_conn (Some conn) k = queued C (seen past s c) conn k
+    by_conn : (o : Option Conn) → ConnectionContinues C (seen past s c) o → queue_on Client o ≡ left_of (taken (heard c past)).client (client_output (s.places c))
+    by_conn None k = sym (ap (λ p. left_of (taken (heard c past)).client (client_output p)) k.no_items ∙ left_none (taken (heard c past)).client)
+    by_conn (Some conn) k = queue_told_of C (seen past s c) conn k
 queue_side C past s c Server l v a = by_conn l.conn ∙ sym (none_to_server C past s c v)
   where
     by_conn : (o : Option Conn) → queue_on Server o ≡ []

@@ -1,7 +1,9 @@
 -- Something came of a client: from what changed in a core to what the core stands for.
-use Rattle.std.proofs.Common.{◌≡◌, ◌⊎◌, inl, inr, refl, sym, ap, subst, ◌∙◌, ℕ, ◌+◌, List, [], ◌∷◌, drop, map, Bool, true, false, ◌||◌, not, Option, Some, None, nat_eq, if◌then◌else◌, remove, set, arith}
+use Rattle.std.proofs.Common.{◌≡◌, ◌⊎◌, inl, inr, refl, sym, ap, subst, ◌∙◌, ℕ, ◌+◌, List, [], ◌∷◌, drop, map, Bool, true, false, ◌||◌, not, Option, Some, None, nat_eq, if◌then◌else◌, remove, set, arith, length}
+use Rattle.proxy_core.specs.Sound.{IsPlain}
+use Rattle.proxy_core.proofs.Coming.{at_counts, around_met}
 use Rattle.std.specs.Bool.{MatchBool}
-use Rattle.std.proofs.lemmas.List.{drop-drop}
+use Rattle.std.proofs.lemmas.List.{drop-drop, length-drop}
 use Rattle.px_bytes.specs.declared.addr.Side.TheVariants.{Client, Server}
 use Rattle.connection_model.specs.declared.edges.Edge.{Edge}
 use Rattle.connection_model.specs.declared.edges.Edges.{Edges}
@@ -24,14 +26,14 @@ use Rattle.conn.specs.declared.connection.Conn.{Conn}
 use Rattle.conn.specs.declared.stage.Stage.{Stage}
 use Rattle.conn.specs.declared.stage.Stage.TheVariants.{OutOfMemory}
 use Rattle.proxy_core.specs.Changes as code
-use Rattle.proxy_core.specs.Live.{ConnComes, ConnLacks, KeepsPlace, LiveComes, client_met, comes_notes, taken_more, takes_memory}
+use Rattle.proxy_core.specs.Live.{ConnComes, ConnLacks, KeepsPlace, LiveComes, client_met, comes_notes, taken_more, takes_memory, met_by, reset_met, left_in, queue_of}
 use Rattle.proxy_core.specs.Moves.{is_drained_at, came, may_come, MovesBy, MovesFailed, MovesLacks, MovesOn}
 use Rattle.proxy_core.specs.Past.{Past, heard, ended_in, without_all, shared}
 use Rattle.proxy_core.specs.Ready.{numbers, is_in, without, with_ready}
 use Rattle.proxy_core.specs.Refusal.{edges_in, refused}
 use Rattle.proxy_core.specs.Refusals.{live_at}
 use Rattle.proxy_core.specs.Represents.{around, Continues, Lacks, NeverBegan, ConnectionContinues, AgreesAt, Represents}
-use Rattle.proxy_core.specs.Scheduler.{State, seen, seen_after}
+use Rattle.proxy_core.specs.Scheduler.{State, seen, seen_after, untaken_all}
 use Rattle.proxy_core.specs.Serving.{Serves}
 use Rattle.proxy_core.specs.Setup.{statics_of, begins_at, setup_in, setup_of, stand_of}
 use Rattle.proxy_core.specs.declared.config.Config.{Config}
@@ -45,7 +47,7 @@ use Rattle.proxy_core.proofs.Members.{eq_self}
 use Rattle.proxy_core.proofs.Places.{number_at, live_there}
 use Rattle.proxy_core.proofs.SoundEvents.{MayCome, came_at, ended_closing, failure_closing, replies_closing, cut_closing}
 use Rattle.proxy_core.proofs.SoundPast.{may_come_at}
-use Rattle.proxy_core.proofs.Standing.{drained_at}
+use Rattle.proxy_core.proofs.Standing.{drained_at, all_untaken, reset_by}
 use Rattle.proxy_core.proofs.Agreeing.{After, assemble, its, distinct_live, one_changed, closing_live, is_live_over, to_standing}
 
 -- a connection's live entry after what came: gone, or changed
@@ -58,37 +60,38 @@ core_came c true old new at before after nb na f g = let k = g refl in record { 
 core_came c false old new at before after nb na f g = let k = f refl in record { live = k.0; ring = k.1 ∙ ap (λ m. with_ready old.live.ring m) na }
 
 -- the notes of what came are about it, and end it where it is over
-about_comes : (lacks over : Bool) (c : ℕ) → About c (comes_notes lacks over c)
-about_comes true over c = (refl, tt)
-about_comes false over c = about_closing_if over c
+about_comes : (lacks over : Bool) (c d : ℕ) → About c (comes_notes lacks over c d)
+about_comes true over c d = (refl, tt)
+about_comes false over c d = about_closing_if over c d
 
-none_finish : (over : Bool) (c : ℕ) → finish_told (notes_about c (closing_if over c)) ≡ false
-none_finish over c = ap finish_told (tells_all c (closing_if over c) (about_closing_if over c)) ∙ by_over over
+none_finish : (over : Bool) (c d : ℕ) → finish_told (notes_about c (closing_if over c d)) ≡ false
+none_finish over c d = ap finish_told (tells_all c (closing_if over c d) (about_closing_if over c d)) ∙ by_over over
   where
-    by_over : (b : Bool) → finish_told (map tells (closing_if b c)) ≡ false
+    by_over : (b : Bool) → finish_told (map tells (closing_if b c d)) ≡ false
     by_over true = refl
     by_over false = refl
 
 -- of the connection of which this came: whether it is over, and what it goes on with
 record CameOn (C : Config) (past : Past) (s : State) (c : ℕ) (input : Input) (lacks over : Bool) (o : Option Conn) : Type 0 where
-  moves : MovesBy C past (Comes c input) (comes_notes lacks over c) s (came c over s)
-  on : over ≡ false → ConnectionContinues C (seen_after past (Comes c input) (comes_notes lacks over c) (came c over s) c) o
+  moves : MovesBy C past (Comes c input) (comes_notes lacks over c (left_in o)) s (came c over s)
+  on : over ≡ false → ConnectionContinues C (seen_after past (Comes c input) (comes_notes lacks over c (left_in o)) (came c over s) c) o
   stays : lacks ≡ true → over ≡ false
 
 module _ (C : Config) (past : Past) (s : State) (c : ℕ) (input : Input) (may : may_come input ≡ true) (m : MayCome C c input (seen past s c)) where
   abbrev h : Heard
   h = heard c past
 
-  moves_came : (over : Bool) → MatchBool h.failed (over ≡ false) (over ≡ is_drained_at C (hears c h (Comes c input) (closing_if over c)) (s.places c)) → MovesBy C past (Comes c input) (closing_if over c) s (came c over s)
-  moves_came over j =
-      let now = hears c h (Comes c input) (closing_if over c) in
-      let M : Bool → Type 0 = λ b. MatchBool b (MatchBool h.failed (MovesFailed c (closing_if over c) s (came c over s)) (MovesOn C now c (closing_if over c) s (came c over s) ⊎ MovesLacks input c (closing_if over c) s (came c over s))) ⊥ in
+  moves_came : (over : Bool) (d : ℕ) → MatchBool h.failed (over ≡ false) ((over ≡ is_drained_at C (hears c h (Comes c input) (closing_if over c d)) (s.places c)) × (d ≡ untaken_all (hears c h (Comes c input) (closing_if over c d)) (s.places c))) → MovesBy C past (Comes c input) (closing_if over c d) s (came c over s)
+  moves_came over d j =
+      let group = closing_if over c d in
+      let now = hears c h (Comes c input) group in
+      let M : Bool → Type 0 = λ b. MatchBool b (MatchBool h.failed (MovesFailed c group s (came c over s)) (MovesOn C now c group s (came c over s) ⊎ MovesLacks input c group s (came c over s))) ⊥ in
       subst M (sym may) (by_failed h.failed j)
     where
-      by_failed : (b : Bool) → MatchBool b (over ≡ false) (over ≡ is_drained_at C (hears c h (Comes c input) (closing_if over c)) (s.places c))
-          → MatchBool b (MovesFailed c (closing_if over c) s (came c over s)) (MovesOn C (hears c h (Comes c input) (closing_if over c)) c (closing_if over c) s (came c over s) ⊎ MovesLacks input c (closing_if over c) s (came c over s))
-      by_failed true k = record { notes = ap (λ b. closing_if b c) k; state = ap (λ b. came c b s) k }
-      by_failed false k = inl (record { notes = ap (λ b. closing_if b c) k; state = ap (λ b. came c b s) k })
+      by_failed : (b : Bool) → MatchBool b (over ≡ false) ((over ≡ is_drained_at C (hears c h (Comes c input) (closing_if over c d)) (s.places c)) × (d ≡ untaken_all (hears c h (Comes c input) (closing_if over c d)) (s.places c)))
+          → MatchBool b (MovesFailed c (closing_if over c d) s (came c over s)) (MovesOn C (hears c h (Comes c input) (closing_if over c d)) c (closing_if over c d) s (came c over s) ⊎ MovesLacks input c (closing_if over c d) s (came c over s))
+      by_failed true k = record { notes = ap (λ b. closing_if b c d) k; state = ap (λ b. came c b s) k }
+      by_failed false (k, e) = inl (record { notes = ap (λ b. closing_if b c d) k ∙ ap (closing_if (is_drained_at C (hears c h (Comes c input) (closing_if over c d)) (s.places c)) c) e; state = ap (λ b. came c b s) k })
 
   moves_lacks : takes_memory input ≡ true → h.failed ≡ false → MovesBy C past (Comes c input) (Finish c Memory ∷ []) s (came c false s)
   moves_lacks memory found =
@@ -99,16 +102,16 @@ module _ (C : Config) (past : Past) (s : State) (c : ℕ) (input : Input) (may :
       subst M (sym may) (subst F (sym found) (inr (record { memory = memory; notes = refl; state = refl })))
 
   -- one that found no memory before stays so
-  told_failed : (b : Bool) → h.failed ≡ true → (b || failure_told (map tells (closing_if false c))) ≡ b
+  told_failed : (b : Bool) → h.failed ≡ true → (b || failure_told (map tells (closing_if false c 0))) ≡ b
   told_failed true e = refl
   told_failed false e = refl
 
   none_came : NeverBegan (seen past s c) → CameOn C past s c input false false None
   none_came k =
       let t = come_told c h input [] may m.served.plain.connects tt in
-      let J : Bool → Type 0 = λ b. MatchBool b (false ≡ false) (false ≡ is_drained_at C (hears c h (Comes c input) []) (s.places c)) in
+      let J : Bool → Type 0 = λ b. MatchBool b (false ≡ false) ((false ≡ is_drained_at C (hears c h (Comes c input) []) (s.places c)) × (0 ≡ untaken_all (hears c h (Comes c input) []) (s.places c))) in
       record {
-        moves = moves_came false (subst J (sym k.failed) refl);
+        moves = moves_came false 0 (subst J (sym k.failed) refl);
         on = λ e. record { failed = t.failed ∙ ap (λ b. b || false) k.failed; finished = t.finished ∙ ap (λ b. b || false) k.finished; no_items = k.no_items };
         stays = λ e. refl;
       }
@@ -121,15 +124,17 @@ module _ (C : Config) (past : Past) (s : State) (c : ℕ) (input : Input) (may :
   lacking_came old new over k came =
       let n = taken_more input in
       let t = come_told c h input [] may m.served.plain.connects tt in
-      let J : Bool → Type 0 = λ b. MatchBool b (false ≡ false) (false ≡ is_drained_at C (hears c h (Comes c input) []) (s.places c)) in
+      let d = length (queue_of new) in
+      let J : Bool → Type 0 = λ b. MatchBool b (false ≡ false) ((false ≡ is_drained_at C (hears c h (Comes c input) []) (s.places c)) × (d ≡ untaken_all (hears c h (Comes c input) []) (s.places c))) in
       let P : Bool → Type 0 = λ b. CameOn C past s c input false b (Some new) in
       let out = client_output (s.places c) in
       subst P (sym (lacking_over old new over k.there came)) (record {
-        moves = moves_came false (subst J (sym k.failed) refl);
+        moves = moves_came false d (subst J (sym k.failed) refl);
         on = λ e. inr (record {
           failed = t.failed ∙ ap (λ b. b || false) k.failed;
           finished = t.finished ∙ ap (λ b. b || false) k.finished;
           there = came.comes.stage ∙ k.there;
+          reset = came.comes.reset ∙ ap (reset_met input) k.reset ∙ sym t.reset;
           queue = came.comes.queue ∙ ap (drop n) k.queue ∙ drop-drop n h.client.took out ∙ ap (λ x. drop x out) (sym t.took);
         });
         stays = λ e. cc;
@@ -143,35 +148,37 @@ module _ (C : Config) (past : Past) (s : State) (c : ℕ) (input : Input) (may :
       let g = setup_of C h in
       let l = stand_of C h z.place in
       let p = m.served.plain in
-      let group = closing_if over c in
+      let d = length (queue_of new) in
+      let group = closing_if over c d in
       let h' = hears c h v group in
-      let t = come_told c h input group may p.connects (about_closing_if over c) in
-      let quiet = quiet_closing_if over c in
+      let t = come_told c h input group may p.connects (about_closing_if over c d) in
+      let quiet = quiet_closing_if over c d in
       let a = came_at C c n z v group quiet m.served t in
       let f = further_of c h v group in
-      let plain = still_plain c h v group n p t (replies_closing over c) (cut_closing over c) in
-      let took_is : taken h' ≡ counts (h.client.took + n) = taken_plain h' plain.not_reset plain.connects ∙ ap counts t.took in
-      let around_is : took_more n (around h) ≡ around h' = ap (λ x. took_more n (record { took = x })) (taken_plain h p.not_reset p.connects) ∙ ap as_around (sym took_is) in
+      let plain = still_plain c h v group n p t (replies_closing over c d) (cut_closing over c d) in
+      let plain_is : (x : Heard) → IsPlain x → around x ≡ at_counts x.client.reset x.client.took = λ x q. ap (λ y. record { took = y; counted = x.client.took }) (taken_plain x q.connects) in
+      let around_is : met_by input (around h) ≡ around h' =
+      ap (met_by input) (plain_is h p) ∙ around_met input may h.client.reset h.client.took ∙ ap (λ r. at_counts r (h.client.took + n)) (sym t.reset) ∙ ap (at_counts h'.client.reset) (sym t.took) ∙ sym (plain_is h' plain) in
       let finished : l.finished ≡ h.finished = trace_finished C c z m.served (heard_finish c past) k.not_failed in
       let same : longer (unless_finished l.finished (brings_in input).client) l ≡ longer f l =
-      ap (λ b. longer (unless_finished b (brings_in input).client) l) finished ∙ ap (λ x. longer x l) (sym (come_further c h input group may quiet (none_finish over c))) in
+      ap (λ b. longer (unless_finished b (brings_in input).client) l) finished ∙ ap (λ x. longer x l) (sym (come_further c h input group may quiet (none_finish over c d))) in
       let P : TraceState → Type 0 = λ x. Holds g (around h') x new in
       let Q : Around → Type 0 = λ y. Holds g y (longer (unless_finished l.finished (brings_in input).client) l) new in
       let held : Holds g (around h') (longer f l) new = subst P same (subst Q around_is (came.comes.hears g (around h) l k.holds (stands_orderly C c z m.served))) in
       let drained : over ≡ is_drained_at C h' z.place = came.settles g (around h') (longer f l) held ∙ sym (drained_at C h' g z.place (longer f l) a.setup a.stands) in
-      let J : Bool → Type 0 = λ b. MatchBool b (over ≡ false) (over ≡ is_drained_at C h' z.place) in
+      let queue : queue_of new ≡ drop h'.client.took (client_output z.place) = came.comes.queue ∙ ap (drop n) k.queue ∙ drop-drop n h.client.took (client_output z.place) ∙ ap (λ x. drop x (client_output z.place)) (sym t.took) in
+      let all = all_untaken g h' z.place (longer f l) a.stands m.served.no_server in
+      let left : d ≡ untaken_all h' z.place = ap length queue ∙ length-drop h'.client.took (client_output z.place) ∙ sym all in
+      let J : Bool → Type 0 = λ b. MatchBool b (over ≡ false) ((over ≡ is_drained_at C h' z.place) × (d ≡ untaken_all h' z.place)) in
       record {
-        moves = moves_came over (subst J (sym k.not_failed) drained);
+        moves = moves_came over d (subst J (sym k.not_failed) (drained, left));
         on = λ e. inl (record {
-          not_failed = t.failed ∙ ap (λ b. b || failure_told (map tells group)) k.not_failed ∙ failure_closing over c;
+          not_failed = t.failed ∙ ap (λ b. b || failure_told (map tells group)) k.not_failed ∙ failure_closing over c d;
           holds = to_standing C h' g z.place (longer f l) new a.setup a.stands held;
-          queue = came.comes.queue ∙ ap (drop n) k.queue ∙ drop-drop n h.client.took (client_output z.place) ∙ ap (λ x. drop x (client_output z.place)) (sym t.took);
+          queue = queue;
         });
         stays = λ e. cc;
       }
-    where
-      as_around : TakenCounts → Around
-      as_around x = record { took = x }
 
   -- bytes take none of what was pending
   none_taken : (i : Input) → takes_memory i ≡ true → taken_more i ≡ 0
@@ -181,6 +188,17 @@ module _ (C : Config) (past : Past) (s : State) (c : ℕ) (input : Input) (may :
   none_taken (Connects made) e = refl
   none_taken (Takes Client n) e = cc
   none_taken (Takes Server n) e = refl
+
+  none_reset : (i : Input) (b : Bool) → takes_memory i ≡ true → reset_met i b ≡ b
+  none_reset (Bytes side bytes) b e = refl
+  none_reset (Ends side) b e = cc
+  none_reset (Resets Client) b e = cc
+  none_reset (Resets Server) b e = refl
+  none_reset (Connects made) b e = refl
+  none_reset (Takes side n) b e = refl
+
+  held_reset : {old : Conn} → Holds (setup_of C h) (around h) (stand_of C h (s.places c)) old → old.client.reset ≡ h.client.reset
+  held_reset {old = old} k = sym (reset_by h.client.reset old.client.reset h.client.took h.client.took k.counts)
 
   lacks_came : (old new : Conn) (over : Bool) → Continues C (seen past s c) old → takes_memory input ≡ true → ConnLacks old new over → CameOn C past s c input true over (Some new)
   lacks_came old new over k memory lacks =
@@ -194,6 +212,7 @@ module _ (C : Config) (past : Past) (s : State) (c : ℕ) (input : Input) (may :
           failed = t.failed ∙ ap (λ b. b || true) k.not_failed;
           finished = t.finished ∙ by_true h.finished;
           there = lacks.there;
+          reset = lacks.reset ∙ held_reset k.holds ∙ sym (t.reset ∙ none_reset input h.client.reset memory);
           queue = lacks.queue ∙ k.queue ∙ ap (λ x. drop x (client_output z.place)) (sym took);
         });
         stays = λ e. refl;
@@ -214,16 +233,16 @@ module _ (C : Config) (past : Past) (s : State) (c : ℕ) (input : Input) (may :
   came_on true over (Some old) (Some new) (inr k) (memory, e) = absurd (let x : true ≡ false = sym (ap has_finished k.there) ∙ e.goes_on in cc)
 
   -- where its ends stand then
-  edges_comes : (lacks over : Bool) (old new : Live) → new.client ≡ client_met input old.client → h.edges ≡ edges_in old → over ≡ false → (hears c h (Comes c input) (comes_notes lacks over c)).edges ≡ edges_in new
-  edges_comes lacks true old new met is e = cc
-  edges_comes lacks false old new met is e =
-      edges_told c h (Comes c input) (comes_notes lacks false c) (about_comes lacks false c)
+  edges_comes : (lacks over : Bool) (d : ℕ) (old new : Live) → new.client ≡ client_met input old.client → h.edges ≡ edges_in old → over ≡ false → (hears c h (Comes c input) (comes_notes lacks over c d)).edges ≡ edges_in new
+  edges_comes lacks true d old new met is e = cc
+  edges_comes lacks false d old new met is e =
+      edges_told c h (Comes c input) (comes_notes lacks false c d) (about_comes lacks false c d)
       ∙ none_noted lacks _ ∙ ap (λ b. if b then edges_met input h.edges else h.edges) (eq_self c) ∙ ap (edges_met input) is ∙ by_input input may ∙ ap at_client (sym met)
     where
       at_client : Edge → Edges
       at_client x = record { client = x; server = edge Absent }
 
-      none_noted : (b : Bool) (x : Edges) → edges_noted (comes_notes b false c) x ≡ x
+      none_noted : (b : Bool) (x : Edges) → edges_noted (comes_notes b false c d) x ≡ x
       none_noted true x = refl
       none_noted false x = refl
 
@@ -233,19 +252,20 @@ module _ (C : Config) (past : Past) (s : State) (c : ℕ) (input : Input) (may :
       by_input (Takes Client n) y = refl
       by_input (Bytes Server bytes) y = cc
       by_input (Ends Server) y = cc
-      by_input (Resets side) y = cc
+      by_input (Resets Client) y = refl
+      by_input (Resets Server) y = cc
       by_input (Connects made) y = cc
       by_input (Takes Server n) y = cc
 
-comes_live : (lacks over : Bool) (c : ℕ) (live : List ℕ) → (lacks ≡ true → over ≡ false) → without_all (ended_in (comes_notes lacks over c)) live ≡ (if over then without c live else live)
-comes_live false over c live stays = closing_live over c live
-comes_live true false c live stays = refl
-comes_live true true c live stays = absurd (let x = stays refl in cc)
+comes_live : (lacks over : Bool) (c d : ℕ) (live : List ℕ) → (lacks ≡ true → over ≡ false) → without_all (ended_in (comes_notes lacks over c d)) live ≡ (if over then without c live else live)
+comes_live false over c d live stays = closing_live over c d live
+comes_live true false c d live stays = refl
+comes_live true true c d live stays = absurd (let x = stays refl in cc)
 
-comes_ended : (past : Past) (c : ℕ) (lacks over : Bool) → (lacks ≡ true → over ≡ false) → ((live : Bool) → is_in (without_all (ended_in (closing_if over c)) (shared past).live) c ≡ not over) → is_in (shared past).live c ≡ true → is_in (without_all (ended_in (comes_notes lacks over c)) (shared past).live) c ≡ not over
-comes_ended past c false over stays e live = e true
-comes_ended past c true false stays e live = live
-comes_ended past c true true stays e live = absurd (let x = stays refl in cc)
+comes_ended : (past : Past) (c d : ℕ) (lacks over : Bool) → (lacks ≡ true → over ≡ false) → ((live : Bool) → is_in (without_all (ended_in (closing_if over c d)) (shared past).live) c ≡ not over) → is_in (shared past).live c ≡ true → is_in (without_all (ended_in (comes_notes lacks over c d)) (shared past).live) c ≡ not over
+comes_ended past c d false over stays e live = e true
+comes_ended past c d true false stays e live = live
+comes_ended past c d true true stays e live = absurd (let x = stays refl in cc)
 
 serves_still : (C : Config) (old new : Live) (h h' : Heard) → KeepsPlace old new → h'.accepted ≡ h.accepted → Serves C (statics_of C) old.vs (setup_of C h) → Serves C (statics_of C) new.vs (setup_of C h')
 serves_still C old new h h' same e k =
@@ -267,15 +287,16 @@ comes C past s old new c input group may r refused_not k =
     let d = distinct_live C past s old r in
     let o = one_changed c k.over old.live.items new.live.items k.at k.before k.after d k.found number number' t.live in
     let next = came c k.over s in
-    let notes = comes_notes k.lacks k.over c in
+    let left = left_in k.after.conn in
+    let notes = comes_notes k.lacks k.over c left in
     let M : List Note → Type 0 = λ x. MovesBy C past v x s next in
     let ring : new.live.ring ≡ next.ring = t.ring ∙ ap (λ x. if k.over then without c x else with_ready x c) r.agrees.ring in
     let z' = seen_after past v notes next c in
-    let live : z'.live ≡ not k.over = comes_ended past c k.lacks k.over w.stays (λ b. ended_closing k.over c (shared past).live r.sound.distinct m.live) m.live in
-    let told = come_told c h input notes may m.served.plain.connects (about_comes k.lacks k.over c) in
+    let live : z'.live ≡ not k.over = comes_ended past c left k.lacks k.over w.stays (λ b. ended_closing k.over c left (shared past).live r.sound.distinct m.live) m.live in
+    let told = come_told c h input notes may m.served.plain.connects (about_comes k.lacks k.over c left) in
     let serves = serves_still C k.before k.after h z'.heard k.same told.accepted i.serves in
     let G : List Note → Type 0 = λ x. AgreesAt C (seen_after past v x next c) (live_at new.live.items c) in
     assemble C past s next v group old new r (subst M (sym k.notes) w.moves) k.keeps k.last k.moment
-    (o.numbers_are ∙ sym (ap (λ x. without_all (ended_in x) (numbers old.live.items)) k.notes ∙ comes_live k.lacks k.over c (numbers old.live.items) w.stays))
+    (o.numbers_are ∙ sym (ap (λ x. without_all (ended_in x) (numbers old.live.items)) k.notes ∙ comes_live k.lacks k.over c left (numbers old.live.items) w.stays))
     ring o.others
-    (subst G (sym k.notes) (is_live_over c k.over old.live.items new.live.items k.after z' C o live w.on (λ e. serves) (edges_comes C past s c input may m k.lacks k.over k.before k.after k.client i.edges)))
+    (subst G (sym k.notes) (is_live_over c k.over old.live.items new.live.items k.after z' C o live w.on (λ e. serves) (edges_comes C past s c input may m k.lacks k.over left k.before k.after k.client i.edges)))

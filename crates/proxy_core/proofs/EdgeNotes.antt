@@ -30,16 +30,8 @@ noted_edges c (Finished reason ∷ items) e k = noted_edges c items e k
 noted_edges c (other ∷ items) e k = noted_edges c items e k
 
 -- so does a Run that goes on
-pub run_edges : (c : ℕ) (h : Heard) (more : List Item) (over : Bool) → connects_in more ≡ [] → over ≡ false → (hears c h Runs (notes_of c more ++ closing_if over c)).edges ≡ h.edges
-run_edges c h more true k e = cc
-run_edges c h more false k e =
+pub run_edges : (c : ℕ) (h : Heard) (more : List Item) (over : Bool) (d : ℕ) → connects_in more ≡ [] → over ≡ false → (hears c h Runs (notes_of c more ++ closing_if over c d)).edges ≡ h.edges
+run_edges c h more true d k e = cc
+run_edges c h more false d k e =
     edges_told c h Runs (notes_of c more ++ []) (about_joined c (notes_of c more) [] (about_items c (notes_of c more) (of_items c more)) tt)
     ∙ ap (λ ns. edges_noted ns h.edges) (append-nil (notes_of c more)) ∙ noted_edges c more h.edges k
-
--- and a took-count behind which it goes on
-pub took_edges : (c n : ℕ) (h : Heard) (over : Bool) (old new : Live) → new.client ≡ old.client → h.edges ≡ edges_in old → over ≡ false → (hears c h (Comes c (Takes Client n)) (closing_if over c)).edges ≡ edges_in new
-took_edges c n h true old new same is e = cc
-took_edges c n h false old new same is e = ap (λ b. if b then h.edges else h.edges) (eq_self c) ∙ is ∙ ap at_client (sym same)
-  where
-    at_client : Edge → Edges
-    at_client x = record { client = x; server = edge Absent }

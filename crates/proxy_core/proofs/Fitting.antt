@@ -77,12 +77,12 @@ module _ (C : Config) (past : Past) (old : State) (sound : Sound C past old) whe
   stays_open c v group notes new opens live e a same is =
       ap (λ g. client_at (hears c (heard c past) v g).edges) e ∙ ap client_at (edges_told c (heard c past) v notes a) ∙ same ∙ opens live
 
-  came_open : (c : ℕ) (input : Input) (group : List Note) (new : State) (over : Bool) → OpenWhile (seen past old c) → (seen past old c).live ≡ true → group ≡ closing_if over c → OpenWhile (seen_after past (Comes c input) group new c)
-  came_open c input group new true opens live e is =
-      let k = ended_closing true c (shared past).live sound.distinct live in
+  came_open : (c : ℕ) (input : Input) (group : List Note) (new : State) (over : Bool) (d : ℕ) → OpenWhile (seen past old c) → (seen past old c).live ≡ true → group ≡ closing_if over c d → OpenWhile (seen_after past (Comes c input) group new c)
+  came_open c input group new true d opens live e is =
+      let k = ended_closing true c d (shared past).live sound.distinct live in
       let n = sym (ap (λ g. is_in (without_all (ended_in g) (shared past).live) c) e ∙ k) ∙ is in
       absurd (let f : false ≡ true = n in cc)
-  came_open c input group new false opens live e is =
+  came_open c input group new false d opens live e is =
       stays_open c (Comes c input) group [] new opens live e tt (come_state c input (heard c past).edges) is
 
   input_open : (c : ℕ) (input : Input) (group : List Note) (new : State) (b : Bool) → OpenWhile (seen past old c) → (seen past old c).live ≡ true → MatchBool b (MovesCome C input (heard c past) (hears c (heard c past) (Comes c input) group) c group old new) ⊥ → OpenWhile (seen_after past (Comes c input) group new c)
@@ -90,8 +90,8 @@ module _ (C : Config) (past : Past) (old : State) (sound : Sound C past old) whe
   input_open c input group new true opens live m = by_failed (heard c past).failed m
     where
       by_failed : (b : Bool) → MatchBool b (MovesFailed c group old new) (MovesOn C (hears c (heard c past) (Comes c input) group) c group old new ⊎ MovesLacks input c group old new) → OpenWhile (seen_after past (Comes c input) group new c)
-      by_failed true k = came_open c input group new false opens live k.notes
-      by_failed false (inl k) = came_open c input group new (is_drained_at C (hears c (heard c past) (Comes c input) group) (old.places c)) opens live k.notes
+      by_failed true k = came_open c input group new false 0 opens live k.notes
+      by_failed false (inl k) = came_open c input group new (is_drained_at C (hears c (heard c past) (Comes c input) group) (old.places c)) (untaken_all (hears c (heard c past) (Comes c input) group) (old.places c)) opens live k.notes
       by_failed false (inr k) = stays_open c (Comes c input) group (Finish c Memory ∷ []) new opens live k.notes (refl, tt) (come_state c input (heard c past).edges)
 
   -- behind its items' notes
@@ -100,9 +100,9 @@ module _ (C : Config) (past : Past) (old : State) (sound : Sound C past old) whe
       let n = ap (λ g. is_in (without_all (ended_in g) (shared past).live) c) e ∙ ap (λ ns. is_in (without_all ns (shared past).live) c) (ended_behind c (notes_of c more) behind (of_items c more)) ∙ k ∙ ap not last in
       absurd (let f : false ≡ true = sym n ∙ is in cc)
 
-  on_open : (c : ℕ) (more : List Item) (group : List Note) (new : State) (over : Bool) → OpenWhile (seen past old c) → (seen past old c).live ≡ true → connects_in more ≡ [] → group ≡ notes_of c more ++ closing_if over c → OpenWhile (seen_after past Runs group new c)
-  on_open c more group new true opens live none e = ran_open c more group (closing_if true c) new true live e refl (ended_closing true c (shared past).live sound.distinct live)
-  on_open c more group new false opens live none e =
+  on_open : (c : ℕ) (more : List Item) (group : List Note) (new : State) (over : Bool) (d : ℕ) → OpenWhile (seen past old c) → (seen past old c).live ≡ true → connects_in more ≡ [] → group ≡ notes_of c more ++ closing_if over c d → OpenWhile (seen_after past Runs group new c)
+  on_open c more group new true d opens live none e = ran_open c more group (closing_if true c d) new true live e refl (ended_closing true c d (shared past).live sound.distinct live)
+  on_open c more group new false d opens live none e =
       let a = about_joined c (notes_of c more) [] (about_items c (notes_of c more) (of_items c more)) tt in
       let same : edges_noted (notes_of c more ++ []) (heard c past).edges ≡ (heard c past).edges = ap (λ ns. edges_noted ns (heard c past).edges) (append-nil (notes_of c more)) ∙ noted_edges c more (heard c past).edges none in
       stays_open c Runs group (notes_of c more ++ []) new opens live e a (ap client_at same)
@@ -111,11 +111,11 @@ module _ (C : Config) (past : Past) (old : State) (sound : Sound C past old) whe
   front_open c rest group new opens live m = by_failed (heard c past).failed m
     where
       by_failed : (b : Bool) → MatchBool b (RunsFailed (heard c past) c rest group old new) (RunsOn C (heard c past) c rest group old new ⊎ RunsOut C (heard c past) c rest group old new) → OpenWhile (seen_after past Runs group new c)
-      by_failed true k = ran_open c [] group (closing c (untaken_all (heard c past) (old.places c))) new true live k.notes refl (ended_closing true c (shared past).live sound.distinct live)
-      by_failed false (inl k) = on_open c k.more group new (ends k.turn) opens live k.items.passes.no_connect k.items.noted
+      by_failed true k = ran_open c [] group (closing c (untaken_all (heard c past) (old.places c))) new true live k.notes refl (ended_closing true c (untaken_all (heard c past) (old.places c)) (shared past).live sound.distinct live)
+      by_failed false (inl k) = on_open c k.more group new (ends k.turn) (untaken_all (heard c past) (old.places c ++ k.more)) opens live k.items.passes.no_connect k.items.noted
       by_failed false (inr k) =
           let d = untaken_all (heard c past) (old.places c ++ k.more) in
-          ran_open c k.more group (Finish c Memory ∷ closing c d) new true live k.notes refl (ended_closing true c (shared past).live sound.distinct live)
+          ran_open c k.more group (Finish c Memory ∷ closing c d) new true live k.notes refl (ended_closing true c d (shared past).live sound.distinct live)
 
   rest_open : (v : EventKind) (group : List Note) (new : State) (q : ℕ) → Rests group old new → ((h : Heard) → hears q h v [] ≡ h) → with_accepted v (shared past).live ≡ (shared past).live → OpenWhile (seen past old q) → OpenWhile (seen_after past v group new q)
   rest_open v group new q m same live k = subst OpenWhile (sym (unchanged past v group old new q m same live)) k
@@ -151,9 +151,9 @@ module _ (C : Config) (past : Past) (old : State) (sound : Sound C past old) whe
   fit_closing : (c d : ℕ) (e : Edges) → IsOpen e → Fit (closing c d) e
   fit_closing c d e opens = (ap is_used opens, (refl, tt))
 
-  fit_closing_if : (over : Bool) (c : ℕ) (e : Edges) → IsOpen e → Fit (closing_if over c) e
-  fit_closing_if true c e opens = fit_closing c 0 e opens
-  fit_closing_if false c e opens = tt
+  fit_closing_if : (over : Bool) (c d : ℕ) (e : Edges) → IsOpen e → Fit (closing_if over c d) e
+  fit_closing_if true c d e opens = fit_closing c d e opens
+  fit_closing_if false c d e opens = tt
 
   fit_items : (c : ℕ) (items : List Item) (more : List Note) (e : Edges) → connects_in items ≡ [] → Fit more e → Fit (notes_of c items ++ more) e
   fit_items c [] more e k f = f
@@ -179,7 +179,8 @@ module _ (C : Config) (past : Past) (old : State) (sound : Sound C past old) whe
       by_failed true k = fit_told c group [] e k.notes tt tt
       by_failed false (inl k) =
           let over = is_drained_at C (hears c (heard c past) (Comes c input) group) (old.places c) in
-          fit_told c group (closing_if over c) e k.notes (about_closing_if over c) (fit_closing_if over c e is_open)
+          let d = untaken_all (hears c (heard c past) (Comes c input) group) (old.places c) in
+          fit_told c group (closing_if over c d) e k.notes (about_closing_if over c d) (fit_closing_if over c d e is_open)
       by_failed false (inr k) = fit_told c group (Finish c Memory ∷ []) e k.notes (refl, tt) (refl, tt)
 
   run_fits : (c : ℕ) (rest : List ℕ) (group : List Note) (new : State) → IsOpen (heard c past).edges → MovesFront C (heard c past) c rest group old new → Fit (own c group) (heard c past).edges
@@ -193,7 +194,9 @@ module _ (C : Config) (past : Past) (old : State) (sound : Sound C past old) whe
 
       by_failed : (b : Bool) → MatchBool b (RunsFailed (heard c past) c rest group old new) (RunsOn C (heard c past) c rest group old new ⊎ RunsOut C (heard c past) c rest group old new) → Fit (own c group) e
       by_failed true k = fit_told c group (closing c (untaken_all (heard c past) (old.places c))) e k.notes (refl, (refl, tt)) (fit_closing c (untaken_all (heard c past) (old.places c)) e opens)
-      by_failed false (inl k) = behind k.more (closing_if (ends k.turn) c) k.items.passes.no_connect k.items.noted (about_closing_if (ends k.turn) c) (fit_closing_if (ends k.turn) c e opens)
+      by_failed false (inl k) =
+          let d = untaken_all (heard c past) (old.places c ++ k.more) in
+          behind k.more (closing_if (ends k.turn) c d) k.items.passes.no_connect k.items.noted (about_closing_if (ends k.turn) c d) (fit_closing_if (ends k.turn) c d e opens)
       by_failed false (inr k) =
           let d = untaken_all (heard c past) (old.places c ++ k.more) in
           behind k.more (Finish c Memory ∷ closing c d) k.passes.no_connect k.notes (refl, (refl, (refl, tt))) (refl, fit_closing c d e opens)

@@ -60,8 +60,8 @@ touched c group notes old new after e f t =
 rests : (c : ℕ) (group : List Note) (old new : State) → Rests group old new → Touches c group old new
 rests c group old new m = touched c group [] old new old m.0 m.1 (record { notes = tt; ready = λ q e. refl; place = λ q e. refl })
 
-comes_touch : (over : Bool) (c : ℕ) (group : List Note) (old new : State) → group ≡ closing_if over c → new ≡ came c over old → Touches c group old new
-comes_touch over c group old new e f = touched c group (closing_if over c) old new (came c over old) e f (record { notes = about_closing_if over c; ready = λ q h. by_end over q h; place = λ q h. refl })
+comes_touch : (over : Bool) (c d : ℕ) (group : List Note) (old new : State) → group ≡ closing_if over c d → new ≡ came c over old → Touches c group old new
+comes_touch over c d group old new e f = touched c group (closing_if over c d) old new (came c over old) e f (record { notes = about_closing_if over c d; ready = λ q h. by_end over q h; place = λ q h. refl })
   where
     by_end : (b : Bool) (q : ℕ) → nat_eq c q ≡ false → entries q (came c b old).ring ≡ entries q old.ring
     by_end true q h = entries_without c q old.ring (eq_turned c q h)
@@ -83,9 +83,10 @@ by_ring C past (c ∷ rest) group old new e m = by_failed (heard c past).failed 
     by_failed : (b : Bool) → MatchBool b (RunsFailed (heard c past) c rest group old new) (RunsOn C (heard c past) c rest group old new ⊎ RunsOut C (heard c past) c rest group old new) → Touches c group old new
     by_failed true k = touched c group (closing c (untaken_all (heard c past) (old.places c))) old new (record old { ring = rest }) k.notes k.state (record { notes = (refl, (refl, tt)); ready = λ q h. entries_rest c q rest (eq_turned c q h) ∙ ap (entries q) (sym e); place = λ q h. refl })
     by_failed false (inl k) =
-        let behind = closing_if (ends k.turn) c in
+        let d = untaken_all (heard c past) (old.places c ++ k.more) in
+        let behind = closing_if (ends k.turn) c d in
         ran_touch c rest (ring_behind k.turn c rest) k.more group (notes_of c k.more ++ behind) old new e (λ q h. entries_behind k.turn c q rest h) k.items.noted
-        (about_joined c (notes_of c k.more) behind (about_items c (notes_of c k.more) (of_items c k.more)) (about_closing_if (ends k.turn) c)) k.state
+        (about_joined c (notes_of c k.more) behind (about_items c (notes_of c k.more) (of_items c k.more)) (about_closing_if (ends k.turn) c d)) k.state
     by_failed false (inr k) =
         ran_touch c rest rest k.more group (out_of_memory c k.more (untaken_all (heard c past) (old.places c ++ k.more))) old new e (λ q h. refl) k.notes
         (about_joined c (notes_of c k.more) (Finish c Memory ∷ closing c (untaken_all (heard c past) (old.places c ++ k.more))) (about_items c (notes_of c k.more) (of_items c k.more)) (refl, (refl, (refl, tt)))) k.state
@@ -94,8 +95,8 @@ by_input : (C : Config) (past : Past) (c : ℕ) (input : Input) (group : List No
 by_input C past c input group old new true m = by_failed (heard c past).failed m
   where
     by_failed : (b : Bool) → MatchBool b (MovesFailed c group old new) (MovesOn C (hears c (heard c past) (Comes c input) group) c group old new ⊎ MovesLacks input c group old new) → Touches c group old new
-    by_failed true k = comes_touch false c group old new k.notes k.state
-    by_failed false (inl k) = comes_touch (is_drained_at C (hears c (heard c past) (Comes c input) group) (old.places c)) c group old new k.notes k.state
+    by_failed true k = comes_touch false c 0 group old new k.notes k.state
+    by_failed false (inl k) = comes_touch (is_drained_at C (hears c (heard c past) (Comes c input) group) (old.places c)) c (untaken_all (hears c (heard c past) (Comes c input) group) (old.places c)) group old new k.notes k.state
     by_failed false (inr k) = touched c group (Finish c Memory ∷ []) old new (came c false old) k.notes k.state (record { notes = (refl, tt); ready = λ q h. entries_ready c q old.ring (eq_turned c q h); place = λ q h. refl })
 by_input C past c input group old new false m = absurd m
 

@@ -23,9 +23,9 @@ pub about_joined : (c : ℕ) (some more : List Note) → About c some → About 
 about_joined c [] more p q = q
 about_joined c (n ∷ some) more p q = (p.0, about_joined c some more p.1 q)
 
-pub about_closing_if : (over : Bool) (c : ℕ) → About c (closing_if over c)
-about_closing_if true c = (refl, (refl, tt))
-about_closing_if false c = tt
+pub about_closing_if : (over : Bool) (c d : ℕ) → About c (closing_if over c d)
+about_closing_if true c d = (refl, (refl, tt))
+about_closing_if false c d = tt
 
 pub own_all : (c : ℕ) (notes : List Note) → About c notes → own c notes ≡ notes
 own_all c [] h = refl
@@ -117,9 +117,9 @@ quiet_by c group a r h k = record {
   cut = λ took. ap (cut_told took) (tells_all c group a) ∙ k took;
 }
 
-pub quiet_closing_if : (over : Bool) (c : ℕ) → TellsNothing c (closing_if over c)
-quiet_closing_if true c = quiet_by c (closing c 0) (refl, (refl, tt)) refl refl (λ took. refl)
-quiet_closing_if false c = quiet_by c [] tt refl refl (λ took. refl)
+pub quiet_closing_if : (over : Bool) (c d : ℕ) → TellsNothing c (closing_if over c d)
+quiet_closing_if true c d = quiet_by c (closing c d) (refl, (refl, tt)) refl refl (λ took. refl)
+quiet_closing_if false c d = quiet_by c [] tt refl refl (λ took. refl)
 
 pub quiet_closing : (c dropped : ℕ) → TellsNothing c (closing c dropped)
 quiet_closing c dropped = quiet_by c (closing c dropped) (refl, (refl, tt)) refl refl (λ took. refl)

@@ -9,20 +9,20 @@ use Rattle.connection_model.specs.Item.{Choice}
 use Rattle.connection_model.specs.State.{Cut}
 use Rattle.conn.specs.Calls.{unless_finished}
 use Rattle.connection_model.specs.Gates.{TakenCounts, taken_of}
-use Rattle.connection_model.specs.Heard.{Input, Bytes, Ends, Resets, Connects, Takes, EventKind, Comes, Runs, SideHeard, Heard, taken_by, servers_taken, taken, hears_by, hears_more, at_last, as_answer, Brought, brought_nothing, brings_in, event_brings, marks, event_marks, brought, hears_event, hears, further_of}
+use Rattle.connection_model.specs.Heard.{Input, Bytes, Ends, Resets, Connects, Takes, EventKind, Comes, Runs, SideHeard, Heard, taken_by, servers_taken, taken, hears_by, hears_more, at_last, as_answer, Brought, brought_nothing, brings_in, event_brings, marks, event_marks, brought, hears_event, hears, further_of, Accepts, Ticks, Turns, Marks}
 use Rattle.connection_model.specs.Laws.{AtLeast, TakesMore}
 use Rattle.connection_model.specs.Tellings.{tells, own, notes_about, replies_told, choices_told, cut_told, finish_told, failure_told}
-use Rattle.proxy_core.specs.Live.{taken_more}
+use Rattle.proxy_core.specs.Live.{taken_more, reset_met}
 use Rattle.proxy_core.specs.Moves.{may_come}
 use Rattle.proxy_core.specs.Sound.{IsPlain}
 use Rattle.proxy_core.proofs.GroupNotes.{About, own_all, tells_all}
 use Rattle.proxy_core.proofs.Members.{eq_self}
 
 -- what an event changes, before its notes and what it brings are heard
-record Marked (h k : Heard) (n : ℕ) : Type 0 where
+record Marked (h k : Heard) (n : ℕ) (b : Bool) : Type 0 where
   accepted : k.accepted ≡ h.accepted
   took : k.client.took ≡ h.client.took + n
-  reset : k.client.reset ≡ h.client.reset
+  reset : k.client.reset ≡ b
   connects : k.connects ≡ []
   replies : k.replies ≡ h.replies
   cut : k.cut ≡ h.cut
@@ -30,24 +30,30 @@ record Marked (h k : Heard) (n : ℕ) : Type 0 where
   failed : k.failed ≡ h.failed
   notes : k.notes ≡ h.notes
 
-unmarked : (h : Heard) → h.connects ≡ [] → Marked h h 0
+unmarked : (h : Heard) → h.connects ≡ [] → Marked h h 0 h.client.reset
 unmarked h e = record { accepted = refl; took = omega arith; reset = refl; connects = e; replies = refl; cut = refl; finished = refl; failed = refl; notes = refl }
 
-marks_few : (input : Input) (h : Heard) → may_come input ≡ true → h.connects ≡ [] → Marked h (marks input h) (taken_more input)
+marks_few : (input : Input) (h : Heard) → may_come input ≡ true → h.connects ≡ [] → Marked h (marks input h) (taken_more input) (reset_met input h.client.reset)
 marks_few (Bytes Client bytes) h m e = unmarked h e
 marks_few (Bytes Server bytes) h m e = absurd (let x : false ≡ true = m in cc)
 marks_few (Ends Client) h m e = unmarked h e
 marks_few (Ends Server) h m e = absurd (let x : false ≡ true = m in cc)
-marks_few (Resets side) h m e = absurd (let x : false ≡ true = m in cc)
+marks_few (Resets Client) h m e = record { accepted = refl; took = omega arith; reset = refl; connects = e; replies = refl; cut = refl; finished = refl; failed = refl; notes = refl }
+marks_few (Resets Server) h m e = absurd (let x : false ≡ true = m in cc)
 marks_few (Connects made) h m e = absurd (let x : false ≡ true = m in cc)
 marks_few (Takes Client n) h m e = record { accepted = refl; took = refl; reset = refl; connects = e; replies = refl; cut = refl; finished = refl; failed = refl; notes = refl }
 marks_few (Takes Server n) h m e = absurd (let x : false ≡ true = m in cc)
+
+-- whether its client was reset then
+abbrev pub reset_heard : EventKind → Bool → Bool
+reset_heard (Comes c input) b = reset_met input b
+reset_heard other b = b
 
 -- what it hears after an event and its notes, which are all about it
 pub record Told (c : ℕ) (h : Heard) (v : EventKind) (group : List Note) (n : ℕ) : Type 0 where
   pub accepted : (hears c h v group).accepted ≡ h.accepted
   pub took : (hears c h v group).client.took ≡ h.client.took + n
-  pub reset : (hears c h v group).client.reset ≡ h.client.reset
+  pub reset : (hears c h v group).client.reset ≡ reset_heard v h.client.reset
   pub connects : (hears c h v group).connects ≡ []
   pub replies : (hears c h v group).replies ≡ h.replies ++ replies_told (map tells group)
   pub at : TakenCounts
@@ -64,7 +70,7 @@ reset_same : (b : Bool) (c : Coming) (s : SideHeard) → (hears_by b c s).reset 
 reset_same true c s = refl
 reset_same false c s = refl
 
-told_by : (c : ℕ) (h : Heard) (v : EventKind) (group : List Note) (n : ℕ) → About c group → Marked h (event_marks c v h) n → (brought c h v group).connects ≡ [] → Told c h v group n
+told_by : (c : ℕ) (h : Heard) (v : EventKind) (group : List Note) (n : ℕ) → About c group → Marked h (event_marks c v h) n (reset_heard v h.client.reset) → (brought c h v group).connects ≡ [] → Told c h v group n
 told_by c h v group n a m none =
     let k = event_marks c v h in
     let b = brought c h v group in
@@ -99,7 +105,7 @@ pub come_told : (c : ℕ) (h : Heard) (input : Input) (group : List Note) → ma
 come_told c h input group m e a = told_by c h (Comes c input) group (taken_more input) a (subst P (sym (eq_self c)) (marks_few input h m e)) (by_end (h.finished || finish_told (notes_about c group)))
   where
     P : Bool → Type 0
-    P b = Marked h (if b then marks input h else h) (taken_more input)
+    P b = Marked h (if b then marks input h else h) (taken_more input) (reset_met input h.client.reset)
 
     by_end : (b : Bool) → (if b then brought_nothing else (if nat_eq c c then brings_in input else brought_nothing)).connects ≡ []
     by_end true = refl
@@ -155,26 +161,46 @@ run_told c h group e a = told_by c h Runs group 0 a (unmarked h e) (by_end (h.fi
     by_end true = refl
     by_end false = refl
 
--- what was taken, where nothing is heard of a server or a reset
-abbrev pub counts : ℕ → TakenCounts
-counts n = record { client = Some n; servers = [] }
+-- what was taken, where nothing is heard of a server
+abbrev pub counts : Bool → ℕ → TakenCounts
+counts b n = record { client = taken_by b n; servers = [] }
 
-pub taken_plain : (h : Heard) → h.client.reset ≡ false → h.connects ≡ [] → taken h ≡ counts h.client.took
-taken_plain h r e =
-    let make : Bool → List (Option SideHeard) → TakenCounts = λ b cs. record { client = taken_by b h.client.took; servers = servers_taken cs } in
-    ap (λ b. make b h.connects) r ∙ ap (make false) e
+pub taken_plain : (h : Heard) → h.connects ≡ [] → taken h ≡ counts h.client.reset h.client.took
+taken_plain h e =
+    let make : List (Option SideHeard) → TakenCounts = λ cs. record { client = taken_by h.client.reset h.client.took; servers = servers_taken cs } in
+    ap make e
 
-pub counts_more : (n m : ℕ) → n ≤ m → TakesMore (counts n) (counts m)
-counts_more n m le = record { client = le; servers = by_number }
+-- a took-count or a reset more
+pub counts_more : (a b : Bool) (n m : ℕ) → (a ≡ true → b ≡ true) → n ≤ m → TakesMore (counts a n) (counts b m)
+counts_more a b n m keeps le = record { client = by_resets a b keeps; servers = by_number }
   where
     by_number : (k : ℕ) → AtLeast (taken_of [] k) (taken_of [] k)
     by_number zero = omega arith
     by_number (suc k) = omega arith
 
--- it still heard of no server, reset or cut, where its notes tell of none
+    by_resets : (a b : Bool) → (a ≡ true → b ≡ true) → AtLeast (taken_by a n) (taken_by b m)
+    by_resets false false keeps = le
+    by_resets false true keeps = tt
+    by_resets true true keeps = tt
+    by_resets true false keeps = absurd (let x = keeps refl in cc)
+
+-- it stays reset
+pub reset_keeps : (v : EventKind) (b : Bool) → b ≡ true → reset_heard v b ≡ true
+reset_keeps (Comes c (Resets Client)) b e = refl
+reset_keeps (Comes c (Resets Server)) b e = e
+reset_keeps (Comes c (Bytes side bytes)) b e = e
+reset_keeps (Comes c (Ends side)) b e = e
+reset_keeps (Comes c (Connects made)) b e = e
+reset_keeps (Comes c (Takes side n)) b e = e
+reset_keeps (Accepts c vs from) b e = e
+reset_keeps (Ticks moment) b e = e
+reset_keeps Turns b e = e
+reset_keeps Runs b e = e
+reset_keeps (Marks pool member up) b e = e
+
+-- it still heard of no server or cut, where its notes tell of none
 pub still_plain : (c : ℕ) (h : Heard) (v : EventKind) (group : List Note) (n : ℕ) → IsPlain h → Told c h v group n → replies_told (map tells group) ≡ [] → ((took : TakenCounts) → cut_told took (map tells group) ≡ None) → IsPlain (hears c h v group)
 still_plain c h v group n p t replies cut = record {
-  not_reset = t.reset ∙ p.not_reset;
   connects = t.connects;
   replies = t.replies ∙ ap (λ r. r ++ replies_told (map tells group)) p.replies ∙ replies;
   cut = t.cut ∙ ap (λ x. first_cut x (cut_told t.at (map tells group))) p.cut ∙ cut t.at;

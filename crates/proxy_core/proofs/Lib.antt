@@ -7,8 +7,8 @@ pub mod Entries
 pub mod GroupNotes
 pub mod EdgeNotes
 pub mod Refusing
-pub mod Coming
 pub mod Hearing
+pub mod Coming
 pub mod Standing
 pub mod Framing
 pub mod Others

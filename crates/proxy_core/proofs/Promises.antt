@@ -1,5 +1,5 @@
 -- The promise, of every past that leads to a state.
-use Rattle.std.proofs.Common.{◌≡◌, refl, sym, ap, subst, ◌∙◌, ℕ, ◌+◌, ◌≤◌, List, [], ◌∷◌, ◌++◌, length, take, map, Bool, true, false, ◌||◌, ◌&&◌, not, nat_eq, arith, append_assoc, eqb-true, append-nil, if◌then◌else◌}
+use Rattle.std.proofs.Common.{◌≡◌, refl, sym, ap, subst, ◌∙◌, ℕ, ◌+◌, ◌≤◌, List, [], ◌∷◌, ◌++◌, length, take, map, Bool, true, false, ◌||◌, ◌&&◌, not, nat_eq, arith, append_assoc, eqb-true, append-nil, if◌then◌else◌, is_none, ◌-◌}
 use Rattle.std.specs.List.{filter, list_any}
 use Rattle.std.proofs.lemmas.Bool.{and_parts}
 use Rattle.std.proofs.lemmas.List.{take-append-le, map-append}
@@ -13,8 +13,8 @@ use Rattle.connection_model.specs.declared.note.CutReason.TheVariants.{ClientRes
 use Rattle.connection_model.specs.declared.note.Note.{Note}
 use Rattle.connection_model.specs.declared.note.Note.TheVariants.{Finish}
 use Rattle.connection_model.specs.Further.{is_some_of}
-use Rattle.connection_model.specs.Gates.{Counts, TakenCounts, to_take}
-use Rattle.connection_model.specs.Heard.{Input, Bytes, Ends, Resets, Connects, Takes, EventKind, Accepts, Comes, Ticks, Turns, Runs, Marks, Heard, taken, accepts, marks, event_marks}
+use Rattle.connection_model.specs.Gates.{Counts, TakenCounts, to_take, untaken}
+use Rattle.connection_model.specs.Heard.{Input, Bytes, Ends, Resets, Connects, Takes, EventKind, Accepts, Comes, Ticks, Turns, Runs, Marks, Heard, taken, accepts, marks, event_marks, taken_by}
 use Rattle.connection_model.specs.Item.{Item, Reason, cause_of, Passed, Fired, Reused, Connected, Logged, Finished, shown, listed, to_client, client_output, note_of, notes_of, reasons_in}
 use Rattle.connection_model.specs.Laws.{Stops}
 use Rattle.connection_model.specs.Setup.{Setup}
@@ -71,12 +71,16 @@ stops_at sent took (Does i m) c s k = let t = taken_all_opens i sent took c s in
 stops_at sent took (Waits w) c s k = tt
 stops_at sent took Over c s k = tt
 
+none_left : (b : Bool) (n t : ℕ) → t ≡ n → untaken n (taken_by b t) ≡ 0
+none_left true n t e = refl
+none_left false n t e = omega (arith, e)
+
 -- what is left where it stands
 left_at : (C : Config) (c : ℕ) (z : Seen) (k : Served C c z) → z.heard.client.took ≡ length (client_output z.place) → (to_take (stand_of C z.heard z.place).sent (taken z.heard) Client ≡ 0) × (to_take (stand_of C z.heard z.place).sent (taken z.heard) Server ≡ 0)
 left_at C c z k all =
     let e = sent_at (setup_of C z.heard) z.heard z.place (stand_of C z.heard z.place) k.stands in
     let a = client_untaken z.heard z.place k.plain in
-    (ap (λ s. to_take s (taken z.heard) Client) e ∙ a ∙ (omega (arith, all)), server_untaken (taken z.heard) (stand_of C z.heard z.place) k.no_server)
+    (ap (λ s. to_take s (taken z.heard) Client) e ∙ a ∙ none_left z.heard.client.reset (length (client_output z.place)) z.heard.client.took all, server_untaken (taken z.heard) (stand_of C z.heard z.place) k.no_server)
 
 whole : (C : Config) (c : ℕ) (z : Seen) (k : Served C c z) → z.heard.client.took ≡ length (client_output z.place) → GivesNoMore false (stand_of C z.heard z.place).sent (taken z.heard) (next_item (setup_of C z.heard) (stand_of C z.heard z.place)) → IsWhole C z.heard z.place
 whole C c z k all gives =
@@ -90,6 +94,9 @@ whole C c z k all gives =
 over_gives_no_more : (sent : Counts) (took : TakenCounts) (o : Next) → o ≡ Over → GivesNoMore false sent took o
 over_gives_no_more sent took o e = let P : Next → Type 0 = λ n. GivesNoMore false sent took n in subst P (sym e) tt
 
+over_stops : (o : Next) → o ≡ Over → Stops o
+over_stops o e = let P : Next → Type 0 = λ n. Stops n in subst P (sym e) tt
+
 drained_over : (g : Setup) (took : TakenCounts) (at : TraceState) → is_drained g took at ≡ true → (next_item g at ≡ Over) × (to_take at.sent took Client ≡ 0)
 drained_over g took at e =
     let parts = and_parts (is_over (next_item g at)) _ e in
@@ -102,7 +109,7 @@ drained_over g took at e =
     is_over_at Over k = refl
 
 -- at rest
-at_rest : (failed live : Bool) (g : Setup) (took : TakenCounts) (l : TraceState) → live ≡ true → Spot failed live [] g took l → (failed ≡ false) × (is_drained g took l ≡ false) × GivesNoMore false l.sent took (next_item g l)
+at_rest : (failed live : Bool) (g : Setup) (took : TakenCounts) (l : TraceState) → live ≡ true → Spot failed live [] g took l → (failed ≡ false) × (is_drained g took l ≡ false) × (GivesNoMore false l.sent took (next_item g l) × (is_none took.client ≡ false))
 at_rest false true g took l e s = (refl, s.0, s.1)
 at_rest true true g took l e s = absurd s
 at_rest failed false g took l e s = cc
@@ -114,7 +121,7 @@ at_end false false (x ∷ xs) g took l e f s = absurd s
 at_end true live ready g took l e f s = cc
 at_end false true ready g took l e f s = cc
 
-settled_at : (C : Config) (c : ℕ) (s : State) (z : Seen) → z.ready ≡ entries c s.ring → Served C c z → s.ring ≡ [] → z.live ≡ true → (z.heard.failed ≡ false) × (is_drained (setup_of C z.heard) (taken z.heard) (stand_of C z.heard z.place) ≡ false) × GivesNoMore false (stand_of C z.heard z.place).sent (taken z.heard) (next_item (setup_of C z.heard) (stand_of C z.heard z.place))
+settled_at : (C : Config) (c : ℕ) (s : State) (z : Seen) → z.ready ≡ entries c s.ring → Served C c z → s.ring ≡ [] → z.live ≡ true → (z.heard.failed ≡ false) × (is_drained (setup_of C z.heard) (taken z.heard) (stand_of C z.heard z.place) ≡ false) × (GivesNoMore false (stand_of C z.heard z.place).sent (taken z.heard) (next_item (setup_of C z.heard) (stand_of C z.heard z.place)) × (is_none (taken z.heard).client ≡ false))
 settled_at C c s z is k e live =
     let P : List ℕ → Type 0 = λ r. Spot z.heard.failed z.live r (setup_of C z.heard) (taken z.heard) (stand_of C z.heard z.place) in
     at_rest z.heard.failed z.live (setup_of C z.heard) (taken z.heard) (stand_of C z.heard z.place) live (subst P (is ∙ ap (entries c) e) k.spot)
@@ -165,17 +172,22 @@ is_drained_by g took l o c s =
     ap (λ n. is_over n && (nat_eq (to_take l.sent took Client) 0 && nat_eq (to_take l.sent took Server) 0)) o
     ∙ ap (λ n. nat_eq n 0 && nat_eq (to_take l.sent took Server) 0) c ∙ ap (λ n. nat_eq n 0) s
 
-no_license : (h : Heard) → IsPlain h → (r : CutReason) → licenses h r ≡ true → ⊥
-no_license h p ClientReset e = let f : true ≡ false = sym e ∙ p.not_reset in cc
-no_license h p ServerReset e = let f : true ≡ false = sym e ∙ ap last_reset p.connects in cc
-no_license h p Idle e = cc
+kept_of : (b : Bool) (n : ℕ) → is_none (taken_by b n) ≡ false → b ≡ false
+kept_of true n e = cc
+kept_of false n e = refl
+
+-- a client that was reset is no more at rest
+no_license : (h : Heard) → IsPlain h → is_none (taken h).client ≡ false → (r : CutReason) → licenses h r ≡ true → ⊥
+no_license h p kept ClientReset e = let f : true ≡ false = sym e ∙ kept_of h.client.reset h.client.took kept in cc
+no_license h p kept ServerReset e = let f : true ≡ false = sym e ∙ ap last_reset p.connects in cc
+no_license h p kept Idle e = cc
 
 one_reason : (rs : List Reason) → length rs ≤ 1 → is_some_of rs ≡ true → length rs ≡ 1
 one_reason [] le e = cc
 one_reason (r ∷ rs) le e = omega (arith, le)
 
 -- an ended connection's last notes
-closed_by : (C : Config) (c : ℕ) (z : Seen) → Served C c z → z.live ≡ false → (z.heard.failed ≡ false → (untaken_all z.heard z.place ≡ 0) × (length (reasons_in z.place) ≡ 1)) → ClosesRightly c z.heard z.place
+closed_by : (C : Config) (c : ℕ) (z : Seen) → Served C c z → z.live ≡ false → (z.heard.failed ≡ false → (z.heard.client.reset ≡ false → untaken_all z.heard z.place ≡ 0) × (length (reasons_in z.place) ≡ 1)) → ClosesRightly c z.heard z.place
 closed_by C c z k ended clean = by_failed z.heard.failed refl
   where
     N : List Note
@@ -201,7 +213,7 @@ closed_by C c z k ended clean = by_failed z.heard.failed refl
         let f = first_cause (reasons_in z.place) r.1 in
         record {
           before = N;
-          notes = noted false e ∙ ap (λ n. N ++ closing c n) (sym r.0);
+          notes = noted false e;
           none_closed = ap (list_any closes) (sym (append-nil N)) ∙ closed_behind c N [] (of_items c z.place);
           cause = f.0;
           more = f.1;
@@ -217,7 +229,7 @@ closed_by C c z k ended clean = by_failed z.heard.failed refl
           cause = f.0;
           more = f.1;
           finished = flat_map-append cause_told N (Finish c Memory ∷ []) ∙ ap (λ x. x ++ Memory ∷ []) (causes_of_items c z.place) ∙ f.2;
-          dropped = λ x. absurd (let g : true ≡ false = sym e ∙ x in cc);
+          dropped = λ x y. absurd (let g : true ≡ false = sym e ∙ x in cc);
         }
 
 promised : (C : Config) (past : Past) (s : State) (c : ℕ) → Served C c (seen past s c) → ConnectionPromise C past s c (seen past s c)
@@ -235,26 +247,29 @@ promised C past s c k =
     let no_cut = no_cut_behind g (begins_at C h) l z.place k.plain.cut k.stands in
     let left = client_untaken h z.place k.plain in
     let right = none_to_server g h z.place l k.stands k.no_server in
-    let all = all_untaken g h z.place l k.stands k.no_server k.plain in
+    let all = all_untaken g h z.place l k.stands k.no_server in
     let causes = ap causes_told k.noted ∙ flat_map-append cause_told N (last_notes c h.failed z.live d) ∙ ap (λ x. x ++ causes_told (last_notes c h.failed z.live d)) (causes_of_items c z.place) ∙ ap (λ x. map cause_of (reasons_in z.place) ++ x) (last_causes c h.failed z.live d) in
     let at_rest = settled_at C c s z refl k in
     let D : Counts → Type 0 = λ x. GivesNoMore false x took (next_item g l) in
     let ended = λ (e : z.live ≡ false) (n : h.failed ≡ false). drained_over g took l (at_end h.failed z.live z.ready g took l e n k.spot) in
-    let took_all = λ (e : z.live ≡ false) (n : h.failed ≡ false). (let a : untaken_of h z.place Client ≡ 0 = ap (λ x. to_take x took Client) (sym sent) ∙ (ended e n).1 in let b : h.client.took ≡ length (client_output z.place) = omega (arith, a, left, k.within) in b) in
+    let took_all : untaken_all h z.place ≡ 0 → h.client.took ≡ length (client_output z.place) = λ none. omega (arith, none, all, k.within) in
+    let kept_all : z.live ≡ false → h.failed ≡ false → h.client.reset ≡ false → untaken_all h z.place ≡ 0 = λ e n kept. (let a : untaken_of h z.place Client ≡ 0 = ap (λ x. to_take x took Client) (sym sent) ∙ (ended e n).1 in let b : untaken_of h z.place Client ≡ length (client_output z.place) - h.client.took = left ∙ ap (λ x. untaken (length (client_output z.place)) (taken_by x h.client.took)) kept in omega (arith, a, b, all)) in
+    let kept_counts : h.client.reset ≡ false → h.client.took + untaken_of h z.place Client ≡ length (client_output z.place) = λ kept. (let b : untaken_of h z.place Client ≡ length (client_output z.place) - h.client.took = left ∙ ap (λ x. untaken (length (client_output z.place)) (taken_by x h.client.took)) kept in omega (arith, b, k.within)) in
     let one = λ (e : z.live ≡ false) (n : h.failed ≡ false). one_reason (reasons_in z.place) f.once (sym f.finished ∙ over_has_finished g l no_cut f.orderly (ended e n).0) in
     record {
       sent_is_prefix = sent_is_prefix C c z k;
       settled_is_complete = record {
         settled_found_memory = λ e live. (at_rest e live).0;
-        settled_gave_deliverable = λ e live. subst D sent (at_rest e live).2;
-        settled_not_cut = λ e live reason licensed. absurd (no_license h k.plain reason licensed);
-        drained_gave_whole_trace = λ e live le. whole C c z k (omega (arith, le, k.within)) (at_rest e live).2;
+        settled_gave_deliverable = λ e live. subst D sent (at_rest e live).2.0;
+        settled_not_cut = λ e live reason licensed. absurd (no_license h k.plain (at_rest e live).2.1 reason licensed);
+        drained_gave_whole_trace = λ e live le. whole C c z k (omega (arith, le, k.within)) (at_rest e live).2.0;
         finished_has_ended = λ e finished a b. not_live z.live (λ live. (let r = at_rest e live in
             let x : to_take l.sent took Client ≡ 0 = ap (λ y. to_take y took Client) sent ∙ a in
             let y : to_take l.sent took Server ≡ 0 = ap (λ y. to_take y took Server) sent ∙ b in
-            let o = finished_ends g l took no_cut f.orderly (trace_finished C c z k (heard_finish c past) r.0 ∙ finished) x y r.2 in
+            let o = finished_ends g l took no_cut f.orderly (trace_finished C c z k (heard_finish c past) r.0 ∙ finished) x y r.2.0 in
             let m : true ≡ false = sym (is_drained_by g took l o x y) ∙ r.1 in absurd (cc)));
-        ended_clean_sent_all = λ e n. whole C c z k (took_all e n) (over_gives_no_more l.sent took (next_item g l) (ended e n).0);
+        ended_gave_whole_trace = λ e n m. stopped_is_whole m g (begins_at C h) l z.place k.stands (over_stops (next_item g l) (ended e n).0);
+        ended_clean_sent_all = λ e n none. whole C c z k (took_all none) (over_gives_no_more l.sent took (next_item g l) (ended e n).0);
       };
       finish_causes = record {
         shown = ap (filter shows) k.noted ∙ filter-append shows N (last_notes c h.failed z.live d) ∙ ap (λ x. filter shows N ++ x) (last_shown c h.failed z.live d) ∙ append-nil (filter shows N) ∙ shown_all c N (of_items c z.place);
@@ -265,10 +280,10 @@ promised C past s c k =
         finishes_once = f.once;
         second_is_memory = λ first other more e. second (reasons_in z.place) h.failed first other more f.once (sym causes ∙ e);
         open_while_live = ap (list_any closes) k.noted ∙ closed_behind c N (last_notes c h.failed z.live d) (of_items c z.place) ∙ last_closed c h.failed z.live d;
-        closes_rightly = λ e. closed_by C c z k e (λ n. (all ∙ (let b = took_all e n in omega (arith, b)), one e n));
+        closes_rightly = λ e. closed_by C c z k e (λ n. (kept_all e n, one e n));
         ended_has_finished = one;
       };
-      open_line_counts = record { sent = omega (arith, left, k.within); to_server = right };
+      open_line_counts = record { sent = kept_counts; reset = λ e. left ∙ ap (λ x. untaken (length (client_output z.place)) (taken_by x h.client.took)) e; to_server = right };
     }
 
 pub every_past_matches : (C : Config) (past : Past) (s : State) → Leads C past s → OutputMatchesEvaluator C past s

@@ -56,4 +56,5 @@ client_judged core c i l e there = ap (λ o. refusal_by core.config (record { la
 pub of_client : (i : ClientInput) → reason (input_of i) ≡ None
 of_client (input.Bytes bytes) = refl
 of_client input.End = refl
+of_client input.Reset = refl
 of_client (input.Took n) = refl

@@ -16,7 +16,7 @@ use Rattle.connection_model.specs.Setup.{Setup}
 use Rattle.connection_model.specs.Tellings.{tells, failure_told}
 use Rattle.connection_model.specs.State.{TraceState}
 use Rattle.connection_model.proofs.Hearing.{others_not_heard}
-use Rattle.conn.specs.Holds.{Holds}
+use Rattle.conn.specs.Holds.{Holds, Around}
 use Rattle.conn.specs.Runs.{GoesOnWith, StopsWithout}
 use Rattle.conn.specs.RunsItems.{closing, closing_if, ends, out_of_memory, Passes}
 use Rattle.conn.specs.Setups as conn
@@ -102,53 +102,12 @@ none_dropped C past s c k =
     let h = heard c past in
     let a = none_untaken (taken h).client in
     let b = none_untaken (taken_of (taken h).servers 0) in
-    let zero : untaken_all h [] ≡ 0 = omega (arith, a, b) in
+    let zero : untaken_all h [] ≡ 0 = omega (arith, b) in
     ap (untaken_all h) k.no_items ∙ zero
 
 -- what is queued on one that found no memory is what was sent and not taken
 lacking_dropped : (C : Config) (c : ℕ) (z : Seen) (conn : Conn) → Served C c z → Lacks z conn → untaken_all z.heard z.place ≡ length (queue_of conn)
-lacking_dropped C c z conn v k = all_untaken (setup_of C z.heard) z.heard z.place (stand_of C z.heard z.place) v.stands v.no_server v.plain ∙ sym (ap length k.queue ∙ length-drop z.heard.client.took (client_output z.place))
-
-front_goes : (C : Config) (past : Past) (s : State) (c : ℕ) (rest : List ℕ) (group : List Note) (t : ConnTurn) (old new : Conn) → IsDistinct nat_eq (shared past).live → (seen past s c).live ≡ true → Served C c (seen past s c) → Continues C (seen past s c) old
-    → GoesOnWith (setup_of C (heard c past)) (around (heard c past)) (stand_of C (heard c past) (s.places c)) c old new group t → RanConn C past s c rest group t (Some new)
-front_goes C past s c rest group t old new d live v k w =
-    let z = seen past s c in
-    let h = z.heard in
-    let g = setup_of C h in
-    let over = ends t in
-    let next = ran c (ring_behind t c rest) w.more s in
-    let calls = no_call g (around h) w.at new w.holds t w.items.stops in
-    let moved : RunsOn C h c rest group s next = record { more = w.more; at = w.at; turn = t; items = w.items; no_call = calls; state = refl } in
-    let M : Bool → Type 0 = λ b. MatchBool b (RunsFailed h c rest group s next) (RunsOn C h c rest group s next ⊎ RunsOut C h c rest group s next) in
-    let behind = closing_if over c in
-    let b = behind_closing over c 0 in
-    let notes = notes_of c w.more ++ behind in
-    let gone_all : (ns : List ℕ) → without_all (ended_in group) ns ≡ (if over then without c ns else ns) = λ ns. ap (λ x. without_all (ended_in x) ns) w.items.noted ∙ ap (λ x. without_all x ns) (ended_behind c (notes_of c w.more) behind (of_items c w.more)) ∙ closing_live over c ns in
-    let h' = hears c h Runs notes in
-    let told = run_told c h notes v.plain.connects (run_about c w.more behind b.about) in
-    let plain = run_plain c h w.more behind false over 0 v.plain b w.items.passes.uncut in
-    let took = took_stays h h' v.plain plain told.took in
-    let setup : setup_of C h' ≡ g = ap (setup_in C) told.accepted in
-    let place : (if nat_eq c c then z.place ++ w.more else z.place) ≡ z.place ++ w.more = ap (λ x. if x then z.place ++ w.more else z.place) (eq_self c) in
-    let stands = ran_at C c z w.more w.at behind b.quiet w.items.passes v in
-    let T : TakenCounts → Type 0 = λ x. Holds g (record { took = x }) w.at new in
-    let same : h.client.took ≡ h'.client.took = omega (arith, told.took) in
-    let G : List Note → Type 0 = λ x. Continues C (seen_after past Runs x next c) new in
-    let Z : List Item → Type 0 = λ p. Continues C (record (seen_after past Runs notes next c) { place = p }) new in
-    record {
-      next = next;
-      ring = refl;
-      moves = subst M (sym k.not_failed) (inl moved);
-      live = gone past c over group d live gone_all;
-      ended = gone_all;
-      setup = λ x. ap (λ n. setup_of C (hears c h Runs n)) w.items.noted ∙ setup;
-      edges = λ x. ap (λ n. (hears c h Runs n).edges) w.items.noted ∙ run_edges c h w.more over w.items.passes.no_connect x;
-      goes_on = λ x. inl (subst G (sym w.items.noted) (subst Z (sym place) (record {
-        not_failed = told.failed ∙ ap (λ y. y || failure_told (map tells notes)) k.not_failed ∙ failure_behind c (notes_of c w.more) behind (of_items c w.more) ∙ failure_closing over c;
-        holds = to_standing C h' g (z.place ++ w.more) w.at new setup stands (subst T (sym took) w.holds);
-        queue = w.queue ∙ ap (λ q. q ++ client_output w.more) k.queue ∙ sym (drop-append-le h.client.took (client_output z.place) (client_output w.more) v.within) ∙ ap (drop h.client.took) (sym (flat_map-append to_client z.place w.more)) ∙ ap (λ n. drop n (client_output (z.place ++ w.more))) same;
-      })));
-    }
+lacking_dropped C c z conn v k = all_untaken (setup_of C z.heard) z.heard z.place (stand_of C z.heard z.place) v.stands v.no_server ∙ sym (ap length k.queue ∙ length-drop z.heard.client.took (client_output z.place))
 
 -- what is dropped was sent and not taken
 dropped_is : (C : Config) (c : ℕ) (z : Seen) (more : List Item) (at : TraceState) (queue : List ℕ) → Served C c z → Passes (setup_of C z.heard) (taken z.heard) (stand_of C z.heard z.place) more at → queue ≡ drop z.heard.client.took (client_output z.place)
@@ -163,15 +122,61 @@ dropped_is C c z more at queue v p is =
     let h' = hears c h Runs notes in
     let told = run_told c h notes v.plain.connects (run_about c more behind b.about) in
     let plain = run_plain c h more behind true true d v.plain b p.uncut in
-    let took = took_stays h h' v.plain plain told.took in
-    let left = all_untaken (setup_of C h) h' all at (ran_at C c z more at behind b.quiet p v) p.no_server plain in
+    let took = took_stays h h' v.plain plain told.took told.reset in
+    let left = all_untaken (setup_of C h) h' all at (ran_at C c z more at behind b.quiet p v) p.no_server in
     let sent : length (client_output all) ≡ length (client_output z.place) + length (client_output more) = ap length (flat_map-append to_client z.place more) ∙ length-append (client_output z.place) (client_output more) in
     let waits : length queue ≡ length (client_output z.place) - h.client.took = ap length is ∙ length-drop h.client.took (client_output z.place) in
     let sum : length queue + length (client_output more) ≡ length (client_output all) - h'.client.took = omega (arith, sent, waits, told.took, v.within) in
-    sum ∙ sym left ∙ ap (untaken_by all) took
+    sum ∙ sym left ∙ ap (λ n. untaken_by n all (taken h')) (let e = told.took in omega (arith, e)) ∙ ap (untaken_by h.client.took all) took
   where
-    untaken_by : List Item → TakenCounts → ℕ
-    untaken_by items t = to_take (sent_from no_bytes items) t Client + to_take (sent_from no_bytes items) t Server
+    untaken_by : ℕ → List Item → TakenCounts → ℕ
+    untaken_by n items t = (length (client_output items) - n) + to_take (sent_from no_bytes items) t Server
+
+front_goes : (C : Config) (past : Past) (s : State) (c : ℕ) (rest : List ℕ) (group : List Note) (t : ConnTurn) (old new : Conn) → IsDistinct nat_eq (shared past).live → (seen past s c).live ≡ true → Served C c (seen past s c) → Continues C (seen past s c) old
+    → GoesOnWith (setup_of C (heard c past)) (around (heard c past)) (stand_of C (heard c past) (s.places c)) c old new group t → RanConn C past s c rest group t (Some new)
+front_goes C past s c rest group t old new d live v k w =
+    let z = seen past s c in
+    let h = z.heard in
+    let g = setup_of C h in
+    let over = ends t in
+    let as_around : TakenCounts → ℕ → Around = λ x n. record { took = x; counted = n } in
+    let next = ran c (ring_behind t c rest) w.more s in
+    let calls = no_call g (around h) w.at new w.holds t w.items.stops in
+    let d' = untaken_all h (z.place ++ w.more) in
+    let left : length new.host.to_client ≡ d' = ap length w.queue ∙ length-append (queue_of old) (client_output w.more) ∙ dropped_is C c z w.more w.at (queue_of old) v w.items.passes k.queue in
+    let noted : group ≡ notes_of c w.more ++ closing_if over c d' = w.items.noted ∙ ap (λ n. notes_of c w.more ++ closing_if over c n) left in
+    let moved : RunsOn C h c rest group s next = record { more = w.more; at = w.at; turn = t; items = record { passes = w.items.passes; noted = noted; stops = w.items.stops }; no_call = calls; state = refl } in
+    let M : Bool → Type 0 = λ b. MatchBool b (RunsFailed h c rest group s next) (RunsOn C h c rest group s next ⊎ RunsOut C h c rest group s next) in
+    let behind = closing_if over c d' in
+    let b = behind_closing over c d' in
+    let notes = notes_of c w.more ++ behind in
+    let gone_all : (ns : List ℕ) → without_all (ended_in group) ns ≡ (if over then without c ns else ns) = λ ns. ap (λ x. without_all (ended_in x) ns) noted ∙ ap (λ x. without_all x ns) (ended_behind c (notes_of c w.more) behind (of_items c w.more)) ∙ closing_live over c d' ns in
+    let h' = hears c h Runs notes in
+    let told = run_told c h notes v.plain.connects (run_about c w.more behind b.about) in
+    let plain = run_plain c h w.more behind false over d' v.plain b w.items.passes.uncut in
+    let took = took_stays h h' v.plain plain told.took told.reset in
+    let setup : setup_of C h' ≡ g = ap (setup_in C) told.accepted in
+    let place : (if nat_eq c c then z.place ++ w.more else z.place) ≡ z.place ++ w.more = ap (λ x. if x then z.place ++ w.more else z.place) (eq_self c) in
+    let stands = ran_at C c z w.more w.at behind b.quiet w.items.passes v in
+    let T : Around → Type 0 = λ x. Holds g x w.at new in
+    let same : h.client.took ≡ h'.client.took = omega (arith, told.took) in
+    let around_same : around h ≡ around h' = ap (λ x. as_around x h.client.took) (sym took) ∙ ap (as_around (taken h')) same in
+    let G : List Note → Type 0 = λ x. Continues C (seen_after past Runs x next c) new in
+    let Z : List Item → Type 0 = λ p. Continues C (record (seen_after past Runs notes next c) { place = p }) new in
+    record {
+      next = next;
+      ring = refl;
+      moves = subst M (sym k.not_failed) (inl moved);
+      live = gone past c over group d live gone_all;
+      ended = gone_all;
+      setup = λ x. ap (λ n. setup_of C (hears c h Runs n)) noted ∙ setup;
+      edges = λ x. ap (λ n. (hears c h Runs n).edges) noted ∙ run_edges c h w.more over d' w.items.passes.no_connect x;
+      goes_on = λ x. inl (subst G (sym noted) (subst Z (sym place) (record {
+        not_failed = told.failed ∙ ap (λ y. y || failure_told (map tells notes)) k.not_failed ∙ failure_behind c (notes_of c w.more) behind (of_items c w.more) ∙ failure_closing over c d';
+        holds = to_standing C h' g (z.place ++ w.more) w.at new setup stands (subst T around_same w.holds);
+        queue = w.queue ∙ ap (λ q. q ++ client_output w.more) k.queue ∙ sym (drop-append-le h.client.took (client_output z.place) (client_output w.more) v.within) ∙ ap (drop h.client.took) (sym (flat_map-append to_client z.place w.more)) ∙ ap (λ n. drop n (client_output (z.place ++ w.more))) same;
+      })));
+    }
 
 front_stops : (C : Config) (past : Past) (s : State) (c : ℕ) (rest : List ℕ) (group : List Note) (t : ConnTurn) (old : Conn) (o : Option Conn) → IsDistinct nat_eq (shared past).live → (seen past s c).live ≡ true → Served C c (seen past s c) → Continues C (seen past s c) old
     → StopsWithout (setup_of C (heard c past)) (around (heard c past)) (stand_of C (heard c past) (s.places c)) c old group t → RanConn C past s c rest group t o

@@ -1,5 +1,5 @@
 -- What each kind of event owes: its own connection.
-use Rattle.std.proofs.Common.{◌≡◌, refl, sym, ap, subst, ◌∙◌, ℕ, ◌+◌, ◌≤◌, List, [], ◌∷◌, ◌++◌, length, map, Bool, true, false, ◌||◌, not, Option, Some, None, nat_eq, arith, append-nil, append_assoc, length-append, if◌then◌else◌}
+use Rattle.std.proofs.Common.{◌≡◌, refl, sym, ap, subst, ◌∙◌, ℕ, ◌+◌, ◌≤◌, List, [], ◌∷◌, ◌++◌, length, map, Bool, true, false, ◌||◌, not, Option, Some, None, nat_eq, arith, append-nil, append_assoc, length-append, if◌then◌else◌, ◌-◌}
 use Rattle.std.specs.Prelude.{is_some}
 use Rattle.std.specs.Bool.{MatchBool}
 use Rattle.std.specs.List.{IsDistinct}
@@ -35,7 +35,7 @@ use Rattle.proxy_core.specs.declared.config.Config.{Config}
 use Rattle.proxy_core.proofs.Entries.{entries_pushed_self, entries_without_self, rest_of, ready_of, entries_ready_self}
 use Rattle.proxy_core.proofs.Framing.{same_seen}
 use Rattle.proxy_core.proofs.GroupNotes.{About, about_joined, about_closing_if, of_items, about_items, tells_all, replies_behind, failure_behind, ended_behind, cut_behind, quiet_closing_if, quiet_closing, quiet_memory, quiet_finish}
-use Rattle.proxy_core.proofs.Hearing.{Told, come_told, run_told, counts, taken_plain, counts_more, still_plain}
+use Rattle.proxy_core.proofs.Hearing.{Told, come_told, reset_keeps, run_told, counts, taken_plain, counts_more, still_plain}
 use Rattle.proxy_core.proofs.Members.{eq_self, in_pushed_self, not_in_without}
 use Rattle.proxy_core.proofs.Standing.{served_at, drained_at, sent_at}
 
@@ -56,8 +56,8 @@ fresh c a failed = record {
 }
 
 pub fresh_sound : (C : Config) (c : ℕ) (a : Accepted) (failed : Bool) → SoundAt C c (fresh c a failed)
-fresh_sound C c a true = record { stands = refl; met = tt; within = omega arith; noted = refl; plain = record { not_reset = refl; connects = refl; replies = refl; cut = refl }; no_server = refl; spot = tt }
-fresh_sound C c a false = record { stands = refl; met = tt; within = omega arith; noted = refl; plain = record { not_reset = refl; connects = refl; replies = refl; cut = refl }; no_server = refl; spot = tt }
+fresh_sound C c a true = record { stands = refl; met = tt; within = omega arith; noted = refl; plain = record { connects = refl; replies = refl; cut = refl }; no_server = refl; spot = tt }
+fresh_sound C c a false = record { stands = refl; met = tt; within = omega arith; noted = refl; plain = record { connects = refl; replies = refl; cut = refl }; no_server = refl; spot = tt }
 
 first_heard : (c : ℕ) (a : Accepted) (failed : Bool) → hears c nothing_heard (Accepts c a.virtual a.from) (first_notes c failed) ≡ (fresh c a failed).heard
 first_heard c a true = rw (eq_self c) refl
@@ -78,21 +78,21 @@ seen_accept past c a failed group old new u e f =
     (ap (λ s. s.places c) f ∙ ap (λ z. z.place) u)
 
 -- Comes
-pub ended_closing : (over : Bool) (c : ℕ) (live : List ℕ) → IsDistinct nat_eq live → is_in live c ≡ true → is_in (without_all (ended_in (closing_if over c)) live) c ≡ not over
-ended_closing true c live d e = not_in_without c live d
-ended_closing false c live d e = e
+pub ended_closing : (over : Bool) (c d : ℕ) (live : List ℕ) → IsDistinct nat_eq live → is_in live c ≡ true → is_in (without_all (ended_in (closing_if over c d)) live) c ≡ not over
+ended_closing true c n live d e = not_in_without c live d
+ended_closing false c n live d e = e
 
-pub failure_closing : (over : Bool) (c : ℕ) → failure_told (map tells (closing_if over c)) ≡ false
-failure_closing true c = refl
-failure_closing false c = refl
+pub failure_closing : (over : Bool) (c d : ℕ) → failure_told (map tells (closing_if over c d)) ≡ false
+failure_closing true c d = refl
+failure_closing false c d = refl
 
-pub replies_closing : (over : Bool) (c : ℕ) → replies_told (map tells (closing_if over c)) ≡ []
-replies_closing true c = refl
-replies_closing false c = refl
+pub replies_closing : (over : Bool) (c d : ℕ) → replies_told (map tells (closing_if over c d)) ≡ []
+replies_closing true c d = refl
+replies_closing false c d = refl
 
-pub cut_closing : (over : Bool) (c : ℕ) (took : TakenCounts) → cut_told took (map tells (closing_if over c)) ≡ None
-cut_closing true c took = refl
-cut_closing false c took = refl
+pub cut_closing : (over : Bool) (c d : ℕ) (took : TakenCounts) → cut_told took (map tells (closing_if over c d)) ≡ None
+cut_closing true c d took = refl
+cut_closing false c d took = refl
 
 ring_came : (over : Bool) (c : ℕ) (old : State) → entries c (came c over old).ring ≡ (if over then rest_of (entries c old.ring) else ready_of c (entries c old.ring))
 ring_came true c old = entries_without_self c old.ring
@@ -113,11 +113,11 @@ spot_came true false c (x ∷ []) g took took' l at s j = tt
 spot_came true true c (x ∷ []) g took took' l at s j = absurd (cc)
 spot_came true over c (x ∷ y ∷ ys) g took took' l at s j = absurd s
 
-last_came : (failed over drained : Bool) (c d d' : ℕ) → Judged failed over drained → last_notes c failed true d ++ closing_if over c ≡ last_notes c failed (not over) d'
-last_came false false drained c d d' j = refl
-last_came false true drained c d d' j = refl
-last_came true false drained c d d' j = refl
-last_came true true drained c d d' j = absurd (cc)
+last_came : (failed over drained : Bool) (c d n d' : ℕ) → Judged failed over drained → n ≡ d' → last_notes c failed true d ++ closing_if over c n ≡ last_notes c failed (not over) d'
+last_came false false drained c d n d' j e = refl
+last_came false true drained c d n d' j e = ap (closing c) e
+last_came true false drained c d n d' j e = refl
+last_came true true drained c d n d' j e = absurd (cc)
 
 -- of an event by which something comes: the connection is live, and no more is taken than was sent
 pub record MayCome (C : Config) (c : ℕ) (input : Input) (z : Seen) : Type 0 where
@@ -141,32 +141,34 @@ came_at C c n z v group quiet k t =
     }
 
 -- as much was taken, or more
-takes_more : (h h' : Heard) (n : ℕ) → IsPlain h → IsPlain h' → h'.client.took ≡ h.client.took + n → TakesMore (taken h) (taken h')
-takes_more h h' n p p' e =
-    let le : h.client.took ≤ h'.client.took = omega (arith, e) in
-    let P : TakenCounts → Type 0 = λ t. TakesMore t (taken h') in
-    let Q : TakenCounts → Type 0 = λ t. TakesMore (counts h.client.took) t in
-    subst P (sym (taken_plain h p.not_reset p.connects)) (subst Q (sym (taken_plain h' p'.not_reset p'.connects)) (counts_more h.client.took h'.client.took le))
+takes_more : (c : ℕ) (h : Heard) (v : EventKind) (group : List Note) (n : ℕ) → IsPlain h → IsPlain (hears c h v group) → Told c h v group n → TakesMore (taken h) (taken (hears c h v group))
+takes_more c h v group n p p' t =
+    let h' = hears c h v group in
+    let le : h.client.took ≤ h'.client.took = (let e = t.took in omega (arith, e)) in
+    let P : TakenCounts → Type 0 = λ x. TakesMore x (taken h') in
+    let Q : TakenCounts → Type 0 = λ x. TakesMore (counts h.client.reset h.client.took) x in
+    subst P (sym (taken_plain h p.connects)) (subst Q (sym (taken_plain h' p'.connects)) (counts_more h.client.reset h'.client.reset h.client.took h'.client.took (λ e. t.reset ∙ reset_keeps v h.client.reset e) le))
 
-pub come_served : (C : Config) (past : Past) (c : ℕ) (input : Input) (over : Bool) (old : State) → may_come input ≡ true → IsDistinct nat_eq (shared past).live → MayCome C c input (seen past old c)
-    → Judged (heard c past).failed over (is_drained_at C (hears c (heard c past) (Comes c input) (closing_if over c)) (old.places c))
-    → Served C c (seen_after past (Comes c input) (closing_if over c) (came c over old) c)
-come_served C past c input over old may d m j =
+pub come_served : (C : Config) (past : Past) (c : ℕ) (input : Input) (over : Bool) (d : ℕ) (old : State) → may_come input ≡ true → IsDistinct nat_eq (shared past).live → MayCome C c input (seen past old c)
+    → Judged (heard c past).failed over (is_drained_at C (hears c (heard c past) (Comes c input) (closing_if over c d)) (old.places c))
+    → d ≡ untaken_all (hears c (heard c past) (Comes c input) (closing_if over c d)) (old.places c)
+    → Served C c (seen_after past (Comes c input) (closing_if over c d) (came c over old) c)
+come_served C past c input over d old may distinct m j left =
     let z = seen past old c in
     let h = z.heard in
     let v = Comes c input in
-    let group = closing_if over c in
+    let group = closing_if over c d in
     let h' = hears c h v group in
     let g = setup_of C h in
     let k = m.served in
     let l = stand_of C h z.place in
-    let t = come_told c h input group may k.plain.connects (about_closing_if over c) in
-    let a = came_at C c (taken_more input) z v group (quiet_closing_if over c) k t in
+    let t = come_told c h input group may k.plain.connects (about_closing_if over c d) in
+    let a = came_at C c (taken_more input) z v group (quiet_closing_if over c d) k t in
     let at = longer (further_of c h v group) l in
-    let plain = still_plain c h v group (taken_more input) k.plain t (replies_closing over c) (cut_closing over c) in
-    let failed : h'.failed ≡ h.failed = t.failed ∙ ap (λ b. h.failed || b) (failure_closing over c) ∙ or_false h.failed in
+    let plain = still_plain c h v group (taken_more input) k.plain t (replies_closing over c d) (cut_closing over c d) in
+    let failed : h'.failed ≡ h.failed = t.failed ∙ ap (λ b. h.failed || b) (failure_closing over c d) ∙ or_false h.failed in
     let z' = seen_after past v group (came c over old) c in
-    let live : z'.live ≡ not over = ended_closing over c (shared past).live d m.live in
+    let live : z'.live ≡ not over = ended_closing over c d (shared past).live distinct m.live in
     let ready : z'.ready ≡ (if over then rest_of z.ready else ready_of c z.ready) = ring_came over c old in
     let J : Bool → Type 0 = λ b. Judged h.failed over b in
     let judged : Judged h.failed over (is_drained g (taken h') at) = subst J (drained_at C h' g z.place at a.setup a.stands) j in
@@ -177,12 +179,12 @@ come_served C past c input over old may d m j =
     let R : List ℕ → Type 0 = λ r. Spot h.failed (not over) r g (taken h') at in
     served_at C c z' g at a.setup (record {
       stands = a.stands;
-      met = met_more no_bytes (taken h) (taken h') z.place (takes_more h h' (taken_more input) k.plain plain t.took) k.met;
+      met = met_more no_bytes (taken h) (taken h') z.place (takes_more c h v group (taken_more input) k.plain plain t) k.met;
       within = omega (arith, t.took, m.within);
       noted =
           t.notes ∙ ap (λ ns. ns ++ group) (k.noted ∙ ap (λ b. notes_of c z.place ++ last_notes c h.failed b (untaken_all h z.place)) m.live)
           ∙ append_assoc (notes_of c z.place) (last_notes c h.failed true (untaken_all h z.place)) group
-          ∙ ap (λ ns. notes_of c z.place ++ ns) (last_came h.failed over (is_drained g (taken h') at) c (untaken_all h z.place) (untaken_all h' z.place) judged ∙ ap (λ b. last_notes c b (not over) (untaken_all h' z.place)) (sym failed) ∙ ap (λ b. last_notes c h'.failed b (untaken_all h' z.place)) (sym live));
+          ∙ ap (λ ns. notes_of c z.place ++ ns) (last_came h.failed over (is_drained g (taken h') at) c (untaken_all h z.place) d (untaken_all h' z.place) judged left ∙ ap (λ b. last_notes c b (not over) (untaken_all h' z.place)) (sym failed) ∙ ap (λ b. last_notes c h'.failed b (untaken_all h' z.place)) (sym live));
       plain = plain;
       no_server = k.no_server;
       spot = subst F (sym failed) (subst L (sym live) (subst R (sym ready) spot));
@@ -220,7 +222,7 @@ lack_served C past c input old may m found =
     let N = notes_of c z.place in
     served_at C c z' g at a.setup (record {
       stands = a.stands;
-      met = met_more no_bytes (taken h) (taken h') z.place (takes_more h h' (taken_more input) k.plain plain t.took) k.met;
+      met = met_more no_bytes (taken h) (taken h') z.place (takes_more c h v group (taken_more input) k.plain plain t) k.met;
       within = omega (arith, t.took, m.within);
       noted =
           t.notes ∙ ap (λ ns. ns ++ group) (k.noted ∙ ap (λ b. N ++ last_notes c h.failed b (untaken_all h z.place)) m.live ∙ ap (λ b. N ++ last_notes c b true (untaken_all h z.place)) found)
@@ -241,12 +243,12 @@ pub record Behind (c : ℕ) (behind : List Note) (fails over : Bool) (d : ℕ) :
   pub ended : (live : List ℕ) → IsDistinct nat_eq live → is_in live c ≡ true → is_in (without_all (ended_in behind) live) c ≡ not over
   pub last : last_notes c fails (not over) d ≡ behind
 
-pub behind_closing : (over : Bool) (c d : ℕ) → Behind c (closing_if over c) false over d
-behind_closing true c d = record { about = (refl, (refl, tt)); quiet = quiet_closing_if true c; replies = refl; cut = λ took. refl; failure = refl; ended = ended_closing true c; last = refl }
-behind_closing false c d = record { about = tt; quiet = quiet_closing_if false c; replies = refl; cut = λ took. refl; failure = refl; ended = ended_closing false c; last = refl }
+pub behind_closing : (over : Bool) (c d : ℕ) → Behind c (closing_if over c d) false over d
+behind_closing true c d = record { about = (refl, (refl, tt)); quiet = quiet_closing_if true c d; replies = refl; cut = λ took. refl; failure = refl; ended = ended_closing true c d; last = refl }
+behind_closing false c d = record { about = tt; quiet = quiet_closing_if false c d; replies = refl; cut = λ took. refl; failure = refl; ended = ended_closing false c d; last = refl }
 
 pub behind_memory : (c d : ℕ) → Behind c (Finish c Memory ∷ closing c d) true true d
-behind_memory c d = record { about = (refl, (refl, (refl, tt))); quiet = quiet_memory c d; replies = refl; cut = λ took. refl; failure = refl; ended = ended_closing true c; last = refl }
+behind_memory c d = record { about = (refl, (refl, (refl, tt))); quiet = quiet_memory c d; replies = refl; cut = λ took. refl; failure = refl; ended = ended_closing true c d; last = refl }
 
 -- the front of the ring is there once
 pub at_front : (c : ℕ) (rest : List ℕ) (failed live : Bool) (g : Setup) (took : TakenCounts) (l : TraceState) → Spot failed live (c ∷ entries c rest) g took l → (live ≡ true) × (entries c rest ≡ [])
@@ -281,10 +283,10 @@ run_plain c h more behind fails over d p b uncut =
     let group = notes_of c more ++ behind in
     still_plain c h Runs group 0 p (run_told c h group p.connects (run_about c more behind b.about)) (replies_behind c (notes_of c more) behind (of_items c more) ∙ b.replies) (run_cut c more behind uncut b.cut)
 
-pub took_stays : (h h' : Heard) → IsPlain h → IsPlain h' → h'.client.took ≡ h.client.took + 0 → taken h' ≡ taken h
-took_stays h h' p p' e =
+pub took_stays : (h h' : Heard) → IsPlain h → IsPlain h' → h'.client.took ≡ h.client.took + 0 → h'.client.reset ≡ h.client.reset → taken h' ≡ taken h
+took_stays h h' p p' e r =
     let same : h'.client.took ≡ h.client.took = omega (arith, e) in
-    taken_plain h' p'.not_reset p'.connects ∙ ap counts same ∙ sym (taken_plain h p.not_reset p.connects)
+    taken_plain h' p'.connects ∙ ap (λ b. counts b h'.client.took) r ∙ ap (counts h.client.reset) same ∙ sym (taken_plain h p.connects)
 
 pub run_served : (C : Config) (past : Past) (c : ℕ) (rest after ready : List ℕ) (old : State) (more : List Item) (at : TraceState) (behind : List Note) (fails over : Bool) (d : ℕ)
     → IsDistinct nat_eq (shared past).live → old.ring ≡ c ∷ rest → (heard c past).failed ≡ false → Served C c (seen past old c)
@@ -301,7 +303,7 @@ run_served C past c rest after ready old more at behind fails over d distinct fr
     let l = stand_of C h z.place in
     let t = run_told c h group k.plain.connects (run_about c more behind b.about) in
     let plain = run_plain c h more behind fails over d k.plain b p.uncut in
-    let took = took_stays h h' k.plain plain t.took in
+    let took = took_stays h h' k.plain plain t.took t.reset in
     let z' = seen_after past Runs group (ran c after more old) c in
     let place : z'.place ≡ z.place ++ more = ap (λ x. if x then z.place ++ more else z.place) (eq_self c) in
     let front : z.ready ≡ c ∷ entries c rest = ap (entries c) front_is ∙ ap (λ x. if x then c ∷ entries c rest else entries c rest) (eq_self c) in
@@ -311,7 +313,7 @@ run_served C past c rest after ready old more at behind fails over d distinct fr
     let live : z'.live ≡ not over = ap (λ ns. is_in (without_all ns (shared past).live) c) (ended_behind c (notes_of c more) behind (of_items c more)) ∙ b.ended (shared past).live distinct f.0 in
     let M : TakenCounts → Type 0 = λ y. Met no_bytes y (z.place ++ more) in
     let N : Counts → Type 0 = λ s. Met s (taken h) more in
-    let untaken : untaken_all h' (z.place ++ more) ≡ untaken_all h (z.place ++ more) = ap (λ y. untaken_by y (z.place ++ more)) took in
+    let untaken : untaken_all h' (z.place ++ more) ≡ untaken_all h (z.place ++ more) = ap (λ n. untaken_by n (taken h') (z.place ++ more)) (let e = t.took in omega (arith, e)) ∙ ap (λ y. untaken_by h.client.took y (z.place ++ more)) took in
     let none : last_notes c h.failed z.live (untaken_all h z.place) ≡ [] = ap (λ x. last_notes c x z.live (untaken_all h z.place)) not_failed ∙ ap (λ x. last_notes c false x (untaken_all h z.place)) f.0 in
     let W : List Item → Type 0 = λ items. ServedAt g c (record z' { place = items }) at in
     let F : Bool → Type 0 = λ x. Spot x z'.live z'.ready g (taken h') at in
@@ -332,8 +334,8 @@ run_served C past c rest after ready old more at behind fails over d distinct fr
       spot = subst F (sym failed) (subst L (sym live) (subst R (sym (put f.1)) (subst T (sym took) spot)));
     }))
   where
-    untaken_by : TakenCounts → List Item → ℕ
-    untaken_by t items = to_take (sent_from no_bytes items) t Client + to_take (sent_from no_bytes items) t Server
+    untaken_by : ℕ → TakenCounts → List Item → ℕ
+    untaken_by n t items = (length (client_output items) - n) + to_take (sent_from no_bytes items) t Server
 
 -- one that found no memory ends
 pub failed_served : (C : Config) (past : Past) (c : ℕ) (rest : List ℕ) (old : State) → IsDistinct nat_eq (shared past).live → old.ring ≡ c ∷ rest → (heard c past).failed ≡ true → Served C c (seen past old c)
@@ -350,7 +352,7 @@ failed_served C past c rest old distinct front_is has_failed k =
     let a = came_at C c 0 z Runs group (quiet_closing c d) k t in
     let at = longer (further_of c h Runs group) l in
     let plain = still_plain c h Runs group 0 k.plain t refl (λ took. refl) in
-    let took = took_stays h h' k.plain plain t.took in
+    let took = took_stays h h' k.plain plain t.took t.reset in
     let z' = seen_after past Runs group (record old { ring = rest }) c in
     let ready : z.ready ≡ c ∷ entries c rest = ap (entries c) front_is ∙ ap (λ x. if x then c ∷ entries c rest else entries c rest) (eq_self c) in
     let S : List ℕ → Type 0 = λ r. Spot h.failed z.live r g (taken h) l in
@@ -358,7 +360,7 @@ failed_served C past c rest old distinct front_is has_failed k =
     let failed : h'.failed ≡ true = t.failed ∙ ap (λ b. b || failure_told (map tells group)) has_failed in
     let live : z'.live ≡ false = not_in_without c (shared past).live distinct in
     let M : TakenCounts → Type 0 = λ y. Met no_bytes y z.place in
-    let untaken : untaken_all h' z.place ≡ d = ap (λ y. untaken_by y z.place) took in
+    let untaken : untaken_all h' z.place ≡ d = ap (λ n. untaken_by n (taken h') z.place) (let e = t.took in omega (arith, e)) ∙ ap (λ y. untaken_by h.client.took y z.place) took in
     let F : Bool → Type 0 = λ x. Spot x z'.live z'.ready g (taken h') at in
     let L : Bool → Type 0 = λ x. Spot true x z'.ready g (taken h') at in
     let R : List ℕ → Type 0 = λ r. Spot true false r g (taken h') at in
@@ -376,5 +378,5 @@ failed_served C past c rest old distinct front_is has_failed k =
       spot = subst F (sym failed) (subst L (sym live) (subst R (sym f.1) tt));
     })
   where
-    untaken_by : TakenCounts → List Item → ℕ
-    untaken_by t items = to_take (sent_from no_bytes items) t Client + to_take (sent_from no_bytes items) t Server
+    untaken_by : ℕ → TakenCounts → List Item → ℕ
+    untaken_by n t items = (length (client_output items) - n) + to_take (sent_from no_bytes items) t Server

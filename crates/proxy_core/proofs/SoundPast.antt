@@ -36,7 +36,7 @@ use Rattle.proxy_core.proofs.Hearing.{Told, come_told, run_told}
 use Rattle.proxy_core.proofs.Members.{eq_self}
 use Rattle.proxy_core.proofs.ReadyRing.{distinct_none, distinct_push, distinct_without}
 use Rattle.proxy_core.proofs.SoundEvents.{lack_served, first_notes, fresh_sound, seen_accept, MayCome, come_served, Behind, behind_closing, behind_memory, run_about, run_served, failed_served}
-use Rattle.proxy_core.proofs.Standing.{is_served, is_unseen, from_served, client_untaken}
+use Rattle.proxy_core.proofs.Standing.{is_served, is_unseen, from_served, client_untaken, untaken_within}
 
 -- no row holds
 abbrev pub NoneHolds : List Row → Type 0
@@ -56,12 +56,12 @@ live_by C true z h = refl
 live_by C false z h = cc
 
 -- what a took-count that isn't refused takes is there
-takes_within : (edges : Edges) (from from_server : ℕ) (input : Input) (took sent left right : ℕ) → took ≤ sent → left ≡ sent - took → takes_too_much (Some (record { edges = edges; from_client = from; from_server = from_server; to_client = left; to_server = right })) input ≡ false → took + taken_more input ≤ sent
+takes_within : (edges : Edges) (from from_server : ℕ) (input : Input) (took sent left right : ℕ) → took ≤ sent → left ≤ sent - took → takes_too_much (Some (record { edges = edges; from_client = from; from_server = from_server; to_client = left; to_server = right })) input ≡ false → took + taken_more input ≤ sent
 takes_within edges from from_server (Bytes side bytes) took sent left right le e h = omega (arith, le)
 takes_within edges from from_server (Ends side) took sent left right le e h = omega (arith, le)
 takes_within edges from from_server (Resets side) took sent left right le e h = omega (arith, le)
 takes_within edges from from_server (Connects made) took sent left right le e h = omega (arith, le)
-takes_within edges from from_server (Takes Client n) took sent left right le e h = let t : nat_lt left n ≡ false = h in grind (arith, nat_tests)
+takes_within edges from from_server (Takes Client n) took sent left right le e h = let t : nat_lt left n ≡ false = h in let few : n ≤ left = grind (arith, nat_tests) in omega (arith, few, e, le)
 takes_within edges from from_server (Takes Server n) took sent left right le e h = omega (arith, le)
 
 pub may_come_at : (C : Config) (past : Past) (old : State) (c : ℕ) (input : Input) → SoundAt C c (seen past old c) → refused C past old (Comes c input) ≡ None → MayCome C c input (seen past old c)
@@ -71,7 +71,8 @@ may_come_at C past old c input s h =
     let live : z.live ≡ true = live_by C z.live z r.0 in
     let k = is_served C c z (λ u. let n : z.live ≡ false = ap (λ y. y.live) u in let m : true ≡ false = sym live ∙ n in cc) s in
     let P : Bool → Type 0 = λ b. takes_too_much (standing_by C b z) input ≡ false in
-    record { live = live; accepted = k.0; served = k.1; within = takes_within z.heard.edges (wants_at C z Client) (wants_at C z Server) input z.heard.client.took (length (client_output z.place)) (untaken_of z.heard z.place Client) (untaken_of z.heard z.place Server) k.1.within (client_untaken z.heard z.place k.1.plain) (subst P live r.1.1.1.1.1.1.1.1.0) }
+    let L : ℕ → Type 0 = λ n. n ≤ length (client_output z.place) - z.heard.client.took in
+    record { live = live; accepted = k.0; served = k.1; within = takes_within z.heard.edges (wants_at C z Client) (wants_at C z Server) input z.heard.client.took (length (client_output z.place)) (untaken_of z.heard z.place Client) (untaken_of z.heard z.place Server) k.1.within (subst L (sym (client_untaken z.heard z.place k.1.plain)) (untaken_within z.heard.client.reset (length (client_output z.place)) z.heard.client.took)) (subst P live r.1.1.1.1.1.1.1.1.0) }
 
 -- an event that changes nothing
 pub unchanged : (past : Past) (v : EventKind) (group : List Note) (old new : State) (q : ℕ) → Rests group old new → ((h : Heard) → hears q h v [] ≡ h) → with_accepted v (shared past).live ≡ (shared past).live → seen_after past v group new q ≡ seen past old q
@@ -88,14 +89,14 @@ own_rest C past v group old new q m same live s = let P : Seen → Type 0 = λ z
 pub still_accepted : (c : ℕ) (h : Heard) (v : EventKind) (group : List Note) (n : ℕ) → Told c h v group n → is_some h.accepted ≡ true → is_some (hears c h v group).accepted ≡ true
 still_accepted c h v group n t e = ap is_some t.accepted ∙ e
 
-own_come : (C : Config) (past : Past) (c : ℕ) (input : Input) (group : List Note) (old new : State) (over : Bool) → may_come input ≡ true → IsDistinct nat_eq (shared past).live → MayCome C c input (seen past old c) → group ≡ closing_if over c → new ≡ came c over old
-    → MatchBool (heard c past).failed (over ≡ false) (over ≡ is_drained_at C (hears c (heard c past) (Comes c input) group) (old.places c)) → SoundAt C c (seen_after past (Comes c input) group new c)
-own_come C past c input group old new over may d m e f j =
+own_come : (C : Config) (past : Past) (c : ℕ) (input : Input) (group : List Note) (old new : State) (over : Bool) (n : ℕ) → may_come input ≡ true → IsDistinct nat_eq (shared past).live → MayCome C c input (seen past old c) → group ≡ closing_if over c n → new ≡ came c over old
+    → MatchBool (heard c past).failed (over ≡ false) (over ≡ is_drained_at C (hears c (heard c past) (Comes c input) group) (old.places c)) → n ≡ untaken_all (hears c (heard c past) (Comes c input) group) (old.places c) → SoundAt C c (seen_after past (Comes c input) group new c)
+own_come C past c input group old new over n may d m e f j left =
     let P : List Note → Type 0 = λ g. MatchBool (heard c past).failed (over ≡ false) (over ≡ is_drained_at C (hears c (heard c past) (Comes c input) g) (old.places c)) in
-    let k = come_served C past c input over old may d m (subst P e j) in
+    let k = come_served C past c input over n old may d m (subst P e j) (left ∙ ap (λ g. untaken_all (hears c (heard c past) (Comes c input) g) (old.places c)) e) in
     let Q : State → Type 0 = λ s. SoundAt C c (seen_after past (Comes c input) group s c) in
     let R : List Note → Type 0 = λ g. SoundAt C c (seen_after past (Comes c input) g (came c over old) c) in
-    subst Q (sym f) (subst R (sym e) (from_served C c (seen_after past (Comes c input) (closing_if over c) (came c over old) c) (still_accepted c (heard c past) (Comes c input) (closing_if over c) (taken_more input) (come_told c (heard c past) input (closing_if over c) may m.served.plain.connects (about_closing_if over c)) m.accepted) k))
+    subst Q (sym f) (subst R (sym e) (from_served C c (seen_after past (Comes c input) (closing_if over c n) (came c over old) c) (still_accepted c (heard c past) (Comes c input) (closing_if over c n) (taken_more input) (come_told c (heard c past) input (closing_if over c n) may m.served.plain.connects (about_closing_if over c n)) m.accepted) k))
 
 own_lack : (C : Config) (past : Past) (c : ℕ) (input : Input) (group : List Note) (old new : State) → may_come input ≡ true → MayCome C c input (seen past old c) → (heard c past).failed ≡ false → group ≡ Finish c Memory ∷ [] → new ≡ came c false old
     → SoundAt C c (seen_after past (Comes c input) group new c)
@@ -118,7 +119,7 @@ front_served C past c rest old e s =
 spot_ran : (t : ConnTurn) (c : ℕ) (g : Setup) (took : TakenCounts) (at : TraceState) → asks t ≡ false → StopsAt g took at t → Spot false (not (ends t)) (ready_behind t c) g took at
 spot_ran turn.More c g took at e k = tt
 spot_ran (turn.Asks call) c g took at e k = absurd (cc)
-spot_ran turn.NotYet c g took at e k = (k.1, k.0)
+spot_ran turn.NotYet c g took at e k = (k.1.0, (k.0, k.1.1))
 spot_ran turn.Over c g took at e k = k
 
 run_sound : (C : Config) (past : Past) (c : ℕ) (rest after ready : List ℕ) (old : State) (more : List Item) (at : TraceState) (behind : List Note) (fails over : Bool) (d : ℕ)
@@ -164,8 +165,8 @@ own_run C past c rest group old new d e s m = by_failed (heard c past).failed re
         let after = ring_behind k.turn c rest in
         let left = untaken_all h (old.places c ++ k.more) in
         let spot = spot_ran k.turn c (setup_of C h) (taken h) k.at k.no_call k.items.stops in
-        moved (notes_of c k.more ++ closing_if over c) (ran c after k.more old) k.items.noted k.state
-        (run_sound C past c rest after (ready_behind k.turn c) old k.more k.at (closing_if over c) false over left d e f v.0 v.1 k.items.passes (behind_closing over c left) refl (entries_behind_self k.turn c rest) spot)
+        moved (notes_of c k.more ++ closing_if over c left) (ran c after k.more old) k.items.noted k.state
+        (run_sound C past c rest after (ready_behind k.turn c) old k.more k.at (closing_if over c left) false over left d e f v.0 v.1 k.items.passes (behind_closing over c left) refl (entries_behind_self k.turn c rest) spot)
     by_failed false f (inr k) =
         let v = front_served C past c rest old e s in
         let left = untaken_all h (old.places c ++ k.more) in
@@ -186,9 +187,9 @@ own_input C past c input group old new d m true e k = by_failed (heard c past).f
     now = hears c (heard c past) (Comes c input) group
 
     by_failed : (b : Bool) → (heard c past).failed ≡ b → MatchBool b (MovesFailed c group old new) (MovesOn C now c group old new ⊎ MovesLacks input c group old new) → SoundAt C c (seen_after past (Comes c input) group new c)
-    by_failed true f j = own_come C past c input group old new false e d m j.notes j.state (let P : Bool → Type 0 = λ b. MatchBool b (false ≡ false) (false ≡ is_drained_at C now (old.places c)) in subst P (sym f) refl)
+    by_failed true f j = own_come C past c input group old new false (untaken_all now (old.places c)) e d m j.notes j.state (let P : Bool → Type 0 = λ b. MatchBool b (false ≡ false) (false ≡ is_drained_at C now (old.places c)) in subst P (sym f) refl) refl
     by_failed false f (inr j) = own_lack C past c input group old new e m f j.notes j.state
-    by_failed false f (inl j) = own_come C past c input group old new (is_drained_at C now (old.places c)) e d m j.notes j.state (let P : Bool → Type 0 = λ b. MatchBool b (is_drained_at C now (old.places c) ≡ false) (is_drained_at C now (old.places c) ≡ is_drained_at C now (old.places c)) in subst P (sym f) refl)
+    by_failed false f (inl j) = own_come C past c input group old new (is_drained_at C now (old.places c)) (untaken_all now (old.places c)) e d m j.notes j.state (let P : Bool → Type 0 = λ b. MatchBool b (is_drained_at C now (old.places c) ≡ false) (is_drained_at C now (old.places c) ≡ is_drained_at C now (old.places c)) in subst P (sym f) refl) refl
 
 own_accept : (C : Config) (past : Past) (c : ℕ) (vs : List ℕ) (from : Addr) (group : List Note) (old new : State) → seen past old c ≡ unseen → (group ≡ []) ⊎ (group ≡ Finish c Memory ∷ []) → new ≡ record old { ring = old.ring ++ c ∷ [] }
     → SoundAt C c (seen_after past (Accepts c vs from) group new c)

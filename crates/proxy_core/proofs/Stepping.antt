@@ -1,9 +1,12 @@
 -- What a step did.
 use Rattle.std.proofs.Common.{◌≡◌, inl, inr, refl, sym, ap, ◌∙◌, ℕ, ◌+◌, ◌-◌, ◌≤◌, arith, List, [], ◌++◌, length, map, drop, Bool, true, false, ◌||◌, not, Option, Some, None, Result, Ok, Err, OnOk, IfErr, if◌then◌else◌}
+use Rattle.proxy_core.specs.Asked.{left_of}
+use Rattle.connection_model.specs.Gates.{untaken}
+use Rattle.conn.specs.Queues.{queue_in}
 use Rattle.std.proofs.lemmas.List.{length-append, length-map, length-drop}
 use Rattle.px_bytes.specs.declared.addr.Side.TheVariants.{Client, Server}
 use Rattle.connection_model.specs.declared.note.Note.{Note}
-use Rattle.connection_model.specs.Heard.{Bytes, Ends, Takes, EventKind, taken}
+use Rattle.connection_model.specs.Heard.{Bytes, Ends, Takes, EventKind, taken, taken_by, Resets}
 use Rattle.connection_model.specs.Item.{client_output}
 use Rattle.proxy_core.specs.Changes.{Changes}
 use Rattle.proxy_core.specs.Live.{pending_in, queue_of, wanted_of}
@@ -38,19 +41,36 @@ use Rattle.connection_model.specs.declared.edges.Edges.{Edges}
 use Rattle.proxy_core.proofs.Resting.{ticks, turns}
 use Rattle.proxy_core.proofs.RunAgrees.{runs}
 use Rattle.proxy_core.proofs.SoundPast.{sound_start, sound_step}
-use Rattle.proxy_core.proofs.Standing.{is_served, none_untaken, client_untaken, none_to_server}
+use Rattle.proxy_core.proofs.Standing.{is_served, none_untaken, client_untaken, none_to_server, reset_by}
 
 -- what is queued is what was sent and not taken
 pub queued : (C : Config) (z : Seen) (conn : Conn) → ConnectionContinues C z (Some conn) → queue_of conn ≡ drop z.heard.client.took (client_output z.place)
 queued C z conn (inl k) = k.queue
 queued C z conn (inr k) = k.queue
 
+-- its client was reset where that was heard
+pub reset_told : (C : Config) (z : Seen) (conn : Conn) → ConnectionContinues C z (Some conn) → conn.client.reset ≡ z.heard.client.reset
+reset_told C z conn (inl k) = sym (reset_by z.heard.client.reset conn.client.reset z.heard.client.took z.heard.client.took k.holds.counts)
+reset_told C z conn (inr k) = k.reset
+
+-- and then nothing is queued to it
+pub queue_told : (C : Config) (z : Seen) (conn : Conn) → ConnectionContinues C z (Some conn) → queue_in conn ≡ left_of (taken_by z.heard.client.reset z.heard.client.took) (client_output z.place)
+queue_told C z conn k = ap (λ b. if b then [] else conn.host.to_client) (reset_told C z conn k) ∙ by_reset z.heard.client.reset
+  where
+    by_reset : (b : Bool) → (if b then [] else conn.host.to_client) ≡ left_of (taken_by b z.heard.client.took) (client_output z.place)
+    by_reset true = refl
+    by_reset false = queued C z conn k
+
+left_length : (b : Bool) (n : ℕ) (q : List ℕ) → length (left_of (taken_by b n) q) ≡ untaken (length q) (taken_by b n)
+left_length true n q = refl
+left_length false n q = length-drop n q
+
 -- what is pending on a connection is what the scheduler says
 pub pending_same : (C : Config) (c : ℕ) (z : Seen) (o : Option Conn) → Served C c z → ConnectionContinues C z o → (pending_in o ≡ untaken_of z.heard z.place Client) × (0 ≡ untaken_of z.heard z.place Server)
 pending_same C c z None v k =
     (sym (ap (λ p. untaken_of z.heard p Client) k.no_items ∙ none_untaken (taken z.heard).client), sym (none_to_server (setup_of C z.heard) z.heard z.place (stand_of C z.heard z.place) v.stands v.no_server))
 pending_same C c z (Some conn) v k =
-    (ap length (queued C z conn k) ∙ length-drop z.heard.client.took (client_output z.place) ∙ sym (client_untaken z.heard z.place v.plain), sym (none_to_server (setup_of C z.heard) z.heard z.place (stand_of C z.heard z.place) v.stands v.no_server))
+    (ap length (queue_told C z conn k) ∙ left_length z.heard.client.reset z.heard.client.took (client_output z.place) ∙ sym (client_untaken z.heard z.place v.plain), sym (none_to_server (setup_of C z.heard) z.heard z.place (stand_of C z.heard z.place) v.stands v.no_server))
 
 -- how many bytes may come is what the scheduler says
 wants_by : (heard trace : Bool) (n : ℕ) → trace ≡ heard → (if trace then unread_limit else n) ≡ (if heard then unread_limit else (if trace then unread_limit else n))
@@ -101,6 +121,7 @@ by_event : (C : Config) (past : Past) (s : State) (old new : Core) (e : Event) (
 by_event C past s old new (event.Accept conn vs from) group steps r h k = accepts C past s old new conn vs from group r h k.0
 by_event C past s old new (event.FromClient conn bytes) group steps r h k = comes C past s old new conn (Bytes Client bytes) group refl r h k.0
 by_event C past s old new (event.ClientEnd conn) group steps r h k = comes C past s old new conn (Ends Client) group refl r h k.0
+by_event C past s old new (event.ClientReset conn) group steps r h k = comes C past s old new conn (Resets Client) group refl r h k.0
 by_event C past s old new (event.ClientTook conn n) group steps r h k = comes C past s old new conn (Takes Client n) group refl r h k.0
 by_event C past s old new (event.Tick moment) group steps r h k = ticks C past s old new moment group steps r k
 by_event C past s old new event.Turn group steps r h k = turns C past s old new group steps r k

@@ -9,7 +9,7 @@ use Rattle.connection_model.specs.declared.note.Cause.TheVariants.{Memory}
 use Rattle.connection_model.specs.declared.note.Note.{Note}
 use Rattle.connection_model.specs.declared.note.Note.TheVariants.{Finish}
 use Rattle.connection_model.specs.Edges.{edge}
-use Rattle.connection_model.specs.Heard.{Input, Bytes, Ends, Takes}
+use Rattle.connection_model.specs.Heard.{Input, Bytes, Ends, Takes, Resets}
 use Rattle.conn.specs.Calls.{Begins}
 use Rattle.conn.specs.Runs.{IsBounded, IsWhole}
 use Rattle.conn.specs.RunsItems.{ends}
@@ -18,7 +18,7 @@ use Rattle.conn.specs.declared.setup.Place.{Place}
 use Rattle.conn.specs.declared.setup.Setup.{Setup}
 use Rattle.conn.specs.declared.turn.ConnTurn.{ConnTurn}
 use Rattle.proxy_core.specs.Live.{KeepsPlace, LiveComes, LiveRuns, SamePlace, client_met}
-use Rattle.proxy_core.specs.Live.{comes_notes, queue_of}
+use Rattle.proxy_core.specs.Live.{comes_notes, left_in, queue_of}
 use Rattle.proxy_core.specs.Ready.{place_of, ring_behind, with_ready, without}
 use Rattle.proxy_core.specs.Refusals.{virtual_place}
 use Rattle.proxy_core.specs.Serving.{IsSetup}
@@ -83,7 +83,7 @@ pub record ComesOf (old new : Core) (number : ℕ) (input : Input) (group : List
   pub lacks : Bool
   pub over : Bool
   pub came : LiveComes input before.conn after.conn lacks over
-  pub notes : group ≡ comes_notes lacks over number
+  pub notes : group ≡ comes_notes lacks over number (left_in after.conn)
   pub goes_on : over ≡ false → Stays old new at after
   pub ends : over ≡ true → Goes old new at before
 
@@ -139,6 +139,8 @@ Changes old new (event.FromClient conn bytes) group steps =
     ComesOf old new conn (Bytes Client bytes) group × (steps ≡ 0)
 Changes old new (event.ClientEnd conn) group steps =
     ComesOf old new conn (Ends Client) group × (steps ≡ 0)
+Changes old new (event.ClientReset conn) group steps =
+    ComesOf old new conn (Resets Client) group × (steps ≡ 0)
 Changes old new (event.ClientTook conn n) group steps =
     ComesOf old new conn (Takes Client n) group × (steps ≡ 0)
 Changes old new (event.Tick moment) group steps =

@@ -72,7 +72,8 @@ NoCutIsDue C h place =
 
 -- Where nothing is ready, each live connection found memory, gave all that was deliverable, and no
 -- cut is due; where besides its client took all, it is whole, and if it has finished and nothing is
--- pending it isn't live any more. An ended one is whole, unless it found no memory.
+-- pending it isn't live any more. An ended one gave its whole trace, unless it found no memory; where
+-- nothing was dropped it is whole.
 pub record SettledIsComplete (C : Config) (h : Heard) (ring : List ℕ) (live : Bool)
     (place : List Item) : Type 0 where
   pub settled_found_memory : ring ≡ [] → live ≡ true → h.failed ≡ false
@@ -82,7 +83,10 @@ pub record SettledIsComplete (C : Config) (h : Heard) (ring : List ℕ) (live : 
       → length (client_output place) ≤ h.client.took → IsWhole C h place
   pub finished_has_ended : ring ≡ [] → h.finished ≡ true → untaken_of h place Client ≡ 0
       → untaken_of h place Server ≡ 0 → live ≡ false
-  pub ended_clean_sent_all : live ≡ false → h.failed ≡ false → IsWhole C h place
+  pub ended_gave_whole_trace : live ≡ false → h.failed ≡ false
+      → (n : ℕ) → first_items C h (length place + n) ≡ place
+  pub ended_clean_sent_all : live ≡ false → h.failed ≡ false → untaken_all h place ≡ 0
+      → IsWhole C h place
 
 -- a note that shows an item
 abbrev pub shows : Note → Bool
@@ -112,7 +116,7 @@ causes_told notes = flat_map cause_told notes
 
 -- The last notes of an ended connection say that its client is closed and that it is over; before
 -- them it has finished and nothing was closed. All that was queued was taken, unless it found no
--- memory: then so many bytes are dropped.
+-- memory or its client was reset: then so many bytes are dropped.
 pub record ClosesRightly (c : ℕ) (h : Heard) (place : List Item) : Type 0 where
   pub before : List Note
   pub notes : h.notes ≡ before ++ closing c (untaken_all h place)
@@ -120,15 +124,15 @@ pub record ClosesRightly (c : ℕ) (h : Heard) (place : List Item) : Type 0 wher
   pub cause : Cause
   pub more : List Cause
   pub finished : causes_told before ≡ cause ∷ more
-  pub dropped : h.failed ≡ false → untaken_all h place ≡ 0
+  pub dropped : h.failed ≡ false → h.client.reset ≡ false → untaken_all h place ≡ 0
 
 -- a Finish for want of memory, where it found none
 abbrev pub causes_behind : Bool → List Cause
 causes_behind failed = if failed then Memory ∷ [] else []
 
 -- The notes of a connection that show an item are those of the items that it passed. Behind them
--- are its last ones: none while it goes on; that its client is closed, and that it ended with nothing
--- dropped; or a Finish for want of memory, and then so many bytes dropped as were sent and not
+-- are its last ones: none while it goes on; that its client is closed, and that it ended with what a
+-- reset left dropped; or a Finish for want of memory, and then so many bytes dropped as were sent and not
 -- taken. Its trace finishes once at most, never for want of memory, and has finished where it
 -- ended; a second Finish is for want of memory, and there is no third.
 pub record FinishCauses (C : Config) (c : ℕ) (h : Heard) (live : Bool)
@@ -145,11 +149,12 @@ pub record FinishCauses (C : Config) (c : ℕ) (h : Heard) (live : Bool)
   pub closes_rightly : live ≡ false → ClosesRightly c h place
   pub ended_has_finished : live ≡ false → h.failed ≡ false → length (reasons_in place) ≡ 1
 
--- The counts of a live connection: taken and pending are what was sent to its client. Nothing is
--- sent to a server yet.
+-- The counts of a live connection: taken and pending are what was sent to its client, and once that
+-- was reset nothing is pending. Nothing is sent to a server yet.
 pub record OpenCounts (past : Past) (s : State) (c : ℕ) : Type 0 where
-  pub sent : (heard c past).client.took + pending past s c Client
-      ≡ length (client_output (s.places c))
+  pub sent : (heard c past).client.reset ≡ false
+      → (heard c past).client.took + pending past s c Client ≡ length (client_output (s.places c))
+  pub reset : (heard c past).client.reset ≡ true → pending past s c Client ≡ 0
   pub to_server : pending past s c Server ≡ 0
 
 pub record ConnectionPromise (C : Config) (past : Past) (s : State) (c : ℕ)

@@ -1,5 +1,6 @@
 -- What the place of a live connection holds, and what calls make of it.
 use Rattle.std.specs.Prelude.{◌≡◌, ℕ, List, [], ◌∷◌, Bool, true, false, Option, Some, None}
+use Rattle.conn.specs.Queues.{queue_in}
 use Rattle.std.specs.Prelude.{length, drop}
 use Rattle.px_bytes.specs.declared.addr.Side.TheVariants.{Client}
 use Rattle.connection_model.specs.declared.edges.Edge.{Edge}
@@ -9,12 +10,12 @@ use Rattle.connection_model.specs.declared.note.Note.{Note}
 use Rattle.connection_model.specs.declared.note.Note.TheVariants.{Finish}
 use Rattle.connection_model.specs.Edges.{edge}
 use Rattle.connection_model.specs.Further.{longer}
-use Rattle.connection_model.specs.Heard.{Input, Bytes, Ends, Takes, brings_in, edges_met}
+use Rattle.connection_model.specs.Heard.{Input, Bytes, Ends, Takes, brings_in, edges_met, Resets}
 use Rattle.connection_model.specs.Phases.{Orderly}
 use Rattle.connection_model.specs.Queries.{unread_limit}
 use Rattle.connection_model.specs.Setup as model
 use Rattle.connection_model.specs.State.{TraceState}
-use Rattle.conn.specs.Calls.{Settles, over_in, took_more, unless_finished, wanted_in}
+use Rattle.conn.specs.Calls.{Settles, over_in, took_more, unless_finished, wanted_in, reset_in}
 use Rattle.conn.specs.Holds.{Around, Holds}
 use Rattle.conn.specs.Runs.{Runs}
 use Rattle.conn.specs.RunsItems.{closing, closing_if}
@@ -28,14 +29,18 @@ use Rattle.proxy_core.specs.declared.input.ClientInput.{ClientInput}
 use Rattle.proxy_core.specs.declared.input.ClientInput.TheVariants as input
 use Rattle.proxy_core.specs.declared.live.Live.{Live}
 
--- the bytes that its client is to take
+-- the bytes that its client hasn't taken, also behind a reset
 abbrev pub queue_of : Conn → List ℕ
 queue_of conn = conn.host.to_client
 
--- how many they are
+abbrev pub left_in : Option Conn → ℕ
+left_in None = 0
+left_in (Some conn) = length (queue_of conn)
+
+-- how many bytes its client is to take
 abbrev pub pending_in : Option Conn → ℕ
 pending_in None = 0
-pending_in (Some conn) = length (queue_of conn)
+pending_in (Some conn) = length (queue_in conn)
 
 -- how many bytes of its client may come; where no memory was found for it, all of them are dropped
 abbrev pub wanted_of : Option Conn → ℕ
@@ -57,12 +62,22 @@ pub record SamePlace (old new : Live) : Type 0 where
 abbrev pub input_of : ClientInput → Input
 input_of (input.Bytes bytes) = Bytes Client bytes.now
 input_of input.End = Ends Client
+input_of input.Reset = Resets Client
 input_of (input.Took n) = Takes Client n
 
 -- how many bytes more its client took by it
 abbrev pub taken_more : Input → ℕ
 taken_more (Takes Client n) = n
 taken_more other = 0
+
+-- what it makes of what was told from outside, and whether its client was reset then
+abbrev pub met_by : Input → Around → Around
+met_by (Resets Client) a = reset_in a
+met_by other a = took_more (taken_more other) a
+
+abbrev pub reset_met : Input → Bool → Bool
+reset_met (Resets Client) b = true
+reset_met other b = b
 
 -- where it puts the client's end
 abbrev pub client_met : Input → Edge → Edge
@@ -72,9 +87,10 @@ client_met input e = (edges_met input (record { client = e; server = edge Absent
 -- is left.
 pub record ConnHears (input : Input) (old new : Conn) : Type 0 where
   pub hears : (g : model.Setup) (a : Around) (l : TraceState) → Holds g a l old → Orderly l
-      → Holds g (took_more (taken_more input) a)
+      → Holds g (met_by input a)
       (longer (unless_finished l.finished (brings_in input).client) l) new
   pub queue : queue_of new ≡ drop (taken_more input) (queue_of old)
+  pub reset : new.client.reset ≡ reset_met input old.client.reset
   pub stage : new.stage ≡ old.stage
 
 -- its bytes are kept, which may find no memory
@@ -94,6 +110,7 @@ pub record ConnLacks (old new : Conn) (over : Bool) : Type 0 where
   pub goes_on : has_finished old.stage ≡ false
   pub there : new.stage ≡ OutOfMemory
   pub queue : queue_of new ≡ queue_of old
+  pub reset : new.client.reset ≡ old.client.reset
 
 -- by whether memory was found, and whether it is over then
 abbrev pub LiveComes :
@@ -104,9 +121,9 @@ LiveComes input (Some old) (Some new) true over = (takes_memory input ≡ true) 
 LiveComes input old new lacks over = ⊥
 
 -- the notes of it
-abbrev pub comes_notes : (lacks over : Bool) → ℕ → List Note
-comes_notes true over c = Finish c Memory ∷ []
-comes_notes false over c = closing_if over c
+abbrev pub comes_notes : (lacks over : Bool) → ℕ → (dropped : ℕ) → List Note
+comes_notes true over c dropped = Finish c Memory ∷ []
+comes_notes false over c dropped = closing_if over c dropped
 
 -- A connection for which no memory was found ends with its Run, and what is queued on it is dropped.
 -- Another one gives the items of its trace from wherever that stands.

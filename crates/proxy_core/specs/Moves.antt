@@ -45,6 +45,7 @@ came c over old =
 pub record MovesOn (C : Config) (now : Heard) (c : ℕ) (group : List Note)
     (old new : State) : Type 0 where
   pub notes : group ≡ closing_if (is_drained_at C now (old.places c)) c
+      (untaken_all now (old.places c))
   pub state : new ≡ came c (is_drained_at C now (old.places c)) old
 
 -- one that found no memory waits for its Run
@@ -65,10 +66,11 @@ MovesCome C input before now c group old new =
     MatchBool before.failed (MovesFailed c group old new)
     (MovesOn C now c group old new ⊎ MovesLacks input c group old new)
 
--- what may come of a connection: nothing of a server and no reset yet
+-- what may come of a connection: nothing of a server yet
 abbrev pub may_come : Input → Bool
 may_come (Bytes Client bytes) = true
 may_come (Ends Client) = true
+may_come (Resets Client) = true
 may_come (Takes Client n) = true
 may_come other = false
 
@@ -86,6 +88,7 @@ pub record RunsOn (C : Config) (h : Heard) (c : ℕ) (rest : List ℕ) (group : 
   pub turn : ConnTurn
   pub items :
       RunsItems (setup_of C h) (taken h) (stand_of C h (old.places c)) c more at group turn
+      (untaken_all h (old.places c ++ more))
   pub no_call : asks turn ≡ false
   pub state : new ≡ ran c (ring_behind turn c rest) more old
 

@@ -24,6 +24,7 @@ abbrev pub kind_of : Event → EventKind
 kind_of (event.Accept c vs from) = Accepts c vs from
 kind_of (event.FromClient c bytes) = Comes c (Bytes Client bytes)
 kind_of (event.ClientEnd c) = Comes c (Ends Client)
+kind_of (event.ClientReset c) = Comes c (Resets Client)
 kind_of (event.Connected c) = Comes c (Connects true)
 kind_of (event.Refused c) = Comes c (Connects false)
 kind_of (event.FromServer c bytes) = Comes c (Bytes Server bytes)

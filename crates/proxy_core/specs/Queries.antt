@@ -4,13 +4,14 @@ use Rattle.px_bytes.specs.declared.addr.Side.{Side}
 use Rattle.px_bytes.specs.declared.addr.Side.TheVariants.{Client, Server}
 use Rattle.conn.specs.declared.connection.Conn.{Conn}
 use Rattle.connection_model.specs.Queries.{unread_limit}
-use Rattle.proxy_core.specs.Live.{queue_of, wanted_of}
+use Rattle.conn.specs.Queues.{queue_in}
+use Rattle.proxy_core.specs.Live.{wanted_of}
 use Rattle.proxy_core.specs.declared.live.Live.{Live}
 
 -- the bytes that a side is to take; there is no server connection
 abbrev pub queue_on : Side → Option Conn → List ℕ
 queue_on Client None = []
-queue_on Client (Some conn) = queue_of conn
+queue_on Client (Some conn) = queue_in conn
 queue_on Server conn = []
 
 -- how many bytes of a side may come

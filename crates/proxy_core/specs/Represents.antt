@@ -21,7 +21,7 @@ use Rattle.proxy_core.specs.declared.live.Live.{Live}
 
 -- what was told of it from outside
 abbrev pub around : Heard → Around
-around h = record { took = taken h }
+around h = record { took = taken h; counted = h.client.took }
 
 -- The connection goes on with its trace from where it stands: what waits for its client is what was
 -- sent and not taken.
@@ -36,6 +36,7 @@ pub record Lacks (z : Seen) (conn : Conn) : Type 0 where
   pub failed : z.heard.failed ≡ true
   pub finished : z.heard.finished ≡ true
   pub there : conn.stage ≡ OutOfMemory
+  pub reset : conn.client.reset ≡ z.heard.client.reset
   pub queue : queue_of conn ≡ drop z.heard.client.took (client_output z.place)
 
 -- no memory was found for it when it was accepted

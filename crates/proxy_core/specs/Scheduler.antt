@@ -1,13 +1,13 @@
 -- Where the scheduler stands: which connections are ready to run, and how far each came in its
 -- trace; and all of it that concerns one connection.
-use Rattle.std.specs.Prelude.{ℕ, ◌+◌, List, [], Bool, nat_eq, if◌then◌else◌}
+use Rattle.std.specs.Prelude.{ℕ, ◌+◌, ◌-◌, length, List, [], Bool, nat_eq, if◌then◌else◌}
 use Rattle.std.specs.List.{filter}
 use Rattle.px_bytes.specs.declared.addr.Side.{Side}
 use Rattle.px_bytes.specs.declared.addr.Side.TheVariants.{Client, Server}
 use Rattle.connection_model.specs.declared.note.Note.{Note}
 use Rattle.connection_model.specs.Gates.{no_bytes, sent_from, to_take}
 use Rattle.connection_model.specs.Heard.{EventKind, Heard, taken, hears}
-use Rattle.connection_model.specs.Item.{Item}
+use Rattle.connection_model.specs.Item.{Item, client_output}
 use Rattle.proxy_core.specs.Past.{Past, heard, shared, shared_after}
 use Rattle.proxy_core.specs.Ready.{is_in}
 
@@ -56,9 +56,11 @@ seen_after past v group s c =
 abbrev pub untaken_of : Heard → List Item → Side → ℕ
 untaken_of h place side = to_take (sent_from no_bytes place) (taken h) side
 
--- to both sides
+-- what a client was told to have taken is missing of what was sent, also behind its reset; and what a
+-- server is to take
 abbrev pub untaken_all : Heard → List Item → ℕ
-untaken_all h place = untaken_of h place Client + untaken_of h place Server
+untaken_all h place =
+    (length (client_output place) - h.client.took) + untaken_of h place Server
 
 -- the bytes that are pending to a side of connection c
 abbrev pub pending : Past → State → ℕ → Side → ℕ

@@ -1,6 +1,6 @@
 -- What holds of the states that a past leads to, without a word of the core.
 use Rattle.std.specs.Prelude.{◌≡◌, ℕ, ◌<◌, ◌≤◌, List, [], ◌∷◌, ◌++◌, length, Bool, true, false}
-use Rattle.std.specs.Prelude.{None, is_some, nat_eq}
+use Rattle.std.specs.Prelude.{None, is_none, is_some, nat_eq}
 use Rattle.std.specs.Bool.{MatchBool}
 use Rattle.std.specs.List.{IsDistinct}
 use Rattle.connection_model.specs.declared.note.Cause.TheVariants.{Memory}
@@ -23,9 +23,8 @@ use Rattle.proxy_core.specs.declared.config.Config.{Config}
 abbrev pub unseen : Seen
 unseen = record { heard = nothing_heard; live = false; ready = []; place = [] }
 
--- nothing is heard yet of a server, of a reset or a cut, or of a reply
+-- nothing is heard yet of a server, of a cut, or of a reply
 pub record IsPlain (h : Heard) : Type 0 where
-  pub not_reset : h.client.reset ≡ false
   pub connects : h.connects ≡ []
   pub replies : h.replies ≡ []
   pub cut : h.cut ≡ None
@@ -35,18 +34,19 @@ pub record IsPlain (h : Heard) : Type 0 where
 -- so many bytes are dropped.
 abbrev pub last_notes : ℕ → (failed live : Bool) → (dropped : ℕ) → List Note
 last_notes c false true dropped = []
-last_notes c false false dropped = closing c 0
+last_notes c false false dropped = closing c dropped
 last_notes c true true dropped = Finish c Memory ∷ []
 last_notes c true false dropped = Finish c Memory ∷ closing c dropped
 
 -- By whether it found no memory, whether it is live, and its entries in the ready queue: it ended,
--- its trace over and all of it taken; or it rests, and isn't over; or it is ready, once. One that
+-- its trace over and all of it taken, or its client reset; or it rests, wasn't reset and isn't over; or it is ready, once. One that
 -- found no memory is ready until it ends.
 abbrev pub Spot :
     (failed live : Bool) → (ready : List ℕ) → Setup → TakenCounts → TraceState → Type 0
 Spot false false [] g took at = is_drained g took at ≡ true
 Spot false true [] g took at =
-    (is_drained g took at ≡ false) × GivesNoMore false at.sent took (next_item g at)
+    (is_drained g took at ≡ false)
+    × (GivesNoMore false at.sent took (next_item g at) × (is_none took.client ≡ false))
 Spot failed true (n ∷ []) g took at = Unit {0}
 Spot true false [] g took at = Unit {0}
 Spot failed live ready g took at = ⊥

@@ -11,6 +11,8 @@ pub enum Event {
     FromClient { conn: u32, bytes: Text },
     /// The client sends no more.
     ClientEnd { conn: u32 },
+    /// The client reset its connection.
+    ClientReset { conn: u32 },
     /// The server that was asked for took the connection.
     Connected { conn: u32 },
     /// The server that was asked for refused.

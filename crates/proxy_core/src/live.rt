@@ -4,13 +4,14 @@ ghost use Rattle.std.specs.Prelude.{◌≡◌, ◌≤◌, ◌+◌, ◌-◌, ◌+
 ghost use Rattle.std.specs.Prelude.{OnOk, OnErr};
 ghost use Rattle.px_bytes.specs.declared.addr.Side.TheVariants.{Client};
 ghost use Rattle.connection_model.specs.declared.note.Note.{Note};
-ghost use Rattle.connection_model.specs.Heard.{Bytes, Ends, Takes};
+ghost use Rattle.connection_model.specs.Heard.{Bytes, Ends, Resets, Takes};
+ghost use Rattle.conn.specs.Queues.{queue_in};
 ghost use Rattle.conn.specs.Stages.{has_finished};
 ghost use Rattle.conn.specs.Runs.{IsBounded, IsWhole};
 ghost use Rattle.conn.specs.RunsItems.{closing};
 ghost use Rattle.proxy_core.specs.Refusal.{client_refusal};
 ghost use Rattle.proxy_core.specs.Live.{ConnHears, KeepsPlace, LiveComes, LiveRuns, SamePlace};
-ghost use Rattle.proxy_core.specs.Live.{client_met, comes_notes, input_of, pending_in, queue_of};
+ghost use Rattle.proxy_core.specs.Live.{client_met, comes_notes, input_of, left_in, pending_in};
 ghost use Rattle.proxy_core.specs.Live.{taken_more, takes_memory, wanted_of};
 
 use crate::event::BadEvent;
@@ -65,6 +66,7 @@ impl Live {
         match input {
             ClientInput::Bytes(bytes) => self.refuses_bytes(bytes),
             ClientInput::End => self.refuses_end(),
+            ClientInput::Reset => self.refuses_reset(),
             ClientInput::Took(n) => self.refuses_took(*n),
         }
     }
@@ -91,6 +93,16 @@ impl Live {
         }
     }
 
+    fn refuses_reset(&self) -> Option<BadEvent>
+        ensures { result ≡ client_refusal self.now (Resets Client) }
+    {
+        if self.client.may_take() {
+            None
+        } else {
+            Some(BadEvent::AfterEnd)
+        }
+    }
+
     fn refuses_took(&self, n: usize) -> Option<BadEvent>
         ensures { result ≡ client_refusal self.now (Takes Client n) }
     {
@@ -111,12 +123,14 @@ impl Live {
         ensures place { KeepsPlace self.old self.new }
         ensures client { self.new.client ≡ client_met (input_of input.entry) self.old.client }
         ensures comes { (lacks : Bool)
-            × (notes.new.items ≡ notes.old.items ++ comes_notes lacks result self.old.number)
+            × (notes.new.items ≡ notes.old.items ++ comes_notes lacks result self.old.number (left_in self.new.conn))
             × LiveComes (input_of input.entry) self.old.conn self.new.conn lacks result }
         ensures few_notes { length notes.new.items ≤ length notes.old.items + 68 }
     {
-        if let ClientInput::End = input {
-            self.client.ended = true;
+        match input {
+            ClientInput::End => self.client.ended = true,
+            ClientInput::Reset => self.client.reset = true,
+            ClientInput::Bytes(_) | ClientInput::Took(_) => {}
         }
         match &mut self.conn {
             Some(conn) => tell(conn, input, self.number, notes),
@@ -166,10 +180,10 @@ fn close(number: u32, dropped: usize, notes: &mut Notes)
 // This comes of the client of a connection, which may find no memory for it. Says whether the
 // connection is over.
 fn tell(conn: &mut Conn, input: ClientInput<'_>, number: u32, notes: &mut Notes) -> bool
-    requires within { taken_more (input_of input) ≤ length (queue_of conn.old) }
+    requires within { taken_more (input_of input) ≤ length (queue_in conn.old) }
     requires spare { 2 ≤ notes.old.spare }
     ensures comes { (lacks : Bool)
-        × (notes.new.items ≡ notes.old.items ++ comes_notes lacks result number)
+        × (notes.new.items ≡ notes.old.items ++ comes_notes lacks result number (left_in (Some conn.new)))
         × LiveComes (input_of input.entry) (Some conn.old) (Some conn.new) lacks result }
     ensures few_notes { length notes.new.items ≤ length notes.old.items + 68 }
 {
@@ -186,9 +200,9 @@ fn tell(conn: &mut Conn, input: ClientInput<'_>, number: u32, notes: &mut Notes)
     }
 }
 
-#[tactic(auto, using(crate::proofs::Coming::bytes_heard, crate::proofs::Coming::end_heard, crate::proofs::Coming::took_heard))]
+#[tactic(auto, using(crate::proofs::Coming::bytes_heard, crate::proofs::Coming::end_heard, crate::proofs::Coming::reset_heard, crate::proofs::Coming::took_heard))]
 fn hear(conn: &mut Conn, input: &ClientInput<'_>) -> M<()>
-    requires { taken_more (input_of input.now) ≤ length (queue_of conn.old) }
+    requires { taken_more (input_of input.now) ≤ length (queue_in conn.old) }
     ensures hears { OnOk result (ConnHears (input_of input.now) conn.old conn.new) }
     ensures memory { OnErr result (takes_memory (input_of input.now) ≡ true) }
     ensures goes_on { OnErr result (has_finished conn.old.stage ≡ false) }
@@ -198,6 +212,10 @@ fn hear(conn: &mut Conn, input: &ClientInput<'_>) -> M<()>
         ClientInput::Bytes(bytes) => conn.arrive(bytes),
         ClientInput::End => {
             conn.end();
+            Ok(())
+        }
+        ClientInput::Reset => {
+            conn.reset();
             Ok(())
         }
         ClientInput::Took(n) => {

@@ -61,6 +61,7 @@ impl Core {
                 self.comes(conn, ClientInput::Bytes(bytes.as_bytes()), notes)
             }
             Event::ClientEnd { conn } => self.comes(conn, ClientInput::End, notes),
+            Event::ClientReset { conn } => self.comes(conn, ClientInput::Reset, notes),
             Event::ClientTook { conn, n } => self.comes(conn, ClientInput::Took(n), notes),
             Event::Connected { conn } | Event::Refused { conn } => {
                 Err(self.not_connecting(conn))

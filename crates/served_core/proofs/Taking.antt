@@ -32,7 +32,7 @@ use Rattle.std.specs.List.{slice_get, position_from}
 use Rattle.std.specs.Str.{bytes_eq}
 use Rattle.served_core.specs.Asked.{name_at, on_edge}
 use Rattle.served_core.specs.Served.{TakesEvent}
-use Rattle.served_core.specs.Told.{Always, reset_by, reset_as}
+use Rattle.served_core.specs.Told.{Always}
 
 if_some : {A : Type 0} (b : Bool) (x y : A) → (if b then Some x else None) ≡ Some y → (b ≡ true) × (x ≡ y)
 if_some true x y e = (refl, cc)
@@ -147,19 +147,13 @@ took_taken C past s c side edges n k told takes pending le =
     comes_taken C past s c (Takes side k) (is_live past c edges told) (late_by past c edges side may_take told takes) refl refl
     (took_by C past s c side n k (pending_eq past s c side n pending) le)
 
--- what stands for a client's reset, by whether it sends
-reset_is : (past : Past) (s : State) (c : ℕ) (edges : Edges) (e : Event) (b : Bool) → Some edges ≡ edges_of past c → may_send (edge_of Client edges) ≡ b
-    → e ≡ reset_as past s c → e ≡ reset_by b c (unwrap_or (pending_of past s c Client) 0)
-reset_is past s c edges e b told sends is =
-    is ∙ ap (λ t. reset_by t c (unwrap_or (pending_of past s c Client) 0)) (ap (λ o. on_edge o Client may_send) (sym told) ∙ sends)
-
 -- so many bytes, an end and a reset may come of a side that sends
 pub may_come_of : (core : Core) (c : ℕ) (side : Side) (edges : Edges) (n : ℕ) → Always core (λ C past s. Some edges ≡ edges_of past c)
     → may_send (edge_of side edges) ≡ true → Always core (λ C past s. Some n ≡ wants_of C past s c side) → MayCome (TakesEvent core) c side n
 may_come_of core c Client edges n told sends wants = record {
   bytes = λ b le e is C past s r. by_event C past s e (event.FromClient c b) is (bytes_taken C past s c Client edges n b (told C past s r) sends (wants C past s r) le);
   ended = λ e is C past s r. by_event C past s e (event.ClientEnd c) is (ends_taken C past s c Client edges (told C past s r) sends);
-  reset = λ e is C past s r. by_event C past s e (event.ClientEnd c) (reset_is past s c edges e true (told C past s r) sends (is C past s r)) (ends_taken C past s c Client edges (told C past s r) sends);
+  reset = λ e is C past s r. by_event C past s e (event.ClientReset c) is (resets_taken C past s c Client edges (told C past s r) (sends_takes (edge_of Client edges) sends));
 }
 may_come_of core c Server edges n told sends wants = record {
   bytes = λ b le e is C past s r. by_event C past s e (event.FromServer c b) is (bytes_taken C past s c Server edges n b (told C past s r) sends (wants C past s r) le);
@@ -167,31 +161,12 @@ may_come_of core c Server edges n told sends wants = record {
   reset = λ e is C past s r. by_event C past s e (event.ServerReset c) is (resets_taken C past s c Server edges (told C past s r) (sends_takes (edge_of Server edges) sends));
 }
 
-some_number : (j k : ℕ) → Some j ≡ Some k → j ≡ k
-some_number j k e = cc
-
-at_most_self : (n : ℕ) → n ≤ n
-at_most_self n = omega arith
-
-unwrap_told : (n : ℕ) (o : Option ℕ) → Some n ≡ o → unwrap_or o 0 ≤ n
-unwrap_told n None e = cc
-unwrap_told n (Some m) e = subst (λ k. k ≤ n) (some_number n m e) (at_most_self n)
-
-reset_taken : (C : Config) (past : Past) (s : State) (c : ℕ) (edges : Edges) (n : ℕ) (e : Event) (b : Bool) → Some edges ≡ edges_of past c
-    → may_take (edge_of Client edges) ≡ true → Some n ≡ pending_of past s c Client → may_send (edge_of Client edges) ≡ b → e ≡ reset_as past s c
-    → refused C past s (kind_of e) ≡ None
-reset_taken C past s c edges n e true told takes pending sends is =
-    by_event C past s e (event.ClientEnd c) (reset_is past s c edges e true told sends is) (ends_taken C past s c Client edges told sends)
-reset_taken C past s c edges n e false told takes pending sends is =
-    by_event C past s e (event.ClientTook c (unwrap_or (pending_of past s c Client) 0)) (reset_is past s c edges e false told sends is)
-    (took_taken C past s c Client edges n (unwrap_or (pending_of past s c Client) 0) told takes pending (unwrap_told n (pending_of past s c Client) pending))
-
 -- a side that takes may take all that is pending, or reset
 pub may_take_of : (core : Core) (c : ℕ) (side : Side) (edges : Edges) (n : ℕ) → Always core (λ C past s. Some edges ≡ edges_of past c)
     → may_take (edge_of side edges) ≡ true → Always core (λ C past s. Some n ≡ pending_of past s c side) → MayTake (TakesEvent core) c side n
 may_take_of core c Client edges n told takes pending = record {
   took = λ k le e is C past s r. by_event C past s e (event.ClientTook c k) is (took_taken C past s c Client edges n k (told C past s r) takes (pending C past s r) le);
-  broken = λ e is C past s r. reset_taken C past s c edges n e (may_send (edge_of Client edges)) (told C past s r) takes (pending C past s r) refl (is C past s r);
+  broken = λ e is C past s r. by_event C past s e (event.ClientReset c) is (resets_taken C past s c Client edges (told C past s r) takes);
 }
 may_take_of core c Server edges n told takes pending = record {
   took = λ k le e is C past s r. by_event C past s e (event.ServerTook c k) is (took_taken C past s c Server edges n k (told C past s r) takes (pending C past s r) le);

@@ -25,11 +25,11 @@ pub record Stands (core : Core) : Type 0 where
 
 -- the event isn't refused, whatever it stands for
 abbrev pub TakesEvent : Core → Told → Type 0
-TakesEvent core told = (e : Event) → Means core told e → Always core (λ C past s. refused C past s (kind_of e) ≡ None)
+TakesEvent core told = (e : Event) → Means told e → Always core (λ C past s. refused C past s (kind_of e) ≡ None)
 
 pub record Moved (old new : Core) (told : Told) (group : List Note) : Type 0 where
   pub event : Event
-  pub means : Means old told event
+  pub means : Means told event
   pub keeps : KeepsStanding old new (record { event = event; group = group })
 
 abbrev pub served_face : Face Served

@@ -23,7 +23,7 @@ impl serve_loop::Core for Served {
     ghost face = { served_face };
 
     fn step(&mut self, event: Told, notes: &mut Notes) -> bool {
-        let event = meaning(&self.core, event);
+        let event = meaning(event);
         counted::<Brand>(&mut self.core, event, notes, Blank::new(1))
     }
 

@@ -7,4 +7,4 @@ pub returns-then-has_finished-clause-hears : goal.returns-then-has_finished-clau
 returns-then-has_finished-clause-hears c = hears_finished _ c.args.self.now (sym c.has_finished.ensures ∙ c.if-has_finished.true)
 
 pub returns-clause-hears : goal.returns-clause-hears
-returns-clause-hears c = on_ok_weaker c.push.result (λ d. hears_more _ c.args.self.now c.push.new.self (sym c.has_finished.ensures ∙ c.if-has_finished.false) d) c.push.ensures.ok
+returns-clause-hears c = on_ok_weaker c.push.result (λ d. hears_more _ c.args.self.now c.push.new.self (sym c.has_finished.ensures ∙ c.if-has_finished.false) d c.push.ensures.reset) c.push.ensures.ok

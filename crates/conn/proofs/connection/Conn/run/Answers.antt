@@ -45,11 +45,11 @@ returns-in-Ok-Rests-clause-ran g c =
 pub returns-in-Err-clause-ran : goal.returns-in-Err-clause-ran
 returns-in-Err-clause-ran g c =
     let same : c.advance.new.notes.items ≡ c.loop-moved.notes.items = ap (λ n. n.items) c.in-Err.ensures.err in
-    let noted : c.fail.new.notes.items ≡ (c.loop-moved.notes.items ++ Finish c.args.number Memory ∷ []) ++ closing c.args.number c.pending-pending.result =
-    c.fail.ensures.noted ∙ ap (λ x. (x ++ Finish c.args.number Memory ∷ []) ++ closing c.args.number c.pending-pending.result) same in
+    let noted : c.fail.new.notes.items ≡ (c.loop-moved.notes.items ++ Finish c.args.number Memory ∷ []) ++ closing c.args.number c.queued-pending.result =
+    c.fail.ensures.noted ∙ ap (λ x. (x ++ Finish c.args.number Memory ∷ []) ++ closing c.args.number c.queued-pending.result) same in
     let P : ConnTurn → Type 0 = λ t. RunsBy c.args.setup.now c.args.number c.args.self.now c.fail.new.self c.args.notes.now.items c.fail.new.notes.items t in
     subst P (sym c.fail.ensures.over)
-    (runs_out c.args.setup.now c.args.number c.pending-pending.result c.args.self.now c.loop-moved.self c.fail.new.self c.args.notes.now.items c.loop-moved.notes.items c.fail.new.notes.items c.loop-moved.invariant.0 c.pending-pending.ensures noted)
+    (runs_out c.args.setup.now c.args.number c.queued-pending.result c.args.self.now c.loop-moved.self c.fail.new.self c.args.notes.now.items c.loop-moved.notes.items c.fail.new.notes.items c.loop-moved.invariant.0 c.queued-pending.ensures noted)
 
 pub returns-clause-ran : goal.returns-clause-ran
 returns-clause-ran g c = runs_more c.args.setup.now c.args.number c.args.self.now c.loop-moved.self c.args.notes.now.items c.loop-moved.notes.items c.loop-moved.invariant.0
@@ -73,8 +73,8 @@ returns-in-Err-clause-bounded g c = rw c.fail.ensures.over tt
 
 pub returns-in-OutOfMemory-clause-dropped : goal.returns-in-OutOfMemory-clause-dropped
 returns-in-OutOfMemory-clause-dropped g c =
-    drops_told c.args.number c.pending-dropped.result c.drop_queued.new.self c.args.notes.now.items c.drop_queued.new.notes.items c.drop_queued.result c.drop_queued.ensures
+    drops_told c.args.number c.queued-dropped.result c.drop_queued.new.self c.args.notes.now.items c.drop_queued.new.notes.items c.drop_queued.result c.drop_queued.ensures
 
 pub returns-in-Err-clause-dropped : goal.returns-in-Err-clause-dropped
 returns-in-Err-clause-dropped g c =
-    drops_told c.args.number c.pending-pending.result c.fail.new.self (c.advance.new.notes.items ++ Finish c.args.number Memory ∷ []) c.fail.new.notes.items c.fail.result c.fail.ensures
+    drops_told c.args.number c.queued-pending.result c.fail.new.self (c.advance.new.notes.items ++ Finish c.args.number Memory ∷ []) c.fail.new.notes.items c.fail.result c.fail.ensures

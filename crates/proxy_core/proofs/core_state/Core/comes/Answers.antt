@@ -1,5 +1,5 @@
 use Rattle.std.proofs.Common.{◌≡◌, ◌∙◌, ◌++◌, [], ap, arith, false, refl, sym, true}
-use Rattle.proxy_core.specs.Live.{comes_notes, input_of}
+use Rattle.proxy_core.specs.Live.{comes_notes, input_of, left_in}
 use Rattle.proxy_core.specs.Ready.{with_ready, without}
 use Rattle.proxy_core.proofs.Places.{number_at, number_in, remove_set, live_there}
 use Rattle.proxy_core.proofs.Refusing.{of_client, client_judged}
@@ -74,8 +74,8 @@ returns-then-comes-clause-comes c =
     let number = number_at c.args.number at s.live.items l place h in
     let before = c.args.notes.now.items in
     let came = c.comes.ensures.comes in (
-      comes_notes came.0 c.comes.result c.args.number,
-      came.1 ∙ ap (λ n. before ++ comes_notes came.0 c.comes.result n) number,
+      comes_notes came.0 c.comes.result c.args.number (left_in c.comes.new.self.conn),
+      came.1 ∙ ap (λ n. before ++ comes_notes came.0 c.comes.result n (left_in c.comes.new.self.conn)) number,
       record {
         keeps = record { config = refl; statics = refl; places = refl };
         last = refl;
@@ -106,8 +106,8 @@ returns-else-comes-clause-comes c =
     let number = number_at c.args.number at s.live.items l place h in
     let before = c.args.notes.now.items in
     let came = c.comes.ensures.comes in (
-      comes_notes came.0 c.comes.result c.args.number,
-      came.1 ∙ ap (λ n. before ++ comes_notes came.0 c.comes.result n) number,
+      comes_notes came.0 c.comes.result c.args.number (left_in c.comes.new.self.conn),
+      came.1 ∙ ap (λ n. before ++ comes_notes came.0 c.comes.result n (left_in c.comes.new.self.conn)) number,
       record {
         keeps = record { config = refl; statics = refl; places = refl };
         last = refl;
