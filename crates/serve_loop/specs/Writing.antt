@@ -1,5 +1,5 @@
 -- What is pending is written.
-use Rattle.std.specs.Prelude.{◌≡◌, ◌⊎◌, ℕ, List, [], ◌∷◌, length, Bool, Option, Some, None}
+use Rattle.std.specs.Prelude.{◌≡◌, ◌⊎◌, ℕ, ◌+◌, List, [], ◌∷◌, length, Bool, Option, Some, None}
 use Rattle.px_bytes.specs.declared.addr.Side.{Side}
 use Rattle.px_outside.specs.declared.answers.WriteAnswer.{WriteAnswer}
 use Rattle.px_outside.specs.declared.answers.WriteAnswer.TheVariants as write
@@ -40,9 +40,10 @@ WroteOnce face conns c side is.Over a steps b = OneWrite face conns c side is.Ov
     ⊎ NotAsked (NothingToWrite face c side) a steps b
 WroteOnce face conns c side asked a steps b = OneWrite face conns c side asked a steps b
 
--- written to until it takes no more, or nothing is pending: no oftener than bytes were pending
+-- written to until it takes no more, or nothing is pending: no oftener than bytes were pending, and
+-- once more, which finds nothing
 pub record Wrote {C : Type 0} (face : Face C) (conns c : ℕ) (side : Side) (stays : Bool)
     (a : Around C) (steps : List Step) (b : Around C) : Type 0 where
   pub pending : List ℕ
   pub queued : face.queue a.core c side pending
-  pub tried : Tried (WroteOnce face conns c side) (length pending) stays a steps b
+  pub tried : Tried (WroteOnce face conns c side) (length pending + 1) stays a steps b

@@ -23,7 +23,7 @@ impl<C: Core + Drop> Serving<C> {
             (Wrote C.face self.old.conns conn side stays) self.old self.new net.old net.new) }
     {
         let pending = self.core.front(conn, side).len();
-        for often in 0..pending {
+        for often in 0..pending + 1 {
             let _ = often;
             match self.write_once(net, conn, side)? {
                 Asked::Again => {}

@@ -1,0 +1,119 @@
+#!/usr/bin/env python3
+"""Loads the built program's `serve`, nginx and haproxy in turns, with the same 200 bytes as each one's answer.
+
+    bench/serve_beside.py PROGRAM [--clients 64] [--seconds 3] [--rounds 3]
+
+PROGRAM is crates/proxy/out/proxy; nginx (its module for streams) and haproxy are installed from Debian's packages
+where they aren't there. Each client connects, reads to the end and connects again, on 127.0.0.1. Each server has one
+process and one thread: nginx answers by `return`, haproxy by a service in Lua, the program by `TCP::respond`. Prints
+the middle round of each: answers a second, and processor milliseconds for 1,000 answers.
+"""
+import argparse
+import os
+import shutil
+import socket
+import statistics
+import subprocess
+import sys
+import tempfile
+import time
+
+from serve import ANSWER, CONFIG, free_port, load, processor
+
+NGINX = """daemon off;
+master_process off;
+worker_processes 1;
+pid %s/nginx.pid;
+error_log stderr crit;
+load_module /usr/lib/nginx/modules/ngx_stream_module.so;
+events { worker_connections 4096; }
+stream { server { listen 127.0.0.1:%d; return "%s\\n"; } }
+"""
+LUA = """core.register_service("answer", "tcp", function(applet) applet:send("%s\\n") end)
+"""
+HAPROXY = """global
+    nbthread 1
+    maxconn 4096
+    lua-load %s/answer.lua
+defaults
+    mode tcp
+    timeout client 5s
+    timeout server 5s
+    timeout connect 5s
+frontend f
+    bind 127.0.0.1:%d
+    tcp-request inspect-delay 1s
+    tcp-request content use-service lua.answer
+"""
+
+
+def installed():
+    if shutil.which("nginx") and shutil.which("haproxy"):
+        return
+    subprocess.run(["apt-get", "update"], stdout=subprocess.DEVNULL, check=True)
+    words = ["apt-get", "install", "-y", "nginx-core", "libnginx-mod-stream", "haproxy"]
+    subprocess.run(words, stdout=subprocess.DEVNULL, check=True)
+
+
+def commands(program, folder):
+    """Each server's name, its command and its port."""
+    ports = [free_port() for _ in range(3)]
+    text = "x" * 199
+    files = {
+        "serve.toml": CONFIG % (ports[0], text),
+        "nginx.conf": NGINX % (folder, ports[1], text),
+        "answer.lua": LUA % text,
+        "haproxy.cfg": HAPROXY % (folder, ports[2]),
+    }
+    for name, written in files.items():
+        with open(f"{folder}/{name}", "w") as file:
+            file.write(written)
+    return [
+        ("ciravogu", [program, "serve", f"{folder}/serve.toml"], ports[0]),
+        ("nginx", ["nginx", "-c", f"{folder}/nginx.conf"], ports[1]),
+        ("haproxy", ["haproxy", "-db", "-f", f"{folder}/haproxy.cfg"], ports[2]),
+    ]
+
+
+def round_of(command, port, clients, seconds):
+    server = subprocess.Popen(command, stderr=subprocess.DEVNULL)
+    try:
+        for _ in range(100):
+            try:
+                socket.create_connection(("127.0.0.1", port), 1).close()
+                break
+            except OSError:
+                time.sleep(0.05)
+        before = processor(server.pid)
+        right, wrong = load(port, clients, seconds)
+        spent = processor(server.pid) - before
+        return right / seconds, wrong, spent * 1000 / max(right, 1)
+    finally:
+        server.terminate()
+        server.wait()
+
+
+def main():
+    words = argparse.ArgumentParser()
+    words.add_argument("program")
+    words.add_argument("--clients", type=int, default=64)
+    words.add_argument("--seconds", type=float, default=3)
+    words.add_argument("--rounds", type=int, default=3)
+    words = words.parse_args()
+    installed()
+    assert len(ANSWER) == 200
+    with tempfile.TemporaryDirectory() as folder:
+        servers = commands(os.path.abspath(words.program), folder)
+        rounds = {name: [] for name, _, _ in servers}
+        for _ in range(words.rounds):
+            for name, command, port in servers:
+                rounds[name].append(round_of(command, port, words.clients, words.seconds))
+    for name, taken in rounds.items():
+        print(f"{name:10} {statistics.median(it[0] for it in taken):8.0f} answers a second, "
+              f"{sum(it[1] for it in taken)} wrong, "
+              f"{statistics.median(it[2] for it in taken):6.1f} processor ms for 1,000")
+    return 1 if any(it[1] for it in rounds["ciravogu"]) else 0
+
+
+if __name__ == "__main__":
+    sys.exit(main())
