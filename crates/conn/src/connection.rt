@@ -104,11 +104,7 @@ impl Conn {
     pub fn pending(&self) -> usize
         ensures { result ≡ length (queue_in self.now) }
     {
-        if self.client.reset {
-            0
-        } else {
-            self.queued()
-        }
+        if self.client.reset { 0 } else { self.queued() }
     }
 
     /// How many bytes were queued to it and weren't taken, also behind a reset.

@@ -35,13 +35,7 @@ impl Conn {
     {
         match self.stage {
             Stage::Dropped(dropped) => dropped,
-            _ => {
-                if self.client.reset {
-                    self.queued()
-                } else {
-                    0
-                }
-            }
+            _ => { if self.client.reset { self.queued() } else { 0 } }
         }
     }
 

@@ -25,4 +25,6 @@ pub use config::{Config, Virtual};
 pub use connection_model::{Cause, Note, Notes};
 pub use core_state::Core;
 pub use event::{BadEvent, Event};
-pub use laws::{bodies_run_in_order, notes_fit_edges, only_changed, output_matches_evaluator, statics_stay};
+pub use laws::{
+    bodies_run_in_order, notes_fit_edges, only_changed, output_matches_evaluator, statics_stay,
+};
