@@ -9,3 +9,11 @@ pub mod Places
 pub mod PrefixTurns
 pub mod TextTests
 pub mod Fronts
+pub mod GrammarComplete
+pub mod GrammarPlaces
+pub mod GrammarSound
+pub mod OperandComplete
+pub mod OperandSound
+pub mod ReadingIsGrammar
+pub mod Bindings
+pub mod Deeper

@@ -1,7 +1,10 @@
+pub mod Binding
 pub mod DivisionLaw
 pub mod Expression
 pub mod ExpressionReading
 pub mod ExpressionView
+pub mod Grammar
+pub mod GrammarLaws
 pub mod OperatorFaults
 pub mod Operators
 pub mod Outcome

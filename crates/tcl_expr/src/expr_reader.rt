@@ -3,6 +3,7 @@
 ghost use Rattle.std.specs.Prelude.{◌≡◌, ◌≤◌};
 ghost use Rattle.tcl_expr.specs.ExpressionReading.{expression, expression_within};
 ghost use Rattle.tcl_expr.specs.ExpressionView.{expr_view};
+ghost use Rattle.tcl_expr.specs.GrammarLaws.{Grammatical};
 ghost use Rattle.tcl_expr.specs.Outcome.{Outcome};
 
 use crate::expr::Expr;
@@ -20,13 +21,23 @@ use tcl_words::LIMIT;
 /// chain of conditions are read by loops.
 #[tactic(auto, unfolding(crate::specs::ExpressionReading::expression))]
 pub fn parse_expr(alloc: Global, text: &[u8]) -> Result<Expr, ExprFault>
-    ensures { Outcome expr_view result (expression text.now) }
+    ensures exact { Outcome expr_view result (expression text.now) }
+    ensures grammar { Grammatical expr_view 100 text.now result }
 {
     parse_expr_within(alloc, text, LIMIT)
 }
 
 /// The same where so many constructs may be open at a place, a hundred at most.
+#[tactic(auto, using(crate::proofs::ReadingIsGrammar::grammatical))]
 pub fn parse_expr_within(alloc: Global, text: &[u8], room: usize) -> Result<Expr, ExprFault>
+    requires { room ≤ 100 }
+    ensures exact { Outcome expr_view result (expression_within room text.now) }
+    ensures grammar { Grammatical expr_view room text.now result }
+{
+    read_within(alloc, text, room)
+}
+
+fn read_within(alloc: Global, text: &[u8], room: usize) -> Result<Expr, ExprFault>
     requires { room ≤ 100 }
     ensures { Outcome expr_view result (expression_within room text.now) }
 {

@@ -23,6 +23,8 @@ pub use apply::{apply1, apply2};
 pub use expr::{Expr, Joint};
 pub use expr_fault::{ExprFault, Misread};
 pub use expr_reader::{parse_expr, parse_expr_within};
-pub use laws::{division_adds_up, precedence};
+pub use laws::{
+    division_adds_up, more_room_is_same, one_expression, precedence, reading_is_grammar, rows_bind,
+};
 pub use operator::{Op1, Op2};
 pub use truth::read_truth;

@@ -40,7 +40,7 @@ run_moves c text at (b ∷ bs) end e is =
     let more = run_on c text is.0 bs end is.4 in
     omega (arith, on, more)
 
-braces_on : (n room : ℕ) (text : List ℕ) (inner at : ℕ) (bytes : List ℕ) (end : ℕ)
+pub braces_on : (n room : ℕ) (text : List ℕ) (inner at : ℕ) (bytes : List ℕ) (end : ℕ)
     → SpellsBraces n room text inner at bytes end → at ≤ end
 braces_on zero room text inner at bytes end is = omega (arith, is.2)
 braces_on (suc n) room text inner at bytes end is =

@@ -33,7 +33,7 @@ passed_by_not : (end : Option ℕ) (unclosed : Fault) (start : ℕ) (text : List
 passed_by_not (Some end) unclosed start text s h = noted_stays (TooDeep start) s h
 passed_by_not None unclosed start text s h = noted_stays unclosed s h
 
-passed_not : (first : Inside) (unclosed : Fault) (start : ℕ) (text : List ℕ) (s : Progress)
+pub passed_not : (first : Inside) (unclosed : Fault) (start : ℕ) (text : List ℕ) (s : Progress)
     → (passed first unclosed start text s).fault ≡ None → ⊥
 unfolding passed
 passed_not first unclosed start text s h =
@@ -54,7 +54,7 @@ raw_filled Quoted inner at no_parts = refl
 raw_filled Quoted inner at (and_part p ps) = refl
 raw_filled Braced inner at ps = refl
 
-inside_filled : (room : ℕ) (text : List ℕ) (at close : ℕ) (ps : Parts)
+pub inside_filled : (room : ℕ) (text : List ℕ) (at close : ℕ) (ps : Parts)
     → SpellsParts room Quote text at ps close
     → (closes Quote text at ≡ true) × (at ≡ close) × (filled at ps ≡ empty_part at)
     ⊎ (closes Quote text at ≡ false) × SpellsParts room Quote text at (filled at ps) close
@@ -187,7 +187,7 @@ name_deepest text s h =
     let last = closed_sound 125 (MissingBrace (s.at + 1)) text (to end (roomed 0 (s.at + 1) s)) h in
     absurd (noted_stays (TooDeep (s.at + 1)) s last.quiet)
 
-level_sound : (text : List ℕ) (d : ℕ) → SoundLevel text d (level d)
+pub level_sound : (text : List ℕ) (d : ℕ) → SoundLevel text d (level d)
 unfolding level
 level_sound text zero = record {
   bracket_is = λ s h. absurd (passed_not inside.Gap (MissingBracket s.at) s.at text s h);

@@ -113,7 +113,7 @@ module _ (text : List ℕ) (room : ℕ) (l : Level) (sound : SoundLevel text roo
     );
   }
 
-  variable_sound : (c : Closer) (s : Progress) → opens_name text s.at ≡ false
+  pub variable_sound : (c : Closer) (s : Progress) → opens_name text s.at ≡ false
       → starts_variable text s.at ≡ true → (read_variable l text s).1.fault ≡ None
       → Reads (SpellsPart room c text) s (read_variable l text s)
   unfolding read_variable named
