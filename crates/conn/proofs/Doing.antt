@@ -97,7 +97,7 @@ answered at s t after acts es k q is =
 call_answers : (at : At) (s : NetState) (step : HostStep HostState) (after : HostState) (acts : List Act) → AsksNothing s → QuickHost (record { event = event_of at; net = s }) step → IsCall step after acts → Called s after acts
 call_answers at s (Gives v t es) after acts k q is = answered at s t after acts es k q is
 call_answers at s (Faults f t es) after acts k q is = answered at s t after acts es k q is
-call_answers at s (Asks call t) after acts k q is = absurd q
+call_answers at s (Asks call t) after acts k q is = answered at s t after acts [] k (q.0, q.1, tt) is
 
 called_once : (groups : Groups) (g : given.Setting HostState) → g.table ≡ commands groups → (at : At) (s : NetState) (after : HostState) (called : Option (List (List ℕ))) (acts : List Act) → AsksNothing s
     → CalledBy g (record { event = event_of at; net = s }) after called acts → Called s after acts

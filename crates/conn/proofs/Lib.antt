@@ -16,7 +16,6 @@ pub mod Finishing
 pub mod Arriving
 pub mod Taking
 pub mod Replying
-pub mod Awake
 pub mod Advancing
 pub mod Running
 pub mod Continuing

@@ -1,5 +1,5 @@
--- What a command of today does: it asks no shared call, changes no more of what network commands leave than how much was sent, and has one effect at most,
--- to the side of the event.
+-- What a command of today does: it changes no more of what network commands leave than how much was sent, and has one effect at most, to the side of the event; one
+-- that asks a shared call has none.
 use Rattle.std.proofs.Common.{◌≡◌, refl, sym, subst, ℕ, List, [], ◌∷◌, length, Bool, true, false, Option, Some, None, Result, Ok, Err, codes, not, ◌&&◌, ◌+◌, nat_lt, if◌then◌else◌}
 use Rattle.std.specs.Option.{is_some}
 use Rattle.std.specs.Str.{bytes_eq}
@@ -17,9 +17,10 @@ use Rattle.irule_net.specs.FaultText.{not_here}
 use Rattle.irule_net.specs.Commands.{asked_by, asked_of, is_http, net_step, stepped}
 use Rattle.irule_net.specs.Forms.{class_form, form_of, server_form, without_http}
 use Rattle.irule_net.specs.Classes.{class_value}
-use Rattle.irule_net.specs.Requests.{Asked, class_asked, log_asked, request_of, respond_asked}
+use Rattle.irule_net.specs.Requests.{Asked, class_asked, log_asked, members_asked, request_of, respond_asked}
 use Rattle.irule_net.specs.State.{respond_limit, side_of}
 use Rattle.irule_net.specs.Steps.{Step}
+use Rattle.irule_net.specs.Targets.{pool_named}
 use Rattle.irule_net.specs.declared.groups.Groups.{Groups}
 use Rattle.irule_net.specs.declared.groups.NamedGroup.{NamedGroup}
 use Rattle.irule_net.specs.declared.state.NetState.{NetState}
@@ -39,14 +40,18 @@ SentAlone s t = t ≡ record s { wishes = record s.wishes { sent = t.wishes.sent
 abbrev pub Quick : Side → NetState → Step → Type 0
 Quick side s (Gives v t es) = SentAlone s t × OneTo side es
 Quick side s (Faults f t es) = SentAlone s t × OneTo side es
-Quick side s (Asks call t) = ⊥
+Quick side s (Asks call t) = SentAlone s t
 
 -- what an option holds that isn't empty
 abbrev some_of : {A : Type 0} (o : Option A) → is_some o ≡ true → A
 some_of (Some a) h = a
 some_of None h = absurd (cc)
 
--- a value that is tested twice, and the form of a command with its number of words
+-- a value that is tested, or tested twice, and the form of a command with its number of words
+one_test : {A C : Type 0} (P : Result C TclFault → Type 0) (x : Result A TclFault) (k : A → Result C TclFault) → ((a : A) → P (k a)) → ((e : TclFault) → P (Err e)) → P (with_value x k)
+one_test P (Ok a) k good bad = good a
+one_test P (Err e) k good bad = bad e
+
 two_tests : {A B C : Type 0} (P : Result C TclFault → Type 0) (x : Result A TclFault) (g : A → Result B TclFault) (k : B → Result C TclFault) → ((b : B) → P (k b)) → ((e : TclFault) → P (Err e)) → P (with_value x (λ a. with_value (g a) k))
 two_tests {A} {B} {C} P (Ok a) g k good bad = second (g a)
   where
@@ -102,6 +107,11 @@ module _ (groups : Groups) (event : EventName) (s : NetState) (words : List (Lis
   respond_quick (text ∷ []) = record { is = either_quick (side_of event) s (nat_lt respond_limit (s.wishes.sent + length text)) _ _ (refl, tt) (refl, refl) }
   respond_quick (text ∷ (other ∷ ws)) = bad _
 
+  members_quick : (ws : List (List ℕ)) → P (members_asked groups.pools ws)
+  members_quick [] = bad _
+  members_quick (name ∷ []) = one_test {A = Unit {0}} P (pool_named groups.pools name) _ (λ there. does refl) bad
+  members_quick (name ∷ (other ∷ ws)) = bad _
+
   class_asked_quick : (classes : List NamedGroup) (f : _) (ws : List (List ℕ)) → P (class_asked classes f ws)
   class_asked_quick classes f ws = two_tests {A = List ℕ} {B = List ℕ} P (class_value classes f ws) limited _ (λ text. does (quiet text)) bad
 
@@ -148,6 +158,7 @@ module _ (groups : Groups) (event : EventName) (s : NetState) (words : List (Lis
   command_quick command.TcpClientPort there = fitting P _ (allowed command.TcpClientPort) _ _ _ _ (tell_request (some_of (form_of command.TcpClientPort []) refl) _ refl) bad
   command_quick command.IpServerAddr there = fitting P _ (allowed command.IpServerAddr) _ _ _ _ (tell_request (some_of (form_of command.IpServerAddr []) refl) _ refl) bad
   command_quick command.TcpRespond there = fitting P _ (allowed command.TcpRespond) _ _ _ _ (respond_quick words) bad
+  command_quick command.ActiveMembers there = fitting P _ (allowed command.ActiveMembers) _ _ _ _ (members_quick words) bad
   command_quick other there = absurd (cc)
 
 named_quick : (groups : Groups) (event : EventName) (s : NetState) (name : List ℕ) (words : List (List ℕ)) (o : Option HostCommand) → names_one o ≡ true → Quick (side_of event) s (stepped event (asked_of groups event s name words o) s)
@@ -166,12 +177,12 @@ net_quick groups event s (name ∷ words) there = by_http (is_http name)
 abbrev pub QuickHost : HostState → HostStep HostState → Type 0
 QuickHost h (Gives v t es) = (t.event ≡ h.event) × SentAlone h.net t.net × OneTo (side_of h.event) es
 QuickHost h (Faults f t es) = (t.event ≡ h.event) × SentAlone h.net t.net × OneTo (side_of h.event) es
-QuickHost h (Asks call t) = ⊥
+QuickHost h (Asks call t) = (t.event ≡ h.event) × SentAlone h.net t.net
 
 step_quick : (h : HostState) (step : Step) → Quick (side_of h.event) h.net step → QuickHost h (host_step h step)
 step_quick h (Gives v s es) q = (refl, q.0, q.1)
 step_quick h (Faults f s es) q = (refl, q.0, q.1)
-step_quick h (Asks call s) q = q
+step_quick h (Asks call s) q = (refl, q)
 
 pub commands_quick : (groups : Groups) (h : HostState) (words : List (List ℕ)) → QuickHost h (commands groups h words)
 unfolding commands

@@ -32,7 +32,8 @@ fn is_command_there(command: HostCommand) -> bool
         | HostCommand::IpServerAddr
         | HostCommand::TcpClientPort
         | HostCommand::LbServer
-        | HostCommand::TcpRespond => true,
+        | HostCommand::TcpRespond
+        | HostCommand::ActiveMembers => true,
         _ => false,
     }
 }
