@@ -5,7 +5,7 @@ use Rattle.rule_model.specs.Host as effect
 use Rattle.rule_model.specs.Outcome.{Act, Did}
 use Rattle.rule_model.specs.Outcome as act
 use Rattle.event_order.specs.declared.event.EventName.{EventName}
-use Rattle.connection_model.specs.Item.{Item, Ran, client_output, notes_of, choices_in}
+use Rattle.connection_model.specs.Item.{Item, Ran, calls_in, client_output, notes_of, choices_in}
 use Rattle.connection_model.specs.declared.note.Note.TheVariants as note
 use Rattle.connection_model.specs.HeardLaws.{cut_in}
 use Rattle.connection_model.specs.Gates.{Counts, TakenCounts, Met, sent_after, sent_from}
@@ -14,6 +14,12 @@ use Rattle.frame_machine.specs.Went.{effects_in}
 use Rattle.conn.specs.Hosts.{client_bytes, logs_of, ToClientAlone}
 use Rattle.conn.specs.RunsItems.{connects_in}
 
+-- the calls among acts
+abbrev pub calls_made : List Act → List (List (List ℕ))
+calls_made [] = []
+calls_made (Did e ∷ acts) = calls_made acts
+calls_made (act.Called path call ∷ acts) = call ∷ calls_made acts
+
 -- items that send and show nothing, and may always be given
 pub record Silent (c : ℕ) (took : TakenCounts) (tail : List Item) : Type 0 where
   pub met : (sent : Counts) → Met sent took tail
@@ -21,14 +27,15 @@ pub record Silent (c : ℕ) (took : TakenCounts) (tail : List Item) : Type 0 whe
   pub noted : notes_of c tail ≡ []
   pub sent : (sent : Counts) → sent_from sent tail ≡ sent
   pub choices : choices_in tail ≡ []
+  pub calls : calls_in tail ≡ []
   pub no_connect : connects_in tail ≡ []
   pub uncut : (t : TakenCounts) (rest : List Item) → cut_in t (tail ++ rest) ≡ cut_in t rest
 
 pub no_tail : (c : ℕ) (took : TakenCounts) → Silent c took []
-no_tail c took = record { met = λ s. tt; output = refl; noted = refl; sent = λ s. refl; choices = refl; no_connect = refl; uncut = λ t rest. refl }
+no_tail c took = record { met = λ s. tt; output = refl; noted = refl; sent = λ s. refl; choices = refl; calls = refl; no_connect = refl; uncut = λ t rest. refl }
 
 pub end_tail : (c : ℕ) (took : TakenCounts) (e : EventName) (cost : ℕ) → Silent c took (Ran e cost ∷ [])
-end_tail c took e cost = record { met = λ s. (refl, tt); output = refl; noted = refl; sent = λ s. refl; choices = refl; no_connect = refl; uncut = λ t rest. refl }
+end_tail c took e cost = record { met = λ s. (refl, tt); output = refl; noted = refl; sent = λ s. refl; choices = refl; calls = refl; no_connect = refl; uncut = λ t rest. refl }
 
 module _ (c number : ℕ) (took : TakenCounts) (tail : List Item) (t : Silent c took tail) where
   abbrev items : List Act → List Item
@@ -58,6 +65,12 @@ module _ (c number : ℕ) (took : TakenCounts) (tail : List Item) (t : Silent c 
   acts_choices (Did (effect.Logged text) ∷ xs) = acts_choices xs
   acts_choices (Did (effect.Sent side bytes) ∷ xs) = acts_choices xs
   acts_choices (act.Called path call ∷ xs) = acts_choices xs
+
+  pub acts_calls : (xs : List Act) → calls_in (items xs) ≡ calls_made xs
+  acts_calls [] = t.calls
+  acts_calls (Did (effect.Logged text) ∷ xs) = acts_calls xs
+  acts_calls (Did (effect.Sent side bytes) ∷ xs) = acts_calls xs
+  acts_calls (act.Called path call ∷ xs) = ap (λ x. call ∷ x) (acts_calls xs)
 
   pub acts_no_connect : (xs : List Act) → connects_in (items xs) ≡ []
   acts_no_connect [] = t.no_connect
@@ -90,3 +103,14 @@ pub called_is_none : (xs : List Act) (path : List ℕ) (call : List (List ℕ)) 
 called_is_none [] path call = refl
 called_is_none (Did e ∷ xs) path call = ap (λ es. e ∷ es) (called_is_none xs path call)
 called_is_none (act.Called p q ∷ xs) path call = called_is_none xs path call
+
+-- and is the one behind others
+pub call_behind : (xs : List Act) (path : List ℕ) (call : List (List ℕ)) → calls_made (xs ++ act.Called path call ∷ []) ≡ calls_made xs ++ call ∷ []
+call_behind [] path call = refl
+call_behind (Did e ∷ xs) path call = call_behind xs path call
+call_behind (act.Called p q ∷ xs) path call = ap (λ cs. q ∷ cs) (call_behind xs path call)
+
+-- effects are no calls
+pub effects_call_none : (es : List effect.Effect) → calls_made (map Did es) ≡ []
+effects_call_none [] = refl
+effects_call_none (e ∷ es) = effects_call_none es

@@ -45,16 +45,23 @@ goes : (g : Setup) (a : Around) (l : TraceState) (c : ℕ) (old new : Conn) (i :
 goes g a l c old new i h o awake = record { at = o.at; gave = gave_one g a l c old new i h o; stops = awake }
 
 -- nothing is given
-stays : (g : Setup) (a : Around) (l : TraceState) (c : ℕ) (old new : Conn) (a' : step_act.Act) → Holds g a l old → a' ≡ done.Rests → new ≡ old → GivesNoMore false l.sent a.took (next_item g l) → (is_draining old.stage ≡ false → old.client.reset ≡ false) → ActGave g a l c old new [] a'
-stays g a l c old new a' h rests same stops kept =
+stays : (g : Setup) (a : Around) (l : TraceState) (c : ℕ) (old new : Conn) (a' : step_act.Act) → Holds g a l old → is_asking old.stage ≡ false → a' ≡ done.Rests → new ≡ old → GivesNoMore false l.sent a.took (next_item g l) → (is_draining old.stage ≡ false → old.client.reset ≡ false) → ActGave g a l c old new [] a'
+stays g a l c old new a' h awake rests same stops kept =
     let P : Conn → Type 0 = λ x. ActGave g a l c old x [] a' in
     let Q : step_act.Act → Type 0 = λ x. ActGave g a l c old old [] x in
-    subst P (sym same) (subst Q (sym rests) (record { at = l; gave = gave_none g a l c old h; stops = (stops, kept) }))
+    subst P (sym same) (subst Q (sym rests) (record { at = l; gave = gave_none g a l c old h; stops = (stops, kept, awake) }))
 
 -- the notes of a body that moved
 abbrev moved_notes : (s : code_setup.Setup) (c : ℕ) (at : At) (number : ℕ) (old new : Conn) (before after : List Note) (did : step_act.Act) (v : Option Handler) → BodyMovedBy s v c at number old new before after did → List Note
 moved_notes s c at number old new before after did None k = []
 moved_notes s c at number old new before after did (Some b) k = step_notes k
+
+-- where an event is entered no call is open
+pub entered_awake : (at : At) (ps : List Place) → is_asking (entered_by at ps) ≡ false
+entered_awake Accepted [] = refl
+entered_awake Failed [] = refl
+entered_awake Closed [] = refl
+entered_awake at (p ∷ ps) = refl
 
 -- where there is no room it wasn't reset
 full_kept : (b : Bool) (q : List ℕ) → nat_lt (length (if b then [] else q)) room_limit ≡ false → b ≡ false
@@ -77,6 +84,7 @@ module _ (s : code_setup.Setup) (g : Setup) (serves : Serves s g) (a : Around) (
         open_now = gate_is g a l old h ∙ room;
         silent = refl;
         choice = refl;
+        call = refl;
         no_connect = refl;
         uncut = λ t later. refl;
         stands = subst S (sym starts.there) (subst R (sym e) body, starts.fresh.runs);
@@ -95,14 +103,14 @@ module _ (s : code_setup.Setup) (g : Setup) (serves : Serves s g) (a : Around) (
       let P : Next → Type 0 = λ o. GivesNoMore false l.sent a.took o in
       subst P (sym (next_at g l (InEvent (event_of at) (Gated x xs)) h.no_cut k)) (gate_is g a l old h ∙ room)
 
-  gate : (at : At) (did : step_act.Act) → Stands g (stage.Gated at) l old → PassesGate s at old new did → ActGave g a l c old new [] did
-  gate at did st k = by_test (nat_lt (length (queue_in old)) room_limit) refl k
+  gate : (at : At) (did : step_act.Act) → Stands g (stage.Gated at) l old → is_asking old.stage ≡ false → PassesGate s at old new did → ActGave g a l c old new [] did
+  gate at did st awake k = by_test (nat_lt (length (queue_in old)) room_limit) refl k
     where
       by_test : (b : Bool) → nat_lt (length (queue_in old)) room_limit ≡ b → MatchBool b ((did ≡ done.Goes) × StartsBody s at 0 old new) ((did ≡ done.Rests) × (new ≡ old)) → ActGave g a l c old new [] did
       by_test true e (goes_on, starts) =
           let P : step_act.Act → Type 0 = λ x. ActGave g a l c old new [] x in
           subst P (sym goes_on) (gate_opens at (g.handlers (event_of at)) refl st.0 st.1 starts e)
-      by_test false e (rests, same) = stays g a l c old new did h rests same (gate_shut at (g.handlers (event_of at)) st.0 e) (λ f. full_kept old.client.reset old.host.to_client e)
+      by_test false e (rests, same) = stays g a l c old new did h awake rests same (gate_shut at (g.handlers (event_of at)) st.0 e) (λ f. full_kept old.client.reset old.host.to_client e)
 
   runs : (at : At) (number : ℕ) (before after : List Note) (did : step_act.Act) (v : Option Handler) → body_at s at number ≡ v → old.stage ≡ stage.Running at number → Stands g (stage.Running at number) l old
       → (k : BodyMovedBy s v c at number old new before after did) → ActGave g a l c old new (moved_notes s c at number old new before after did v k) did
@@ -141,6 +149,7 @@ module _ (s : code_setup.Setup) (g : Setup) (serves : Serves s g) (a : Around) (
         open_now = refl;
         silent = refl;
         choice = refl;
+        call = refl;
         no_connect = refl;
         uncut = λ t later. refl;
         stands = f.0;
@@ -163,6 +172,7 @@ module _ (s : code_setup.Setup) (g : Setup) (serves : Serves s g) (a : Around) (
         open_now = refl;
         silent = refl;
         choice = refl;
+        call = refl;
         no_connect = refl;
         uncut = λ t later. refl;
         stands = subst P (ap seen_host k.host) (entered_stands s g serves Failed new k.there l (st.1.vars ∙ sym k.vars) st.1.replies unasked);
@@ -173,11 +183,7 @@ module _ (s : code_setup.Setup) (g : Setup) (serves : Serves s g) (a : Around) (
         unasked = unasked;
         client = refl;
         kept = k.client;
-      }) (ap is_asking k.there ∙ entered_awake (places_at s Failed))
-    where
-      entered_awake : (ps : List Place) → is_asking (entered_by Failed ps) ≡ false
-      entered_awake [] = refl
-      entered_awake (p ∷ ps) = refl
+      }) (ap is_asking k.there ∙ entered_awake Failed (places_at s Failed))
 
   cause_is : (f : Finish) → cause_of (reason_for f) ≡ cause_for f
   cause_is finish.Unselected = refl
@@ -202,6 +208,7 @@ module _ (s : code_setup.Setup) (g : Setup) (serves : Serves s g) (a : Around) (
         open_now = refl;
         silent = refl;
         choice = refl;
+        call = refl;
         no_connect = refl;
         uncut = λ t later. uncut_by f t later;
         stands = subst P (ap seen_host k.host) (next_stands s g serves Closed 0 k.mid new k.begins l' (b.vars ∙ sym k.vars) b.replies unasked true);
@@ -214,10 +221,10 @@ module _ (s : code_setup.Setup) (g : Setup) (serves : Serves s g) (a : Around) (
         kept = next_client s Closed 0 k.mid new k.begins ∙ k.client;
       }) (next_awake s Closed 0 k.mid new k.begins))
 
-  drains : (did : step_act.Act) → old.stage ≡ stage.Draining → Stands g stage.Draining l old → did ≡ done.Rests → new ≡ old → ActGave g a l c old new [] did
-  drains did is st rests same =
+  drains : (did : step_act.Act) → old.stage ≡ stage.Draining → is_asking old.stage ≡ false → Stands g stage.Draining l old → did ≡ done.Rests → new ≡ old → ActGave g a l c old new [] did
+  drains did is awake st rests same =
       let P : Next → Type 0 = λ o. GivesNoMore false l.sent a.took o in
-      stays g a l c old new did h rests same (subst P (sym (over_next g a l old h st.0)) tt) (λ f. let t : true ≡ false = sym (ap is_draining is) ∙ f in cc)
+      stays g a l c old new did h awake rests same (subst P (sym (over_next g a l old h st.0)) tt) (λ f. let t : true ≡ false = sym (ap is_draining is) ∙ f in cc)
 
 -- what one action gave, with its notes
 pub record ActedWell (s : code_setup.Setup) (c : ℕ) (old new : Conn) (before after : List Note) (did : step_act.Act) : Type 0 where
@@ -238,7 +245,7 @@ acted_well s c old new before after did k = by_stage old.stage refl k
     as_goes e g a l group x = let P : step_act.Act → Type 0 = λ d. ActGave g a l c old new group d in subst P (sym e) x
 
     by_stage : (st : Stage) → old.stage ≡ st → ActedAt st s c old new before after did → ActedWell s c old new before after did
-    by_stage (stage.Gated at) is (k, notes) = record { group = []; notes = none notes; along = λ g a l serves h awake. gate s g serves a l c old new h at did (here (stage.Gated at) is g a l h) k }
+    by_stage (stage.Gated at) is (k, notes) = record { group = []; notes = none notes; along = λ g a l serves h awake. gate s g serves a l c old new h at did (here (stage.Gated at) is g a l h) awake k }
     by_stage (stage.Running at n) is k = by_handler (body_at s at n) refl k
       where
         by_handler : (v : Option Handler) → body_at s at n ≡ v → BodyMovedBy s v c at n old new before after did → ActedWell s c old new before after did
@@ -252,6 +259,6 @@ acted_well s c old new before after did k = by_stage old.stage refl k
     by_stage (stage.Failing at n kind line) is (e, k, notes) = record { group = note.Log c line ∷ []; notes = notes; along = λ g a l serves h awake. as_goes e g a l (note.Log c line ∷ []) (logs s g serves a l c old new h at n kind line (here (stage.Failing at n kind line) is g a l h) k) }
     by_stage stage.Choosing is (e, k, notes) = record { group = []; notes = none notes; along = λ g a l serves h awake. as_goes e g a l [] (chooses s g serves a l c old new h (here stage.Choosing is g a l h) k) }
     by_stage (stage.Finishing f) is (e, k, notes) = record { group = note.Finish c (cause_for f) ∷ []; notes = notes; along = λ g a l serves h awake. as_goes e g a l (note.Finish c (cause_for f) ∷ []) (finishes s g serves a l c old new h f (here (stage.Finishing f) is g a l h) k) }
-    by_stage stage.Draining is (rests, same, notes) = record { group = []; notes = none notes; along = λ g a l serves h awake. drains s g serves a l c old new h did is (here stage.Draining is g a l h) rests same }
+    by_stage stage.Draining is (rests, same, notes) = record { group = []; notes = none notes; along = λ g a l serves h awake. drains s g serves a l c old new h did is awake (here stage.Draining is g a l h) rests same }
     by_stage stage.OutOfMemory is (rests, same, notes) = record { group = []; notes = none notes; along = λ g a l serves h awake. absurd (here stage.OutOfMemory is g a l h) }
     by_stage (stage.Dropped n) is (rests, same, notes) = record { group = []; notes = none notes; along = λ g a l serves h awake. absurd (here (stage.Dropped n) is g a l h) }

@@ -87,7 +87,7 @@ next_client s at n mid new k = by_test (nat_lt n (length (places_at s at))) k
 module _ (s : code_setup.Setup) (g : Setup) (serves : Serves s g) (a : Around) (l : TraceState) (c : ℕ) (old mid : Conn) (at : At) (number : ℕ) (h : Handler) (bs : List Handler)
     (holds : Holds g a l old) (k : BodyGoesOn g (event_of at) h bs 0 l old) (said : Turn) (ticks : ℕ) (made : List Effect → Type 0)
     (w : Went (body_setting g h.procedures) h.body (place old.body.machine.at old.vars (seen_host old.host)) (place mid.body.machine.at mid.vars (seen_host mid.host)) said made ticks)
-    (done_acts : DoesActs w.acts old.host mid.host) (same_client : mid.client ≡ old.client) where
+    (done_acts : DoesActs w.acts old.host mid.host []) (same_client : mid.client ≡ old.client) where
   abbrev group : List Note
   group = logs_of c (effects_in w.acts)
 
@@ -162,12 +162,15 @@ module _ (s : code_setup.Setup) (g : Setup) (serves : Serves s g) (a : Around) (
       let u = come o xs [] (length acts + 1) is all (omega (arith, length-append k.acts w.acts, length-append w.acts calls)) in
       let now : BodyGoesOn g e b bs 1 at' asked = record { acts = acts; cost = k.cost + w.spent; phase = refl; no_collect = k.no_collect; same = subst T is_ask same } in
       let R : List Handler → Type 0 = λ hs. RunsFirst g e hs 1 at' asked in
-      let G : List Effect → Type 0 = λ es. Gave g a l at' c old asked (logs_of c es) in
+      let G : List Effect → Type 0 = λ es. Gave g a l at' c old asked (logs_of c es) (call ∷ []) in
       record {
         at = at';
         gave = subst G (called_is_none w.acts path call) (acts_gave g a l at' c old asked xs [] (no_tail c a.took) holds (calls_too w.acts path call old.host mid.host done_acts) (with_tail xs at' u) (subst R (sym left) now, waits) refl refl refl same_client);
-        stops = ap (λ n. next_item g (running e b bs n (sent_by xs) l)) (sym (length-append acts calls))
-            ∙ body_waits g e b bs l path call (state mid.vars (seen_host mid.host) [] m.budget (k.cost + w.spent) (acts ++ calls)) (sent_by xs) holds.no_cut is;
+        stops = (
+          ap (λ n. next_item g (running e b bs n (sent_by xs) l)) (sym (length-append acts calls))
+              ∙ body_waits g e b bs l path call (state mid.vars (seen_host mid.host) [] m.budget (k.cost + w.spent) (acts ++ calls)) (sent_by xs) holds.no_cut is,
+          refl,
+        );
       }
 
   -- where a body that ended leaves it
@@ -210,7 +213,7 @@ module _ (s : code_setup.Setup) (g : Setup) (serves : Serves s g) (a : Around) (
       let P : Link → Type 0 = λ k'. Stands g new.stage (put (after_body g e l.finished k' b bs (uncaught_of code) (seen_host mid.host)) L) new in
       subst D (sym host.1) (record {
         at = at2;
-        gave = acts_gave g a l at2 c old new w.acts (Ran e st.cost ∷ []) (end_tail c a.took e st.cost) holds (subst (λ x. DoesActs w.acts old.host x) (sym host.0) done_acts)
+        gave = acts_gave g a l at2 c old new w.acts (Ran e st.cost ∷ []) (end_tail c a.took e st.cost) holds (subst (λ x. DoesActs w.acts old.host x []) (sym host.0) done_acts)
             (unfolds_on g l at1 at2 (map (act_item 0) w.acts) (Ran e st.cost ∷ []) u (unfolds_one g at1 at2 (Ran e st.cost) last))
             (subst P (sym (ap link_of holds.no_server)) ends.0) refl refl refl (ended_client new (uncaught_of code) did n ∙ same_client);
         stops = ends.1;
@@ -221,7 +224,7 @@ module _ (s : code_setup.Setup) (g : Setup) (serves : Serves s g) (a : Around) (
     (holds : Holds g a l old) (k : BodyGoesOn g (event_of at) h bs 0 l old) (left : drop number (g.handlers (event_of at)) ≡ h ∷ bs) (behind : drop (number + 1) (g.handlers (event_of at)) ≡ bs)
     (there : mid.stage ≡ stage.Running at number) (ticks : ℕ) (made : List Effect → Type 0) where
   said_gives : (said : Turn) (w : Went (body_setting g h.procedures) h.body (place old.body.machine.at old.vars (seen_host old.host)) (place mid.body.machine.at mid.vars (seen_host mid.host)) said made ticks)
-      → DoesActs w.acts old.host mid.host → mid.client ≡ old.client → SaidIs said mid.body → (did : step_act.Act) → GoesOn s at number (said_of h at said) mid new did → ActGave g a l c old new (logs_of c (effects_in w.acts)) did
+      → DoesActs w.acts old.host mid.host [] → mid.client ≡ old.client → SaidIs said mid.body → (did : step_act.Act) → GoesOn s at number (said_of h at said) mid new did → ActGave g a l c old new (logs_of c (effects_in w.acts)) did
   said_gives turn.More w d kept is did t =
       let P : Conn → Type 0 = λ x. ActGave g a l c old x (logs_of c (effects_in w.acts)) did in
       let Q : step_act.Act → Type 0 = λ x. ActGave g a l c old mid (logs_of c (effects_in w.acts)) x in

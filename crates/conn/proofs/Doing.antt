@@ -24,7 +24,7 @@ use Rattle.conn.specs.declared.events.At.{At}
 use Rattle.conn.specs.declared.events.At.TheVariants.{Accepted, Failed, Closed}
 use Rattle.conn.specs.declared.host.RuleHost.{RuleHost}
 use Rattle.conn.proofs.Acting.{DoesActs}
-use Rattle.conn.proofs.ActItems.{called_is_none}
+use Rattle.conn.proofs.ActItems.{called_is_none, call_behind, calls_made, effects_call_none}
 use Rattle.conn.proofs.Quick.{OneTo, QuickHost, SentAlone, commands_quick}
 
 -- the same machine, variables and seen host
@@ -86,13 +86,14 @@ record Called (s : NetState) (after : HostState) (acts : List Act) : Type 0 wher
   unasked : AsksNothing after.net
   alone : ToClientAlone (effects_in acts)
   one : OneAtMost (effects_in acts)
+  calls : calls_made acts ≡ []
 
 answered : (at : At) (s : NetState) (t after : HostState) (acts : List Act) (es : List Effect) → AsksNothing s → (t.event ≡ event_of at) × SentAlone s t.net × OneTo (side_of (event_of at)) es → (after ≡ t) × (acts ≡ map Did es) → Called s after acts
 answered at s t after acts es k q is =
     let made : effects_in acts ≡ es = ap effects_in is.1 ∙ effects_of es in
     let one = one_alone (side_of (event_of at)) es (to_client at) q.2 in
     let A : HostState → Type 0 = λ x. AsksNothing x.net in
-    record { unasked = subst A (sym is.0) (sent_alone s t.net q.1 k); alone = subst ToClientAlone (sym made) one.0; one = subst OneAtMost (sym made) one.1 }
+    record { unasked = subst A (sym is.0) (sent_alone s t.net q.1 k); alone = subst ToClientAlone (sym made) one.0; one = subst OneAtMost (sym made) one.1; calls = ap calls_made is.1 ∙ effects_call_none es }
 
 call_answers : (at : At) (s : NetState) (step : HostStep HostState) (after : HostState) (acts : List Act) → AsksNothing s → QuickHost (record { event = event_of at; net = s }) step → IsCall step after acts → Called s after acts
 call_answers at s (Gives v t es) after acts k q is = answered at s t after acts es k q is
@@ -105,7 +106,7 @@ called_once groups g is at s after None acts k (same, none) =
     let A : HostState → Type 0 = λ x. AsksNothing x.net in
     let E : List Act → Type 0 = λ x. ToClientAlone (effects_in x) × OneAtMost (effects_in x) in
     let made : E acts = subst E (sym none) (tt, tt) in
-    record { unasked = subst A (sym same) k; alone = made.0; one = made.1 }
+    record { unasked = subst A (sym same) k; alone = made.0; one = made.1; calls = ap calls_made none }
 called_once groups g is at s after (Some words) acts k call =
     let h : HostState = record { event = event_of at; net = s } in
     let T : (HostState → List (List ℕ) → HostStep HostState) → Type 0 = λ t. IsCall (t h words) after acts in
@@ -120,7 +121,7 @@ all_of (e ∷ (f ∷ es)) one = absurd one
 -- what a step made was done
 pub record ActsDone (old stepped mid : Conn) (xs : List Act) : Type 0 where
   pub taken : effects_in xs ≡ one_of stepped.host.made
-  pub acts : DoesActs xs old.host mid.host
+  pub acts : DoesActs xs old.host mid.host []
 
 pub acts_done : (groups : Groups) (g : given.Setting HostState) → g.table ≡ commands groups → (c : ℕ) (old stepped mid : Conn) (before after : List Note) (d : DoesMade c stepped mid before after) → AsksNothing old.host.net
     → (acts : List Act) (called : Option (List (List ℕ))) → CalledBy g (seen_host old.host) (seen_host mid.host) called acts → Made (cleared_host old.host) (effects_in acts) stepped.host → ActsDone old stepped mid acts
@@ -133,15 +134,17 @@ acts_done groups g is c old stepped mid before after d k acts called once by =
         alone = one.alone;
         queue = ap (λ x. x.to_client) d.host ∙ ap (λ q. q ++ client_bytes (one_of stepped.host.made)) by.queue ∙ ap (λ es. old.host.to_client ++ client_bytes es) taken;
         unasked = one.unasked;
+        calls = one.calls;
       };
     }
 
 -- a call that was asked does no more
-pub calls_too : (acts : List Act) (path : List ℕ) (call : List (List ℕ)) (old new : RuleHost) → DoesActs acts old new → DoesActs (acts ++ act.Called path call ∷ []) old new
+pub calls_too : (acts : List Act) (path : List ℕ) (call : List (List ℕ)) (old new : RuleHost) → DoesActs acts old new [] → DoesActs (acts ++ act.Called path call ∷ []) old new (call ∷ [])
 calls_too acts path call old new d =
     let same = called_is_none acts path call in
     record {
       alone = subst ToClientAlone (sym same) d.alone;
       queue = d.queue ∙ ap (λ es. old.to_client ++ client_bytes es) (sym same);
       unasked = d.unasked;
+      calls = call_behind acts path call ∙ ap (λ cs. cs ++ call ∷ []) d.calls;
     }

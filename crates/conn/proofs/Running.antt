@@ -10,7 +10,7 @@ use Rattle.connection_model.specs.State.{TraceState}
 use Rattle.conn.specs.Acts.{Acted}
 use Rattle.conn.specs.Holds.{Around, Holds}
 use Rattle.conn.specs.Runs.{DropsQueued, IsBounded, IsWhole, GoesOnWith, Runs, Rested, TellsDropped}
-use Rattle.conn.specs.RunsItems.{closing, closing_if, ends, Passes, StopsAt}
+use Rattle.conn.specs.RunsItems.{asked_at, asks, closing, closing_if, ends, Passes, StopsAt}
 use Rattle.conn.specs.Setups.{Serves}
 use Rattle.conn.specs.Calls.{over_in}
 use Rattle.conn.specs.Queues.{dropped_at}
@@ -28,7 +28,7 @@ use Rattle.conn.proofs.Giving.{Gave, as_taken, gave_none, gave_more}
 -- what was given so far, and no call is open
 pub record Given (g : Setup) (a : Around) (l : TraceState) (c : ℕ) (old mid : Conn) (group : List Note) : Type 0 where
   pub at : TraceState
-  pub gave : Gave g a l at c old mid group
+  pub gave : Gave g a l at c old mid group []
   pub awake : is_asking mid.stage ≡ false
 
 pub record RunsOn (s : code.Setup) (c : ℕ) (old mid : Conn) (before after : List Note) : Type 0 where
@@ -56,7 +56,7 @@ one_more s c old mid new before notes after r acted =
     }
 
 -- its items were let through
-passes_of : (g : Setup) (a : Around) (l at : TraceState) (c : ℕ) (old new : Conn) (group : List Note) → l.answers.cut ≡ None → (p : Gave g a l at c old new group) → Passes g a.took l p.more at
+passes_of : (g : Setup) (a : Around) (l at : TraceState) {called : List (List (List ℕ))} (c : ℕ) (old new : Conn) (group : List Note) → l.answers.cut ≡ None → (p : Gave g a l at c old new group called) → Passes g a.took l p.more at
 passes_of g a l at c old new group none p = record {
   passed = as_taken g a l at c old new group none p;
   met = p.met;
@@ -66,20 +66,21 @@ passes_of g a l at c old new group none p = record {
 }
 
 -- a Run that gave these items
-gives : (g : Setup) (a : Around) (l at : TraceState) (c : ℕ) (old new : Conn) (group last : List Note) (t : ConnTurn) → l.answers.cut ≡ None → Gave g a l at c old new group → last ≡ closing_if (ends t) c (length new.host.to_client) → StopsAt g a.took at t → GoesOnWith g a l c old new (group ++ last) t
-gives g a l at c old new group last t none p is stops = record {
+gives : (g : Setup) (a : Around) (l at : TraceState) (c : ℕ) (old new : Conn) (group last : List Note) (t : ConnTurn) → l.answers.cut ≡ None → Gave g a l at c old new group (asked_at t) → last ≡ closing_if (ends t) c (length new.host.to_client) → StopsAt g a.took at t → is_asking new.stage ≡ asks t → GoesOnWith g a l c old new (group ++ last) t
+gives g a l at c old new group last t none p is stops awake = record {
   more = p.more;
   at = at;
-  items = record { passes = passes_of g a l at c old new group none p; noted = ap (λ x. x ++ last) p.noted ∙ ap (λ x. notes_of c p.more ++ x) is; stops = stops };
+  items = record { passes = passes_of g a l at c old new group none p; noted = ap (λ x. x ++ last) p.noted ∙ ap (λ x. notes_of c p.more ++ x) is; stops = stops; calls = p.calls };
   holds = p.holds;
   queue = p.queue;
+  asking = awake;
 }
 
 pub runs_more : (s : code.Setup) (c : ℕ) (old new : Conn) (before after : List Note) → RunsOn s c old new before after → RunsBy s c old new before after turn.More
 runs_more s c old new before after r = (
   r.group ++ [],
   r.notes ∙ ap (λ x. before ++ x) (sym (append-nil r.group)),
-  λ g a l serves h awake. (let p = r.along g a l serves h awake in inl (gives g a l p.at c old new r.group [] turn.More h.no_cut p.gave refl tt)),
+  λ g a l serves h awake. (let p = r.along g a l serves h awake in inl (gives g a l p.at c old new r.group [] turn.More h.no_cut p.gave refl tt p.awake)),
 )
 
 both_notes : (before first second notes after : List Note) → notes ≡ before ++ first → after ≡ notes ++ second → after ≡ before ++ (first ++ second)
@@ -93,7 +94,7 @@ runs_asks s c old mid new before notes after call r acted =
       λ g a l serves h awake.
           (let p = r.along g a l serves h awake in
           let q = k.along g a p.at serves p.gave.holds p.awake in
-          inl (gives g a l q.at c old new (r.group ++ k.group) [] (turn.Asks call) h.no_cut (gave_more g a l p.at q.at c old mid new r.group k.group p.gave q.gave) refl q.stops)),
+          inl (gives g a l q.at c old new (r.group ++ k.group) [] (turn.Asks call) h.no_cut (gave_more g a l p.at q.at c old mid new r.group k.group p.gave q.gave) refl q.stops.0 q.stops.1)),
     )
 
 -- one that rests wasn't reset: it waits for its client to take, or its client is to take the rest
@@ -120,7 +121,7 @@ runs_rests s c old mid new before notes after last t r acted rested = by_turn t 
       λ g a l serves h awake.
           (let p = r.along g a l serves h awake in
           let q = k.along g a p.at serves p.gave.holds p.awake in
-          inl (gives g a l q.at c old new (r.group ++ k.group) [] turn.NotYet h.no_cut (gave_more g a l p.at q.at c old mid new r.group k.group p.gave q.gave) refl (q.stops.0, (sym (settles g a q.at q.gave.holds), not_reset g a q.at new q.gave.holds q.stops.1 left)))),
+          inl (gives g a l q.at c old new (r.group ++ k.group) [] turn.NotYet h.no_cut (gave_more g a l p.at q.at c old mid new r.group k.group p.gave q.gave) refl (q.stops.0, (sym (settles g a q.at q.gave.holds), not_reset g a q.at new q.gave.holds q.stops.1 left)) q.stops.2)),
     )
     by_turn turn.Over (settles, more) = (
       (r.group ++ k.group) ++ closing c (length new.host.to_client),
@@ -128,7 +129,7 @@ runs_rests s c old mid new before notes after last t r acted rested = by_turn t 
       λ g a l serves h awake.
           (let p = r.along g a l serves h awake in
           let q = k.along g a p.at serves p.gave.holds p.awake in
-          inl (gives g a l q.at c old new (r.group ++ k.group) (closing c (length new.host.to_client)) turn.Over h.no_cut (gave_more g a l p.at q.at c old mid new r.group k.group p.gave q.gave) refl (sym (settles g a q.at q.gave.holds)))),
+          inl (gives g a l q.at c old new (r.group ++ k.group) (closing c (length new.host.to_client)) turn.Over h.no_cut (gave_more g a l p.at q.at c old mid new r.group k.group p.gave q.gave) refl (sym (settles g a q.at q.gave.holds)) q.stops.2)),
     )
 
 pub runs_out : (s : code.Setup) (c pending : ℕ) (old mid new : Conn) (before notes after : List Note) → RunsOn s c old mid before notes → pending ≡ length mid.host.to_client → after ≡ (notes ++ note.Finish c Memory ∷ []) ++ closing c pending
@@ -144,6 +145,7 @@ runs_out s c pending old mid new before notes after r waits ends = (
         more = p.more;
         at = given.at;
         passes = passes_of g a l given.at c old mid r.group h.no_cut p;
+        no_call = p.calls;
         noted = ap (λ x. x ++ note.Finish c Memory ∷ closing c pending) p.noted ∙ ap (λ n. notes_of c p.more ++ note.Finish c Memory ∷ closing c n) q;
         over = refl;
       })),

@@ -1,7 +1,7 @@
 -- What a Run makes of a connection, for each state that its trace may stand at.
 use Rattle.std.specs.Prelude.{◌≡◌, ◌⊎◌, ℕ, ◌+◌, ◌<◌, ◌≤◌, List, [], ◌++◌, length, true, false}
 use Rattle.connection_model.specs.declared.note.Note.{Note}
-use Rattle.connection_model.specs.Item.{Item, client_output}
+use Rattle.connection_model.specs.Item.{Item, calls_in, client_output}
 use Rattle.connection_model.specs.Setup as model
 use Rattle.connection_model.specs.State.{TraceState}
 use Rattle.conn.specs.declared.connection.Conn.{Conn}
@@ -11,13 +11,14 @@ use Rattle.conn.specs.declared.stage.Stage.TheVariants as stage
 use Rattle.conn.specs.declared.turn.ConnTurn.{ConnTurn}
 use Rattle.conn.specs.declared.turn.ConnTurn.TheVariants as turn
 use Rattle.conn.specs.Holds.{Around, Holds}
-use Rattle.conn.specs.RunsItems.{Passes, RunsItems, closing, out_of_memory}
+use Rattle.conn.specs.RunsItems.{Passes, RunsItems, asks, closing, out_of_memory}
 use Rattle.conn.specs.Calls.{Settles, over_in}
 use Rattle.conn.specs.Setups.{Serves}
 use Rattle.conn.specs.Queues.{dropped_by}
 use Rattle.conn.specs.Stages.{is_asking}
 
--- it goes on with these items, and its queue grew by what they send
+-- It goes on with these items, and its queue grew by what they send. It waits for a reply only where it
+-- stopped at a call.
 pub record GoesOnWith (g : model.Setup) (a : Around) (l : TraceState) (c : ℕ) (old new : Conn)
     (group : List Note) (t : ConnTurn) : Type 0 where
   pub more : List Item
@@ -25,8 +26,9 @@ pub record GoesOnWith (g : model.Setup) (a : Around) (l : TraceState) (c : ℕ) 
   pub items : RunsItems g a.took l c more at group t (length new.host.to_client)
   pub holds : Holds g a at new
   pub queue : new.host.to_client ≡ old.host.to_client ++ client_output more
+  pub asking : is_asking new.stage ≡ asks t
 
--- behind these items it found no memory, and all that is queued is dropped
+-- behind these items, no call among them, it found no memory, and all that is queued is dropped
 pub record StopsWithout (g : model.Setup) (a : Around) (l : TraceState) (c : ℕ) (old : Conn)
     (group : List Note) (t : ConnTurn) : Type 0 where
   pub more : List Item
@@ -34,6 +36,7 @@ pub record StopsWithout (g : model.Setup) (a : Around) (l : TraceState) (c : ℕ
   pub passes : Passes g a.took l more at
   pub noted : group ≡ out_of_memory c more
       (length old.host.to_client + length (client_output more))
+  pub no_call : calls_in more ≡ []
   pub over : t ≡ turn.Over
 
 -- wherever its trace stands, and no call is open

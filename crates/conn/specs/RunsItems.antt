@@ -9,7 +9,7 @@ use Rattle.connection_model.specs.declared.note.Cause.TheVariants.{Memory}
 use Rattle.connection_model.specs.declared.note.Note.{Note}
 use Rattle.connection_model.specs.declared.note.Note.TheVariants.{Finish, CloseClient, Ended}
 use Rattle.connection_model.specs.Gates.{TakenCounts, to_take, Met}
-use Rattle.connection_model.specs.Item.{Item, Connected, notes_of}
+use Rattle.connection_model.specs.Item.{Item, Connected, calls_in, notes_of}
 use Rattle.connection_model.specs.Further.{longer}
 use Rattle.connection_model.specs.HeardLaws.{cut_in, taken_by_items}
 use Rattle.connection_model.specs.Setup.{Setup}
@@ -56,6 +56,11 @@ abbrev pub asks : ConnTurn → Bool
 asks (turn.Asks call) = true
 asks other = false
 
+-- the call at which it stopped
+abbrev pub asked_at : ConnTurn → List (List (List ℕ))
+asked_at (turn.Asks call) = call ∷ []
+asked_at other = []
+
 -- the servers that items ask for a connection
 abbrev pub sought : Item → List Addr
 sought (Connected to) = to ∷ []
@@ -76,13 +81,14 @@ pub record Passes (g : Setup) (took : TakenCounts) (l : TraceState) (more : List
   pub no_server : at.sent.server ≡ 0
 
 -- It gave these items, and stops there; its notes are those of the items, and then the last ones
--- where it ends.
+-- where it ends. The only call among them is the one at which it stops.
 pub record RunsItems (g : Setup) (took : TakenCounts) (l : TraceState) (c : ℕ)
     (more : List Item) (at : TraceState) (group : List Note) (t : ConnTurn) (dropped : ℕ)
     : Type 0 where
   pub passes : Passes g took l more at
   pub noted : group ≡ notes_of c more ++ closing_if (ends t) c dropped
   pub stops : StopsAt g took at t
+  pub calls : calls_in more ≡ asked_at t
 
 -- it found no memory behind these items, and ends: so many bytes are dropped
 abbrev pub out_of_memory : ℕ → List Item → (dropped : ℕ) → List Note

@@ -39,6 +39,7 @@ impl Conn {
     pub fn new(alloc: Global, setup: &Setup<'_>, from: Addr) -> Conn
         ensures begins { Begins setup.now from result }
         ensures queue { result.host.to_client ≡ [] }
+        ensures awake { is_asking result.stage ≡ false }
     {
         let net = NetState::new(alloc, from, setup.port, Text::empty(alloc), false);
         Conn {
@@ -78,11 +79,15 @@ impl Conn {
         self.stage.is_asking()
     }
 
-    /// The reply comes to the call that it waits for. Out of memory it isn't to be used further.
+    /// The reply comes to the call that it waits for. Out of memory it still waits, and isn't to be
+    /// used further but by `out_of_memory`.
     pub fn reply(&mut self, reply: &Reply) -> M<()>
         requires { is_asking self.old.stage ≡ true }
         ensures replies { OnOk result (Replies reply.now self.old self.new) }
         ensures queue { self.new.host.to_client ≡ self.old.host.to_client }
+        ensures awake { OnOk result (is_asking self.new.stage ≡ false) }
+        ensures stage { OnErr result (self.new.stage ≡ self.old.stage) }
+        ensures client { self.new.client ≡ self.old.client }
     {
         match self.stage {
             Stage::Asking { at, number } => self.hear(at, number, reply),
@@ -94,6 +99,9 @@ impl Conn {
         requires { self.old.stage ≡ Stage.Asking at number }
         ensures replies { OnOk result (Replies reply.now self.old self.new) }
         ensures queue { self.new.host.to_client ≡ self.old.host.to_client }
+        ensures awake { OnOk result (is_asking self.new.stage ≡ false) }
+        ensures stage { OnErr result (self.new.stage ≡ self.old.stage) }
+        ensures client { self.new.client ≡ self.old.client }
     {
         self.body.resume(reply)?;
         self.stage = Stage::Running { at, number };

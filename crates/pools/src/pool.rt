@@ -44,6 +44,18 @@ impl Pool {
         })
     }
 
+    /// The same pool once more.
+    pub fn copy(&self, alloc: Global) -> M<Pool>
+        ensures { IfOk result (λ pool. pool ≡ self.now) }
+    {
+        let members = self.members.iter().copied().collect(alloc)?;
+        Ok(Pool {
+            method: self.method,
+            members,
+            counter: self.counter,
+        })
+    }
+
     /// The place of the member that a selection would take. It takes no memory.
     pub fn peek(&self, wanted: Wanted) -> Option<u32>
         ensures { result ≡ selected self.now wanted }

@@ -1,1 +1,2 @@
 mod FirstPool
+mod Unmarked

@@ -2,7 +2,7 @@
 
 ghost use Rattle.std.specs.Prelude.{◌≡◌, ◌++◌, ◌<◌, [], ◌∷◌, length, List, option_map};
 ghost use Rattle.std.specs.Prelude.{slice_get};
-ghost use Rattle.std.specs.Prelude.{OnOk, OnErr, IfSome, position};
+ghost use Rattle.std.specs.Prelude.{IfOk, OnOk, OnErr, IfSome, false, position};
 ghost use Rattle.std.specs.Option.{option_copied};
 ghost use Rattle.pools.specs.Pools.{with_mark};
 ghost use Rattle.pools.specs.Selection.{after_selection};
@@ -34,6 +34,13 @@ impl Pools {
         Pools {
             items: Vec::new(alloc),
         }
+    }
+
+    /// The same pools once more.
+    pub fn copy(&self, alloc: Global) -> M<Pools>
+        ensures { IfOk result (λ pools. pools ≡ self.now) }
+    {
+        copied(alloc, &self.items)
     }
 
     pub fn len(&self) -> usize
@@ -87,6 +94,7 @@ impl Pools {
         ensures there { result ≡ has_member member (pool_of name.now self.old) }
         ensures marked { self.new ≡ with_pool name.now
             (λ pool. record pool { members = with_mark member up pool.members }) self.old }
+        ensures same { result ≡ false → self.new ≡ self.old }
     {
         match self.place(name) {
             Some(at) => self.items[at].pool.mark(member, up),
@@ -103,4 +111,14 @@ impl Pools {
             .iter()
             .position(|named| name == named.name.as_bytes())
     }
+}
+
+fn copied(alloc: Global, pools: &[NamedPool]) -> M<Pools>
+    ensures { IfOk result (λ copy. copy ≡ pools.now) }
+{
+    let mut copy = Pools::new(alloc);
+    for named in pools {
+        copy.push(named.copy(alloc)?)?;
+    }
+    Ok(copy)
 }

@@ -1,6 +1,6 @@
 // The store that all connections share.
 
-ghost use Rattle.std.specs.Prelude.{◌≡◌, [], IfOk, OnOk, OnErr};
+ghost use Rattle.std.specs.Prelude.{◌≡◌, [], IfOk, OnOk, OnErr, false};
 ghost use Rattle.std.specs.Fmt.{decimal};
 ghost use Rattle.px_bytes.specs.declared.fault.Reply.TheVariants.{Ok as Replied};
 ghost use Rattle.shared_store.specs.Calls.{active_members, by_source, chosen, clock, live_reply};
@@ -80,6 +80,7 @@ impl Store {
     pub fn mark(&mut self, pool: &[u8], member: Addr, up: bool) -> bool
         ensures there { result ≡ has_member member (pool_of pool.now self.old.pools) }
         ensures marked { self.new ≡ marked pool.now member up self.old }
+        ensures same { result ≡ false → self.new ≡ self.old }
     {
         self.pools.mark(pool, member, up)
     }

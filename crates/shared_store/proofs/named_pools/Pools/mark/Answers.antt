@@ -1,8 +1,9 @@
-use Rattle.std.proofs.Common.{get_or, ap, ◌∙◌}
+use Rattle.std.proofs.Common.{get_or, sym, ap, ◌∙◌}
 use Rattle.std.proofs.Math.ListN.{set}
 use Rattle.pools.specs.Pools.{PoolState, with_mark}
 use Rattle.shared_store.specs.Store.{has_member}
 use Rattle.shared_store.proofs.FirstPool.{changed_at, no_pool, pool_at, unchanged}
+use Rattle.shared_store.proofs.Unmarked.{nothing_marked}
 use Rattle.shared_store.proofs.named_pools.Pools.mark.Goals as goal
 
 pub returns-in-Some-clause-there : goal.returns-in-Some-clause-there
@@ -32,3 +33,8 @@ returns-in-None-clause-there c = ap (has_member c.args.member) (no_pool c.args.n
 pub returns-in-None-clause-marked : goal.returns-in-None-clause-marked
 returns-in-None-clause-marked c =
     unchanged c.args.name.now c.args.self.now (λ (p : PoolState). record p { members = with_mark c.args.member c.args.up p.members }) c.in-None.ensures.place
+
+pub returns-in-Some-clause-same : goal.returns-in-Some-clause-same
+returns-in-Some-clause-same c h =
+    returns-in-Some-clause-marked c
+    ∙ nothing_marked c.args.name.now c.args.member c.args.up c.args.self.now (sym (returns-in-Some-clause-there c) ∙ h)
