@@ -18,6 +18,8 @@ record Rows : Type 0 where
   host : is_built (call Named (codes "pool")) ≡ false
   -- TCP::respond p
   respond : is_built (call Named (codes "TCP::respond")) ≡ true
+  -- active_members p
+  members : is_built (call Named (codes "active_members")) ≡ true
   -- string p
   pure : is_built (call Named (codes "string")) ≡ true
   -- poo\x6c p: a name with a backslash is a name when the command runs
@@ -25,4 +27,4 @@ record Rows : Type 0 where
 
 rows : Rows
 unfolding is_host_name
-rows = record { host = refl; respond = refl; pure = refl; backslash = refl }
+rows = record { host = refl; respond = refl; members = refl; pure = refl; backslash = refl }

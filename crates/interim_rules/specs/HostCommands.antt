@@ -75,7 +75,7 @@ is_host_name name = is_some (find (λ c. bytes_eq (command_row c).name name) eve
 
 -- the host commands that can be run today
 abbrev pub built_names : List (List ℕ)
-built_names = codes "log" ∷ codes "class" ∷ codes "TCP::respond" ∷ []
+built_names = codes "log" ∷ codes "class" ∷ codes "TCP::respond" ∷ codes "active_members" ∷ []
 
 abbrev pub is_built_name : List ℕ → Bool
 is_built_name name = list_any (bytes_eq name) built_names

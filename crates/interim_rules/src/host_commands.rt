@@ -24,7 +24,10 @@ fn is_host_name(name: &[u8]) -> bool
 fn is_built_name(name: &[u8]) -> bool
     ensures { result ≡ is_built_name name.now }
 {
-    name == b"log".as_slice() || name == b"class".as_slice() || name == b"TCP::respond".as_slice()
+    name == b"log".as_slice()
+        || name == b"class".as_slice()
+        || name == b"TCP::respond".as_slice()
+        || name == b"active_members".as_slice()
 }
 
 // Whether the name of a command may stand in a rule: it is no host command's, or that of one that

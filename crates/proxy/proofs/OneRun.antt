@@ -34,6 +34,7 @@ use Rattle.config.specs.declared.rule_text.LoadedRule.{LoadedRule}
 use Rattle.proxy.specs.Complete.{AreTold, IsTold, MayLoad}
 use Rattle.proxy.specs.Loads.{Loads, is_read_fault}
 use Rattle.proxy.specs.Groups.{made_groups}
+use Rattle.proxy.specs.declared.groups.Made.{Made}
 use Rattle.proxy.specs.Runnable.{are_built, bodies_at, can_run, core_of, has_built_bodies, has_few, is_plain, is_rule_built, run_of}
 use Rattle.proxy.proofs.ConfigAnswers.{other_kind}
 
@@ -133,7 +134,7 @@ none_run : (C : Config) → is_none (run_of C) ≡ (if can_run C then is_none (m
 unfolding run_of
 none_run C = by_test (can_run C) (made_groups C.settings)
   where
-    by_test : (b : Bool) (groups : Option Groups) → is_none (if b then option_map (core_of C) groups else None) ≡ (if b then is_none groups else true)
+    by_test : (b : Bool) (groups : Option Made) → is_none (if b then option_map (core_of C) groups else None) ≡ (if b then is_none groups else true)
     by_test true None = refl
     by_test true (Some groups) = refl
     by_test false groups = refl

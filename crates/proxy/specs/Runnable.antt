@@ -1,6 +1,6 @@
 -- Which of the configurations that load can be run today, and what the core runs for them: virtual
 -- servers without HTTP, pool and persistence, and rules that name no command of the host but `log`,
--- `class` and `TCP::respond`, and have 65,536 procedures at most.
+-- `class`, `TCP::respond` and `active_members`, and have 65,536 procedures at most.
 use Rattle.std.specs.Prelude.{◌≡◌, ℕ, List, [], ◌∷◌, map, flat_map, Bool, true, false, not, ◌&&◌, Option}
 use Rattle.std.specs.Prelude.{Some, None, option_map, is_none, slice_get, if◌then◌else◌}
 use Rattle.std.specs.List.{list_all, position_from}
@@ -13,13 +13,13 @@ use Rattle.config.specs.declared.rule_text.LoadedRule.{LoadedRule}
 use Rattle.event_order.specs.Event.{every_event}
 use Rattle.event_order.specs.declared.event.EventName.{EventName}
 use Rattle.interim_rules.specs.HostCommands.{is_built}
-use Rattle.irule_net.specs.declared.groups.Groups.{Groups}
 use Rattle.proxy_core.specs.declared.config.Config as core
 use Rattle.proxy_core.specs.declared.config.Virtual as served
 use Rattle.rule_loader.specs.Handlers.{Handled, handler_view, handlers_at}
 use Rattle.rule_loader.specs.declared.rule.Rule.{Rule}
 use Rattle.tcl_compile.specs.Procedures.{Procedure, procs_view}
 use Rattle.proxy.specs.Groups.{made_groups}
+use Rattle.proxy.specs.declared.groups.Made.{Made}
 
 -- ---- a rule
 
@@ -75,12 +75,13 @@ abbrev pub can_run : loaded.Config → Bool
 can_run C =
     list_all is_plain C.settings.virtuals && list_all (λ r. is_rule_built r.rule) C.rules
 
--- what the core runs, with these groups
-abbrev pub core_of : loaded.Config → Groups → core.Config
-core_of C groups = record {
+-- what the core runs, with these groups and pools
+abbrev pub core_of : loaded.Config → Made → core.Config
+core_of C made = record {
   budget = C.settings.budget;
   connections = C.settings.connections;
-  groups = groups;
+  groups = made.groups;
+  pools = made.pools;
   rules = map (λ r. r.rule) C.rules;
   virtuals = map (server_of C.rules) C.settings.virtuals;
 }

@@ -1,24 +1,84 @@
 // The data groups and pools that rules name.
 
 ghost use Rattle.std.specs.Prelude.{◌≡◌, IfOk, map};
-ghost use Rattle.proxy.specs.Groups.{made_class, made_classes, made_groups, members_of};
+ghost use Rattle.proxy.specs.Groups.{made_class, made_classes, made_groups, made_pool, made_pools};
+ghost use Rattle.proxy.specs.Groups.{may_be_members, members_of};
+ghost use Rattle.std.specs.Prelude.{true};
+ghost use Rattle.pools.specs.Pools.{new_pool};
 
 use config::{NamedGroup as LoadedGroup, NamedPool, Settings};
 use data_groups::{Group, GroupFault, GroupRows};
 use irule_net::{Groups, NamedGroup, PoolMembers};
-use pools::Member;
+use pools::{Member, Members, Pool, are_members};
 use px_bytes::{Addr, M, Memory, Seq, Text};
+use shared_store::{NamedPool as SharedPool, Pools};
 use std::alloc::Global;
 
-/// The data groups and pools of a configuration, if each key is of its group's kind.
-pub fn core_groups(alloc: Global, settings: &Settings) -> M<Option<Groups>>
+/// The data groups and pools that rules name, and the pools of the store.
+#[derive(Drop)]
+pub struct Made {
+    pub groups: Groups,
+    pub pools: Pools,
+}
+
+/// The data groups and pools of a configuration, if each key is of its group's kind and the members of
+/// each pool may be.
+pub fn core_groups(alloc: Global, settings: &Settings) -> M<Option<Made>>
     ensures { IfOk result (λ groups. groups ≡ made_groups settings.now) }
 {
     let Some(classes) = classes_of(alloc, settings.groups.as_slice())? else {
         return Ok(None);
     };
-    let pools = pools_of(alloc, settings.pools.as_slice())?;
-    Ok(Some(Groups { classes, pools }))
+    let Some(pools) = shared_pools(alloc, settings.pools.as_slice())? else {
+        return Ok(None);
+    };
+    let named = pools_of(alloc, settings.pools.as_slice())?;
+    let groups = Groups {
+        classes,
+        pools: named,
+    };
+    Ok(Some(Made { groups, pools }))
+}
+
+fn shared_pools(alloc: Global, pools: &[NamedPool]) -> M<Option<Pools>>
+    ensures { IfOk result (λ made. made ≡ made_pools pools.now) }
+{
+    let mut made = Pools::new(alloc);
+    for named in pools {
+        let Some(pool) = shared_pool(alloc, named)? else {
+            return Ok(None);
+        };
+        made.push(pool)?;
+    }
+    Ok(Some(made))
+}
+
+fn shared_pool(alloc: Global, named: &NamedPool) -> M<Option<SharedPool>>
+    ensures { IfOk result (λ pool. pool ≡ made_pool named.now) }
+{
+    if !may_be_members(&named.members) {
+        return Ok(None);
+    }
+    let name = named.name.copy()?;
+    let pool = pool_of(alloc, named)?;
+    Ok(Some(SharedPool { name, pool }))
+}
+
+fn may_be_members(members: &Members) -> bool
+    ensures { result ≡ may_be_members members.now }
+{
+    are_members(members)
+}
+
+fn pool_of(alloc: Global, named: &NamedPool) -> M<Pool>
+    requires { may_be_members named.now.members ≡ true }
+    ensures { IfOk result (λ pool. pool ≡ new_pool named.now.method named.now.members) }
+{
+    let mut members = Members::new(alloc);
+    for member in named.members.as_slice() {
+        members.push(*member)?;
+    }
+    Pool::new(alloc, named.method, members)
 }
 
 fn classes_of(alloc: Global, groups: &[LoadedGroup]) -> M<Option<Seq<NamedGroup>>>

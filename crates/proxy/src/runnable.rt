@@ -11,11 +11,10 @@ ghost use Rattle.proxy.specs.Runnable.{are_built, can_run, core_of, has_built_bo
 ghost use Rattle.proxy.specs.Runnable.{is_plain, is_rule_built, keeps_none, listed, number_of};
 ghost use Rattle.proxy.specs.Runnable.{numbers_of, run_of, server_of};
 
-use crate::groups::core_groups;
+use crate::groups::{Made, core_groups};
 use config::{Config as Loaded, LoadedRule, Persist, Virtual};
 use event_order::EventName;
 use interim_rules::is_built;
-use irule_net::Groups;
 use proxy_core::{Config, Virtual as CoreVirtual};
 use px_bytes::{M, Seq, Text};
 use rule_loader::{Handler, Rule};
@@ -162,16 +161,18 @@ fn servers_of(alloc: Global, rules: &[LoadedRule], servers: &[Virtual]) -> M<Seq
     Ok(made)
 }
 
-// The core's configuration, with these groups.
-fn core_of(alloc: Global, loaded: Loaded, groups: Groups) -> M<Config>
-    ensures { IfOk result (λ K. K ≡ core_of loaded groups) }
+// The core's configuration, with these groups and pools.
+fn core_of(alloc: Global, loaded: Loaded, made: Made) -> M<Config>
+    ensures { IfOk result (λ K. K ≡ core_of loaded made) }
 {
     let Loaded { settings, rules } = loaded;
+    let Made { groups, pools } = made;
     let virtuals = servers_of(alloc, rules.as_slice(), settings.virtuals.as_slice())?;
     Ok(Config {
         budget: settings.budget,
         connections: settings.connections,
         groups,
+        pools,
         rules: rules.into_rules(alloc)?,
         virtuals,
     })
@@ -185,8 +186,8 @@ pub fn core_config(alloc: Global, loaded: Loaded) -> M<Option<Config>>
     if !can_run(&loaded) {
         return Ok(None);
     }
-    let Some(groups) = core_groups(alloc, &loaded.settings)? else {
+    let Some(made) = core_groups(alloc, &loaded.settings)? else {
         return Ok(None);
     };
-    Ok(Some(core_of(alloc, loaded, groups)?))
+    Ok(Some(core_of(alloc, loaded, made)?))
 }

@@ -14,7 +14,9 @@ use Rattle.conn.specs.declared.connection.Conn.{Conn}
 use Rattle.conn.specs.declared.setup.Place.{Place}
 use Rattle.proxy_core.specs.Bodies.{all_places}
 use Rattle.proxy_core.specs.Changes as code
-use Rattle.proxy_core.specs.Live.{SamePlace}
+use Rattle.proxy_core.specs.Calls.{calls_of, is_any}
+use Rattle.proxy_core.specs.History.{store_of, store_after}
+use Rattle.proxy_core.specs.Live.{SamePlace, asks_in}
 use Rattle.proxy_core.specs.Moves.{MovesBy}
 use Rattle.proxy_core.specs.Past.{Past, ended_in, without_all, with_accepted, last_after, moment_after, Shared, shared, shared_after}
 use Rattle.proxy_core.specs.Ready.{numbers, is_in, without}
@@ -48,14 +50,14 @@ use Rattle.proxy_core.proofs.SoundPast.{not_accepted}
 pub record After (C : Config) (past : Past) (s : State) (v : EventKind) (group : List Note) (new : Core) : Type 0 where
   pub next : State
   pub moves : MovesBy C past v group s next
-  pub agrees : AgreesBy C (shared_after v group (shared past)) (seen_after past v group next) next new
+  pub agrees : AgreesBy C (shared_after v group (shared past)) (store_after v (shared past).moment group (store_of C past)) (seen_after past v group next) next new
 
 -- every event: what its own connection owes is enough
 pub assemble : (C : Config) (past : Past) (s next : State) (v : EventKind) (group : List Note) (old new : Core) → Represents C past s old → MovesBy C past v group s next → code.KeepsConfig old new
-    → new.last ≡ last_after v old.last → new.moment ≡ moment_after v old.moment → numbers new.live.items ≡ without_all (ended_in group) (with_accepted v (numbers old.live.items)) → new.live.ring ≡ next.ring
+    → new.last ≡ last_after v old.last → new.moment ≡ moment_after v old.moment → numbers new.live.items ≡ without_all (ended_in group) (with_accepted v (numbers old.live.items)) → new.live.ring ≡ next.ring → new.queue.items ≡ next.queue → new.store ≡ store_after v old.moment group old.store
     → ((q : ℕ) → nat_eq (about v s) q ≡ false → live_at new.live.items q ≡ live_at old.live.items q)
     → AgreesAt C (seen_after past v group next (about v s)) (live_at new.live.items (about v s)) → After C past s v group new
-assemble C past s next v group old new r moves keeps last moment live ring others own =
+assemble C past s next v group old new r moves keeps last moment live ring queue store others own =
     let make : ℕ → ℕ → List ℕ → Shared = λ l m ns. record { last = l; moment = m; live = ns } in
     record {
       next = next;
@@ -66,7 +68,9 @@ assemble C past s next v group old new r moves keeps last moment live ring other
         places = keeps.places ∙ r.agrees.places;
         shared = ap (λ l. make l new.moment (numbers new.live.items)) last ∙ ap (λ m. make (last_after v old.last) m (numbers new.live.items)) moment ∙ ap (make (last_after v old.last) (moment_after v old.moment)) live
             ∙ ap (shared_after v group) r.agrees.shared;
+        store_is = store ∙ ap (λ x. store_after v x.moment group old.store) r.agrees.shared ∙ ap (store_after v (shared past).moment group) r.agrees.store_is;
         ring = ring;
+        queue = queue;
         each = each_by (λ q z o. AgreesAt C z o) (λ q. live_at old.live.items q) (λ q. live_at new.live.items q) (about v s) past v group s next (only_changed past v group s next (touches C past v group s next moves)) others r.agrees.each own;
       };
     }
@@ -105,9 +109,9 @@ pub closing_live : (over : Bool) (c d : ℕ) (live : List ℕ) → without_all (
 closing_live true c d live = refl
 closing_live false c d live = refl
 
-pub is_live_over : (c : ℕ) (over : Bool) (olds news : List Live) (after : Live) (z : Seen) (C : Config) → OneChanged c over olds news after → z.live ≡ not over → (over ≡ false → ConnectionContinues C z after.conn) → (over ≡ false → Serves C (statics_of C) after.vs (setup_of C z.heard)) → (over ≡ false → z.heard.edges ≡ edges_in after) → AgreesAt C z (live_at news c)
-is_live_over c true olds news after z C o live k s e = let P : Option Live → Type 0 = λ x. AgreesAt C z x in subst P (sym o.own) live
-is_live_over c false olds news after z C o live k s e = let P : Option Live → Type 0 = λ x. AgreesAt C z x in subst P (sym o.own) (record { live = live; continues = k refl; serves = s refl; edges = e refl })
+pub is_live_over : (c : ℕ) (over : Bool) (olds news : List Live) (after : Live) (z : Seen) (C : Config) → OneChanged c over olds news after → z.live ≡ not over → (over ≡ false → ConnectionContinues C z after.conn) → (over ≡ false → Serves C (statics_of C) after.vs (setup_of C z.heard)) → (over ≡ false → z.heard.edges ≡ edges_in after) → (over ≡ false → asks_in after.conn ≡ is_any z.asked) → AgreesAt C z (live_at news c)
+is_live_over c true olds news after z C o live k s e w = let P : Option Live → Type 0 = λ x. AgreesAt C z x in subst P (sym o.own) live
+is_live_over c false olds news after z C o live k s e w = let P : Option Live → Type 0 = λ x. AgreesAt C z x in subst P (sym o.own) (record { live = live; continues = k refl; serves = s refl; edges = e refl; asking = w refl })
 
 -- what goes on is what was told of it
 pub to_standing : (C : Config) (h : Heard) (g : Setup) (place : List Item) (at : TraceState) (conn : Conn) → setup_of C h ≡ g → Unfolds g (start_of g h) place at → Holds g (around h) at conn → Holds (setup_of C h) (around h) (stand_of C h place) conn
@@ -134,11 +138,11 @@ serves_named C vs from place e = record {
 }
 
 begun : (C : Config) (places : List (List (List Place))) (c place : ℕ) (vs : List ℕ) (from : Addr) (conn : Option Conn) (group : List Note) → places ≡ all_places C.rules C.virtuals → virtual_place C vs ≡ Some place → code.BeginsAt (statics_of C) places C c place from conn group
-    → (group ≡ first_notes c (not (is_some conn))) × ConnectionContinues C (fresh c (record { virtual = vs; from = from }) (not (is_some conn))) conn
-begun C places c place vs from None group all e b = (b, record { failed = refl; finished = refl; no_items = refl })
+    → (group ≡ first_notes c (not (is_some conn))) × ConnectionContinues C (fresh c (record { virtual = vs; from = from }) (not (is_some conn))) conn × (asks_in conn ≡ false)
+begun C places c place vs from None group all e b = (b, record { failed = refl; finished = refl; no_items = refl }, refl)
 begun C places c place vs from (Some conn) group all e b =
     let g = setup_in C (Some (record { virtual = vs; from = from })) in
-    (b.2, inl (record { not_failed = refl; holds = b.0.2 g (serves_code C (statics_of C) places place b.0.0 g all b.0.1 (serves_named C vs from place e)) refl; queue = b.1 }))
+    (b.2, inl (record { not_failed = refl; holds = b.0.2 g (serves_code C (statics_of C) places place b.0.0 g all b.0.1 (serves_named C vs from place e)) refl; queue = b.1 }), b.3)
 
 accept_moves : (c : ℕ) (failed : Bool) (group : List Note) → group ≡ first_notes c failed → (group ≡ []) ⊎ (group ≡ Finish c Memory ∷ [])
 accept_moves c true group e = inr e
@@ -167,6 +171,6 @@ accepts C past s old new c vs from group r h k =
     let Q : Option Live → Type 0 = λ o. AgreesAt C (fresh c a failed) o in
     assemble C past s next v group old new r moves k.keeps k.last k.moment
     (ap numbers k.live ∙ numbers_push old.live.items l ∙ sym (first_live c failed group (numbers old.live.items ++ c ∷ []) b.0))
-    (k.ring ∙ ap (λ ns. ns ++ c ∷ []) r.agrees.ring)
+    (k.ring ∙ ap (λ ns. ns ++ c ∷ []) r.agrees.ring) (k.queue ∙ r.agrees.queue) k.store
     (λ q e. ap (λ ls. live_at ls q) k.live ∙ live_pushed_other q old.live.items l e)
-    (subst P (sym (seen_accept past c a failed group s next u b.0 refl)) (subst Q (sym there) (record { live = refl; continues = b.1; serves = serves_named C vs from k.place place_is; edges = refl })))
+    (subst P (sym (seen_accept past c a failed group s next u b.0 refl)) (subst Q (sym there) (record { live = refl; continues = b.1; serves = serves_named C vs from k.place place_is; edges = refl; asking = b.2 })))

@@ -1,5 +1,5 @@
 -- What a core tells is what the past and the scheduler's state say.
-use Rattle.std.proofs.Common.{◌≡◌, inl, inr, refl, sym, ap, subst, ◌∙◌, ℕ, zero, suc, List, [], ◌∷◌, length, drop, Bool, true, false, Option, Some, None, map, option_map, arith, if◌then◌else◌}
+use Rattle.std.proofs.Common.{◌≡◌, inl, inr, refl, sym, ap, subst, ◌∙◌, ℕ, zero, suc, List, [], ◌∷◌, length, drop, Bool, true, false, ◌&&◌, Option, Some, None, map, option_map, arith, if◌then◌else◌}
 use Rattle.std.specs.Prelude.{◌↔◌, IsTrue, option_and_then, slice_get}
 use Rattle.std.proofs.lemmas.List.{length-map}
 use Rattle.px_bytes.specs.declared.addr.Side.{Side}
@@ -24,6 +24,7 @@ use Rattle.proxy_core.specs.Represents.{ConnectionContinues, AgreesLive, AgreesA
 use Rattle.proxy_core.specs.Scheduler.{State, Seen, seen, untaken_of}
 use Rattle.proxy_core.specs.Setup.{setup_of, begins_at, stand_of}
 use Rattle.proxy_core.specs.Sound.{Served, SoundAt}
+use Rattle.proxy_core.specs.declared.call.Asked.{Asked}
 use Rattle.proxy_core.specs.declared.config.Config.{Config}
 use Rattle.proxy_core.specs.declared.core_state.Core.{Core}
 use Rattle.proxy_core.specs.declared.live.Live.{Live}
@@ -43,14 +44,18 @@ asked {A} f x C past s core c r own = by_live (live_at core.live.items c) (r.agr
     by_live None a = let put : Bool → Option A = λ b. if b then Some x else None in ap put (sym a)
     by_live (Some l) a = let put : Bool → Option A = λ b. if b then Some x else None in ap (λ y. Some y) (own l (as_live C c z a.live (r.sound.each c)) a) ∙ ap put (sym a.live)
 
-none_is : (ns : List ℕ) (b : Bool) → IsTrue b ↔ (ns ≡ []) → b ≡ is_none_of ns
-none_is [] true h = refl
-none_is [] false h = absurd (let x : false ≡ true = h.1 refl in cc)
-none_is (n ∷ ns) true h = absurd (let x : (n ∷ ns) ≡ [] = h.0 refl in cc)
-none_is (n ∷ ns) false h = refl
+none_are : (ns : List ℕ) (as' : List Asked) (b : Bool) → IsTrue b ↔ ((ns ≡ []) × (as' ≡ [])) → b ≡ (is_none_of ns && is_none_of as')
+none_are [] [] true h = refl
+none_are [] [] false h = absurd (let x : false ≡ true = h.1 (refl, refl) in cc)
+none_are [] (a ∷ as') true h = absurd (let x : (a ∷ as') ≡ [] = (h.0 refl).1 in cc)
+none_are [] (a ∷ as') false h = refl
+none_are (n ∷ ns) as' true h = absurd (let x : (n ∷ ns) ≡ [] = (h.0 refl).0 in cc)
+none_are (n ∷ ns) as' false h = refl
 
-pub settled_same : (C : Config) (past : Past) (s : State) (core : Core) (b : Bool) → IsTrue b ↔ (core.live.ring ≡ []) → Represents C past s core → b ≡ settled_of s
-settled_same C past s core b h r = none_is core.live.ring b h ∙ ap is_none_of r.agrees.ring
+pub settled_same : (C : Config) (past : Past) (s : State) (core : Core) (b : Bool) → IsTrue b ↔ ((core.live.ring ≡ []) × (core.queue.items ≡ [])) → Represents C past s core → b ≡ settled_of s
+settled_same C past s core b h r =
+    let both : List ℕ → List Asked → Bool = λ x y. is_none_of x && is_none_of y in
+    none_are core.live.ring core.queue.items b h ∙ ap (λ x. both x core.queue.items) r.agrees.ring ∙ ap (both s.ring) r.agrees.queue
 
 pub next_same : (C : Config) (past : Past) (s : State) (core : Core) (o : Option ℕ) → o ≡ slice_get core.live.ring 0 → Represents C past s core → o ≡ next_of s
 next_same C past s core o h r = h ∙ ap (λ ring. slice_get ring 0) r.agrees.ring

@@ -21,13 +21,14 @@ use Rattle.connection_model.specs.State.{TraceState}
 use Rattle.conn.specs.Calls.{over_in, took_more, unless_finished}
 use Rattle.conn.specs.Holds.{Around, Holds}
 use Rattle.conn.specs.RunsItems.{closing, closing_if}
-use Rattle.conn.specs.Stages.{has_finished}
+use Rattle.conn.specs.Stages.{has_finished, is_asking}
 use Rattle.conn.specs.declared.connection.Conn.{Conn}
 use Rattle.conn.specs.declared.stage.Stage.{Stage}
 use Rattle.conn.specs.declared.stage.Stage.TheVariants.{OutOfMemory}
 use Rattle.proxy_core.specs.Changes as code
-use Rattle.proxy_core.specs.Live.{ConnComes, ConnLacks, KeepsPlace, LiveComes, client_met, comes_notes, taken_more, takes_memory, met_by, reset_met, left_in, queue_of}
-use Rattle.proxy_core.specs.Moves.{is_drained_at, came, may_come, MovesBy, MovesFailed, MovesLacks, MovesOn}
+use Rattle.proxy_core.specs.Live.{ConnComes, ConnLacks, KeepsPlace, LiveComes, asks_in, client_met, comes_notes, taken_more, takes_memory, met_by, reset_met, left_in, queue_of}
+use Rattle.proxy_core.specs.Calls.{calls_of, is_any, without_calls, woken}
+use Rattle.proxy_core.specs.Moves.{is_drained_at, came, lacked, may_come, MovesBy, MovesFailed, MovesLacks, MovesOn}
 use Rattle.proxy_core.specs.Past.{Past, heard, ended_in, without_all, shared}
 use Rattle.proxy_core.specs.Ready.{numbers, is_in, without, with_ready}
 use Rattle.proxy_core.specs.Refusal.{edges_in, refused}
@@ -45,19 +46,69 @@ use Rattle.proxy_core.proofs.GroupNotes.{About, about_closing_if, quiet_closing_
 use Rattle.proxy_core.proofs.Hearing.{Told, come_told, come_further, taken_plain, counts, still_plain}
 use Rattle.proxy_core.proofs.Members.{eq_self}
 use Rattle.proxy_core.proofs.Places.{number_at, live_there}
-use Rattle.proxy_core.proofs.SoundEvents.{MayCome, came_at, ended_closing, failure_closing, replies_closing, cut_closing}
+use Rattle.proxy_core.proofs.SoundEvents.{MayCome, came_at, ended_closing, failure_closing, cut_closing}
+use Rattle.proxy_core.proofs.Entries.{calls_without_self, none_without}
 use Rattle.proxy_core.proofs.SoundPast.{may_come_at}
 use Rattle.proxy_core.proofs.Standing.{drained_at, all_untaken, reset_by}
 use Rattle.proxy_core.proofs.Agreeing.{After, assemble, its, distinct_live, one_changed, closing_live, is_live_over, to_standing}
 
--- a connection's live entry after what came: gone, or changed
-record CoreCame (c : ℕ) (over : Bool) (old new : Core) (at : ℕ) (after : Live) : Type 0 where
-  live : new.live.items ≡ (if over then remove old.live.items at else set old.live.items at after)
-  ring : new.live.ring ≡ (if over then without c old.live.ring else with_ready old.live.ring c)
+-- where the scheduler stands then
+abbrev pub state_came : (lacks over : Bool) → ℕ → State → State
+state_came true over c s = lacked c s
+state_came false over c s = came c over s
 
-core_came : (c : ℕ) (over : Bool) (old new : Core) (at : ℕ) (before after : Live) → before.number ≡ c → after.number ≡ c → (over ≡ false → code.Stays old new at after) → (over ≡ true → code.Goes old new at before) → CoreCame c over old new at after
-core_came c true old new at before after nb na f g = let k = g refl in record { live = k.0; ring = k.1 ∙ ap (λ m. without m old.live.ring) nb }
-core_came c false old new at before after nb na f g = let k = f refl in record { live = k.0; ring = k.1 ∙ ap (λ m. with_ready old.live.ring m) na }
+none_any : {A : Type 0} (xs : List A) → is_any xs ≡ false → xs ≡ []
+none_any [] e = refl
+none_any (x ∷ xs) e = cc
+
+-- a connection's live entry after what came, and the lists of those that are ready and of the calls
+record CoreCame (c : ℕ) (lacks over : Bool) (s : State) (old new : Core) (at : ℕ) (after : Live) : Type 0 where
+  live : new.live.items ≡ (if over then remove old.live.items at else set old.live.items at after)
+  ring : new.live.ring ≡ (state_came lacks over c s).ring
+  queue : new.queue.items ≡ (state_came lacks over c s).queue
+
+-- whether it waits for a reply stays, unless it found no memory
+record AsksOn (lacks : Bool) (before after : Option Conn) : Type 0 where
+  same : lacks ≡ false → asks_in after ≡ asks_in before
+  gone : lacks ≡ true → asks_in after ≡ false
+
+asks_on : (input : Input) (lacks over : Bool) (o o' : Option Conn) → LiveComes input o o' lacks over → AsksOn lacks o o'
+asks_on input false over None None k = record { same = λ e. refl; gone = λ e. refl }
+asks_on input true over None None k = absurd k
+asks_on input lacks over None (Some new) k = absurd k
+asks_on input lacks over (Some old) None k = absurd k
+asks_on input false over (Some old) (Some new) k = record { same = λ e. ap is_asking k.comes.stage; gone = λ e. cc }
+asks_on input true over (Some old) (Some new) (memory, k) = record { same = λ e. cc; gone = λ e. ap is_asking k.there }
+
+core_came : (c : ℕ) (lacks over : Bool) (s : State) (old new : Core) (at : ℕ) (before after : Live) → before.number ≡ c → after.number ≡ c → old.live.ring ≡ s.ring → old.queue.items ≡ s.queue → asks_in before.conn ≡ is_any (calls_of c s.queue) → AsksOn lacks before.conn after.conn → (lacks ≡ true → over ≡ false)
+    → (over ≡ false → code.Stays old new at before after) → (over ≡ true → code.Goes old new at before) → CoreCame c lacks over s old new at after
+core_came c true true s old new at before after nb na ring queue asks on stays f g = absurd (let x = stays refl in cc)
+core_came c true false s old new at before after nb na ring queue asks on stays f g =
+    let k = f refl in
+    record {
+      live = k.live;
+      ring = k.ring ∙ ap (λ b. woken b after.number old.live.ring) (on.gone refl) ∙ ap (λ m. with_ready old.live.ring m) na ∙ ap (λ x. with_ready x c) ring;
+      queue = by_asked (asks_in before.conn) refl;
+    }
+  where
+    by_asked : (b : Bool) → asks_in before.conn ≡ b → new.queue.items ≡ without_calls c s.queue
+    by_asked true e = (f refl).forgets (on.gone refl) e ∙ ap (λ m. without_calls m old.queue.items) na ∙ ap (without_calls c) queue
+    by_asked false e = (f refl).waits (on.gone refl ∙ sym e) ∙ queue ∙ sym (none_without c s.queue (none_any (calls_of c s.queue) (sym asks ∙ e)))
+core_came c false true s old new at before after nb na ring queue asks on stays f g =
+    let k = g refl in
+    record { live = k.live; ring = k.ring ∙ ap (λ m. without m old.live.ring) nb ∙ ap (without c) ring; queue = k.queue ∙ queue }
+core_came c false false s old new at before after nb na ring queue asks on stays f g =
+    let k = f refl in
+    record {
+      live = k.live;
+      ring = k.ring ∙ ap (λ b. woken b after.number old.live.ring) (on.same refl ∙ asks) ∙ ap (λ m. woken (is_any (calls_of c s.queue)) m old.live.ring) na ∙ ap (woken (is_any (calls_of c s.queue)) c) ring;
+      queue = k.waits (on.same refl) ∙ queue;
+    }
+
+-- and its calls tell so
+asks_come : (c : ℕ) (lacks over : Bool) (s : State) (o o' : Option Conn) → asks_in o ≡ is_any (calls_of c s.queue) → AsksOn lacks o o' → asks_in o' ≡ is_any (calls_of c (state_came lacks over c s).queue)
+asks_come c true over s o o' asks on = on.gone refl ∙ sym (ap is_any (calls_without_self c s.queue))
+asks_come c false over s o o' asks on = on.same refl ∙ asks
 
 -- the notes of what came are about it, and end it where it is over
 about_comes : (lacks over : Bool) (c d : ℕ) → About c (comes_notes lacks over c d)
@@ -73,8 +124,8 @@ none_finish over c d = ap finish_told (tells_all c (closing_if over c d) (about_
 
 -- of the connection of which this came: whether it is over, and what it goes on with
 record CameOn (C : Config) (past : Past) (s : State) (c : ℕ) (input : Input) (lacks over : Bool) (o : Option Conn) : Type 0 where
-  moves : MovesBy C past (Comes c input) (comes_notes lacks over c (left_in o)) s (came c over s)
-  on : over ≡ false → ConnectionContinues C (seen_after past (Comes c input) (comes_notes lacks over c (left_in o)) (came c over s) c) o
+  moves : MovesBy C past (Comes c input) (comes_notes lacks over c (left_in o)) s (state_came lacks over c s)
+  on : over ≡ false → ConnectionContinues C (seen_after past (Comes c input) (comes_notes lacks over c (left_in o)) (state_came lacks over c s) c) o
   stays : lacks ≡ true → over ≡ false
 
 module _ (C : Config) (past : Past) (s : State) (c : ℕ) (input : Input) (may : may_come input ≡ true) (m : MayCome C c input (seen past s c)) where
@@ -93,12 +144,12 @@ module _ (C : Config) (past : Past) (s : State) (c : ℕ) (input : Input) (may :
       by_failed true k = record { notes = ap (λ b. closing_if b c d) k; state = ap (λ b. came c b s) k }
       by_failed false (k, e) = inl (record { notes = ap (λ b. closing_if b c d) k ∙ ap (closing_if (is_drained_at C (hears c h (Comes c input) (closing_if over c d)) (s.places c)) c) e; state = ap (λ b. came c b s) k })
 
-  moves_lacks : takes_memory input ≡ true → h.failed ≡ false → MovesBy C past (Comes c input) (Finish c Memory ∷ []) s (came c false s)
+  moves_lacks : takes_memory input ≡ true → h.failed ≡ false → MovesBy C past (Comes c input) (Finish c Memory ∷ []) s (lacked c s)
   moves_lacks memory found =
       let group : List Note = Finish c Memory ∷ [] in
       let now = hears c h (Comes c input) group in
-      let M : Bool → Type 0 = λ b. MatchBool b (MatchBool h.failed (MovesFailed c group s (came c false s)) (MovesOn C now c group s (came c false s) ⊎ MovesLacks input c group s (came c false s))) ⊥ in
-      let F : Bool → Type 0 = λ b. MatchBool b (MovesFailed c group s (came c false s)) (MovesOn C now c group s (came c false s) ⊎ MovesLacks input c group s (came c false s)) in
+      let M : Bool → Type 0 = λ b. MatchBool b (MatchBool h.failed (MovesFailed c group s (lacked c s)) (MovesOn C now c group s (lacked c s) ⊎ MovesLacks input c group s (lacked c s))) ⊥ in
+      let F : Bool → Type 0 = λ b. MatchBool b (MovesFailed c group s (lacked c s)) (MovesOn C now c group s (lacked c s) ⊎ MovesLacks input c group s (lacked c s)) in
       subst M (sym may) (subst F (sym found) (inr (record { memory = memory; notes = refl; state = refl })))
 
   -- one that found no memory before stays so
@@ -153,9 +204,9 @@ module _ (C : Config) (past : Past) (s : State) (c : ℕ) (input : Input) (may :
       let h' = hears c h v group in
       let t = come_told c h input group may p.connects (about_closing_if over c d) in
       let quiet = quiet_closing_if over c d in
-      let a = came_at C c n z v group quiet m.served t in
+      let a = came_at C c n z v group quiet.cut m.served t in
       let f = further_of c h v group in
-      let plain = still_plain c h v group n p t (replies_closing over c d) (cut_closing over c d) in
+      let plain = still_plain c h v group n p t (cut_closing over c d) in
       let plain_is : (x : Heard) → IsPlain x → around x ≡ at_counts x.client.reset x.client.took = λ x q. ap (λ y. record { took = y; counted = x.client.took }) (taken_plain x q.connects) in
       let around_is : met_by input (around h) ≡ around h' =
       ap (met_by input) (plain_is h p) ∙ around_met input may h.client.reset h.client.took ∙ ap (λ r. at_counts r (h.client.took + n)) (sym t.reset) ∙ ap (at_counts h'.client.reset) (sym t.took) ∙ sym (plain_is h' plain) in
@@ -283,14 +334,14 @@ comes C past s old new c input group may r refused_not k =
     let w = came_on C past s c input may m k.lacks k.over k.before.conn k.after.conn i.continues k.came in
     let number = number_at c k.at old.live.items k.before k.place k.found in
     let number' : k.after.number ≡ c = k.same.number ∙ number in
-    let t = core_came c k.over old new k.at k.before k.after number number' k.goes_on k.ends in
+    let on = asks_on input k.lacks k.over k.before.conn k.after.conn k.came in
+    let t = core_came c k.lacks k.over s old new k.at k.before k.after number number' r.agrees.ring r.agrees.queue i.asking on w.stays k.goes_on k.ends in
     let d = distinct_live C past s old r in
     let o = one_changed c k.over old.live.items new.live.items k.at k.before k.after d k.found number number' t.live in
-    let next = came c k.over s in
+    let next = state_came k.lacks k.over c s in
     let left = left_in k.after.conn in
     let notes = comes_notes k.lacks k.over c left in
     let M : List Note → Type 0 = λ x. MovesBy C past v x s next in
-    let ring : new.live.ring ≡ next.ring = t.ring ∙ ap (λ x. if k.over then without c x else with_ready x c) r.agrees.ring in
     let z' = seen_after past v notes next c in
     let live : z'.live ≡ not k.over = comes_ended past c left k.lacks k.over w.stays (λ b. ended_closing k.over c left (shared past).live r.sound.distinct m.live) m.live in
     let told = come_told c h input notes may m.served.plain.connects (about_comes k.lacks k.over c left) in
@@ -298,5 +349,5 @@ comes C past s old new c input group may r refused_not k =
     let G : List Note → Type 0 = λ x. AgreesAt C (seen_after past v x next c) (live_at new.live.items c) in
     assemble C past s next v group old new r (subst M (sym k.notes) w.moves) k.keeps k.last k.moment
     (o.numbers_are ∙ sym (ap (λ x. without_all (ended_in x) (numbers old.live.items)) k.notes ∙ comes_live k.lacks k.over c left (numbers old.live.items) w.stays))
-    ring o.others
-    (subst G (sym k.notes) (is_live_over c k.over old.live.items new.live.items k.after z' C o live w.on (λ e. serves) (edges_comes C past s c input may m k.lacks k.over left k.before k.after k.client i.edges)))
+    t.ring t.queue k.store o.others
+    (subst G (sym k.notes) (is_live_over c k.over old.live.items new.live.items k.after z' C o live w.on (λ e. serves) (edges_comes C past s c input may m k.lacks k.over left k.before k.after k.client i.edges) (λ e. asks_come c k.lacks k.over s k.before.conn k.after.conn i.asking on)))

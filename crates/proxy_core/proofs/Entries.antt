@@ -1,9 +1,11 @@
 -- The entries of a number in a ring that changed.
-use Rattle.std.proofs.Common.{◌≡◌, refl, sym, ap, ◌∙◌, ℕ, List, [], ◌∷◌, ◌++◌, Bool, true, false, ◌||◌, nat_eq, if◌then◌else◌, append-nil}
+use Rattle.std.proofs.Common.{◌≡◌, refl, sym, ap, ◌∙◌, ℕ, List, [], ◌∷◌, ◌++◌, Bool, true, false, not, ◌||◌, nat_eq, if◌then◌else◌, append-nil}
 use Rattle.std.proofs.lemmas.List.Elements.{filter-append}
 use Rattle.conn.specs.declared.turn.ConnTurn.{ConnTurn}
 use Rattle.conn.specs.declared.turn.ConnTurn.TheVariants as turn
+use Rattle.proxy_core.specs.Calls.{calls_of, queue_behind, without_calls, woken}
 use Rattle.proxy_core.specs.Ready.{is_in, ring_behind, without, with_ready}
+use Rattle.proxy_core.specs.declared.call.Asked.{Asked}
 use Rattle.proxy_core.specs.Scheduler.{entries}
 use Rattle.proxy_core.proofs.Members.{eq_self, eq_same}
 
@@ -84,3 +86,77 @@ entries_behind turn.More n q ns h = entries_ready n q ns h
 entries_behind (turn.Asks call) n q ns h = refl
 entries_behind turn.NotYet n q ns h = refl
 entries_behind turn.Over n q ns h = refl
+
+-- the calls of a number in a queue that changed
+pub calls_pushed : (n q : ℕ) (call : List (List ℕ)) (queue : List Asked) → nat_eq q n ≡ false → calls_of q (queue ++ record { conn = n; call = call } ∷ []) ≡ calls_of q queue
+calls_pushed n q call [] h = rw h refl
+calls_pushed n q call (a ∷ queue) h = ap (λ r. if nat_eq q a.conn then a.call ∷ r else r) (calls_pushed n q call queue h)
+
+pub calls_pushed_self : (n : ℕ) (call : List (List ℕ)) (queue : List Asked) → calls_of n (queue ++ record { conn = n; call = call } ∷ []) ≡ calls_of n queue ++ call ∷ []
+calls_pushed_self n call [] = rw (eq_self n) refl
+calls_pushed_self n call (a ∷ queue) = by_test (nat_eq n a.conn) (calls_pushed_self n call queue)
+  where
+    by_test : (b : Bool) → calls_of n (queue ++ record { conn = n; call = call } ∷ []) ≡ calls_of n queue ++ call ∷ []
+        → (if b then a.call ∷ calls_of n (queue ++ record { conn = n; call = call } ∷ []) else calls_of n (queue ++ record { conn = n; call = call } ∷ [])) ≡ (if b then a.call ∷ calls_of n queue else calls_of n queue) ++ call ∷ []
+    by_test true k = ap (λ r. a.call ∷ r) k
+    by_test false k = k
+
+pub calls_rest : (q : ℕ) (a : Asked) (rest : List Asked) → nat_eq q a.conn ≡ false → calls_of q rest ≡ calls_of q (a ∷ rest)
+calls_rest q a rest h = rw h refl
+
+pub calls_front : (a : Asked) (rest : List Asked) → calls_of a.conn (a ∷ rest) ≡ a.call ∷ calls_of a.conn rest
+calls_front a rest = rw (eq_self a.conn) refl
+
+pub calls_without : (n q : ℕ) (queue : List Asked) → nat_eq q n ≡ false → calls_of q (without_calls n queue) ≡ calls_of q queue
+calls_without n q [] h = refl
+calls_without n q (a ∷ queue) h = by_test (nat_eq n a.conn) refl (calls_without n q queue h)
+  where
+    by_test : (b : Bool) → nat_eq n a.conn ≡ b → calls_of q (without_calls n queue) ≡ calls_of q queue → calls_of q (if not b then a ∷ without_calls n queue else without_calls n queue) ≡ (if nat_eq q a.conn then a.call ∷ calls_of q queue else calls_of q queue)
+    by_test true e k = k ∙ calls_rest q a queue (ap (nat_eq q) (sym (eq_same n a.conn e)) ∙ h)
+    by_test false e k = ap (λ r. if nat_eq q a.conn then a.call ∷ r else r) k
+
+pub calls_without_self : (n : ℕ) (queue : List Asked) → calls_of n (without_calls n queue) ≡ []
+calls_without_self n [] = refl
+calls_without_self n (a ∷ queue) = by_test (nat_eq n a.conn) refl (calls_without_self n queue)
+  where
+    by_test : (b : Bool) → nat_eq n a.conn ≡ b → calls_of n (without_calls n queue) ≡ [] → calls_of n (if not b then a ∷ without_calls n queue else without_calls n queue) ≡ []
+    by_test true e k = k
+    by_test false e k = rw e k
+
+-- without any it is the same
+pub none_without : (n : ℕ) (queue : List Asked) → calls_of n queue ≡ [] → without_calls n queue ≡ queue
+none_without n [] h = refl
+none_without n (a ∷ queue) h = by_test (nat_eq n a.conn) h (none_without n queue)
+  where
+    by_test : (b : Bool) → (if b then a.call ∷ calls_of n queue else calls_of n queue) ≡ [] → (calls_of n queue ≡ [] → without_calls n queue ≡ queue) → (if not b then a ∷ without_calls n queue else without_calls n queue) ≡ a ∷ queue
+    by_test true k rest = cc
+    by_test false k rest = ap (λ as'. a ∷ as') (rest k)
+
+-- where a Run puts a call
+pub calls_behind : (t : ConnTurn) (n q : ℕ) (queue : List Asked) → nat_eq q n ≡ false → calls_of q (queue_behind t n queue) ≡ calls_of q queue
+calls_behind turn.More n q queue h = refl
+calls_behind (turn.Asks call) n q queue h = calls_pushed n q call queue h
+calls_behind turn.NotYet n q queue h = refl
+calls_behind turn.Over n q queue h = refl
+
+abbrev pub asked_behind : ConnTurn → List (List (List ℕ))
+asked_behind (turn.Asks call) = call ∷ []
+asked_behind other = []
+
+pub calls_behind_self : (t : ConnTurn) (n : ℕ) (queue : List Asked) → calls_of n queue ≡ [] → calls_of n (queue_behind t n queue) ≡ asked_behind t
+calls_behind_self turn.More n queue e = e
+calls_behind_self (turn.Asks call) n queue e = calls_pushed_self n call queue ∙ ap (λ x. x ++ call ∷ []) e
+calls_behind_self turn.NotYet n queue e = e
+calls_behind_self turn.Over n queue e = e
+
+-- one that waits isn't woken
+pub entries_woken : (waits : Bool) (n q : ℕ) (ring : List ℕ) → nat_eq q n ≡ false → entries q (woken waits n ring) ≡ entries q ring
+entries_woken true n q ring h = refl
+entries_woken false n q ring h = entries_ready n q ring h
+
+abbrev pub woken_of : Bool → ℕ → List ℕ → List ℕ
+woken_of waits n es = if waits then es else ready_of n es
+
+pub entries_woken_self : (waits : Bool) (n : ℕ) (ring : List ℕ) → entries n (woken waits n ring) ≡ woken_of waits n (entries n ring)
+entries_woken_self true n ring = refl
+entries_woken_self false n ring = entries_ready_self n ring

@@ -14,6 +14,7 @@ use Rattle.proxy_core.specs.Scheduler.{Seen, untaken_all}
 use Rattle.proxy_core.specs.Setup.{setup_of, begins_at, stand_of}
 use Rattle.proxy_core.specs.Sound.{last_notes, Served}
 use Rattle.proxy_core.specs.declared.config.Config.{Config}
+use Rattle.proxy_core.proofs.Besides.{besides_finish}
 
 or_false : (b : Bool) → (b || false) ≡ b
 or_false true = refl
@@ -69,7 +70,7 @@ trace_finished C c z k told none =
     let N = notes_of c z.place in
     let d = untaken_all z.heard z.place in
     let items : finish_told (map tells N) ≡ is_some_of (reasons_in z.place) = ap (λ ns. finish_told (map tells ns)) (sym t.own) ∙ t.finish in
-    f.finished ∙ sym (told ∙ ap (λ ns. finish_told (map tells ns)) k.noted ∙ ap (λ b. finish_told (map tells (N ++ last_notes c b z.live d))) none
+    f.finished ∙ sym (told ∙ besides_finish z.heard.notes ∙ ap (λ ns. finish_told (map tells ns)) k.noted ∙ ap (λ b. finish_told (map tells (N ++ last_notes c b z.live d))) none
     ∙ ap finish_told (map-append tells N (last_notes c false z.live d)) ∙ finish_on (map tells N) (map tells (last_notes c false z.live d))
     ∙ ap (λ b. finish_told (map tells N) || b) (last_finish c z.live d) ∙ or_false (finish_told (map tells N)) ∙ items)
 

@@ -17,7 +17,16 @@ use Rattle.connection_model.specs.Tellings.{own}
 use Rattle.connection_model.proofs.Hearing.{others_not_heard}
 use Rattle.conn.specs.RunsItems.{closing, closing_if, connects_in, ends}
 use Rattle.proxy_core.specs.Fitting.{is_used, Fit, NotesFitEdges}
-use Rattle.proxy_core.specs.Moves.{Rests, MovesAccept, MovesFailed, MovesLacks, MovesOn, MovesCome, MovesRing, MovesFront, MovesBy, RunsOn, RunsOut, RunsFailed, is_drained_at, may_come, Leads}
+use Rattle.px_bytes.specs.declared.fault.Reply.{Reply}
+use Rattle.shared_store.specs.Calls.{reply}
+use Rattle.shared_store.specs.Store.{StoreState}
+use Rattle.proxy_core.specs.Calls.{asker, calls_of}
+use Rattle.proxy_core.specs.History.{store_of}
+use Rattle.proxy_core.specs.Live.{entry_note}
+use Rattle.proxy_core.specs.declared.call.Asked.{Asked}
+use Rattle.proxy_core.proofs.Entries.{calls_front}
+use Rattle.proxy_core.proofs.Standing.{is_served}
+use Rattle.proxy_core.specs.Moves.{Rests, MovesAccept, MovesFailed, MovesLacks, MovesOn, MovesCome, MovesRing, MovesFront, MovesQueue, TurnNotes, MovesBy, RunsOn, RunsOut, RunsFailed, is_drained_at, may_come, Leads}
 use Rattle.proxy_core.specs.Others.{about, front}
 use Rattle.proxy_core.specs.Past.{Past, kind_of, heard, ended_in, shared, without_all, with_accepted}
 use Rattle.proxy_core.specs.Ready.{is_in}
@@ -31,7 +40,7 @@ use Rattle.proxy_core.proofs.EdgeNotes.{edges_told, noted_edges}
 use Rattle.proxy_core.proofs.Framing.{only_changed, touches}
 use Rattle.proxy_core.proofs.GroupNotes.{About, about_closing_if, about_items, about_joined, ended_behind, of_items, own_all, own_none}
 use Rattle.proxy_core.proofs.Members.{eq_same, eq_self}
-use Rattle.proxy_core.proofs.SoundEvents.{at_front, ended_closing}
+use Rattle.proxy_core.proofs.SoundEvents.{at_front, ended_closing, front_call}
 use Rattle.proxy_core.proofs.SoundPast.{front_served, leads_sound, may_come_at, unchanged}
 
 -- where the client's end stands
@@ -60,8 +69,16 @@ front_live C past c rest s e k =
     let z = seen past s c in
     let v = front_served C past c rest s e k in
     let ready : z.ready ≡ c ∷ entries c rest = ap (entries c) e ∙ ap (λ x. if x then c ∷ entries c rest else entries c rest) (eq_self c) in
-    let S : List ℕ → Type 0 = λ r. Spot z.heard.failed z.live r (setup_of C z.heard) (taken z.heard) (stand_of C z.heard z.place) in
-    (at_front c rest z.heard.failed z.live (setup_of C z.heard) (taken z.heard) (stand_of C z.heard z.place) (subst S ready v.1.spot)).0
+    let S : List ℕ → Type 0 = λ r. Spot z.heard.failed z.live r z.asked (setup_of C z.heard) (taken z.heard) (stand_of C z.heard z.place) in
+    (at_front c rest z.heard.failed z.live z.asked (setup_of C z.heard) (taken z.heard) (stand_of C z.heard z.place) (subst S ready v.1.spot)).is_live
+
+-- so is the connection whose call is in front
+call_live : (C : Config) (past : Past) (a : Asked) (rest : List Asked) (s : State) → s.queue ≡ a ∷ rest → SoundAt C a.conn (seen past s a.conn) → (seen past s a.conn).live ≡ true
+call_live C past a rest s e k =
+    let z = seen past s a.conn in
+    let asked : z.asked ≡ a.call ∷ calls_of a.conn rest = ap (calls_of a.conn) e ∙ calls_front a rest in
+    let v = is_served C a.conn z (λ u. let n = sym asked ∙ ap (λ y. y.asked) u in cc) k in
+    (front_call C past a rest s e v.1).is_live
 
 -- one that ended isn't live
 gone : (over : Bool) (c : ℕ) (behind : List Note) (live : List ℕ) → over ≡ true → is_in (without_all (ended_in behind) live) c ≡ not over → is_in (without_all (ended_in behind) live) c ≡ false
@@ -124,6 +141,18 @@ module _ (C : Config) (past : Past) (old : State) (sound : Sound C past old) whe
   ring_open [] group new e k m = rest_open Runs group new 0 m (λ h. others_not_heard 0 h Runs [] refl refl) refl k
   ring_open (c ∷ rest) group new e k m = front_open c rest group new k (front_live C past c rest old e (sound.each c)) m
 
+  queue_open : (store : StoreState) (moment : ℕ) (queue : List Asked) (group : List Note) (new : State) → old.queue ≡ queue → OpenWhile (seen past old (asker queue)) → MovesQueue store moment queue group old new → OpenWhile (seen_after past Turns group new (asker queue))
+  queue_open store moment [] group new e k m = rest_open Turns group new 0 m (λ x. others_not_heard 0 x Turns [] refl refl) refl k
+  queue_open store moment (a ∷ rest) group new e k m = by_notes (reply store moment a.call).reply m.notes
+    where
+      put : (notes : List Note) → group ≡ notes → About a.conn notes → edges_noted notes (heard a.conn past).edges ≡ (heard a.conn past).edges → OpenWhile (seen_after past Turns group new a.conn)
+      put notes f about same = stays_open a.conn Turns group notes new k (call_live C past a rest old e (sound.each a.conn)) f about (ap client_at same)
+
+      by_notes : (r : Reply) → TurnNotes a moment r group → OpenWhile (seen_after past Turns group new a.conn)
+      by_notes r (inl f) = put (entry_note a moment r ∷ []) f (refl, tt) refl
+      by_notes r (inr (inl f)) = put (entry_note a moment r ∷ Finish a.conn Memory ∷ []) f (refl, (refl, tt)) refl
+      by_notes r (inr (inr f)) = put (Finish a.conn Memory ∷ []) f (refl, tt) refl
+
   accept_open : (c : ℕ) (vs : List ℕ) (from : Addr) (group : List Note) (new : State) → (group ≡ []) ⊎ (group ≡ Finish c Memory ∷ []) → OpenWhile (seen_after past (Accepts c vs from) group new c)
   accept_open c vs from group new e is = by_notes e
     where
@@ -138,7 +167,7 @@ module _ (C : Config) (past : Past) (old : State) (sound : Sound C past old) whe
   own_open (Accepts c vs from) group new h k m = accept_open c vs from group new m.notes
   own_open (Comes c input) group new h k m = input_open c input group new (may_come input) k (may_come_at C past old c input (sound.each c) h).live m
   own_open (Ticks moment) group new h k m = rest_open (Ticks moment) group new 0 m (λ x. others_not_heard 0 x (Ticks moment) [] refl refl) refl k
-  own_open Turns group new h k m = rest_open Turns group new 0 m (λ x. others_not_heard 0 x Turns [] refl refl) refl k
+  own_open Turns group new h k m = queue_open (store_of C past) (shared past).moment old.queue group new refl k m
   own_open Runs group new h k m = ring_open old.ring group new refl k m
   own_open (Marks pool member up) group new h k m = rest_open (Marks pool member up) group new 0 m (λ x. others_not_heard 0 x (Marks pool member up) [] refl refl) refl k
 
@@ -208,6 +237,15 @@ module _ (C : Config) (past : Past) (old : State) (sound : Sound C past old) whe
   ring_fits [] group new e k m = none_fits 0 group (heard 0 past).edges m.0
   ring_fits (c ∷ rest) group new e k m = run_fits c rest group new (k (front_live C past c rest old e (sound.each c))) m
 
+  queue_fits : (store : StoreState) (moment : ℕ) (queue : List Asked) (group : List Note) (new : State) (e : Edges) → MovesQueue store moment queue group old new → Fit (own (asker queue) group) e
+  queue_fits store moment [] group new e m = none_fits 0 group e m.0
+  queue_fits store moment (a ∷ rest) group new e m = by_notes (reply store moment a.call).reply m.notes
+    where
+      by_notes : (r : Reply) → TurnNotes a moment r group → Fit (own a.conn group) e
+      by_notes r (inl f) = fit_told a.conn group (entry_note a moment r ∷ []) e f (refl, tt) (refl, tt)
+      by_notes r (inr (inl f)) = fit_told a.conn group (entry_note a moment r ∷ Finish a.conn Memory ∷ []) e f (refl, (refl, tt)) (refl, (refl, tt))
+      by_notes r (inr (inr f)) = fit_told a.conn group (Finish a.conn Memory ∷ []) e f (refl, tt) (refl, tt)
+
   accept_fits : (c : ℕ) (group : List Note) (e : Edges) → (group ≡ []) ⊎ (group ≡ Finish c Memory ∷ []) → Fit (own c group) e
   accept_fits c group e (inl k) = none_fits c group e k
   accept_fits c group e (inr k) = fit_told c group (Finish c Memory ∷ []) e k (refl, tt) (refl, tt)
@@ -216,7 +254,7 @@ module _ (C : Config) (past : Past) (old : State) (sound : Sound C past old) whe
   own_fits (Accepts c vs from) group new h k m = accept_fits c group (event_edges c (Accepts c vs from) (heard c past).edges) m.notes
   own_fits (Comes c input) group new h k m = come_fits c input group new (may_come input) (k (may_come_at C past old c input (sound.each c) h).live) m
   own_fits (Ticks moment) group new h k m = none_fits 0 group (heard 0 past).edges m.0
-  own_fits Turns group new h k m = none_fits 0 group (heard 0 past).edges m.0
+  own_fits Turns group new h k m = queue_fits (store_of C past) (shared past).moment old.queue group new (heard (asker old.queue) past).edges m
   own_fits Runs group new h k m = ring_fits old.ring group new refl k m
   own_fits (Marks pool member up) group new h k m = none_fits 0 group (heard 0 past).edges m.0
 

@@ -6,17 +6,24 @@ use Rattle.connection_model.specs.declared.note.Note.{Note}
 use Rattle.connection_model.specs.declared.note.Note.TheVariants.{Finish}
 use Rattle.connection_model.specs.Heard.{Input, EventKind, Accepts, Comes, Ticks, Turns, Runs, Marks, Heard, hears}
 use Rattle.connection_model.specs.HeardLaws.{concerns}
+use Rattle.px_bytes.specs.declared.fault.Reply.{Reply}
+use Rattle.shared_store.specs.Store.{StoreState}
+use Rattle.shared_store.specs.Calls.{reply}
 use Rattle.connection_model.specs.Item.{Item, notes_of}
 use Rattle.connection_model.specs.Tellings.{tells, conn_of}
 use Rattle.connection_model.proofs.Hearing.{others_not_heard}
-use Rattle.proxy_core.specs.Moves.{Rests, is_drained_at, came, may_come, ran, MovesFailed, MovesLacks, MovesOn, MovesCome, RunsOn, RunsOut, RunsFailed, MovesRing, MovesBy}
+use Rattle.proxy_core.specs.Calls.{calls_of, is_any, asker, queue_behind}
+use Rattle.proxy_core.specs.History.{store_of}
+use Rattle.proxy_core.specs.Live.{entry_note}
+use Rattle.proxy_core.specs.Moves.{Rests, is_drained_at, came, lacked, may_come, ran, MovesFailed, MovesLacks, MovesOn, MovesCome, RunsOn, RunsOut, RunsFailed, MovesRing, TurnNotes, MovesTurn, MovesQueue, MovesBy}
+use Rattle.proxy_core.specs.declared.call.Asked.{Asked}
 use Rattle.proxy_core.specs.Others.{about, front}
 use Rattle.proxy_core.specs.Past.{Past, heard, ended_in, without_all, with_accepted, shared}
-use Rattle.proxy_core.specs.Ready.{is_in, ring_behind, without}
+use Rattle.proxy_core.specs.Ready.{is_in, ring_behind, with_ready, without}
 use Rattle.conn.specs.RunsItems.{closing, closing_if, ends, out_of_memory}
 use Rattle.proxy_core.specs.Scheduler.{State, entries, Seen, seen, seen_after, untaken_all}
 use Rattle.proxy_core.specs.declared.config.Config.{Config}
-use Rattle.proxy_core.proofs.Entries.{entries_behind, entries_pushed, entries_rest, entries_without, entries_ready}
+use Rattle.proxy_core.proofs.Entries.{entries_behind, entries_pushed, entries_rest, entries_without, entries_ready, entries_woken, calls_behind, calls_rest, calls_without}
 use Rattle.proxy_core.proofs.GroupNotes.{About, about_joined, about_closing_if, about_items, of_items, own_none}
 use Rattle.proxy_core.proofs.Members.{eq_same, eq_turned, in_pushed_other, in_without_other}
 
@@ -49,6 +56,7 @@ ended_other c q (n ∷ group) live a e = by_end (tells n).ends (λ ns. ended_oth
 pub record Touches (c : ℕ) (group : List Note) (old new : State) : Type 0 where
   pub notes : About c group
   pub ready : (q : ℕ) → nat_eq c q ≡ false → entries q new.ring ≡ entries q old.ring
+  pub asked : (q : ℕ) → nat_eq c q ≡ false → calls_of q new.queue ≡ calls_of q old.queue
   pub place : (q : ℕ) → nat_eq c q ≡ false → new.places q ≡ old.places q
 
 touched : (c : ℕ) (group notes : List Note) (old new after : State) → group ≡ notes → new ≡ after → Touches c notes old after → Touches c group old new
@@ -58,21 +66,22 @@ touched c group notes old new after e f t =
     subst P (sym e) (subst Q (sym f) t)
 
 rests : (c : ℕ) (group : List Note) (old new : State) → Rests group old new → Touches c group old new
-rests c group old new m = touched c group [] old new old m.0 m.1 (record { notes = tt; ready = λ q e. refl; place = λ q e. refl })
+rests c group old new m = touched c group [] old new old m.0 m.1 (record { notes = tt; ready = λ q e. refl; asked = λ q e. refl; place = λ q e. refl })
 
 comes_touch : (over : Bool) (c d : ℕ) (group : List Note) (old new : State) → group ≡ closing_if over c d → new ≡ came c over old → Touches c group old new
-comes_touch over c d group old new e f = touched c group (closing_if over c d) old new (came c over old) e f (record { notes = about_closing_if over c d; ready = λ q h. by_end over q h; place = λ q h. refl })
+comes_touch over c d group old new e f = touched c group (closing_if over c d) old new (came c over old) e f (record { notes = about_closing_if over c d; ready = λ q h. by_end over q h; asked = λ q h. refl; place = λ q h. refl })
   where
     by_end : (b : Bool) (q : ℕ) → nat_eq c q ≡ false → entries q (came c b old).ring ≡ entries q old.ring
     by_end true q h = entries_without c q old.ring (eq_turned c q h)
-    by_end false q h = entries_ready c q old.ring (eq_turned c q h)
+    by_end false q h = entries_woken (is_any (calls_of c old.queue)) c q old.ring (eq_turned c q h)
 
 -- the front ran: its notes are about it
-ran_touch : (c : ℕ) (rest after : List ℕ) (more : List Item) (group notes : List Note) (old new : State) → old.ring ≡ c ∷ rest → ((q : ℕ) → nat_eq q c ≡ false → entries q after ≡ entries q rest) → group ≡ notes → About c notes → new ≡ ran c after more old → Touches c group old new
-ran_touch c rest after more group notes old new front_is others e a f =
-    touched c group notes old new (ran c after more old) e f (record {
+ran_touch : (c : ℕ) (rest after : List ℕ) (queue : List Asked) (more : List Item) (group notes : List Note) (old new : State) → old.ring ≡ c ∷ rest → ((q : ℕ) → nat_eq q c ≡ false → entries q after ≡ entries q rest) → ((q : ℕ) → nat_eq q c ≡ false → calls_of q queue ≡ calls_of q old.queue) → group ≡ notes → About c notes → new ≡ ran c after queue more old → Touches c group old new
+ran_touch c rest after queue more group notes old new front_is others calls e a f =
+    touched c group notes old new (ran c after queue more old) e f (record {
       notes = a;
       ready = λ q h. others q (eq_turned c q h) ∙ entries_rest c q rest (eq_turned c q h) ∙ ap (entries q) (sym front_is);
+      asked = λ q h. calls q (eq_turned c q h);
       place = λ q h. rw h refl;
     })
 
@@ -81,14 +90,14 @@ by_ring C past [] group old new e m = rests 0 group old new m
 by_ring C past (c ∷ rest) group old new e m = by_failed (heard c past).failed m
   where
     by_failed : (b : Bool) → MatchBool b (RunsFailed (heard c past) c rest group old new) (RunsOn C (heard c past) c rest group old new ⊎ RunsOut C (heard c past) c rest group old new) → Touches c group old new
-    by_failed true k = touched c group (closing c (untaken_all (heard c past) (old.places c))) old new (record old { ring = rest }) k.notes k.state (record { notes = (refl, (refl, tt)); ready = λ q h. entries_rest c q rest (eq_turned c q h) ∙ ap (entries q) (sym e); place = λ q h. refl })
+    by_failed true k = touched c group (closing c (untaken_all (heard c past) (old.places c))) old new (record old { ring = rest }) k.notes k.state (record { notes = (refl, (refl, tt)); ready = λ q h. entries_rest c q rest (eq_turned c q h) ∙ ap (entries q) (sym e); asked = λ q h. refl; place = λ q h. refl })
     by_failed false (inl k) =
         let d = untaken_all (heard c past) (old.places c ++ k.more) in
         let behind = closing_if (ends k.turn) c d in
-        ran_touch c rest (ring_behind k.turn c rest) k.more group (notes_of c k.more ++ behind) old new e (λ q h. entries_behind k.turn c q rest h) k.items.noted
+        ran_touch c rest (ring_behind k.turn c rest) (queue_behind k.turn c old.queue) k.more group (notes_of c k.more ++ behind) old new e (λ q h. entries_behind k.turn c q rest h) (λ q h. calls_behind k.turn c q old.queue h) k.items.noted
         (about_joined c (notes_of c k.more) behind (about_items c (notes_of c k.more) (of_items c k.more)) (about_closing_if (ends k.turn) c d)) k.state
     by_failed false (inr k) =
-        ran_touch c rest rest k.more group (out_of_memory c k.more (untaken_all (heard c past) (old.places c ++ k.more))) old new e (λ q h. refl) k.notes
+        ran_touch c rest rest old.queue k.more group (out_of_memory c k.more (untaken_all (heard c past) (old.places c ++ k.more))) old new e (λ q h. refl) (λ q h. refl) k.notes
         (about_joined c (notes_of c k.more) (Finish c Memory ∷ closing c (untaken_all (heard c past) (old.places c ++ k.more))) (about_items c (notes_of c k.more) (of_items c k.more)) (refl, (refl, (refl, tt)))) k.state
 
 by_input : (C : Config) (past : Past) (c : ℕ) (input : Input) (group : List Note) (old new : State) → (b : Bool) → MatchBool b (MovesCome C input (heard c past) (hears c (heard c past) (Comes c input) group) c group old new) ⊥ → Touches c group old new
@@ -97,31 +106,47 @@ by_input C past c input group old new true m = by_failed (heard c past).failed m
     by_failed : (b : Bool) → MatchBool b (MovesFailed c group old new) (MovesOn C (hears c (heard c past) (Comes c input) group) c group old new ⊎ MovesLacks input c group old new) → Touches c group old new
     by_failed true k = comes_touch false c 0 group old new k.notes k.state
     by_failed false (inl k) = comes_touch (is_drained_at C (hears c (heard c past) (Comes c input) group) (old.places c)) c (untaken_all (hears c (heard c past) (Comes c input) group) (old.places c)) group old new k.notes k.state
-    by_failed false (inr k) = touched c group (Finish c Memory ∷ []) old new (came c false old) k.notes k.state (record { notes = (refl, tt); ready = λ q h. entries_ready c q old.ring (eq_turned c q h); place = λ q h. refl })
+    by_failed false (inr k) = touched c group (Finish c Memory ∷ []) old new (lacked c old) k.notes k.state (record { notes = (refl, tt); ready = λ q h. entries_ready c q old.ring (eq_turned c q h); asked = λ q h. calls_without c q old.queue (eq_turned c q h); place = λ q h. refl })
 by_input C past c input group old new false m = absurd m
 
 by_accept : (c : ℕ) (group : List Note) (old new : State) → (group ≡ []) ⊎ (group ≡ Finish c Memory ∷ []) → new ≡ record old { ring = old.ring ++ c ∷ [] } → Touches c group old new
 by_accept c group old new e f = by_notes e
   where
     pushed : (notes : List Note) → About c notes → group ≡ notes → Touches c group old new
-    pushed notes a k = touched c group notes old new (record old { ring = old.ring ++ c ∷ [] }) k f (record { notes = a; ready = λ q h. entries_pushed c q old.ring (eq_turned c q h); place = λ q h. refl })
+    pushed notes a k = touched c group notes old new (record old { ring = old.ring ++ c ∷ [] }) k f (record { notes = a; ready = λ q h. entries_pushed c q old.ring (eq_turned c q h); asked = λ q h. refl; place = λ q h. refl })
 
     by_notes : (group ≡ []) ⊎ (group ≡ Finish c Memory ∷ []) → Touches c group old new
     by_notes (inl k) = pushed [] tt k
     by_notes (inr k) = pushed (Finish c Memory ∷ []) (refl, tt) k
 
+-- the call in front was answered
+about_turn : (a : Asked) (moment : ℕ) (r : Reply) (group : List Note) → TurnNotes a moment r group → About a.conn group
+about_turn a moment r group (inl e) = let P : List Note → Type 0 = λ g. About a.conn g in subst P (sym e) (refl, tt)
+about_turn a moment r group (inr (inl e)) = let P : List Note → Type 0 = λ g. About a.conn g in subst P (sym e) (refl, (refl, tt))
+about_turn a moment r group (inr (inr e)) = let P : List Note → Type 0 = λ g. About a.conn g in subst P (sym e) (refl, tt)
+
+by_queue : (store : StoreState) (moment : ℕ) (queue : List Asked) (group : List Note) (old new : State) → old.queue ≡ queue → MovesQueue store moment queue group old new → Touches (asker queue) group old new
+by_queue store moment [] group old new e m = rests 0 group old new m
+by_queue store moment (a ∷ rest) group old new e m =
+    touched a.conn group group old new (record old { ring = with_ready old.ring a.conn; queue = rest }) refl m.state (record {
+      notes = about_turn a moment (reply store moment a.call).reply group m.notes;
+      ready = λ q h. entries_ready a.conn q old.ring (eq_turned a.conn q h);
+      asked = λ q h. calls_rest q a rest (eq_turned a.conn q h) ∙ ap (calls_of q) (sym e);
+      place = λ q h. refl;
+    })
+
 pub touches : (C : Config) (past : Past) (v : EventKind) (group : List Note) (old new : State) → MovesBy C past v group old new → Touches (about v old) group old new
 touches C past (Accepts c vs from) group old new m = by_accept c group old new m.notes m.state
 touches C past (Comes c input) group old new m = by_input C past c input group old new (may_come input) m
 touches C past (Ticks moment) group old new m = rests 0 group old new m
-touches C past Turns group old new m = rests 0 group old new m
+touches C past Turns group old new m = by_queue (store_of C past) (shared past).moment old.queue group old new refl m
 touches C past Runs group old new m = by_ring C past old.ring group old new refl m
 touches C past (Marks pool member up) group old new m = rests 0 group old new m
 
-pub same_seen : (z w : Seen) → z.heard ≡ w.heard → z.live ≡ w.live → z.ready ≡ w.ready → z.place ≡ w.place → z ≡ w
-same_seen z w h l r p =
-    let make : Heard → Bool → List ℕ → List Item → Seen = λ h l r p. record { heard = h; live = l; ready = r; place = p } in
-    ap (λ y. make y z.live z.ready z.place) h ∙ ap (λ y. make w.heard y z.ready z.place) l ∙ ap (λ y. make w.heard w.live y z.place) r ∙ ap (λ y. make w.heard w.live w.ready y) p
+pub same_seen : (z w : Seen) → z.heard ≡ w.heard → z.live ≡ w.live → z.ready ≡ w.ready → z.asked ≡ w.asked → z.place ≡ w.place → z ≡ w
+same_seen z w h l r a p =
+    let make : Heard → Bool → List ℕ → List (List (List ℕ)) → List Item → Seen = λ h l r a p. record { heard = h; live = l; ready = r; asked = a; place = p } in
+    ap (λ y. make y z.live z.ready z.asked z.place) h ∙ ap (λ y. make w.heard y z.ready z.asked z.place) l ∙ ap (λ y. make w.heard w.live y z.asked z.place) r ∙ ap (λ y. make w.heard w.live w.ready y z.place) a ∙ ap (λ y. make w.heard w.live w.ready w.asked y) p
 
 -- only connection c changed
 pub record OnlyChanged (c : ℕ) (past : Past) (v : EventKind) (group : List Note) (old new : State) : Type 0 where
@@ -133,7 +158,7 @@ only_changed past v group old new t = record {
       same_seen (seen_after past v group new q) (seen past old q)
       (others_not_heard q (heard q past) v group (not_concerned q v old e) (own_none (about v old) q group t.notes e))
       (ended_other (about v old) q group (with_accepted v (shared past).live) t.notes e ∙ accepted_other q v old (shared past).live e)
-      (t.ready q e) (t.place q e);
+      (t.ready q e) (t.asked q e) (t.place q e);
 }
 
 -- What holds of connection c after the event, and held of all before it, holds of all. `olds` and

@@ -1,5 +1,5 @@
--- The run of the front, of the whole ring.
-use Rattle.std.proofs.Common.{◌≡◌, ◌≤◌, ◌-◌, ℕ, List, [], ◌∷◌, ◌++◌, length, length-append, Option, Some, None, ap, ◌∙◌, subst, sym, refl, nat_eq, true, false, arith}
+-- The run of the front, of the whole ring; the answer to the front of the calls.
+use Rattle.std.proofs.Common.{◌≡◌, ◌≤◌, ◌-◌, ℕ, List, [], ◌∷◌, ◌++◌, length, length-append, Option, Some, None, ap, ◌∙◌, subst, sym, refl, nat_eq, Bool, true, false, inr, arith}
 use Rattle.std.specs.List.{IsDistinct}
 use Rattle.conn.specs.Runs.{IsBounded, IsWhole}
 use Rattle.conn.specs.RunsItems.{ends}
@@ -8,13 +8,25 @@ use Rattle.conn.specs.declared.turn.ConnTurn.TheVariants as turn
 use Rattle.proxy_core.specs.Ready.{ring_behind}
 use Rattle.proxy_core.specs.declared.core_state.Core.{Core}
 use Rattle.connection_model.specs.declared.note.Note.{Note}
-use Rattle.proxy_core.specs.Changes.{RunsRing, RunsFront, Idles}
+use Rattle.proxy_core.specs.Calls.{kept_calls}
+use Rattle.proxy_core.specs.Changes.{RunsRing, RunsFront, Idles, TurnsAt, TurnsQueue}
+use Rattle.proxy_core.specs.declared.call.Asked.{Asked}
 
 pub front_runs : (old new : Core) (ring rest : List ℕ) (n : ℕ) (group : List Note) (steps : ℕ) → ring ≡ n ∷ rest → RunsFront old new n rest group steps → RunsRing old new ring group steps
 front_runs old new ring rest n group steps e h = let P : List ℕ → Type 0 = λ r. RunsRing old new r group steps in subst P (sym e) h
 
 pub idle_runs : (old new : Core) (ring : List ℕ) (steps : ℕ) → ring ≡ [] → Idles old new [] steps → RunsRing old new ring [] steps
 idle_runs old new ring steps e h = let P : List ℕ → Type 0 = λ r. RunsRing old new r [] steps in subst P (sym e) h
+
+-- the front of the calls is answered
+pub front_turns : (old new : Core) (queue rest : List Asked) (a : Asked) (group : List Note) → queue ≡ a ∷ rest → TurnsAt old new a rest group → TurnsQueue old new queue group
+front_turns old new queue rest a group e h = let P : List Asked → Type 0 = λ q. TurnsQueue old new q group in subst P (sym e) (inr h)
+
+-- one that waits as before leaves the calls
+pub kept_same : (waited waits : Bool) (c : ℕ) (queue : List Asked) → waits ≡ waited → kept_calls waited waits c queue ≡ queue
+kept_same true true c queue e = refl
+kept_same true false c queue e = cc
+kept_same false waits c queue e = refl
 
 -- the ring behind a Run
 pub behind_over : (t : ConnTurn) (n : ℕ) (rest : List ℕ) → ends t ≡ true → ring_behind t n rest ≡ rest

@@ -1,5 +1,8 @@
 -- The notes of one event: about which connection, and what they tell.
-use Rattle.std.proofs.Common.{◌≡◌, refl, ap, ◌∙◌, ℕ, List, [], ◌∷◌, ◌++◌, Bool, true, false, Option, Some, None, map, nat_eq}
+use Rattle.std.proofs.Common.{◌≡◌, refl, ap, ◌∙◌, ℕ, List, [], ◌∷◌, ◌++◌, Bool, true, false, not, Option, Some, None, map, nat_eq}
+use Rattle.std.proofs.lemmas.List.{map-append}
+use Rattle.std.proofs.lemmas.List.Elements.{filter-append}
+use Rattle.std.proofs.lemmas.Grind.{flat_map-append}
 use Rattle.std.specs.List.{filter, list_any}
 use Rattle.connection_model.specs.declared.note.Note.{Note}
 use Rattle.connection_model.specs.declared.note.Note.TheVariants as note
@@ -10,7 +13,9 @@ use Rattle.connection_model.specs.HeardLaws.{TellsNothing}
 use Rattle.connection_model.specs.Item.{Item, Reason, Closed, Tcl, Unselected, Rejected, CutBy, cause_of, Passed, Fired, Reused, Connected, Logged, Finished, note_of, notes_of}
 use Rattle.connection_model.specs.Tellings.{tells, conn_of, own, notes_about, replies_told, choices_told, cut_by, cut_told, failure_told}
 use Rattle.proxy_core.specs.Headline.{shows, closes}
+use Rattle.proxy_core.specs.History.{called_in, entries_in, entry_in}
 use Rattle.proxy_core.specs.Past.{ended_in}
+use Rattle.proxy_core.specs.Sound.{is_entry, besides}
 use Rattle.conn.specs.RunsItems.{closing, closing_if}
 use Rattle.proxy_core.proofs.Members.{eq_self}
 
@@ -46,24 +51,26 @@ pub record OfItem (c : ℕ) (n : Note) : Type 0 where
   pub ends : (tells n).ends ≡ false
   pub shown : shows n ≡ true
   pub quiet : closes n ≡ false
+  pub other : is_entry n ≡ false
+  pub none : entry_in n ≡ []
 
 abbrev pub OfItems : ℕ → List Note → Type 0
 OfItems c [] = Unit {0}
 OfItems c (n ∷ notes) = OfItem c n × OfItems c notes
 
 finish_of_item : (c : ℕ) (r : Reason) → OfItem c (note.Finish c (cause_of r))
-finish_of_item c Closed = record { about = refl; reply = refl; fails = refl; ends = refl; shown = refl; quiet = refl }
-finish_of_item c (Tcl kind) = record { about = refl; reply = refl; fails = refl; ends = refl; shown = refl; quiet = refl }
-finish_of_item c Unselected = record { about = refl; reply = refl; fails = refl; ends = refl; shown = refl; quiet = refl }
-finish_of_item c Rejected = record { about = refl; reply = refl; fails = refl; ends = refl; shown = refl; quiet = refl }
-finish_of_item c (CutBy why) = record { about = refl; reply = refl; fails = refl; ends = refl; shown = refl; quiet = refl }
+finish_of_item c Closed = record { about = refl; reply = refl; fails = refl; ends = refl; shown = refl; quiet = refl; other = refl; none = refl }
+finish_of_item c (Tcl kind) = record { about = refl; reply = refl; fails = refl; ends = refl; shown = refl; quiet = refl; other = refl; none = refl }
+finish_of_item c Unselected = record { about = refl; reply = refl; fails = refl; ends = refl; shown = refl; quiet = refl; other = refl; none = refl }
+finish_of_item c Rejected = record { about = refl; reply = refl; fails = refl; ends = refl; shown = refl; quiet = refl; other = refl; none = refl }
+finish_of_item c (CutBy why) = record { about = refl; reply = refl; fails = refl; ends = refl; shown = refl; quiet = refl; other = refl; none = refl }
 
 of_item : (c : ℕ) (i : Item) → OfItems c (note_of c i)
-of_item c (Passed from to bytes) = (record { about = refl; reply = refl; fails = refl; ends = refl; shown = refl; quiet = refl }, tt)
-of_item c (Fired side n) = (record { about = refl; reply = refl; fails = refl; ends = refl; shown = refl; quiet = refl }, tt)
-of_item c (Reused kept) = (record { about = refl; reply = refl; fails = refl; ends = refl; shown = refl; quiet = refl }, tt)
-of_item c (Connected to) = (record { about = refl; reply = refl; fails = refl; ends = refl; shown = refl; quiet = refl }, tt)
-of_item c (Logged text) = (record { about = refl; reply = refl; fails = refl; ends = refl; shown = refl; quiet = refl }, tt)
+of_item c (Passed from to bytes) = (record { about = refl; reply = refl; fails = refl; ends = refl; shown = refl; quiet = refl; other = refl; none = refl }, tt)
+of_item c (Fired side n) = (record { about = refl; reply = refl; fails = refl; ends = refl; shown = refl; quiet = refl; other = refl; none = refl }, tt)
+of_item c (Reused kept) = (record { about = refl; reply = refl; fails = refl; ends = refl; shown = refl; quiet = refl; other = refl; none = refl }, tt)
+of_item c (Connected to) = (record { about = refl; reply = refl; fails = refl; ends = refl; shown = refl; quiet = refl; other = refl; none = refl }, tt)
+of_item c (Logged text) = (record { about = refl; reply = refl; fails = refl; ends = refl; shown = refl; quiet = refl; other = refl; none = refl }, tt)
 of_item c (Finished reason) = (finish_of_item c reason, tt)
 of_item c other = tt
 
@@ -99,6 +106,24 @@ shown_all c (n ∷ notes) h = rw h.0.shown (ap (λ ns. n ∷ ns) (shown_all c no
 pub closed_behind : (c : ℕ) (some more : List Note) → OfItems c some → list_any closes (some ++ more) ≡ list_any closes more
 closed_behind c [] more h = refl
 closed_behind c (n ∷ some) more h = rw h.0.quiet (closed_behind c some more h.1)
+
+-- none of them is an entry of the history
+pub besides_items : (c : ℕ) (notes : List Note) → OfItems c notes → besides notes ≡ notes
+besides_items c [] h = refl
+besides_items c (n ∷ notes) h = rw h.0.other (ap (λ ns. n ∷ ns) (besides_items c notes h.1))
+
+pub besides_on : (some more : List Note) → besides (some ++ more) ≡ besides some ++ besides more
+besides_on some more = filter-append (λ n. not (is_entry n)) some more
+
+pub entries_items : (c : ℕ) (notes : List Note) → OfItems c notes → entries_in notes ≡ []
+entries_items c [] h = refl
+entries_items c (n ∷ notes) h = ap (λ es. es ++ entries_in notes) h.0.none ∙ entries_items c notes h.1
+
+pub entries_on : (some more : List Note) → entries_in (some ++ more) ≡ entries_in some ++ entries_in more
+entries_on some more = flat_map-append entry_in some more
+
+pub called_on : (some more : List Note) → called_in (some ++ more) ≡ called_in some ++ called_in more
+called_on some more = ap (map (λ e. e.call)) (entries_on some more) ∙ map-append (λ e. e.call) (entries_in some) (entries_in more)
 
 -- notes about c that tell of no cut, in front of others
 pub cut_behind : (took : TakenCounts) (some more : List Note) → cut_told took (map tells some) ≡ None → cut_told took (map tells (some ++ more)) ≡ cut_told took (map tells more)

@@ -3,7 +3,7 @@ use Rattle.std.proofs.Common.{◌≡◌, refl, sym, ap, subst, ◌∙◌, ℕ, �
 use Rattle.px_bytes.specs.declared.addr.Side.TheVariants.{Client, Server}
 use Rattle.connection_model.specs.declared.note.Note.{Note}
 use Rattle.px_bytes.specs.declared.fault.Reply.{Reply}
-use Rattle.connection_model.specs.Further.{Coming, Further, first_cut, nothing_further}
+use Rattle.connection_model.specs.Further.{Coming, Further, first_cut, nothing_further, replies_only}
 use Rattle.connection_model.specs.HeardLaws.{TellsNothing}
 use Rattle.connection_model.specs.Item.{Choice}
 use Rattle.connection_model.specs.State.{Cut}
@@ -161,6 +161,26 @@ run_told c h group e a = told_by c h Runs group 0 a (unmarked h e) (by_end (h.fi
     by_end true = refl
     by_end false = refl
 
+pub turn_told : (c : ℕ) (h : Heard) (group : List Note) → h.connects ≡ [] → About c group → Told c h Turns group 0
+turn_told c h group e a = told_by c h Turns group 0 a (unmarked h e) (by_end (h.finished || finish_told (notes_about c group)))
+  where
+    by_end : (b : Bool) → (if b then brought_nothing else brought_nothing).connects ≡ []
+    by_end true = refl
+    by_end false = refl
+
+-- a Turn brings the replies that its notes tell alone
+pub turn_further : (c : ℕ) (h : Heard) (group : List Note) → choices_told (notes_about c group) ≡ [] → ((took : TakenCounts) → cut_told took (notes_about c group) ≡ None) → further_of c h Turns group ≡ replies_only (replies_told (notes_about c group))
+turn_further c h group choices cut =
+    let t = notes_about c group in
+    let k = cut_told (taken (hears_event c h Turns group)) t in
+    ap (λ b. adds b (replies_told t) (choices_told t) k) (by_end (h.finished || finish_told t))
+    ∙ ap (λ i. adds brought_nothing (replies_told t) i k) choices
+    ∙ ap (λ x. adds brought_nothing (replies_told t) [] x) (cut (taken (hears_event c h Turns group)))
+  where
+    by_end : (b : Bool) → (if b then brought_nothing else brought_nothing) ≡ brought_nothing
+    by_end true = refl
+    by_end false = refl
+
 -- what was taken, where nothing is heard of a server
 abbrev pub counts : Bool → ℕ → TakenCounts
 counts b n = record { client = taken_by b n; servers = [] }
@@ -199,9 +219,8 @@ reset_keeps Runs b e = e
 reset_keeps (Marks pool member up) b e = e
 
 -- it still heard of no server or cut, where its notes tell of none
-pub still_plain : (c : ℕ) (h : Heard) (v : EventKind) (group : List Note) (n : ℕ) → IsPlain h → Told c h v group n → replies_told (map tells group) ≡ [] → ((took : TakenCounts) → cut_told took (map tells group) ≡ None) → IsPlain (hears c h v group)
-still_plain c h v group n p t replies cut = record {
+pub still_plain : (c : ℕ) (h : Heard) (v : EventKind) (group : List Note) (n : ℕ) → IsPlain h → Told c h v group n → ((took : TakenCounts) → cut_told took (map tells group) ≡ None) → IsPlain (hears c h v group)
+still_plain c h v group n p t cut = record {
   connects = t.connects;
-  replies = t.replies ∙ ap (λ r. r ++ replies_told (map tells group)) p.replies ∙ replies;
   cut = t.cut ∙ ap (λ x. first_cut x (cut_told t.at (map tells group))) p.cut ∙ cut t.at;
 }

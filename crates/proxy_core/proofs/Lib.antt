@@ -5,6 +5,7 @@ pub mod Members
 pub mod LiveLookups
 pub mod Entries
 pub mod GroupNotes
+pub mod Besides
 pub mod EdgeNotes
 pub mod Refusing
 pub mod Hearing
@@ -14,6 +15,7 @@ pub mod Framing
 pub mod Others
 pub mod SoundEvents
 pub mod SoundPast
+pub mod Answering
 pub mod Fitting
 pub mod Ending
 pub mod Finished
@@ -25,7 +27,9 @@ pub mod InitRuns
 pub mod Setups
 pub mod Agreeing
 pub mod ComesAgrees
+pub mod Counting
 pub mod RunAgrees
+pub mod TurnAgrees
 pub mod Resting
 pub mod FrontRuns
 pub mod Stepping

@@ -94,6 +94,12 @@ numbers_removed_at (suc at) (x ∷ ls) = ap (λ ns. x.number ∷ ns) (numbers_re
 pub read_again : (ls : List Live) (at : ℕ) (l m : Live) → slice_get ls at ≡ Some l → slice_get ls at ≡ Some m → l ≡ m
 read_again ls at l m h k = let e : Some l ≡ Some m = sym h ∙ k in cc
 
+-- and what was written is read
+pub read_set : (at : ℕ) (ls : List Live) (l m : Live) → slice_get ls at ≡ Some l → slice_get (set ls at m) at ≡ Some m
+read_set at [] l m h = cc
+read_set zero (x ∷ xs) l m h = refl
+read_set (suc at) (x ∷ xs) l m h = read_set at xs l m h
+
 pub remove_set : (at : ℕ) (ls : List Live) (m : Live) → remove (set ls at m) at ≡ remove ls at
 remove_set at [] m = refl
 remove_set zero (x ∷ xs) m = refl

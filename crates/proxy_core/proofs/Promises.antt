@@ -2,7 +2,7 @@
 use Rattle.std.proofs.Common.{◌≡◌, refl, sym, ap, subst, ◌∙◌, ℕ, ◌+◌, ◌≤◌, List, [], ◌∷◌, ◌++◌, length, take, map, Bool, true, false, ◌||◌, ◌&&◌, not, nat_eq, arith, append_assoc, eqb-true, append-nil, if◌then◌else◌, is_none, ◌-◌}
 use Rattle.std.specs.List.{filter, list_any}
 use Rattle.std.proofs.lemmas.Bool.{and_parts}
-use Rattle.std.proofs.lemmas.List.{take-append-le, map-append}
+use Rattle.std.proofs.lemmas.List.{take-append-le, map-append, append_cancel_right}
 use Rattle.std.proofs.lemmas.List.Elements.{filter-append}
 use Rattle.std.proofs.lemmas.Grind.{flat_map-append}
 use Rattle.px_bytes.specs.declared.addr.Side.TheVariants.{Client, Server}
@@ -26,17 +26,20 @@ use Rattle.connection_model.proofs.Stepping.{finishes_once}
 use Rattle.connection_model.proofs.Taking.{taken_all_opens}
 use Rattle.connection_model.proofs.Telling.{items_tell}
 use Rattle.connection_model.proofs.Unfolding.{trace_unfolds, stopped_is_whole}
-use Rattle.proxy_core.specs.Headline.{first_items, SentIsPrefix, IsWhole, last_reset, licenses, shows, closes, cause_told, causes_told, ClosesRightly, causes_behind, ConnectionPromise, OutputMatchesEvaluator}
+use Rattle.proxy_core.specs.Calls.{calls_of}
+use Rattle.proxy_core.specs.Headline.{first_items, SentIsPrefix, IsWhole, IsSettled, last_reset, licenses, shows, closes, cause_told, causes_told, ClosesRightly, causes_behind, ConnectionPromise, OutputMatchesEvaluator}
 use Rattle.proxy_core.specs.Moves.{Leads}
 use Rattle.proxy_core.specs.Past.{Past, kind_of, heard}
 use Rattle.conn.specs.RunsItems.{closing, is_drained, is_over}
 use Rattle.proxy_core.specs.Scheduler.{State, entries, Seen, seen, untaken_of, untaken_all}
 use Rattle.proxy_core.specs.Setup.{setup_of, begins_at, stand_of}
-use Rattle.proxy_core.specs.Sound.{IsPlain, last_notes, Spot, Served}
+use Rattle.proxy_core.specs.Sound.{IsPlain, besides, EndsClosed, last_notes, Spot, Served}
 use Rattle.proxy_core.specs.declared.config.Config.{Config}
+use Rattle.proxy_core.proofs.Answering.{heard_recorded, one_history}
+use Rattle.proxy_core.proofs.Besides.{besides_shows, besides_closes, besides_causes}
 use Rattle.proxy_core.proofs.Ending.{finished_ends, over_has_finished}
 use Rattle.proxy_core.proofs.Finished.{heard_finish, trace_finished}
-use Rattle.proxy_core.proofs.GroupNotes.{of_items, shown_all, closed_behind}
+use Rattle.proxy_core.proofs.GroupNotes.{of_items, shown_all, closed_behind, besides_on}
 use Rattle.proxy_core.proofs.SoundPast.{leads_sound}
 use Rattle.proxy_core.proofs.Standing.{as_served, sent_at, server_untaken, client_untaken, none_to_server, all_untaken}
 
@@ -109,22 +112,24 @@ drained_over g took at e =
     is_over_at Over k = refl
 
 -- at rest
-at_rest : (failed live : Bool) (g : Setup) (took : TakenCounts) (l : TraceState) → live ≡ true → Spot failed live [] g took l → (failed ≡ false) × (is_drained g took l ≡ false) × (GivesNoMore false l.sent took (next_item g l) × (is_none took.client ≡ false))
+at_rest : (failed live : Bool) (g : Setup) (took : TakenCounts) (l : TraceState) → live ≡ true → Spot failed live [] [] g took l → (failed ≡ false) × (is_drained g took l ≡ false) × (GivesNoMore false l.sent took (next_item g l) × (is_none took.client ≡ false))
 at_rest false true g took l e s = (refl, s.0, s.1)
 at_rest true true g took l e s = absurd s
 at_rest failed false g took l e s = cc
 
 -- ended
-at_end : (failed live : Bool) (ready : List ℕ) (g : Setup) (took : TakenCounts) (l : TraceState) → live ≡ false → failed ≡ false → Spot failed live ready g took l → is_drained g took l ≡ true
-at_end false false [] g took l e f s = s
-at_end false false (x ∷ xs) g took l e f s = absurd s
-at_end true live ready g took l e f s = cc
-at_end false true ready g took l e f s = cc
+at_end : (failed live : Bool) (ready : List ℕ) (asked : List (List (List ℕ))) (g : Setup) (took : TakenCounts) (l : TraceState) → live ≡ false → failed ≡ false → Spot failed live ready asked g took l → is_drained g took l ≡ true
+at_end false false [] [] g took l e f s = s
+at_end false false [] (x ∷ xs) g took l e f s = absurd s
+at_end false false (x ∷ xs) asked g took l e f s = absurd s
+at_end true live ready asked g took l e f s = cc
+at_end false true ready asked g took l e f s = cc
 
-settled_at : (C : Config) (c : ℕ) (s : State) (z : Seen) → z.ready ≡ entries c s.ring → Served C c z → s.ring ≡ [] → z.live ≡ true → (z.heard.failed ≡ false) × (is_drained (setup_of C z.heard) (taken z.heard) (stand_of C z.heard z.place) ≡ false) × (GivesNoMore false (stand_of C z.heard z.place).sent (taken z.heard) (next_item (setup_of C z.heard) (stand_of C z.heard z.place)) × (is_none (taken z.heard).client ≡ false))
-settled_at C c s z is k e live =
-    let P : List ℕ → Type 0 = λ r. Spot z.heard.failed z.live r (setup_of C z.heard) (taken z.heard) (stand_of C z.heard z.place) in
-    at_rest z.heard.failed z.live (setup_of C z.heard) (taken z.heard) (stand_of C z.heard z.place) live (subst P (is ∙ ap (entries c) e) k.spot)
+settled_at : (C : Config) (c : ℕ) (s : State) (z : Seen) → z.ready ≡ entries c s.ring → z.asked ≡ calls_of c s.queue → Served C c z → IsSettled s → z.live ≡ true → (z.heard.failed ≡ false) × (is_drained (setup_of C z.heard) (taken z.heard) (stand_of C z.heard z.place) ≡ false) × (GivesNoMore false (stand_of C z.heard z.place).sent (taken z.heard) (next_item (setup_of C z.heard) (stand_of C z.heard z.place)) × (is_none (taken z.heard).client ≡ false))
+settled_at C c s z is asks k e live =
+    let P : List ℕ → Type 0 = λ r. Spot z.heard.failed z.live r z.asked (setup_of C z.heard) (taken z.heard) (stand_of C z.heard z.place) in
+    let Q : List (List (List ℕ)) → Type 0 = λ a. Spot z.heard.failed z.live [] a (setup_of C z.heard) (taken z.heard) (stand_of C z.heard z.place) in
+    at_rest z.heard.failed z.live (setup_of C z.heard) (taken z.heard) (stand_of C z.heard z.place) live (subst Q (asks ∙ ap (calls_of c) e.none_asks) (subst P (is ∙ ap (entries c) e.none_ready) k.spot))
 
 -- its notes
 last_shown : (c : ℕ) (failed live : Bool) (d : ℕ) → filter shows (last_notes c failed live d) ≡ []
@@ -204,33 +209,37 @@ closed_by C c z k ended clean = by_failed z.heard.failed refl
     any_cause [] = (Memory, [], refl)
     any_cause (r ∷ rs) = (cause_of r, map cause_of rs ++ Memory ∷ [], refl)
 
-    noted : (b : Bool) → z.heard.failed ≡ b → z.heard.notes ≡ N ++ last_notes c b false d
+    end : EndsClosed c d z.heard.notes
+    end = k.closed ended
+
+    noted : (b : Bool) → z.heard.failed ≡ b → besides z.heard.notes ≡ N ++ last_notes c b false d
     noted b e = k.noted ∙ ap (λ x. N ++ last_notes c x z.live d) e ∙ ap (λ x. N ++ last_notes c b x d) ended
+
+    -- before the last notes
+    front_is : (front : List Note) → besides z.heard.notes ≡ front ++ closing c d → besides end.before ≡ front
+    front_is front e = append_cancel_right (besides end.before) front (closing c d) (sym (ap besides end.notes_are ∙ besides_on end.before (closing c d)) ∙ e)
+
+    by_front : (front : List Note) (cause : Cause) (more : List Cause) → besides end.before ≡ front → list_any closes front ≡ false → causes_told front ≡ cause ∷ more → (z.heard.failed ≡ false → z.heard.client.reset ≡ false → d ≡ 0) → ClosesRightly c z.heard z.place
+    by_front front cause more is none causes dropped = record {
+      before = end.before;
+      notes = end.notes_are;
+      none_closed = besides_closes end.before ∙ ap (list_any closes) is ∙ none;
+      cause = cause;
+      more = more;
+      finished = besides_causes end.before ∙ ap causes_told is ∙ causes;
+      dropped = dropped;
+    }
 
     by_failed : (b : Bool) → z.heard.failed ≡ b → ClosesRightly c z.heard z.place
     by_failed false e =
         let r = clean e in
         let f = first_cause (reasons_in z.place) r.1 in
-        record {
-          before = N;
-          notes = noted false e;
-          none_closed = ap (list_any closes) (sym (append-nil N)) ∙ closed_behind c N [] (of_items c z.place);
-          cause = f.0;
-          more = f.1;
-          finished = causes_of_items c z.place ∙ f.2;
-          dropped = λ x. r.0;
-        }
+        by_front N f.0 f.1 (front_is N (noted false e)) (ap (list_any closes) (sym (append-nil N)) ∙ closed_behind c N [] (of_items c z.place)) (causes_of_items c z.place ∙ f.2) (λ x. r.0)
     by_failed true e =
         let f = any_cause (reasons_in z.place) in
-        record {
-          before = N ++ Finish c Memory ∷ [];
-          notes = noted true e ∙ sym (append_assoc N (Finish c Memory ∷ []) (closing c d));
-          none_closed = closed_behind c N (Finish c Memory ∷ []) (of_items c z.place);
-          cause = f.0;
-          more = f.1;
-          finished = flat_map-append cause_told N (Finish c Memory ∷ []) ∙ ap (λ x. x ++ Memory ∷ []) (causes_of_items c z.place) ∙ f.2;
-          dropped = λ x y. absurd (let g : true ≡ false = sym e ∙ x in cc);
-        }
+        by_front (N ++ Finish c Memory ∷ []) f.0 f.1 (front_is (N ++ Finish c Memory ∷ []) (noted true e ∙ sym (append_assoc N (Finish c Memory ∷ []) (closing c d)))) (closed_behind c N (Finish c Memory ∷ []) (of_items c z.place))
+        (flat_map-append cause_told N (Finish c Memory ∷ []) ∙ ap (λ x. x ++ Memory ∷ []) (causes_of_items c z.place) ∙ f.2)
+        (λ x y. absurd (let g : true ≡ false = sym e ∙ x in cc))
 
 promised : (C : Config) (past : Past) (s : State) (c : ℕ) → Served C c (seen past s c) → ConnectionPromise C past s c (seen past s c)
 promised C past s c k =
@@ -248,10 +257,10 @@ promised C past s c k =
     let left = client_untaken h z.place k.plain in
     let right = none_to_server g h z.place l k.stands k.no_server in
     let all = all_untaken g h z.place l k.stands k.no_server in
-    let causes = ap causes_told k.noted ∙ flat_map-append cause_told N (last_notes c h.failed z.live d) ∙ ap (λ x. x ++ causes_told (last_notes c h.failed z.live d)) (causes_of_items c z.place) ∙ ap (λ x. map cause_of (reasons_in z.place) ++ x) (last_causes c h.failed z.live d) in
-    let at_rest = settled_at C c s z refl k in
+    let causes = besides_causes h.notes ∙ ap causes_told k.noted ∙ flat_map-append cause_told N (last_notes c h.failed z.live d) ∙ ap (λ x. x ++ causes_told (last_notes c h.failed z.live d)) (causes_of_items c z.place) ∙ ap (λ x. map cause_of (reasons_in z.place) ++ x) (last_causes c h.failed z.live d) in
+    let at_rest = settled_at C c s z refl refl k in
     let D : Counts → Type 0 = λ x. GivesNoMore false x took (next_item g l) in
-    let ended = λ (e : z.live ≡ false) (n : h.failed ≡ false). drained_over g took l (at_end h.failed z.live z.ready g took l e n k.spot) in
+    let ended = λ (e : z.live ≡ false) (n : h.failed ≡ false). drained_over g took l (at_end h.failed z.live z.ready z.asked g took l e n k.spot) in
     let took_all : untaken_all h z.place ≡ 0 → h.client.took ≡ length (client_output z.place) = λ none. omega (arith, none, all, k.within) in
     let kept_all : z.live ≡ false → h.failed ≡ false → h.client.reset ≡ false → untaken_all h z.place ≡ 0 = λ e n kept. (let a : untaken_of h z.place Client ≡ 0 = ap (λ x. to_take x took Client) (sym sent) ∙ (ended e n).1 in let b : untaken_of h z.place Client ≡ length (client_output z.place) - h.client.took = left ∙ ap (λ x. untaken (length (client_output z.place)) (taken_by x h.client.took)) kept in omega (arith, a, b, all)) in
     let kept_counts : h.client.reset ≡ false → h.client.took + untaken_of h z.place Client ≡ length (client_output z.place) = λ kept. (let b : untaken_of h z.place Client ≡ length (client_output z.place) - h.client.took = left ∙ ap (λ x. untaken (length (client_output z.place)) (taken_by x h.client.took)) kept in omega (arith, b, k.within)) in
@@ -272,16 +281,23 @@ promised C past s c k =
         ended_clean_sent_all = λ e n none. whole C c z k (took_all none) (over_gives_no_more l.sent took (next_item g l) (ended e n).0);
       };
       finish_causes = record {
-        shown = ap (filter shows) k.noted ∙ filter-append shows N (last_notes c h.failed z.live d) ∙ ap (λ x. filter shows N ++ x) (last_shown c h.failed z.live d) ∙ append-nil (filter shows N) ∙ shown_all c N (of_items c z.place);
+        shown = besides_shows h.notes ∙ ap (filter shows) k.noted ∙ filter-append shows N (last_notes c h.failed z.live d) ∙ ap (λ x. filter shows N ++ x) (last_shown c h.failed z.live d) ∙ append-nil (filter shows N) ∙ shown_all c N (of_items c z.place);
         noted = k.noted;
         dropped_counts = all;
         causes = causes;
         trace_found_memory = t.found_memory;
         finishes_once = f.once;
         second_is_memory = λ first other more e. second (reasons_in z.place) h.failed first other more f.once (sym causes ∙ e);
-        open_while_live = ap (list_any closes) k.noted ∙ closed_behind c N (last_notes c h.failed z.live d) (of_items c z.place) ∙ last_closed c h.failed z.live d;
+        open_while_live = besides_closes h.notes ∙ ap (list_any closes) k.noted ∙ closed_behind c N (last_notes c h.failed z.live d) (of_items c z.place) ∙ last_closed c h.failed z.live d;
         closes_rightly = λ e. closed_by C c z k e (λ n. (kept_all e n, one e n));
         ended_has_finished = one;
+      };
+      entries_are_calls = record {
+        unanswered = k.told.unanswered;
+        entries_are_calls = k.told.calls;
+        answers_are_replies = heard_recorded c past;
+        unanswered_is_last = k.told.few;
+        unanswered_is_open = k.told.open_now;
       };
       open_line_counts = record { sent = kept_counts; reset = λ e. left ∙ ap (λ x. untaken (length (client_output z.place)) (taken_by x h.client.took)) e; to_server = right };
     }
@@ -289,4 +305,4 @@ promised C past s c k =
 pub every_past_matches : (C : Config) (past : Past) (s : State) → Leads C past s → OutputMatchesEvaluator C past s
 every_past_matches C past s leads =
     let sound = leads_sound C past s leads in
-    record { replay_has_scheduler_run = leads; each_connection = λ c e. promised C past s c (as_served C c (seen past s c) e (sound.each c)) }
+    record { replay_has_scheduler_run = leads; one_history = one_history C past s leads; each_connection = λ c e. promised C past s c (as_served C c (seen past s c) e (sound.each c)) }

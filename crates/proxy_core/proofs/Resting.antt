@@ -1,14 +1,22 @@
--- A Tick, and a Turn on an empty queue: from what changed in a core to what the core stands for.
-use Rattle.std.proofs.Common.{◌≡◌, refl, sym, ap, subst, ◌∙◌, ℕ, List, []}
+-- A Tick, a Mark, and a Turn on an empty queue: from what changed in a core to what the core stands for.
+use Rattle.std.proofs.Common.{◌≡◌, refl, sym, ap, subst, ◌∙◌, ℕ, List, [], Bool}
+use Rattle.px_bytes.specs.declared.addr.Addr.{Addr}
 use Rattle.connection_model.specs.declared.note.Note.{Note}
-use Rattle.connection_model.specs.Heard.{Heard, EventKind, Ticks, Turns, hears}
+use Rattle.connection_model.specs.Heard.{Heard, EventKind, Ticks, Turns, Marks, hears}
 use Rattle.connection_model.proofs.Hearing.{others_not_heard}
 use Rattle.proxy_core.specs.Changes as code
-use Rattle.proxy_core.specs.Past.{Past, ended_in, without_all}
+use Rattle.shared_store.specs.Store.{marked}
+use Rattle.proxy_core.specs.Calls.{asker}
+use Rattle.proxy_core.specs.History.{store_of, store_after}
+use Rattle.proxy_core.specs.Moves.{MovesBy, MovesQueue}
+use Rattle.proxy_core.specs.Others.{about}
+use Rattle.proxy_core.specs.Past.{Past, ended_in, without_all, with_accepted, last_after, moment_after, shared}
 use Rattle.proxy_core.specs.Ready.{numbers}
 use Rattle.proxy_core.specs.Refusals.{live_at}
 use Rattle.proxy_core.specs.Represents.{AgreesAt, Represents}
-use Rattle.proxy_core.specs.Scheduler.{State, Seen, seen}
+use Rattle.proxy_core.specs.Scheduler.{State, Seen, seen, seen_after}
+use Rattle.proxy_core.specs.declared.call.Asked.{Asked}
+use Rattle.proxy_core.specs.declared.live.Live.{Live}
 use Rattle.proxy_core.specs.declared.config.Config.{Config}
 use Rattle.proxy_core.specs.declared.core_state.Core.{Core}
 use Rattle.proxy_core.proofs.Agreeing.{After, assemble}
@@ -18,19 +26,42 @@ use Rattle.proxy_core.proofs.SoundPast.{unchanged}
 none_ended : (group : List Note) (live : List ℕ) → group ≡ [] → without_all (ended_in group) live ≡ live
 none_ended group live e = ap (λ g. without_all (ended_in g) live) e
 
+-- what a Tick or a Mark leaves of the core's other fields
+pub record Apart (old new : Core) : Type 0 where
+  pub keeps : code.KeepsConfig old new
+  pub last : new.last ≡ old.last
+  pub live : new.live.items ≡ old.live.items
+  pub ring : new.live.ring ≡ old.live.ring
+  pub queue : new.queue.items ≡ old.queue.items
+
+-- nothing is heard of any connection
+rested : (C : Config) (past : Past) (s : State) (v : EventKind) (old new : Core) (group : List Note) → Represents C past s old → MovesBy C past v group s s → group ≡ [] → about v s ≡ 0 → ((h : Heard) → hears 0 h v [] ≡ h) → with_accepted v (shared past).live ≡ (shared past).live
+    → Apart old new → last_after v old.last ≡ old.last → with_accepted v (numbers old.live.items) ≡ numbers old.live.items → new.moment ≡ moment_after v old.moment → new.store ≡ store_after v old.moment group old.store → After C past s v group new
+rested C past s v old new group r moves none at quiet same k last accepted moment store =
+    let A : Seen → Type 0 = λ z. AgreesAt C z (live_at new.live.items 0) in
+    let B : List Live → Type 0 = λ ls. AgreesAt C (seen past s 0) (live_at ls 0) in
+    let O : ℕ → Type 0 = λ c. AgreesAt C (seen_after past v group s c) (live_at new.live.items c) in
+    assemble C past s s v group old new r moves k.keeps (k.last ∙ sym last) moment
+    (ap numbers k.live ∙ sym accepted ∙ sym (none_ended group (with_accepted v (numbers old.live.items)) none)) (k.ring ∙ r.agrees.ring) (k.queue ∙ r.agrees.queue) store (λ q n. ap (λ ls. live_at ls q) k.live)
+    (subst O (sym at) (subst A (sym (unchanged past v group s s 0 (none, refl) quiet same)) (subst B (sym k.live) (r.agrees.each 0))))
+
+apart : (old new after : Core) → new ≡ after → Apart old after → Apart old new
+apart old new after e k = let P : Core → Type 0 = λ x. Apart old x in subst P (sym e) k
+
 pub ticks : (C : Config) (past : Past) (s : State) (old new : Core) (moment : ℕ) (group : List Note) (steps : ℕ) → Represents C past s old → code.Becomes new (record old { moment = moment }) group steps → After C past s (Ticks moment) group new
 ticks C past s old new moment group steps r k =
-    let v = Ticks moment in
-    let A : Seen → Type 0 = λ z. AgreesAt C z (live_at new.live.items 0) in
-    let B : Core → Type 0 = λ x. AgreesAt C (seen past s 0) (live_at x.live.items 0) in
-    assemble C past s s v group old new r (k.notes, refl) (record { config = ap (λ x. x.config) k.core; statics = ap (λ x. x.statics) k.core; places = ap (λ x. x.places) k.core }) (ap (λ x. x.last) k.core) (ap (λ x. x.moment) k.core)
-    (ap (λ x. numbers x.live.items) k.core ∙ sym (none_ended group (numbers old.live.items) k.notes)) (ap (λ x. x.live.ring) k.core ∙ r.agrees.ring) (λ q n. ap (λ x. live_at x.live.items q) k.core)
-    (subst A (sym (unchanged past v group s s 0 (k.notes, refl) (λ h. others_not_heard 0 h v [] refl refl) refl)) (subst B (sym k.core) (r.agrees.each 0)))
+    rested C past s (Ticks moment) old new group r (k.notes, refl) k.notes refl (λ h. others_not_heard 0 h (Ticks moment) [] refl refl) refl
+    (apart old new (record old { moment = moment }) k.core (record { keeps = record { config = refl; statics = refl; places = refl }; last = refl; live = refl; ring = refl; queue = refl })) refl refl (ap (λ x. x.moment) k.core) (ap (λ x. x.store) k.core)
 
-pub turns : (C : Config) (past : Past) (s : State) (old new : Core) (group : List Note) (steps : ℕ) → Represents C past s old → code.Becomes new old group steps → After C past s Turns group new
-turns C past s old new group steps r k =
-    let A : Seen → Type 0 = λ z. AgreesAt C z (live_at new.live.items 0) in
-    let B : Core → Type 0 = λ x. AgreesAt C (seen past s 0) (live_at x.live.items 0) in
-    assemble C past s s Turns group old new r (k.notes, refl) (record { config = ap (λ x. x.config) k.core; statics = ap (λ x. x.statics) k.core; places = ap (λ x. x.places) k.core }) (ap (λ x. x.last) k.core) (ap (λ x. x.moment) k.core)
-    (ap (λ x. numbers x.live.items) k.core ∙ sym (none_ended group (numbers old.live.items) k.notes)) (ap (λ x. x.live.ring) k.core ∙ r.agrees.ring) (λ q n. ap (λ x. live_at x.live.items q) k.core)
-    (subst A (sym (unchanged past Turns group s s 0 (k.notes, refl) (λ h. others_not_heard 0 h Turns [] refl refl) refl)) (subst B (sym k.core) (r.agrees.each 0)))
+pub marked_now : (C : Config) (past : Past) (s : State) (old new : Core) (pool : List ℕ) (member : Addr) (up : Bool) (group : List Note) (steps : ℕ) → Represents C past s old → code.Becomes new (record old { store = marked pool member up old.store }) group steps → After C past s (Marks pool member up) group new
+marked_now C past s old new pool member up group steps r k =
+    rested C past s (Marks pool member up) old new group r (k.notes, refl) k.notes refl (λ h. others_not_heard 0 h (Marks pool member up) [] refl refl) refl
+    (apart old new (record old { store = marked pool member up old.store }) k.core (record { keeps = record { config = refl; statics = refl; places = refl }; last = refl; live = refl; ring = refl; queue = refl })) refl refl (ap (λ x. x.moment) k.core) (ap (λ x. x.store) k.core)
+
+-- no call waits
+pub none_turns : (C : Config) (past : Past) (s : State) (old new : Core) (group : List Note) → Represents C past s old → s.queue ≡ [] → code.TurnsNone old new group → After C past s Turns group new
+none_turns C past s old new group r e k =
+    let M : List Asked → Type 0 = λ q. MovesQueue (store_of C past) (shared past).moment q group s s in
+    let S : List Note → Type 0 = λ g. new.store ≡ store_after Turns old.moment g old.store in
+    rested C past s Turns old new group r (subst M (sym e) (k.notes, refl)) k.notes (ap asker e) (λ h. others_not_heard 0 h Turns [] refl refl) refl
+    (record { keeps = k.keeps; last = k.last; live = k.live; ring = k.ring; queue = k.queue ∙ sym (r.agrees.queue ∙ e) }) refl refl k.moment (subst S (sym k.notes) k.store)

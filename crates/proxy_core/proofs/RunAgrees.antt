@@ -1,5 +1,5 @@
 -- A Run: from what changed in a core to what the core stands for.
-use Rattle.std.proofs.Common.{◌≡◌, ◌⊎◌, inl, inr, refl, sym, ap, subst, ◌∙◌, ℕ, ◌+◌, ◌-◌, List, [], ◌∷◌, ◌++◌, length, drop, map, Bool, true, false, ◌||◌, not, Option, Some, None, nat_eq, arith, length-append, if◌then◌else◌, remove, set}
+use Rattle.std.proofs.Common.{◌≡◌, ◌⊎◌, inl, inr, refl, sym, ap, subst, ◌∙◌, ℕ, ◌+◌, ◌-◌, ◌<◌, List, [], ◌∷◌, ◌++◌, length, drop, map, Bool, true, false, ◌||◌, not, Option, Some, None, nat_eq, arith, length-append, if◌then◌else◌, remove, set}
 use Rattle.std.specs.Bool.{MatchBool}
 use Rattle.std.specs.List.{IsDistinct}
 use Rattle.std.proofs.lemmas.List.{length-drop, drop-append-le}
@@ -18,24 +18,24 @@ use Rattle.connection_model.specs.State.{TraceState}
 use Rattle.connection_model.proofs.Hearing.{others_not_heard}
 use Rattle.conn.specs.Holds.{Holds, Around}
 use Rattle.conn.specs.Runs.{GoesOnWith, StopsWithout}
-use Rattle.conn.specs.RunsItems.{closing, closing_if, ends, out_of_memory, Passes}
+use Rattle.conn.specs.RunsItems.{asks, closing, closing_if, ends, out_of_memory, Passes}
 use Rattle.conn.specs.Setups as conn
 use Rattle.conn.specs.declared.connection.Conn.{Conn}
 use Rattle.conn.specs.declared.setup.Setup as given
 use Rattle.conn.specs.declared.turn.ConnTurn.{ConnTurn}
 use Rattle.conn.specs.declared.turn.ConnTurn.TheVariants as turn
-use Rattle.conn.proofs.Awake.{never_asks, no_call}
 use Rattle.proxy_core.specs.Changes as code
-use Rattle.proxy_core.specs.Live.{LiveRuns, queue_of}
+use Rattle.proxy_core.specs.Calls.{calls_of, is_any, queue_behind}
+use Rattle.proxy_core.specs.Live.{LiveRuns, asks_in, queue_of}
 use Rattle.proxy_core.specs.Moves.{MovesRing, MovesFront, RunsOn, RunsOut, RunsFailed, ran}
 use Rattle.proxy_core.specs.Past.{Past, heard, ended_in, without_all, shared}
 use Rattle.proxy_core.specs.Ready.{numbers, is_in, ring_behind, without}
 use Rattle.proxy_core.specs.Refusals.{live_at}
 use Rattle.proxy_core.specs.Represents.{around, Continues, Lacks, NeverBegan, ConnectionContinues, AgreesAt, Represents}
-use Rattle.proxy_core.specs.Scheduler.{State, Seen, seen, seen_after, untaken_all}
+use Rattle.proxy_core.specs.Scheduler.{State, entries, Seen, seen, seen_after, untaken_all}
 use Rattle.proxy_core.specs.Serving.{Serves, IsSetup}
 use Rattle.proxy_core.specs.Setup.{statics_of, setup_in, setup_of, stand_of}
-use Rattle.proxy_core.specs.Sound.{Served}
+use Rattle.proxy_core.specs.Sound.{Spot, Served}
 use Rattle.proxy_core.specs.declared.config.Config.{Config}
 use Rattle.proxy_core.specs.declared.core_state.Core.{Core}
 use Rattle.proxy_core.specs.declared.live.Live.{Live}
@@ -51,7 +51,9 @@ use Rattle.proxy_core.proofs.Hearing.{run_told}
 use Rattle.proxy_core.proofs.Members.{eq_self, not_in_without}
 use Rattle.proxy_core.proofs.Places.{number_at, live_there}
 use Rattle.proxy_core.proofs.Setups.{serves_code}
-use Rattle.proxy_core.proofs.SoundEvents.{run_about, run_plain, took_stays, ran_at, behind_closing, behind_memory, failure_closing}
+use Rattle.proxy_core.proofs.Counting.{fewer_calls}
+use Rattle.proxy_core.proofs.Entries.{asked_behind, calls_behind_self}
+use Rattle.proxy_core.proofs.SoundEvents.{at_front, run_about, run_plain, took_stays, ran_at, behind_closing, behind_memory, failure_closing}
 use Rattle.proxy_core.proofs.SoundPast.{unchanged}
 use Rattle.proxy_core.proofs.Standing.{is_served, none_untaken, all_untaken}
 use Rattle.proxy_core.proofs.Agreeing.{After, assemble, its, distinct_live, one_changed, closing_live, is_live_over, to_standing, serves_still}
@@ -59,6 +61,8 @@ use Rattle.proxy_core.proofs.Agreeing.{After, assemble, its, distinct_live, one_
 record RanConn (C : Config) (past : Past) (s : State) (c : ℕ) (rest : List ℕ) (group : List Note) (t : ConnTurn) (o : Option Conn) : Type 0 where
   next : State
   ring : next.ring ≡ ring_behind t c rest
+  queue : next.queue ≡ queue_behind t c s.queue
+  asking : ends t ≡ false → asks_in o ≡ is_any (calls_of c next.queue)
   moves : MovesFront C (heard c past) c rest group s next
   live : (seen_after past Runs group next c).live ≡ not (ends t)
   ended : (live : List ℕ) → without_all (ended_in group) live ≡ (if ends t then without c live else live)
@@ -88,6 +92,8 @@ front_failed C past s c rest group t o d live failed dropped left e f =
     record {
       next = record s { ring = rest };
       ring = ap (λ x. ring_behind x c rest) (sym f);
+      queue = ap (λ x. queue_behind x c s.queue) (sym f);
+      asking = λ x. absurd (over_stays t f x);
       moves = subst M (sym failed) moved;
       live = gone past c (ends t) group d live gone_all;
       ended = gone_all;
@@ -132,20 +138,33 @@ dropped_is C c z more at queue v p is =
     untaken_by : ℕ → List Item → TakenCounts → ℕ
     untaken_by n items t = (length (client_output items) - n) + to_take (sent_from no_bytes items) t Server
 
-front_goes : (C : Config) (past : Past) (s : State) (c : ℕ) (rest : List ℕ) (group : List Note) (t : ConnTurn) (old new : Conn) → IsDistinct nat_eq (shared past).live → (seen past s c).live ≡ true → Served C c (seen past s c) → Continues C (seen past s c) old
+-- no call of the front waits
+front_waits_none : (C : Config) (past : Past) (s : State) (c : ℕ) (rest : List ℕ) → s.ring ≡ c ∷ rest → Served C c (seen past s c) → calls_of c s.queue ≡ []
+front_waits_none C past s c rest e v =
+    let z = seen past s c in
+    let ready : z.ready ≡ c ∷ entries c rest = ap (entries c) e ∙ ap (λ x. if x then c ∷ entries c rest else entries c rest) (eq_self c) in
+    let S : List ℕ → Type 0 = λ r. Spot z.heard.failed z.live r z.asked (setup_of C z.heard) (taken z.heard) (stand_of C z.heard z.place) in
+    (at_front c rest z.heard.failed z.live z.asked (setup_of C z.heard) (taken z.heard) (stand_of C z.heard z.place) (subst S ready v.spot)).none_asked
+
+asks_behind : (t : ConnTurn) → asks t ≡ is_any (asked_behind t)
+asks_behind turn.More = refl
+asks_behind (turn.Asks call) = refl
+asks_behind turn.NotYet = refl
+asks_behind turn.Over = refl
+
+front_goes : (C : Config) (past : Past) (s : State) (c : ℕ) (rest : List ℕ) (group : List Note) (t : ConnTurn) (old new : Conn) → IsDistinct nat_eq (shared past).live → (seen past s c).live ≡ true → Served C c (seen past s c) → Continues C (seen past s c) old → calls_of c s.queue ≡ []
     → GoesOnWith (setup_of C (heard c past)) (around (heard c past)) (stand_of C (heard c past) (s.places c)) c old new group t → RanConn C past s c rest group t (Some new)
-front_goes C past s c rest group t old new d live v k w =
+front_goes C past s c rest group t old new d live v k none w =
     let z = seen past s c in
     let h = z.heard in
     let g = setup_of C h in
     let over = ends t in
     let as_around : TakenCounts → ℕ → Around = λ x n. record { took = x; counted = n } in
-    let next = ran c (ring_behind t c rest) w.more s in
-    let calls = no_call g (around h) w.at new w.holds t w.items.stops in
+    let next = ran c (ring_behind t c rest) (queue_behind t c s.queue) w.more s in
     let d' = untaken_all h (z.place ++ w.more) in
     let left : length new.host.to_client ≡ d' = ap length w.queue ∙ length-append (queue_of old) (client_output w.more) ∙ dropped_is C c z w.more w.at (queue_of old) v w.items.passes k.queue in
     let noted : group ≡ notes_of c w.more ++ closing_if over c d' = w.items.noted ∙ ap (λ n. notes_of c w.more ++ closing_if over c n) left in
-    let moved : RunsOn C h c rest group s next = record { more = w.more; at = w.at; turn = t; items = record { passes = w.items.passes; noted = noted; stops = w.items.stops }; no_call = calls; state = refl } in
+    let moved : RunsOn C h c rest group s next = record { more = w.more; at = w.at; turn = t; items = record { passes = w.items.passes; noted = noted; stops = w.items.stops; calls = w.items.calls }; state = refl } in
     let M : Bool → Type 0 = λ b. MatchBool b (RunsFailed h c rest group s next) (RunsOn C h c rest group s next ⊎ RunsOut C h c rest group s next) in
     let behind = closing_if over c d' in
     let b = behind_closing over c d' in
@@ -166,6 +185,8 @@ front_goes C past s c rest group t old new d live v k w =
     record {
       next = next;
       ring = refl;
+      queue = refl;
+      asking = λ x. w.asking ∙ asks_behind t ∙ ap is_any (sym (calls_behind_self t c s.queue none));
       moves = subst M (sym k.not_failed) (inl moved);
       live = gone past c over group d live gone_all;
       ended = gone_all;
@@ -183,16 +204,18 @@ front_stops : (C : Config) (past : Past) (s : State) (c : ℕ) (rest : List ℕ)
 front_stops C past s c rest group t old o d live v k w =
     let z = seen past s c in
     let h = z.heard in
-    let next = ran c rest w.more s in
+    let next = ran c rest s.queue w.more s in
     let queued = length (queue_of old) + length (client_output w.more) in
     let behind = Finish c Memory ∷ closing c queued in
     let left : queued ≡ untaken_all h (z.place ++ w.more) = dropped_is C c z w.more w.at (queue_of old) v w.passes k.queue in
-    let moved : RunsOut C h c rest group s next = record { more = w.more; at = w.at; passes = w.passes; notes = w.noted ∙ ap (λ n. out_of_memory c w.more n) left; state = refl } in
+    let moved : RunsOut C h c rest group s next = record { more = w.more; at = w.at; passes = w.passes; no_call = w.no_call; notes = w.noted ∙ ap (λ n. out_of_memory c w.more n) left; state = refl } in
     let M : Bool → Type 0 = λ b. MatchBool b (RunsFailed h c rest group s next) (RunsOn C h c rest group s next ⊎ RunsOut C h c rest group s next) in
     let gone_all : (ns : List ℕ) → without_all (ended_in group) ns ≡ (if ends t then without c ns else ns) = λ ns. ap (λ x. without_all (ended_in x) ns) w.noted ∙ ap (λ x. without_all x ns) (ended_behind c (notes_of c w.more) behind (of_items c w.more)) ∙ ap (λ x. if ends x then without c ns else ns) (sym w.over) in
     record {
       next = next;
       ring = ap (λ x. ring_behind x c rest) (sym w.over);
+      queue = ap (λ x. queue_behind x c s.queue) (sym w.over);
+      asking = λ x. absurd (over_stays t w.over x);
       moves = subst M (sym k.not_failed) (inr moved);
       live = gone past c (ends t) group d live gone_all;
       ended = gone_all;
@@ -201,14 +224,14 @@ front_stops C past s c rest group t old o d live v k w =
       edges = λ x. absurd (over_stays t w.over x);
     }
 
-front_runs : (C : Config) (past : Past) (s : State) (c : ℕ) (rest : List ℕ) (group : List Note) (t : ConnTurn) (S : given.Setup) (o o' : Option Conn) → IsDistinct nat_eq (shared past).live → (seen past s c).live ≡ true → Served C c (seen past s c) → ConnectionContinues C (seen past s c) o
+front_runs : (C : Config) (past : Past) (s : State) (c : ℕ) (rest : List ℕ) (group : List Note) (t : ConnTurn) (S : given.Setup) (o o' : Option Conn) → IsDistinct nat_eq (shared past).live → (seen past s c).live ≡ true → Served C c (seen past s c) → ConnectionContinues C (seen past s c) o → calls_of c s.queue ≡ [] → asks_in o ≡ is_any (calls_of c s.queue)
     → conn.Serves S (setup_of C (heard c past)) → LiveRuns S c o o' group t → RanConn C past s c rest group t o'
-front_runs C past s c rest group t S None o' d live v k serves r = front_failed C past s c rest group t o' d live k.failed 0 (none_dropped C past s c k) r.0 r.1
-front_runs C past s c rest group t S (Some old) None d live v k serves r = absurd r
-front_runs C past s c rest group t S (Some old) (Some new) d live v (inr k) serves r =
+front_runs C past s c rest group t S None o' d live v k none asks serves r = front_failed C past s c rest group t o' d live k.failed 0 (none_dropped C past s c k) r.0 r.1
+front_runs C past s c rest group t S (Some old) None d live v k none asks serves r = absurd r
+front_runs C past s c rest group t S (Some old) (Some new) d live v (inr k) none asks serves r =
     let x = r.failed k.there in
     front_failed C past s c rest group t (Some new) d live k.failed (length (queue_of old)) (lacking_dropped C c (seen past s c) old v k) x.0 x.1
-front_runs C past s c rest group t S (Some old) (Some new) d live v (inl k) serves r = by_end (r.runs g (around (heard c past)) l serves k.holds (never_asks g (around (heard c past)) l old k.holds))
+front_runs C past s c rest group t S (Some old) (Some new) d live v (inl k) none asks serves r = by_end (r.runs g (around (heard c past)) l serves k.holds (asks ∙ ap is_any none))
   where
     g : Setup
     g = setup_of C (heard c past)
@@ -217,7 +240,7 @@ front_runs C past s c rest group t S (Some old) (Some new) d live v (inl k) serv
     l = stand_of C (heard c past) (s.places c)
 
     by_end : GoesOnWith g (around (heard c past)) l c old new group t ⊎ StopsWithout g (around (heard c past)) l c old group t → RanConn C past s c rest group t (Some new)
-    by_end (inl w) = front_goes C past s c rest group t old new d live v k w
+    by_end (inl w) = front_goes C past s c rest group t old new d live v k none w
     by_end (inr w) = front_stops C past s c rest group t old (Some new) d live v k w
 
 runs_front : (C : Config) (past : Past) (s : State) (old new : Core) (c : ℕ) (rest : List ℕ) (group : List Note) (steps : ℕ) → Represents C past s old → s.ring ≡ c ∷ rest → code.RunsFront old new c rest group steps → After C past s Runs group new
@@ -229,7 +252,9 @@ runs_front C past s old new c rest group steps r front_is k =
     let D : Config → Type 0 = λ x. IsSetup x (statics_of C) old.places k.before.vs k.setup in
     let L : Level → Type 0 = λ x. IsSetup old.config x old.places k.before.vs k.setup in
     let serves = serves_code C (statics_of C) old.places k.before.vs k.setup (setup_of C z.heard) r.agrees.places (subst D r.agrees.config (subst L r.agrees.statics k.setup_is)) i.serves in
-    let w = front_runs C past s c rest group k.turn k.setup k.before.conn k.after.conn r.sound.distinct i.live v i.continues serves k.runs in
+    let none = front_waits_none C past s c rest front_is v in
+    let w = front_runs C past s c rest group k.turn k.setup k.before.conn k.after.conn r.sound.distinct i.live v i.continues none i.asking serves k.runs in
+    let room : length old.queue.items < old.config.connections = fewer_calls C past s old c r none i.live in
     let over = ends k.turn in
     let number = number_at c k.at old.live.items k.before k.place k.found in
     let o = one_changed c over old.live.items new.live.items k.at k.before k.after (distinct_live C past s old r) k.found number (k.same.number ∙ number) (live_is over k.goes_on k.over) in
@@ -240,9 +265,9 @@ runs_front C past s old new c rest group steps r front_is k =
     let T : List ℕ → Type 0 = λ y. MovesRing C past y group s w.next in
     let A : ℕ → Type 0 = λ n. AgreesAt C (seen_after past Runs group w.next n) (live_at new.live.items n) in
     assemble C past s w.next Runs group old new r (subst T (sym front_is) w.moves) k.keeps k.last k.moment
-    (o.numbers_are ∙ sym (w.ended (numbers old.live.items))) (k.ring ∙ sym w.ring)
+    (o.numbers_are ∙ sym (w.ended (numbers old.live.items))) (k.ring ∙ sym w.ring) (k.queue room ∙ ap (queue_behind k.turn c) r.agrees.queue ∙ sym w.queue) k.store
     (λ q e. o.others q (ap (λ n. nat_eq n q) (sym at) ∙ e))
-    (subst A (sym at) (is_live_over c over old.live.items new.live.items k.after z' C o w.live w.goes_on still ends_are))
+    (subst A (sym at) (is_live_over c over old.live.items new.live.items k.after z' C o w.live w.goes_on still ends_are w.asking))
   where
     at_client : Edge → Edges
     at_client x = record { client = x; server = edge Absent }
@@ -257,6 +282,6 @@ runs C past s old new [] group steps r e k =
     let A : Seen → Type 0 = λ z. AgreesAt C z (live_at new.live.items (about Runs s)) in
     let B : List Live → Type 0 = λ ls. AgreesAt C (seen past s (about Runs s)) (live_at ls (about Runs s)) in
     assemble C past s s Runs group old new r (subst T (sym e) (k.notes, refl)) k.keeps k.last k.moment
-    (ap numbers k.live ∙ sym (ap (λ g. without_all (ended_in g) (numbers old.live.items)) k.notes)) (k.ring ∙ sym e) (λ q n. ap (λ ls. live_at ls q) k.live)
+    (ap numbers k.live ∙ sym (ap (λ g. without_all (ended_in g) (numbers old.live.items)) k.notes)) (k.ring ∙ sym e) (k.queue ∙ r.agrees.queue) k.store (λ q n. ap (λ ls. live_at ls q) k.live)
     (subst A (sym (unchanged past Runs group s s (about Runs s) (k.notes, refl) (λ h. others_not_heard (about Runs s) h Runs [] refl refl) refl)) (subst B (sym k.live) (r.agrees.each (about Runs s))))
 runs C past s old new (c ∷ rest) group steps r e k = runs_front C past s old new c rest group steps r e k

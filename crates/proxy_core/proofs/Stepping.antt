@@ -12,7 +12,7 @@ use Rattle.proxy_core.specs.Changes.{Changes}
 use Rattle.proxy_core.specs.Live.{pending_in, queue_of, wanted_of}
 use Rattle.proxy_core.specs.Past.{Past, kind_of, Shared, shared}
 use Rattle.proxy_core.specs.Ready.{numbers}
-use Rattle.proxy_core.specs.Refusal.{Standing, Known, edges_in, wants_at, standing_by, standing_of, named, known, refused, refusal_by, core_standing, core_known, refusal_of, refusal}
+use Rattle.proxy_core.specs.Refusal.{Standing, Known, edges_in, wants_at, standing_by, standing_of, named, has_marked, known, refused, refusal_by, core_standing, core_known, refusal_of, refusal}
 use Rattle.proxy_core.specs.Refusals.{live_at}
 use Rattle.proxy_core.specs.Represents.{around, ConnectionContinues, AgreesAt, Represents}
 use Rattle.proxy_core.specs.Scheduler.{State, Seen, seen, no_connections, untaken_of}
@@ -38,7 +38,9 @@ use Rattle.connection_model.specs.Tellings.{tells, finish_told}
 use Rattle.proxy_core.proofs.ComesAgrees.{comes}
 use Rattle.proxy_core.proofs.Finished.{heard_finish, stands_orderly, trace_finished}
 use Rattle.connection_model.specs.declared.edges.Edges.{Edges}
-use Rattle.proxy_core.proofs.Resting.{ticks, turns}
+use Rattle.proxy_core.proofs.Resting.{ticks, marked_now}
+use Rattle.proxy_core.proofs.TurnAgrees.{turns}
+use Rattle.proxy_core.specs.History.{store_of}
 use Rattle.proxy_core.proofs.RunAgrees.{runs}
 use Rattle.proxy_core.proofs.SoundPast.{sound_start, sound_step}
 use Rattle.proxy_core.proofs.Standing.{is_served, none_untaken, client_untaken, none_to_server, reset_by}
@@ -109,10 +111,12 @@ standing_same C c z (Some l) told s a =
 
 known_same : (C : Config) (past : Past) (s : State) (core : Core) (v : EventKind) → Represents C past s core → core_known core v ≡ known C past s v
 known_same C past s core v r =
-    let make : ℕ → ℕ → ℕ → Option Standing → Known = λ l m n o. record { last = l; moment = m; live = n; conn = o } in
-    ap (λ y. make y.last y.moment (length core.live.items) (core_standing (live_at core.live.items (named v)))) r.agrees.shared
-    ∙ ap (λ n. make (shared past).last (shared past).moment n (core_standing (live_at core.live.items (named v)))) (sym (length-map core.live.items (λ l. l.number)) ∙ ap (λ y. length y.live) r.agrees.shared)
-    ∙ ap (λ o. make (shared past).last (shared past).moment (length (shared past).live) o) (standing_same C (named v) (seen past s (named v)) (live_at core.live.items (named v)) (heard_finish (named v) past) (r.sound.each (named v)) (r.agrees.each (named v)))
+    let make : ℕ → ℕ → ℕ → Option Standing → Bool → Known = λ l m n o b. record { last = l; moment = m; live = n; conn = o; member = b } in
+    let there = has_marked core.store v in
+    ap (λ y. make y.last y.moment (length core.live.items) (core_standing (live_at core.live.items (named v))) there) r.agrees.shared
+    ∙ ap (λ n. make (shared past).last (shared past).moment n (core_standing (live_at core.live.items (named v))) there) (sym (length-map core.live.items (λ l. l.number)) ∙ ap (λ y. length y.live) r.agrees.shared)
+    ∙ ap (λ o. make (shared past).last (shared past).moment (length (shared past).live) o there) (standing_same C (named v) (seen past s (named v)) (live_at core.live.items (named v)) (heard_finish (named v) past) (r.sound.each (named v)) (r.agrees.each (named v)))
+    ∙ ap (λ x. make (shared past).last (shared past).moment (length (shared past).live) (standing_of C (seen past s (named v))) (has_marked x v)) r.agrees.store_is
 
 pub refusal_same : (C : Config) (past : Past) (s : State) (core : Core) (v : EventKind) → Represents C past s core → refusal_of core v ≡ refused C past s v
 refusal_same C past s core v r = ap (λ D. refusal_by D (core_known core v) v) r.agrees.config ∙ ap (λ k. refusal_by C k v) (known_same C past s core v r)
@@ -124,7 +128,8 @@ by_event C past s old new (event.ClientEnd conn) group steps r h k = comes C pas
 by_event C past s old new (event.ClientReset conn) group steps r h k = comes C past s old new conn (Resets Client) group refl r h k.0
 by_event C past s old new (event.ClientTook conn n) group steps r h k = comes C past s old new conn (Takes Client n) group refl r h k.0
 by_event C past s old new (event.Tick moment) group steps r h k = ticks C past s old new moment group steps r k
-by_event C past s old new event.Turn group steps r h k = turns C past s old new group steps r k
+by_event C past s old new event.Turn group steps r h k = turns C past s old new old.queue.items group r (sym r.agrees.queue) k.0
+by_event C past s old new (event.Mark pool member up) group steps r h k = marked_now C past s old new pool member up group steps r k
 by_event C past s old new event.Run group steps r h k = runs C past s old new old.live.ring group steps r (sym r.agrees.ring) k
 by_event C past s old new other group steps r h k = absurd k
 
@@ -149,7 +154,9 @@ start_represents C core k = record {
     statics = k.statics;
     places = k.places;
     shared = ap (λ l. made l core.moment (numbers core.live.items)) k.last ∙ ap (λ m. made 0 m (numbers core.live.items)) k.moment ∙ ap (λ ls. made 0 0 (numbers ls)) k.live;
+    store_is = k.store;
     ring = k.ring;
+    queue = k.queue;
     each = λ c. rw k.live refl;
   };
 }

@@ -1,6 +1,6 @@
 -- What may be asked of a core, by the past and the scheduler's state.
 use Rattle.std.specs.Prelude.{ℕ, List, [], ◌∷◌, length, take, drop, Bool, true, false, Option, Some}
-use Rattle.std.specs.Prelude.{None, nat_le, slice_get, option_and_then, if◌then◌else◌}
+use Rattle.std.specs.Prelude.{None, ◌&&◌, nat_le, slice_get, option_and_then, if◌then◌else◌}
 use Rattle.px_bytes.specs.declared.addr.Side.{Side}
 use Rattle.px_bytes.specs.declared.addr.Side.TheVariants.{Client, Server}
 use Rattle.connection_model.specs.declared.edges.Edges.{Edges}
@@ -13,13 +13,13 @@ use Rattle.proxy_core.specs.Refusal.{wants_at}
 use Rattle.proxy_core.specs.Scheduler.{State, Seen, seen, pending}
 use Rattle.proxy_core.specs.declared.config.Config.{Config}
 
-abbrev pub is_none_of : List ℕ → Bool
+abbrev pub is_none_of : {A : Type 0} → List A → Bool
 is_none_of [] = true
 is_none_of (n ∷ ns) = false
 
--- nothing is ready; there is no queue of shared calls yet
+-- nothing is ready, and no shared call waits
 abbrev pub settled_of : State → Bool
-settled_of s = is_none_of s.ring
+settled_of s = is_none_of s.ring && is_none_of s.queue
 
 -- the connection that the next Run runs
 abbrev pub next_of : State → Option ℕ

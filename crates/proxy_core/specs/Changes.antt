@@ -1,6 +1,6 @@
 -- What an event changes in a core, and the notes that come of it.
-use Rattle.std.specs.Prelude.{◌≡◌, ℕ, List, [], ◌∷◌, ◌++◌, length, Bool, true, false, Option}
-use Rattle.std.specs.Prelude.{Some, None, slice_get, slice_set, remove}
+use Rattle.std.specs.Prelude.{◌≡◌, ◌⊎◌, ℕ, ◌<◌, List, [], ◌∷◌, ◌++◌, length, Bool, true, false}
+use Rattle.std.specs.Prelude.{Option, Some, None, slice_get, slice_set, remove, if◌then◌else◌}
 use Rattle.px_bytes.specs.declared.addr.Addr.{Addr}
 use Rattle.px_bytes.specs.declared.addr.Side.TheVariants.{Client}
 use Rattle.tcl_vars.specs.Scopes.{Level}
@@ -17,11 +17,15 @@ use Rattle.conn.specs.declared.connection.Conn.{Conn}
 use Rattle.conn.specs.declared.setup.Place.{Place}
 use Rattle.conn.specs.declared.setup.Setup.{Setup}
 use Rattle.conn.specs.declared.turn.ConnTurn.{ConnTurn}
-use Rattle.proxy_core.specs.Live.{KeepsPlace, LiveComes, LiveRuns, SamePlace, client_met}
-use Rattle.proxy_core.specs.Live.{comes_notes, left_in, queue_of}
+use Rattle.conn.specs.Stages.{is_asking}
+use Rattle.shared_store.specs.Store.{marked}
+use Rattle.proxy_core.specs.Calls.{queue_behind, without_calls, woken}
+use Rattle.proxy_core.specs.Live.{KeepsPlace, LiveAnswers, LiveComes, LiveRuns, SamePlace}
+use Rattle.proxy_core.specs.Live.{asks_in, client_met, comes_notes, left_in, queue_of}
 use Rattle.proxy_core.specs.Ready.{place_of, ring_behind, with_ready, without}
 use Rattle.proxy_core.specs.Refusals.{virtual_place}
 use Rattle.proxy_core.specs.Serving.{IsSetup}
+use Rattle.proxy_core.specs.declared.call.Asked.{Asked}
 use Rattle.proxy_core.specs.declared.config.Config.{Config}
 use Rattle.proxy_core.specs.declared.core_state.Core.{Core}
 use Rattle.proxy_core.specs.declared.event.Event.{Event}
@@ -39,7 +43,7 @@ abbrev pub BeginsAt : Level → List (List (List Place)) → Config → ℕ → 
     → List Note → Type 0
 BeginsAt statics places C number place from (Some conn) group =
     ((s : Setup) × IsSetup C statics places place s × Begins s from conn)
-    × (queue_of conn ≡ []) × (group ≡ [])
+    × (queue_of conn ≡ []) × (group ≡ []) × (is_asking conn.stage ≡ false)
 BeginsAt statics places C number place from None group = group ≡ Finish number Memory ∷ []
 
 -- an accepted connection goes to the back of the ring
@@ -55,17 +59,22 @@ pub record Accepts (old new : Core) (number : ℕ) (vs : List ℕ) (from : Addr)
   pub live : new.live.items ≡ old.live.items
       ++ record { number = number; vs = place; from = from; client = edge Open; conn = conn } ∷ []
   pub ring : new.live.ring ≡ old.live.ring ++ number ∷ []
+  pub queue : new.queue.items ≡ old.queue.items
+  pub store : new.store ≡ old.store
 
--- The connection at a place goes on with this state, and is ready; or it is over, and gone from the
--- ring too.
-abbrev pub Stays : Core → Core → ℕ → Live → Type 0
-Stays old new at l =
-    (new.live.items ≡ slice_set old.live.items at l)
-    × (new.live.ring ≡ with_ready old.live.ring l.number)
+-- The connection at a place goes on, and waits on for a reply or is ready; one that waited and doesn't
+-- any more leaves the queue of calls. Or it is over, and gone from the ring too.
+pub record Stays (old new : Core) (at : ℕ) (before after : Live) : Type 0 where
+  pub live : new.live.items ≡ slice_set old.live.items at after
+  pub ring : new.live.ring ≡ woken (asks_in after.conn) after.number old.live.ring
+  pub waits : asks_in after.conn ≡ asks_in before.conn → new.queue.items ≡ old.queue.items
+  pub forgets : asks_in after.conn ≡ false → asks_in before.conn ≡ true
+      → new.queue.items ≡ without_calls after.number old.queue.items
 
-abbrev pub Goes : Core → Core → ℕ → Live → Type 0
-Goes old new at l =
-    (new.live.items ≡ remove old.live.items at) × (new.live.ring ≡ without l.number old.live.ring)
+pub record Goes (old new : Core) (at : ℕ) (before : Live) : Type 0 where
+  pub live : new.live.items ≡ remove old.live.items at
+  pub ring : new.live.ring ≡ without before.number old.live.ring
+  pub queue : new.queue.items ≡ old.queue.items
 
 -- This came of the client. Where the connection is over then, it is gone. Where it found no memory
 -- it goes on, finished with that cause.
@@ -73,6 +82,7 @@ pub record ComesOf (old new : Core) (number : ℕ) (input : Input) (group : List
   pub keeps : KeepsConfig old new
   pub last : new.last ≡ old.last
   pub moment : new.moment ≡ old.moment
+  pub store : new.store ≡ old.store
   pub at : ℕ
   pub place : place_of old.live.items number ≡ Some at
   pub before : Live
@@ -84,16 +94,18 @@ pub record ComesOf (old new : Core) (number : ℕ) (input : Input) (group : List
   pub over : Bool
   pub came : LiveComes input before.conn after.conn lacks over
   pub notes : group ≡ comes_notes lacks over number (left_in after.conn)
-  pub goes_on : over ≡ false → Stays old new at after
+  pub goes_on : over ≡ false → Stays old new at before after
   pub ends : over ≡ true → Goes old new at before
 
 -- The front of the ring runs, and leaves the ring, or goes to its back where there is more to do. It
--- goes on with its new state, or is over. It stops in the middle only behind so many steps or notes.
+-- goes on with its new state, or is over. It stops in the middle only behind so many steps or notes. Where
+-- it stops at a call that goes to the back of the calls, which are fewer than connections may be.
 pub record RunsFront (old new : Core) (number : ℕ) (rest : List ℕ) (group : List Note)
     (steps : ℕ) : Type 0 where
   pub keeps : KeepsConfig old new
   pub last : new.last ≡ old.last
   pub moment : new.moment ≡ old.moment
+  pub store : new.store ≡ old.store
   pub at : ℕ
   pub place : place_of old.live.items number ≡ Some at
   pub before : Live
@@ -107,6 +119,8 @@ pub record RunsFront (old new : Core) (number : ℕ) (rest : List ℕ) (group : 
   pub whole : IsWhole turn steps (length group)
   pub bounded : IsBounded turn steps
   pub ring : new.live.ring ≡ ring_behind turn number rest
+  pub queue : length old.queue.items < old.config.connections
+      → new.queue.items ≡ queue_behind turn number old.queue.items
   pub goes_on : ends turn ≡ false → new.live.items ≡ slice_set old.live.items at after
   pub over : ends turn ≡ true → new.live.items ≡ remove old.live.items at
 
@@ -117,12 +131,48 @@ pub record Idles (old new : Core) (group : List Note) (steps : ℕ) : Type 0 whe
   pub moment : new.moment ≡ old.moment
   pub live : new.live.items ≡ old.live.items
   pub ring : new.live.ring ≡ []
+  pub queue : new.queue.items ≡ old.queue.items
+  pub store : new.store ≡ old.store
   pub notes : group ≡ []
   pub no_step : steps ≡ 0
 
 abbrev pub RunsRing : Core → Core → List ℕ → List Note → (steps : ℕ) → Type 0
 RunsRing old new [] group steps = Idles old new group steps
 RunsRing old new (number ∷ rest) group steps = RunsFront old new number rest group steps
+
+-- the call that waits for the longest time is answered, and its connection gets ready
+pub record TurnsAt (old new : Core) (a : Asked) (rest : List Asked) (group : List Note)
+    : Type 0 where
+  pub keeps : KeepsConfig old new
+  pub last : new.last ≡ old.last
+  pub moment : new.moment ≡ old.moment
+  pub at : ℕ
+  pub place : place_of old.live.items a.conn ≡ Some at
+  pub before : Live
+  pub found : slice_get old.live.items at ≡ Some before
+  pub after : Live
+  pub same : SamePlace before after
+  pub answers :
+      LiveAnswers old.store new.store old.moment a before.conn after.conn group
+  pub live : new.live.items ≡ slice_set old.live.items at after
+  pub ring : new.live.ring ≡ with_ready old.live.ring a.conn
+  pub queue : new.queue.items ≡ rest
+
+-- no call waits
+pub record TurnsNone (old new : Core) (group : List Note) : Type 0 where
+  pub keeps : KeepsConfig old new
+  pub last : new.last ≡ old.last
+  pub moment : new.moment ≡ old.moment
+  pub live : new.live.items ≡ old.live.items
+  pub ring : new.live.ring ≡ old.live.ring
+  pub queue : new.queue.items ≡ []
+  pub store : new.store ≡ old.store
+  pub notes : group ≡ []
+
+abbrev pub TurnsQueue : Core → Core → List Asked → List Note → Type 0
+TurnsQueue old new [] group = TurnsNone old new group
+TurnsQueue old new (a ∷ rest) group =
+    (place_of old.live.items a.conn ≡ None) ⊎ TurnsAt old new a rest group
 
 -- only this changes, without a note
 pub record Becomes (new after : Core) (group : List Note) (steps : ℕ) : Type 0 where
@@ -131,7 +181,7 @@ pub record Becomes (new after : Core) (group : List Note) (steps : ℕ) : Type 0
   pub no_step : steps ≡ 0
 
 -- What an event that isn't refused changes, and how many steps it counts. What comes of a server is
--- refused, as none is asked for a connection yet; a mark too, as there are no pools yet.
+-- refused, as none is asked for a connection yet.
 abbrev pub Changes : Core → Core → Event → List Note → (steps : ℕ) → Type 0
 Changes old new (event.Accept conn vs from) group steps =
     Accepts old new conn vs from group × (steps ≡ 0)
@@ -145,6 +195,9 @@ Changes old new (event.ClientTook conn n) group steps =
     ComesOf old new conn (Takes Client n) group × (steps ≡ 0)
 Changes old new (event.Tick moment) group steps =
     Becomes new (record old { moment = moment }) group steps
-Changes old new event.Turn group steps = Becomes new old group steps
+Changes old new event.Turn group steps =
+    TurnsQueue old new old.queue.items group × (steps ≡ 0)
 Changes old new event.Run group steps = RunsRing old new old.live.ring group steps
+Changes old new (event.Mark pool member up) group steps =
+    Becomes new (record old { store = marked pool member up old.store }) group steps
 Changes old new other group steps = ⊥

@@ -13,16 +13,18 @@ use Rattle.connection_model.specs.declared.note.Note.{Note}
 use Rattle.connection_model.specs.declared.note.Note.TheVariants as note
 use Rattle.connection_model.specs.Gates.{no_bytes, sent_from}
 use Rattle.connection_model.specs.Heard.{SideHeard, Heard, taken}
-use Rattle.connection_model.specs.Item.{Item, cause_of, client_output, notes_of, reasons_in}
+use Rattle.connection_model.specs.Item.{Item, calls_in, cause_of, client_output, notes_of}
+use Rattle.connection_model.specs.Item.{reasons_in}
 use Rattle.connection_model.specs.Laws.{takes_cut}
 use Rattle.connection_model.specs.Tellings.{notes_about, failure_told}
 use Rattle.connection_model.specs.Trace.{next_item, trace, GivesNoMore}
 use Rattle.conn.specs.RunsItems.{closing}
+use Rattle.proxy_core.specs.History.{IsHistory, called_in, entries_in}
 use Rattle.proxy_core.specs.Moves.{Leads}
 use Rattle.proxy_core.specs.Past.{Past, heard}
 use Rattle.proxy_core.specs.Scheduler.{State, Seen, seen, untaken_of, untaken_all, pending}
 use Rattle.proxy_core.specs.Setup.{setup_of, begins_at, stand_of}
-use Rattle.proxy_core.specs.Sound.{last_notes}
+use Rattle.proxy_core.specs.Sound.{besides, last_notes}
 use Rattle.proxy_core.specs.declared.config.Config.{Config}
 
 -- the first n items of a connection's trace on what was heard
@@ -70,18 +72,23 @@ NoCutIsDue C h place =
     → takes_cut (setup_of C h) (record { reason = reason; took = taken h })
     (sent_from no_bytes place) (next_item (setup_of C h) (stand_of C h place)) ≡ false
 
--- Where nothing is ready, each live connection found memory, gave all that was deliverable, and no
+-- nothing is ready, and no shared call waits
+pub record IsSettled (s : State) : Type 0 where
+  pub none_ready : s.ring ≡ []
+  pub none_asks : s.queue ≡ []
+
+-- Where it is settled, each live connection found memory, gave all that was deliverable, and no
 -- cut is due; where besides its client took all, it is whole, and if it has finished and nothing is
 -- pending it isn't live any more. An ended one gave its whole trace, unless it found no memory; where
 -- nothing was dropped it is whole.
-pub record SettledIsComplete (C : Config) (h : Heard) (ring : List ℕ) (live : Bool)
+pub record SettledIsComplete (C : Config) (h : Heard) (s : State) (live : Bool)
     (place : List Item) : Type 0 where
-  pub settled_found_memory : ring ≡ [] → live ≡ true → h.failed ≡ false
-  pub settled_gave_deliverable : ring ≡ [] → live ≡ true → GaveDeliverable C h place
-  pub settled_not_cut : ring ≡ [] → live ≡ true → NoCutIsDue C h place
-  pub drained_gave_whole_trace : ring ≡ [] → live ≡ true
+  pub settled_found_memory : IsSettled s → live ≡ true → h.failed ≡ false
+  pub settled_gave_deliverable : IsSettled s → live ≡ true → GaveDeliverable C h place
+  pub settled_not_cut : IsSettled s → live ≡ true → NoCutIsDue C h place
+  pub drained_gave_whole_trace : IsSettled s → live ≡ true
       → length (client_output place) ≤ h.client.took → IsWhole C h place
-  pub finished_has_ended : ring ≡ [] → h.finished ≡ true → untaken_of h place Client ≡ 0
+  pub finished_has_ended : IsSettled s → h.finished ≡ true → untaken_of h place Client ≡ 0
       → untaken_of h place Server ≡ 0 → live ≡ false
   pub ended_gave_whole_trace : live ≡ false → h.failed ≡ false
       → (n : ℕ) → first_items C h (length place + n) ≡ place
@@ -130,15 +137,16 @@ pub record ClosesRightly (c : ℕ) (h : Heard) (place : List Item) : Type 0 wher
 abbrev pub causes_behind : Bool → List Cause
 causes_behind failed = if failed then Memory ∷ [] else []
 
--- The notes of a connection that show an item are those of the items that it passed. Behind them
--- are its last ones: none while it goes on; that its client is closed, and that it ended with what a
+-- The notes of a connection that show an item are those of the items that it passed. Besides them and
+-- its entries in the history are its last ones alone: none while it goes on; that its client is closed, and that it ended with what a
 -- reset left dropped; or a Finish for want of memory, and then so many bytes dropped as were sent and not
 -- taken. Its trace finishes once at most, never for want of memory, and has finished where it
 -- ended; a second Finish is for want of memory, and there is no third.
 pub record FinishCauses (C : Config) (c : ℕ) (h : Heard) (live : Bool)
     (place : List Item) : Type 0 where
   pub shown : filter shows h.notes ≡ notes_of c place
-  pub noted : h.notes ≡ notes_of c place ++ last_notes c h.failed live (untaken_all h place)
+  pub noted : besides h.notes
+      ≡ notes_of c place ++ last_notes c h.failed live (untaken_all h place)
   pub dropped_counts : untaken_all h place ≡ length (client_output place) - h.client.took
   pub causes : causes_told h.notes ≡ map cause_of (reasons_in place) ++ causes_behind h.failed
   pub trace_found_memory : failure_told (notes_about c (notes_of c place)) ≡ false
@@ -148,6 +156,17 @@ pub record FinishCauses (C : Config) (c : ℕ) (h : Heard) (live : Bool)
   pub open_while_live : list_any closes h.notes ≡ not live
   pub closes_rightly : live ≡ false → ClosesRightly c h place
   pub ended_has_finished : live ≡ false → h.failed ≡ false → length (reasons_in place) ≡ 1
+
+-- The calls of the items that a connection passed are those of its entries in the history, each once
+-- and in their order, and its recorded answers are their replies. Behind them is one call at most that has
+-- no entry: it waits for its Turn, unless the connection found no memory.
+pub record EntriesAreCalls (h : Heard) (asked : List (List (List ℕ))) (place : List Item)
+    : Type 0 where
+  pub unanswered : List (List (List ℕ))
+  pub entries_are_calls : calls_in place ≡ called_in h.notes ++ unanswered
+  pub answers_are_replies : h.replies ≡ map (λ e. e.reply) (entries_in h.notes)
+  pub unanswered_is_last : length unanswered ≤ 1
+  pub unanswered_is_open : h.failed ≡ false → unanswered ≡ asked
 
 -- The counts of a live connection: taken and pending are what was sent to its client, and once that
 -- was reset nothing is pending. Nothing is sent to a server yet.
@@ -160,14 +179,17 @@ pub record OpenCounts (past : Past) (s : State) (c : ℕ) : Type 0 where
 pub record ConnectionPromise (C : Config) (past : Past) (s : State) (c : ℕ)
     (z : Seen) : Type 0 where
   pub sent_is_prefix : SentIsPrefix C z.heard z.place
-  pub settled_is_complete : SettledIsComplete C z.heard s.ring z.live z.place
+  pub settled_is_complete : SettledIsComplete C z.heard s z.live z.place
   pub finish_causes : FinishCauses C c z.heard z.live z.place
+  pub entries_are_calls : EntriesAreCalls z.heard z.asked z.place
   pub open_line_counts : OpenCounts past s c
 
--- what the program's past and state promise: a list of scheduler states leads to this one, and each
--- accepted connection's bytes and notes are those of the evaluator
+-- what the program's past and state promise: a list of scheduler states leads to this one, the shared
+-- answers are one history of a sequential store, and each accepted connection's bytes and notes are
+-- those of the evaluator
 pub record OutputMatchesEvaluator (C : Config) (past : Past) (s : State) : Type 0 where
   pub replay_has_scheduler_run : Leads C past s
+  pub one_history : IsHistory C past
   pub each_connection : (c : ℕ) → is_some (heard c past).accepted ≡ true
       → ConnectionPromise C past s c (seen past s c)
 

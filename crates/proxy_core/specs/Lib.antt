@@ -1,5 +1,7 @@
-pub mod Live
 pub mod Ready
+pub mod Calls
+pub mod CallQueue
+pub mod Live
 pub mod Start
 pub mod Refusals
 pub mod Order
@@ -11,6 +13,7 @@ pub mod Serving
 pub mod Changes
 pub mod Queries
 pub mod Past
+pub mod History
 pub mod Scheduler
 pub mod Refusal
 pub mod Moves

@@ -1,13 +1,14 @@
 -- What the place of a live connection holds, and what calls make of it.
-use Rattle.std.specs.Prelude.{◌≡◌, ℕ, List, [], ◌∷◌, Bool, true, false, Option, Some, None}
+use Rattle.std.specs.Prelude.{◌≡◌, ◌⊎◌, ℕ, List, [], ◌∷◌, Bool, true, false, Option, Some, None}
 use Rattle.conn.specs.Queues.{queue_in}
 use Rattle.std.specs.Prelude.{length, drop}
 use Rattle.px_bytes.specs.declared.addr.Side.TheVariants.{Client}
+use Rattle.px_bytes.specs.declared.fault.Reply.{Reply}
 use Rattle.connection_model.specs.declared.edges.Edge.{Edge}
 use Rattle.connection_model.specs.declared.edges.EdgeState.TheVariants.{Absent}
 use Rattle.connection_model.specs.declared.note.Cause.TheVariants.{Memory}
 use Rattle.connection_model.specs.declared.note.Note.{Note}
-use Rattle.connection_model.specs.declared.note.Note.TheVariants.{Finish}
+use Rattle.connection_model.specs.declared.note.Note.TheVariants.{Finish, History}
 use Rattle.connection_model.specs.Edges.{edge}
 use Rattle.connection_model.specs.Further.{longer}
 use Rattle.connection_model.specs.Heard.{Input, Bytes, Ends, Takes, brings_in, edges_met, Resets}
@@ -15,16 +16,20 @@ use Rattle.connection_model.specs.Phases.{Orderly}
 use Rattle.connection_model.specs.Queries.{unread_limit}
 use Rattle.connection_model.specs.Setup as model
 use Rattle.connection_model.specs.State.{TraceState}
-use Rattle.conn.specs.Calls.{Settles, over_in, took_more, unless_finished, wanted_in, reset_in}
+use Rattle.conn.specs.Calls.{Replies, Settles, over_in, took_more, unless_finished, wanted_in}
+use Rattle.conn.specs.Calls.{reset_in}
 use Rattle.conn.specs.Holds.{Around, Holds}
 use Rattle.conn.specs.Runs.{Runs}
 use Rattle.conn.specs.RunsItems.{closing, closing_if}
-use Rattle.conn.specs.Stages.{has_finished}
+use Rattle.conn.specs.Stages.{has_finished, is_asking}
 use Rattle.conn.specs.declared.connection.Conn.{Conn}
 use Rattle.conn.specs.declared.setup.Setup.{Setup}
 use Rattle.conn.specs.declared.stage.Stage.TheVariants.{OutOfMemory}
 use Rattle.conn.specs.declared.turn.ConnTurn.{ConnTurn}
 use Rattle.conn.specs.declared.turn.ConnTurn.TheVariants as turn
+use Rattle.shared_store.specs.Calls.{reply}
+use Rattle.shared_store.specs.Store.{StoreState, at_moment}
+use Rattle.proxy_core.specs.declared.call.Asked.{Asked}
 use Rattle.proxy_core.specs.declared.input.ClientInput.{ClientInput}
 use Rattle.proxy_core.specs.declared.input.ClientInput.TheVariants as input
 use Rattle.proxy_core.specs.declared.live.Live.{Live}
@@ -46,6 +51,11 @@ pending_in (Some conn) = length (queue_in conn)
 abbrev pub wanted_of : Option Conn → ℕ
 wanted_of None = unread_limit
 wanted_of (Some conn) = wanted_in conn
+
+-- whether it waits for the reply to a shared call
+abbrev pub asks_in : Option Conn → Bool
+asks_in None = false
+asks_in (Some conn) = is_asking conn.stage
 
 -- it keeps its number and virtual server
 pub record KeepsPlace (old new : Live) : Type 0 where
@@ -138,3 +148,57 @@ abbrev pub LiveRuns :
 LiveRuns s number None new group t = (group ≡ closing number 0) × (t ≡ turn.Over)
 LiveRuns s number (Some old) None group t = ⊥
 LiveRuns s number (Some old) (Some new) group t = ConnRuns s number old new group t
+
+-- the reply came to its call: it goes on
+pub record ConnReplies (r : Reply) (old new : Conn) : Type 0 where
+  pub replies : Replies r old new
+  pub queue : queue_of new ≡ queue_of old
+  pub reset : new.client.reset ≡ old.client.reset
+  pub awake : is_asking new.stage ≡ false
+
+abbrev pub LiveReplies : Reply → Option Conn → Option Conn → Type 0
+LiveReplies r None None = Unit {0}
+LiveReplies r (Some old) (Some new) = is_asking old.stage ≡ true → ConnReplies r old new
+LiveReplies r old new = ⊥
+
+-- memory was refused for it: it goes on in nothing
+pub record ConnFails (old new : Conn) : Type 0 where
+  pub there : new.stage ≡ OutOfMemory
+  pub queue : queue_of new ≡ queue_of old
+  pub reset : new.client.reset ≡ old.client.reset
+
+abbrev pub LiveFails : Option Conn → Option Conn → Type 0
+LiveFails None None = Unit {0}
+LiveFails (Some old) (Some new) = is_asking old.stage ≡ true → ConnFails old new
+LiveFails old new = ⊥
+
+-- the note of an answer
+abbrev pub entry_note : Asked → (moment : ℕ) → Reply → Note
+entry_note a moment r = History a.conn moment a.call r
+
+-- the reply is noted, and comes to it or finds no memory
+abbrev pub LiveTakes :
+    Reply → (moment : ℕ) → Asked → Option Conn → Option Conn → List Note → Type 0
+LiveTakes r moment a old new group =
+    ((group ≡ entry_note a moment r ∷ []) × LiveReplies r old new)
+    ⊎ ((group ≡ entry_note a moment r ∷ Finish a.conn Memory ∷ []) × LiveFails old new)
+
+-- the store replies
+pub record StoreReplies (store after : StoreState) (moment : ℕ) (a : Asked) (old new : Option Conn)
+    (group : List Note) : Type 0 where
+  pub r : Reply
+  pub is : r ≡ (reply store moment a.call).reply
+  pub left : after ≡ (reply store moment a.call).after
+  pub takes : LiveTakes r moment a old new group
+
+-- the store finds no memory
+pub record StoreLacks (store after : StoreState) (moment : ℕ) (a : Asked) (old new : Option Conn)
+    (group : List Note) : Type 0 where
+  pub left : after ≡ at_moment moment store
+  pub notes : group ≡ Finish a.conn Memory ∷ []
+  pub fails : LiveFails old new
+
+abbrev pub LiveAnswers : StoreState → StoreState → (moment : ℕ) → Asked → Option Conn → Option Conn
+    → List Note → Type 0
+LiveAnswers store after moment a old new group =
+    StoreReplies store after moment a old new group ⊎ StoreLacks store after moment a old new group

@@ -2,6 +2,7 @@
 use Rattle.std.specs.Prelude.{◌≡◌, ◌⊎◌, ℕ, List, [], ◌∷◌, ◌++◌, Bool, true, false, None}
 use Rattle.std.specs.Prelude.{if◌then◌else◌}
 use Rattle.std.specs.Bool.{MatchBool}
+use Rattle.px_bytes.specs.declared.fault.Reply.{Reply}
 use Rattle.px_bytes.specs.declared.addr.Side.TheVariants.{Client}
 use Rattle.connection_model.specs.declared.note.Cause.TheVariants.{Memory}
 use Rattle.connection_model.specs.declared.note.Note.{Note}
@@ -9,17 +10,22 @@ use Rattle.connection_model.specs.declared.note.Note.TheVariants.{Finish}
 use Rattle.connection_model.specs.Heard.{Input, Bytes, Ends, Resets, Connects, Takes, EventKind}
 use Rattle.connection_model.specs.Heard.{Accepts, Comes, Ticks, Turns, Runs, Marks, Heard, taken}
 use Rattle.connection_model.specs.Heard.{hears}
-use Rattle.connection_model.specs.Item.{Item}
+use Rattle.connection_model.specs.Item.{Item, calls_in}
 use Rattle.connection_model.specs.State.{TraceState}
-use Rattle.conn.specs.RunsItems.{asks, closing, is_drained, closing_if, Passes, RunsItems}
+use Rattle.conn.specs.RunsItems.{closing, is_drained, closing_if, Passes, RunsItems}
 use Rattle.conn.specs.RunsItems.{out_of_memory}
 use Rattle.conn.specs.declared.turn.ConnTurn.{ConnTurn}
-use Rattle.proxy_core.specs.Live.{takes_memory}
-use Rattle.proxy_core.specs.Past.{Happened, Past, kind_of, heard}
+use Rattle.shared_store.specs.Calls.{reply}
+use Rattle.shared_store.specs.Store.{StoreState}
+use Rattle.proxy_core.specs.Calls.{calls_of, is_any, queue_behind, without_calls, woken}
+use Rattle.proxy_core.specs.History.{store_of}
+use Rattle.proxy_core.specs.Live.{entry_note, takes_memory}
+use Rattle.proxy_core.specs.Past.{Happened, Past, kind_of, heard, shared}
 use Rattle.proxy_core.specs.Ready.{ring_behind, with_ready, without}
 use Rattle.proxy_core.specs.Refusal.{refused}
 use Rattle.proxy_core.specs.Scheduler.{State, no_connections, with_place, untaken_all}
 use Rattle.proxy_core.specs.Setup.{setup_of, stand_of}
+use Rattle.proxy_core.specs.declared.call.Asked.{Asked}
 use Rattle.proxy_core.specs.declared.config.Config.{Config}
 
 -- nothing changes
@@ -36,10 +42,17 @@ pub record MovesAccept (c : ℕ) (group : List Note) (old new : State) : Type 0 
 abbrev pub is_drained_at : Config → Heard → List Item → Bool
 is_drained_at C h place = is_drained (setup_of C h) (taken h) (stand_of C h place)
 
--- it ends, or gets ready
+-- it ends, or waits on for the reply to its call, or gets ready
 abbrev pub came : ℕ → (over : Bool) → State → State
-came c over old =
-    record old { ring = if over then without c old.ring else with_ready old.ring c }
+came c over old = record old {
+  ring = if over then without c old.ring
+      else woken (is_any (calls_of c old.queue)) c old.ring;
+}
+
+-- it found no memory: it waits for no reply any more, and is ready
+abbrev pub lacked : ℕ → State → State
+lacked c old =
+    record old { ring = with_ready old.ring c; queue = without_calls c old.queue }
 
 -- something came of a connection
 pub record MovesOn (C : Config) (now : Heard) (c : ℕ) (group : List Note)
@@ -57,7 +70,7 @@ pub record MovesFailed (c : ℕ) (group : List Note) (old new : State) : Type 0 
 pub record MovesLacks (input : Input) (c : ℕ) (group : List Note) (old new : State) : Type 0 where
   pub memory : takes_memory input ≡ true
   pub notes : group ≡ Finish c Memory ∷ []
-  pub state : new ≡ came c false old
+  pub state : new ≡ lacked c old
 
 -- `before` is what was heard of the connection without this event and its notes, `now` with them
 abbrev pub MovesCome :
@@ -75,12 +88,16 @@ may_come (Takes Client n) = true
 may_come other = false
 
 -- the front passed items
-abbrev pub ran : ℕ → List ℕ → List Item → State → State
-ran c rest more old =
-    record { ring = rest; places = with_place c (old.places c ++ more) old.places }
+abbrev pub ran : ℕ → List ℕ → List Asked → List Item → State → State
+ran c ring queue more old = record {
+  ring = ring;
+  queue = queue;
+  places = with_place c (old.places c ++ more) old.places;
+}
 
 -- The front gives items of its trace, until no more may be given or in slices: where it stops in
--- the middle it goes to the back of the ready queue. No body of today makes a shared call.
+-- the middle it goes to the back of the ready queue, and where it stops at a shared call that goes to the
+-- back of the calls.
 pub record RunsOn (C : Config) (h : Heard) (c : ℕ) (rest : List ℕ) (group : List Note)
     (old new : State) : Type 0 where
   pub more : List Item
@@ -89,17 +106,17 @@ pub record RunsOn (C : Config) (h : Heard) (c : ℕ) (rest : List ℕ) (group : 
   pub items :
       RunsItems (setup_of C h) (taken h) (stand_of C h (old.places c)) c more at group turn
       (untaken_all h (old.places c ++ more))
-  pub no_call : asks turn ≡ false
-  pub state : new ≡ ran c (ring_behind turn c rest) more old
+  pub state : new ≡ ran c (ring_behind turn c rest) (queue_behind turn c old.queue) more old
 
--- The front gives items, finds no memory, and ends: what was sent and not taken is dropped.
+-- The front gives items, no call among them, finds no memory, and ends: what was sent and not taken is dropped.
 pub record RunsOut (C : Config) (h : Heard) (c : ℕ) (rest : List ℕ) (group : List Note)
     (old new : State) : Type 0 where
   pub more : List Item
   pub at : TraceState
   pub passes : Passes (setup_of C h) (taken h) (stand_of C h (old.places c)) more at
+  pub no_call : calls_in more ≡ []
   pub notes : group ≡ out_of_memory c more (untaken_all h (old.places c ++ more))
-  pub state : new ≡ ran c rest more old
+  pub state : new ≡ ran c rest old.queue more old
 
 -- one that found no memory before ends
 pub record RunsFailed (h : Heard) (c : ℕ) (rest : List ℕ) (group : List Note)
@@ -117,6 +134,25 @@ abbrev pub MovesRing : Config → Past → List ℕ → List Note → State → 
 MovesRing C past [] group old new = Rests group old new
 MovesRing C past (c ∷ rest) group old new = MovesFront C (heard c past) c rest group old new
 
+-- the notes of an answered call: its entry; where the reply finds no memory, the Finish behind it; and
+-- where the store finds none, the Finish alone
+abbrev pub TurnNotes : Asked → (moment : ℕ) → Reply → List Note → Type 0
+TurnNotes a moment r group =
+    (group ≡ entry_note a moment r ∷ [])
+    ⊎ ((group ≡ entry_note a moment r ∷ Finish a.conn Memory ∷ []) ⊎ (group ≡ Finish a.conn Memory ∷ []))
+
+-- the call that waits for the longest time is answered, and its connection gets ready
+pub record MovesTurn (store : StoreState) (moment : ℕ) (a : Asked) (rest : List Asked)
+    (group : List Note) (old new : State) : Type 0 where
+  pub notes : TurnNotes a moment (reply store moment a.call).reply group
+  pub state : new ≡ record old { ring = with_ready old.ring a.conn; queue = rest }
+
+-- Where no call waits, a Turn changes nothing.
+abbrev pub MovesQueue :
+    StoreState → (moment : ℕ) → List Asked → List Note → State → State → Type 0
+MovesQueue store moment [] group old new = Rests group old new
+MovesQueue store moment (a ∷ rest) group old new = MovesTurn store moment a rest group old new
+
 -- behind this past, an event of this kind with its notes moves one state to the next
 abbrev pub MovesBy : Config → Past → EventKind → List Note → State → State → Type 0
 MovesBy C past (Accepts c vs from) group old new = MovesAccept c group old new
@@ -124,7 +160,8 @@ MovesBy C past (Comes c input) group old new =
     MatchBool (may_come input)
     (MovesCome C input (heard c past) (hears c (heard c past) (Comes c input) group) c group old new) ⊥
 MovesBy C past (Ticks moment) group old new = Rests group old new
-MovesBy C past Turns group old new = Rests group old new
+MovesBy C past Turns group old new =
+    MovesQueue (store_of C past) (shared past).moment old.queue group old new
 MovesBy C past Runs group old new = MovesRing C past old.ring group old new
 MovesBy C past (Marks pool member up) group old new = Rests group old new
 

@@ -1,8 +1,9 @@
 -- One event changes what may be asked of one connection alone.
 use Rattle.std.specs.Prelude.{◌≡◌, ℕ, List, [], ◌∷◌, false, nat_eq}
 use Rattle.px_bytes.specs.declared.addr.Side.{Side}
-use Rattle.connection_model.specs.Heard.{EventKind, Accepts, Comes, Runs}
+use Rattle.connection_model.specs.Heard.{EventKind, Accepts, Comes, Turns, Runs}
 use Rattle.proxy_core.specs.Asked.{edges_of, wants_of, pending_of, queue_of}
+use Rattle.proxy_core.specs.Calls.{asker}
 use Rattle.proxy_core.specs.Moves.{Moves}
 use Rattle.proxy_core.specs.Past.{Happened, Past, kind_of}
 use Rattle.proxy_core.specs.Scheduler.{State}
@@ -12,10 +13,12 @@ abbrev pub front : List ℕ → ℕ
 front [] = 0
 front (c ∷ rest) = c
 
--- the connection that an event is about: a Run's is the front of the ring; none has number 0
+-- the connection that an event is about: a Run's is the front of the ring, a Turn's that whose call
+-- waits for the longest time; none has number 0
 abbrev pub about : EventKind → State → ℕ
 about (Accepts c vs from) s = c
 about (Comes c input) s = c
+about Turns s = asker s.queue
 about Runs s = front s.ring
 about other s = 0
 

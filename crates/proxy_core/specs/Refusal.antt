@@ -2,7 +2,6 @@
 -- core alike. The first row that holds is the reason.
 use Rattle.std.specs.Prelude.{ℕ, List, [], ◌∷◌, length, Bool, true, false, Option, Some, None}
 use Rattle.std.specs.Prelude.{is_none, nat_le, nat_lt, not, ◌||◌, option_map, if◌then◌else◌}
-use Rattle.px_bytes.specs.declared.addr.Addr.{Addr}
 use Rattle.px_bytes.specs.declared.addr.Side.{Side}
 use Rattle.px_bytes.specs.declared.addr.Side.TheVariants.{Client, Server}
 use Rattle.connection_model.specs.declared.edges.Edges.{Edges}
@@ -13,6 +12,9 @@ use Rattle.connection_model.specs.Heard.{Input, Bytes, Ends, Resets, Connects, T
 use Rattle.connection_model.specs.Heard.{Accepts, Comes, Ticks, Marks}
 use Rattle.connection_model.specs.Queries as query
 use Rattle.connection_model.specs.Queries.{unread_limit}
+use Rattle.shared_store.specs.Store.{StoreState, pool_of}
+use Rattle.shared_store.specs.Store as store
+use Rattle.proxy_core.specs.History.{store_of}
 use Rattle.proxy_core.specs.Live.{pending_in, wanted_of}
 use Rattle.proxy_core.specs.Past.{Past, kind_of, shared}
 use Rattle.proxy_core.specs.Refusals.{virtual_place, live_at}
@@ -37,12 +39,14 @@ pub record Standing : Type 0 where
   pub to_server : ℕ
 
 -- what an event is judged by: the greatest number that was accepted, the present moment, how many
--- connections are live, and how the one that it names stands, if it is live
+-- connections are live, how the one that it names stands, if it is live, and whether the member that it
+-- marks is there
 pub record Known : Type 0 where
   pub last : ℕ
   pub moment : ℕ
   pub live : ℕ
   pub conn : Option Standing
+  pub member : Bool
 
 -- How many bytes of a side may come: of the client, as many as its trace wants; of the server too
 -- while it is there. Once the connection has finished, and where there is no server, the most.
@@ -73,12 +77,18 @@ named (Accepts c vs from) = c
 named (Comes c input) = c
 named other = 0
 
+-- the pool has the member that a mark names
+abbrev pub has_marked : StoreState → EventKind → Bool
+has_marked all (Marks pool member up) = store.has_member member (pool_of pool all.pools)
+has_marked all other = true
+
 abbrev pub known : Config → Past → State → EventKind → Known
 known C past s v = record {
   last = (shared past).last;
   moment = (shared past).moment;
   live = length (shared past).live;
   conn = standing_of C (seen past s (named v));
+  member = has_marked (store_of C past) v;
 }
 
 -- the connection isn't live
@@ -132,14 +142,6 @@ abbrev pub goes_back : Known → EventKind → Bool
 goes_back k (Ticks moment) = nat_lt moment k.moment
 goes_back k other = false
 
--- the pool has the member: a configuration of today has no pools
-abbrev pub has_member : Config → (pool : List ℕ) → Addr → Bool
-has_member C pool member = false
-
-abbrev pub has_no_member : Config → EventKind → Bool
-has_no_member C (Marks pool member up) = not (has_member C pool member)
-has_no_member C other = false
-
 abbrev pub wants_of : Side → Standing → ℕ
 wants_of Client p = p.from_client
 wants_of Server p = p.from_server
@@ -186,7 +188,7 @@ refusal_rows C k v =
     ∷ row (goes_back k v) MomentBack
     ∷ row (is_too_much k v) TooMuch
     ∷ row (is_taking_too_much k v) TookTooMuch
-    ∷ row (has_no_member C v) NoMember
+    ∷ row (not k.member) NoMember
     ∷ []
 
 abbrev pub first_of : List Row → Option BadEvent
@@ -226,6 +228,7 @@ core_known core v = record {
   moment = core.moment;
   live = length core.live.items;
   conn = core_standing (live_at core.live.items (named v));
+  member = has_marked core.store v;
 }
 
 abbrev pub refusal_of : Core → EventKind → Option BadEvent

@@ -6,7 +6,10 @@ use Rattle.conn.specs.Holds.{Around, Holds}
 use Rattle.conn.specs.declared.connection.Conn.{Conn}
 use Rattle.conn.specs.declared.stage.Stage.TheVariants.{OutOfMemory}
 use Rattle.proxy_core.specs.Bodies.{all_places}
-use Rattle.proxy_core.specs.Live.{queue_of}
+use Rattle.shared_store.specs.Store.{StoreState}
+use Rattle.proxy_core.specs.Calls.{is_any}
+use Rattle.proxy_core.specs.History.{store_of}
+use Rattle.proxy_core.specs.Live.{asks_in, queue_of}
 use Rattle.proxy_core.specs.Past.{Past, Shared, shared}
 use Rattle.proxy_core.specs.Ready.{numbers}
 use Rattle.proxy_core.specs.Refusal.{edges_in}
@@ -49,13 +52,14 @@ abbrev pub ConnectionContinues : Config → Seen → Option Conn → Type 0
 ConnectionContinues C z None = NeverBegan z
 ConnectionContinues C z (Some conn) = Continues C z conn ⊎ Lacks z conn
 
--- a live connection goes on, its rules are those of its virtual server, and its ends stand where
--- what was heard put them
+-- a live connection goes on, its rules are those of its virtual server, its ends stand where what was
+-- heard put them, and it waits for a reply where a call of it waits
 pub record AgreesLive (C : Config) (z : Seen) (l : Live) : Type 0 where
   pub live : z.live ≡ true
   pub continues : ConnectionContinues C z l.conn
   pub serves : Serves C (statics_of C) l.vs (setup_of C z.heard)
   pub edges : z.heard.edges ≡ edges_in l
+  pub asking : asks_in l.conn ≡ is_any z.asked
 
 abbrev pub AgreesAt : Config → Seen → Option Live → Type 0
 AgreesAt C z None = z.live ≡ false
@@ -66,17 +70,19 @@ abbrev pub shared_of : Core → Shared
 shared_of core = record { last = core.last; moment = core.moment; live = numbers core.live.items }
 
 -- the core's fields are those of the past and the state, connection by connection
-pub record AgreesBy (C : Config) (all : Shared) (each_seen : ℕ → Seen) (s : State)
-    (core : Core) : Type 0 where
+pub record AgreesBy (C : Config) (all : Shared) (store : StoreState) (each_seen : ℕ → Seen)
+    (s : State) (core : Core) : Type 0 where
   pub config : core.config ≡ C
   pub statics : core.statics.statics ≡ statics_of C
   pub places : core.places ≡ all_places C.rules C.virtuals
   pub shared : shared_of core ≡ all
+  pub store_is : core.store ≡ store
   pub ring : core.live.ring ≡ s.ring
+  pub queue : core.queue.items ≡ s.queue
   pub each : (c : ℕ) → AgreesAt C (each_seen c) (live_at core.live.items c)
 
 abbrev pub Agrees : Config → Past → State → Core → Type 0
-Agrees C past s core = AgreesBy C (shared past) (seen past s) s core
+Agrees C past s core = AgreesBy C (shared past) (store_of C past) (seen past s) s core
 
 pub record Represents (C : Config) (past : Past) (s : State) (core : Core) : Type 0 where
   pub sound : Sound C past s

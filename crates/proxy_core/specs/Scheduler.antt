@@ -1,5 +1,5 @@
--- Where the scheduler stands: which connections are ready to run, and how far each came in its
--- trace; and all of it that concerns one connection.
+-- Where the scheduler stands: which connections are ready to run, which shared calls wait, and how far
+-- each connection came in its trace; and all of it that concerns one connection.
 use Rattle.std.specs.Prelude.{ℕ, ◌+◌, ◌-◌, length, List, [], Bool, nat_eq, if◌then◌else◌}
 use Rattle.std.specs.List.{filter}
 use Rattle.px_bytes.specs.declared.addr.Side.{Side}
@@ -8,17 +8,20 @@ use Rattle.connection_model.specs.declared.note.Note.{Note}
 use Rattle.connection_model.specs.Gates.{no_bytes, sent_from, to_take}
 use Rattle.connection_model.specs.Heard.{EventKind, Heard, taken, hears}
 use Rattle.connection_model.specs.Item.{Item, client_output}
+use Rattle.proxy_core.specs.Calls.{calls_of}
 use Rattle.proxy_core.specs.Past.{Past, heard, shared, shared_after}
 use Rattle.proxy_core.specs.Ready.{is_in}
+use Rattle.proxy_core.specs.declared.call.Asked.{Asked}
 
--- The ready queue, the next in front, and the place of each connection: the items of its trace that
--- it passed.
+-- The ready queue and the queue of shared calls, the next in front, and the place of each connection:
+-- the items of its trace that it passed.
 pub record State : Type 0 where
   pub ring : List ℕ
+  pub queue : List Asked
   pub places : ℕ → List Item
 
 abbrev pub no_connections : State
-no_connections = record { ring = []; places = λ c. [] }
+no_connections = record { ring = []; queue = []; places = λ c. [] }
 
 -- the places, with another one of connection c
 abbrev pub with_place : ℕ → List Item → (ℕ → List Item) → ℕ → List Item
@@ -29,11 +32,12 @@ abbrev pub entries : ℕ → List ℕ → List ℕ
 entries c ring = filter (nat_eq c) ring
 
 -- all that concerns one connection: what was heard, whether it is live, its entries in the ready
--- queue, and its place
+-- queue, its calls that wait, and its place
 pub record Seen : Type 0 where
   pub heard : Heard
   pub live : Bool
   pub ready : List ℕ
+  pub asked : List (List (List ℕ))
   pub place : List Item
 
 abbrev pub see : Heard → List ℕ → State → ℕ → Seen
@@ -41,6 +45,7 @@ see h live s c = record {
   heard = h;
   live = is_in live c;
   ready = entries c s.ring;
+  asked = calls_of c s.queue;
   place = s.places c;
 }
 

@@ -1,5 +1,6 @@
 -- A core before any event.
 use Rattle.std.specs.Prelude.{◌≡◌, []}
+use Rattle.shared_store.specs.Store.{new_store}
 use Rattle.proxy_core.specs.Bodies.{all_places}
 use Rattle.proxy_core.specs.Setup.{statics_of}
 use Rattle.proxy_core.specs.declared.config.Config.{Config}
@@ -13,3 +14,5 @@ pub record IsStart (C : Config) (core : Core) : Type 0 where
   pub moment : core.moment ≡ 0
   pub live : core.live.items ≡ []
   pub ring : core.live.ring ≡ []
+  pub queue : core.queue.items ≡ []
+  pub store : core.store ≡ new_store C.pools []

@@ -10,11 +10,12 @@ ghost use Rattle.proxy_core.specs.Refusal.{refusal_of};
 use crate::core_state::Core;
 use crate::event::BadEvent;
 use crate::input::ClientInput;
-use crate::ring::find;
+use crate::ring::{find, wake};
 use connection_model::Notes;
 
 impl Core {
-    /// This comes of the client of a connection, which ends or gets ready.
+    /// This comes of the client of a connection, which ends, waits on for the reply to its call, or gets
+    /// ready. One that waited and finds no memory waits no more.
     pub(crate) fn comes(
         &mut self,
         number: u32,
@@ -37,10 +38,13 @@ impl Core {
         if let Some(why) = self.live[at].refuses(&input) {
             return Err(why);
         }
+        let waited = self.live[at].is_asking();
         if self.live[at].comes(input, notes) {
             let _ = self.live.remove(at);
         } else {
-            self.live.make_ready(at);
+            let waits = self.live[at].is_asking();
+            self.queue.forget(number, waited, waits);
+            wake(&mut self.live, at, waits);
         }
         Ok(())
     }

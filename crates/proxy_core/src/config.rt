@@ -3,6 +3,7 @@
 use irule_net::Groups;
 use px_bytes::{Addr, Seq, Text};
 use rule_loader::Rule;
+use shared_store::Pools;
 
 /// A virtual server, with the numbers of its rules in their order.
 #[derive(Drop)]
@@ -21,6 +22,8 @@ pub struct Config {
     pub connections: u32,
     /// The data groups and pools that rules name.
     pub groups: Groups,
+    /// The pools from which servers are selected, as they are at the start.
+    pub pools: Pools,
     /// All rules, in the order of their file.
     pub rules: Seq<Rule>,
     pub virtuals: Seq<Virtual>,

@@ -4,6 +4,7 @@ ghost use Rattle.std.specs.Prelude.{◌≡◌, ◌≤◌, ℕ, true, length, []}
 ghost use Rattle.std.specs.Prelude.{IfOk};
 ghost use Rattle.proxy_core.specs.Ready.{numbers, is_in};
 
+use crate::call_queue::CallQueue;
 use crate::config::Config;
 use crate::init::{init, start_notes};
 use crate::live::Live;
@@ -11,10 +12,12 @@ use crate::server_bodies::{EventPlaces, all_places};
 use connection_model::Notes;
 use connection_table::Table;
 use px_bytes::{M, Seq};
+use shared_store::{Store, VirtualTimes};
 use std::alloc::Global;
 use tcl_vars::Vars;
 
-/// The live connections, and those of them that are ready to run.
+/// The live connections, those of them that are ready to run, the shared calls that wait, and the store that
+/// answers them.
 #[derive(Drop)]
 pub struct Core {
     pub(crate) alloc: Global,
@@ -29,10 +32,15 @@ pub struct Core {
     pub(crate) last: u32,
     /// The live connections by their numbers, and the ring of those that are ready to run.
     pub(crate) live: Table<Live>,
+    /// The shared calls that wait for their Turn.
+    pub(crate) queue: CallQueue,
+    /// The store that all connections share.
+    pub(crate) store: Store,
     ghost numbered: { live.numbers ≡ numbers live.items },
     ghost live_known: { (n : ℕ) → is_in (numbers live.items) n ≡ true → n ≤ last },
     ghost live_limit: { length live.items ≤ config.connections },
     ghost live_room: { config.connections ≤ live.room },
+    ghost queue_room: { config.connections ≤ queue.room },
 }
 
 impl Core {
@@ -53,6 +61,9 @@ impl Core {
         let notes = start_notes(alloc, left.lines.as_slice())?;
         let room = config.connections as usize;
         let live = Table::with_capacity(alloc, room)?;
+        let queue = CallQueue::with_capacity(alloc, room)?;
+        let pools = config.pools.copy(alloc)?;
+        let store = Store::new(alloc, pools, VirtualTimes::new(alloc));
         let core = Core {
             alloc,
             config,
@@ -61,6 +72,8 @@ impl Core {
             moment: 0,
             last: 0,
             live,
+            queue,
+            store,
         };
         Ok((core, notes))
     }

@@ -2,6 +2,8 @@
 #![tactic(auto)]
 
 mod accept;
+mod call;
+mod call_queue;
 mod comes;
 mod config;
 mod core_state;
@@ -12,6 +14,7 @@ mod input;
 mod late;
 mod laws;
 mod live;
+mod mark;
 mod queries;
 mod ring;
 mod run;
@@ -19,6 +22,7 @@ mod server_bodies;
 mod setup;
 mod step;
 mod tick;
+mod turn;
 mod views;
 
 pub use config::{Config, Virtual};

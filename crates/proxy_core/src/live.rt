@@ -11,14 +11,17 @@ ghost use Rattle.conn.specs.Runs.{IsBounded, IsWhole};
 ghost use Rattle.conn.specs.RunsItems.{closing};
 ghost use Rattle.proxy_core.specs.Refusal.{client_refusal};
 ghost use Rattle.proxy_core.specs.Live.{ConnHears, KeepsPlace, LiveComes, LiveRuns, SamePlace};
+ghost use Rattle.proxy_core.specs.Live.{LiveAnswers, LiveFails, LiveReplies, LiveTakes, asks_in};
 ghost use Rattle.proxy_core.specs.Live.{client_met, comes_notes, input_of, left_in, pending_in};
 ghost use Rattle.proxy_core.specs.Live.{taken_more, takes_memory, wanted_of};
 
+use crate::call::Asked;
 use crate::event::BadEvent;
 use crate::input::ClientInput;
 use conn::{Conn, ConnTurn, Setup};
 use connection_model::{Cause, Edge, Note, Notes};
-use px_bytes::{Addr, M, Steps};
+use px_bytes::{Addr, M, Reply, Steps};
+use shared_store::Store;
 use std::alloc::Global;
 use std::sync::ledger::Ledger;
 
@@ -56,6 +59,16 @@ impl Live {
         match &self.conn {
             Some(conn) => conn.wants(),
             None => UNREAD_LIMIT,
+        }
+    }
+
+    /// Whether it waits for the reply to a shared call.
+    pub fn is_asking(&self) -> bool
+        ensures { result ≡ asks_in self.now.conn }
+    {
+        match &self.conn {
+            Some(conn) => conn.is_asking(),
+            None => false,
         }
     }
 
@@ -135,6 +148,89 @@ impl Live {
         match &mut self.conn {
             Some(conn) => tell(conn, input, self.number, notes),
             None => false,
+        }
+    }
+
+    /// The store answers its call at this moment, and the reply comes to it. Where one of them finds no
+    /// memory, it has finished with that cause.
+    pub fn answer(
+        &mut self,
+        alloc: Global,
+        store: &mut Store,
+        asked: Asked,
+        moment: u64,
+        notes: &mut Notes,
+    )
+        requires { 2 ≤ notes.old.spare }
+        ensures place { SamePlace self.old self.new }
+        ensures answers { (group : List Note) × (notes.new.items ≡ notes.old.items ++ group)
+            × LiveAnswers store.old store.new moment asked self.old.conn self.new.conn group }
+        ensures few_notes { length notes.new.items ≤ length notes.old.items + 68 }
+    {
+        match store.answer(alloc, &asked.call, moment) {
+            Ok(reply) => self.take_reply(asked, reply, moment, notes),
+            Err(_) => {
+                self.fail();
+                notes.push_reserved(Note::Finish {
+                    conn: asked.conn,
+                    cause: Cause::Memory,
+                });
+            }
+        }
+    }
+
+    // The reply is noted and comes to it.
+    fn take_reply(&mut self, asked: Asked, reply: Reply, moment: u64, notes: &mut Notes)
+        requires { 2 ≤ notes.old.spare }
+        ensures place { SamePlace self.old self.new }
+        ensures takes { (group : List Note) × (notes.new.items ≡ notes.old.items ++ group)
+            × LiveTakes reply moment asked self.old.conn self.new.conn group }
+        ensures few_notes { length notes.new.items ≤ length notes.old.items + 68 }
+    {
+        let heard = self.hear(&reply);
+        let Asked { conn, call } = asked;
+        notes.push_reserved(Note::History {
+            conn,
+            moment,
+            call,
+            reply,
+        });
+        if !heard {
+            notes.push_reserved(Note::Finish {
+                conn,
+                cause: Cause::Memory,
+            });
+        }
+    }
+
+    // The reply comes to it. Says whether it found memory for it.
+    fn hear(&mut self, reply: &Reply) -> bool
+        ensures place { SamePlace self.old self.new }
+        ensures heard { result ≡ true → LiveReplies reply.now self.old.conn self.new.conn }
+        ensures failed { result ≡ false → LiveFails self.old.conn self.new.conn }
+    {
+        let Some(conn) = &mut self.conn else {
+            return true;
+        };
+        if !conn.is_asking() {
+            return true;
+        }
+        match conn.reply(reply) {
+            Ok(()) => true,
+            Err(_) => {
+                conn.out_of_memory();
+                false
+            }
+        }
+    }
+
+    // Memory was refused for it.
+    fn fail(&mut self)
+        ensures place { SamePlace self.old self.new }
+        ensures failed { LiveFails self.old.conn self.new.conn }
+    {
+        if let Some(conn) = &mut self.conn {
+            conn.out_of_memory();
         }
     }
 

@@ -16,9 +16,10 @@ use connection_model::Edges;
 use px_bytes::{M, Side, Text};
 
 impl Core {
-    /// Whether no connection is ready to run.
+    /// Whether no connection is ready to run and no shared call waits.
     pub fn settled(&self) -> bool
-        ensures exact { IsTrue result ↔ (self.now.live.ring ≡ []) }
+        ensures exact { IsTrue result
+            ↔ ((self.now.live.ring ≡ []) × (self.now.queue.items ≡ [])) }
         ensures told { (C : Config) (past : Past) (s : State) → Represents C past s self.now
             → result ≡ settled_of s }
     {

@@ -1,8 +1,12 @@
 // The live connection of a number, and the ring behind a Run.
 
 ghost use Rattle.std.specs.Prelude.{◌≡◌, ◌<◌, IfSome, length, slice_index};
+ghost use Rattle.conn.specs.RunsItems.{ends};
+ghost use Rattle.proxy_core.specs.Calls.{queue_behind, woken};
 ghost use Rattle.proxy_core.specs.Ready.{numbers, place_of, ring_behind};
 
+use crate::call::Asked;
+use crate::call_queue::CallQueue;
 use crate::live::Live;
 use conn::ConnTurn;
 use connection_table::Table;
@@ -16,16 +20,50 @@ pub fn find(live: &Table<Live>, number: u32) -> Option<usize>
     live.place(number)
 }
 
-/// Puts the number at a place at the back of the ring where its Run stopped in the middle.
-pub fn ready_behind(live: &mut Table<Live>, at: usize, turn: &ConnTurn)
+/// Puts a connection behind its Run: its number at the back of the ring where it stopped in the middle,
+/// its call behind all others where it stopped at one. Says whether it is over.
+pub fn put_behind(
+    live: &mut Table<Live>,
+    queue: &mut CallQueue,
+    at: usize,
+    number: u32,
+    turn: ConnTurn,
+) -> bool
     requires { at < length live.old.items }
+    ensures over { result ≡ ends turn }
     ensures items { live.new.items ≡ live.old.items }
     ensures numbers { live.new.numbers ≡ live.old.numbers }
     ensures ring { live.new.ring
-        ≡ ring_behind turn.now (slice_index live.old.numbers at) live.old.ring }
+        ≡ ring_behind turn (slice_index live.old.numbers at) live.old.ring }
+    ensures room { live.new.room ≡ live.old.room }
+    ensures queue { length queue.old.items < queue.old.room
+        → queue.new.items ≡ queue_behind turn number queue.old.items }
+    ensures queue_room { queue.new.room ≡ queue.old.room }
+{
+    match turn {
+        ConnTurn::More => {
+            live.make_ready(at);
+            false
+        }
+        ConnTurn::Asks(call) => {
+            let conn = number;
+            queue.push(Asked { conn, call });
+            false
+        }
+        ConnTurn::NotYet => false,
+        ConnTurn::Over => true,
+    }
+}
+
+/// Puts the number at a place at the back of the ring, unless it is there or waits for a reply.
+pub fn wake(live: &mut Table<Live>, at: usize, waits: bool)
+    requires { at < length live.old.items }
+    ensures items { live.new.items ≡ live.old.items }
+    ensures numbers { live.new.numbers ≡ live.old.numbers }
+    ensures ring { live.new.ring ≡ woken waits (slice_index live.old.numbers at) live.old.ring }
     ensures room { live.new.room ≡ live.old.room }
 {
-    if let ConnTurn::More = turn {
+    if !waits {
         live.make_ready(at);
     }
 }

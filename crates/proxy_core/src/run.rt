@@ -5,7 +5,7 @@ ghost use Rattle.proxy_core.specs.Changes.{RunsRing};
 ghost use Rattle.connection_model.specs.declared.note.Note.{Note};
 
 use crate::core_state::Core;
-use crate::ring::ready_behind;
+use crate::ring::put_behind;
 use crate::setup::setup_at;
 use connection_model::Notes;
 use px_bytes::Steps;
@@ -13,7 +13,7 @@ use std::sync::ledger::Ledger;
 
 impl Core {
     /// Takes the front of the ring and runs its connection, which goes to the back where there is more
-    /// to do. On an empty ring nothing happens.
+    /// to do, and whose call waits behind all others where it made one. On an empty ring nothing happens.
     pub(crate) fn run<L: Ledger>(&mut self, steps: &mut Steps<L>, notes: &mut Notes)
         requires { 68 ≤ notes.old.spare }
         ensures runs { (group : List Note) × (notes.new.items ≡ notes.old.items ++ group)
@@ -26,9 +26,9 @@ impl Core {
             return;
         };
         let setup = setup_at(&self.config, &self.statics, &self.places, self.live[at].vs);
+        let number = self.live[at].number;
         let turn = self.live[at].run(self.alloc, &setup, steps, notes);
-        ready_behind(&mut self.live, at, &turn);
-        if turn.is_over() {
+        if put_behind(&mut self.live, &mut self.queue, at, number, turn) {
             let _ = self.live.remove(at);
         }
     }

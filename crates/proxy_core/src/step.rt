@@ -71,12 +71,15 @@ impl Core {
             | Event::ServerReset { conn }
             | Event::ServerTook { conn, .. } => Err(self.after_end(conn)),
             Event::Tick { moment } => self.tick(moment),
-            Event::Turn => Ok(()),
+            Event::Turn => {
+                self.turn(notes);
+                Ok(())
+            }
             Event::Run => {
                 self.run(steps, notes);
                 Ok(())
             }
-            Event::Mark { .. } => Err(BadEvent::NoMember),
+            Event::Mark { pool, member, up } => self.mark(pool.as_bytes(), member, up),
         }
     }
 }

@@ -16,9 +16,9 @@ const UNREAD_LIMIT: usize = 65_536;
 
 impl Core {
     pub(crate) fn is_settled(&self) -> bool
-        ensures { IsTrue result ↔ (self.now.live.ring ≡ []) }
+        ensures { IsTrue result ↔ ((self.now.live.ring ≡ []) × (self.now.queue.items ≡ [])) }
     {
-        self.live.is_idle()
+        self.live.is_idle() && self.queue.is_empty()
     }
 
     pub(crate) fn live_count(&self) -> u32

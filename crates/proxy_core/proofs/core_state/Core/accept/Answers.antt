@@ -30,8 +30,10 @@ returns-clause-accepts c = (
     place = c.in-Some.place;
     virtual = sym c.in-Some.ensures;
     conn = Some c.new.result;
-    begins = ((c.setup_at-setup.result, c.setup_at-setup.ensures, c.new.ensures.begins), c.new.ensures.queue, refl);
+    begins = ((c.setup_at-setup.result, c.setup_at-setup.ensures, c.new.ensures.begins), c.new.ensures.queue, refl, c.new.ensures.awake);
     live = c.push.ensures.items ∙ ap (λ e. c.args.self.now.live.items ++ record { number = c.args.number; vs = c.in-Some.place; from = c.args.from; client = e; conn = Some c.new.result } ∷ []) c.new-2.ensures;
     ring = c.push.ensures.ring;
+    queue = refl;
+    store = refl;
   },
 )

@@ -1,7 +1,9 @@
-use Rattle.std.proofs.Common.{◌≡◌, ◌∙◌, ◌++◌, [], ap, arith, false, refl, sym, true}
-use Rattle.proxy_core.specs.Live.{comes_notes, input_of, left_in}
-use Rattle.proxy_core.specs.Ready.{with_ready, without}
-use Rattle.proxy_core.proofs.Places.{number_at, number_in, remove_set, live_there}
+use Rattle.std.proofs.Common.{◌≡◌, ◌∙◌, ◌++◌, [], ap, arith, false, get_or, refl, set, sym, true}
+use Rattle.proxy_core.specs.Calls.{kept_calls, without_calls, woken}
+use Rattle.proxy_core.specs.Live.{asks_in, comes_notes, input_of, left_in}
+use Rattle.proxy_core.specs.Ready.{without}
+use Rattle.proxy_core.proofs.FrontRuns.{kept_same}
+use Rattle.proxy_core.proofs.Places.{number_at, number_in, read_again, read_set, remove_set, live_there}
 use Rattle.proxy_core.proofs.Refusing.{of_client, client_judged}
 use Rattle.proxy_core.proofs.Tables.{gone, kept}
 use Rattle.proxy_core.proofs.core_state.Core.comes.Goals as goal
@@ -35,7 +37,7 @@ invariant_of-self-else-comes-clause-numbered c =
     let s = c.args.self.now in
     let l = c.index_mut.result.now in
     let h = c.index_mut.ensures.value in
-    let k = kept s.last c.in-Some.at s.live.numbers _ s.live.items _ l c.comes.new.self s.numbered s.live_known h c.comes.ensures.place.number c.make_ready.ensures.numbers c.make_ready.ensures.items in
+    let k = kept s.last c.in-Some.at s.live.numbers _ s.live.items _ l c.comes.new.self s.numbered s.live_known h c.comes.ensures.place.number c.wake.ensures.numbers c.wake.ensures.items in
     k.numbered
 
 pub invariant_of-self-else-comes-clause-live_known : goal.invariant_of-self-else-comes-clause-live_known
@@ -43,7 +45,7 @@ invariant_of-self-else-comes-clause-live_known c =
     let s = c.args.self.now in
     let l = c.index_mut.result.now in
     let h = c.index_mut.ensures.value in
-    let k = kept s.last c.in-Some.at s.live.numbers _ s.live.items _ l c.comes.new.self s.numbered s.live_known h c.comes.ensures.place.number c.make_ready.ensures.numbers c.make_ready.ensures.items in
+    let k = kept s.last c.in-Some.at s.live.numbers _ s.live.items _ l c.comes.new.self s.numbered s.live_known h c.comes.ensures.place.number c.wake.ensures.numbers c.wake.ensures.items in
     k.known
 
 pub invariant_of-self-else-comes-clause-live_limit : goal.invariant_of-self-else-comes-clause-live_limit
@@ -51,7 +53,7 @@ invariant_of-self-else-comes-clause-live_limit c =
     let s = c.args.self.now in
     let l = c.index_mut.result.now in
     let h = c.index_mut.ensures.value in
-    let k = kept s.last c.in-Some.at s.live.numbers _ s.live.items _ l c.comes.new.self s.numbered s.live_known h c.comes.ensures.place.number c.make_ready.ensures.numbers c.make_ready.ensures.items in
+    let k = kept s.last c.in-Some.at s.live.numbers _ s.live.items _ l c.comes.new.self s.numbered s.live_known h c.comes.ensures.place.number c.wake.ensures.numbers c.wake.ensures.items in
     omega (arith, k.fewer, s.live_limit)
 
 pub returns-then-comes-clause-accepted : goal.returns-then-comes-clause-accepted
@@ -87,12 +89,17 @@ returns-then-comes-clause-comes c =
         after = c.comes.new.self;
         same = c.comes.ensures.place;
         client = c.comes.ensures.client;
+        store = refl;
         lacks = came.0;
         over = c.comes.result;
         came = came.2;
         notes = refl;
         goes_on = λ e. let t : true ≡ false = sym c.if-comes.true ∙ e in (cc);
-        ends = λ e. (c.remove.ensures.items ∙ remove_set at s.live.items c.comes.new.self, c.remove.ensures.ring ∙ ap (λ n. without n s.live.ring) (number_in at s.live.numbers s.live.items l s.numbered h));
+        ends = λ e. record {
+          live = c.remove.ensures.items ∙ remove_set at s.live.items c.comes.new.self;
+          ring = c.remove.ensures.ring ∙ ap (λ n. without n s.live.ring) (number_in at s.live.numbers s.live.items l s.numbered h);
+          queue = refl;
+        };
       },
     )
 
@@ -105,6 +112,11 @@ returns-else-comes-clause-comes c =
     let place = sym c.in-Some.ensures.place in
     let number = number_at c.args.number at s.live.items l place h in
     let before = c.args.notes.now.items in
+    let m = c.comes.new.self in
+    let waits_is : c.is_asking-waits.result ≡ asks_in m.conn = c.is_asking-waits.ensures ∙ ap (λ x. asks_in x.conn) (read_again (set s.live.items at m) at c.index-else-comes.result.now m c.index-else-comes.ensures (read_set at s.live.items l m h)) in
+    let waited_is : c.is_asking-waited.result ≡ asks_in l.conn = c.is_asking-waited.ensures ∙ ap (λ x. asks_in x.conn) (read_again s.live.items at c.index-2.result.now l c.index-2.ensures h) in
+    let kept : c.forget.new.self.items ≡ kept_calls (asks_in l.conn) (asks_in m.conn) c.args.number s.queue.items =
+    c.forget.ensures.items ∙ ap (λ b. kept_calls b c.is_asking-waits.result c.args.number s.queue.items) waited_is ∙ ap (λ b. kept_calls (asks_in l.conn) b c.args.number s.queue.items) waits_is in
     let came = c.comes.ensures.comes in (
       comes_notes came.0 c.comes.result c.args.number (left_in c.comes.new.self.conn),
       came.1 ∙ ap (λ n. before ++ comes_notes came.0 c.comes.result n (left_in c.comes.new.self.conn)) number,
@@ -119,11 +131,17 @@ returns-else-comes-clause-comes c =
         after = c.comes.new.self;
         same = c.comes.ensures.place;
         client = c.comes.ensures.client;
+        store = refl;
         lacks = came.0;
         over = c.comes.result;
         came = came.2;
         notes = refl;
-        goes_on = λ e. (c.make_ready.ensures.items, c.make_ready.ensures.ring ∙ ap (λ n. with_ready s.live.ring n) (number_in at s.live.numbers s.live.items l s.numbered h ∙ sym c.comes.ensures.place.number));
+        goes_on = λ e. record {
+          live = c.wake.ensures.items;
+          ring = c.wake.ensures.ring ∙ ap (λ b. woken b (get_or s.live.numbers at 0) s.live.ring) waits_is ∙ ap (λ n. woken (asks_in m.conn) n s.live.ring) (number_in at s.live.numbers s.live.items l s.numbered h ∙ sym c.comes.ensures.place.number);
+          waits = λ f. kept ∙ kept_same (asks_in l.conn) (asks_in m.conn) c.args.number s.queue.items f;
+          forgets = λ f g. kept ∙ ap (λ b. kept_calls b (asks_in m.conn) c.args.number s.queue.items) g ∙ ap (λ b. kept_calls true b c.args.number s.queue.items) f ∙ ap (λ n. without_calls n s.queue.items) (sym (c.comes.ensures.place.number ∙ number));
+        };
         ends = λ e. let t : true ≡ false = sym e ∙ c.if-comes.false in (cc);
       },
     )

@@ -1,4 +1,5 @@
 use Rattle.std.proofs.Common.{ap, ap₂, ◌∙◌, refl}
+use Rattle.shared_store.specs.Store.{new_store}
 use Rattle.proxy_core.specs.Bodies.{all_places}
 use Rattle.proxy_core.proofs.Stepping.{start_represents}
 use Rattle.proxy_core.proofs.core_state.Core.new.Goals as goal
@@ -12,4 +13,6 @@ returns-clause-stands c = start_represents c.args.config _ (record {
   moment = refl;
   live = c.in_ok-live.ensures.items;
   ring = c.in_ok-live.ensures.ring;
+  queue = c.in_ok-queue.ensures.items;
+  store = c.new-store.ensures ∙ ap₂ new_store c.in_ok-pools.ensures c.new-2.ensures;
 })

@@ -1,5 +1,6 @@
-use Rattle.std.proofs.Common.{◌≡◌, ◌∙◌, ℕ, [], ap, append-nil, arith, false, get_or, length, length-set, refl, remove, set, subst, sym, true}
+use Rattle.std.proofs.Common.{◌≡◌, ◌∙◌, ℕ, ◌<◌, [], ap, append-nil, arith, false, get_or, length, length-set, refl, remove, set, subst, sym, true}
 use Rattle.connection_table.proofs.Ring.{without_missing}
+use Rattle.proxy_core.specs.Calls.{queue_behind}
 use Rattle.proxy_core.specs.Ready.{ring_behind, without}
 use Rattle.proxy_core.specs.Serving.{IsSetup}
 use Rattle.proxy_core.proofs.FrontRuns.{behind_over, bounded_on, front_runs, given_is, idle_runs}
@@ -7,8 +8,8 @@ use Rattle.proxy_core.proofs.Places.{number_at, number_in, read_again, remove_se
 use Rattle.proxy_core.proofs.Tables.{gone, kept, place_there}
 use Rattle.proxy_core.proofs.core_state.Core.run.Goals as goal
 
-pub invariant_of-self-then-is_over-clause-numbered : goal.invariant_of-self-then-is_over-clause-numbered
-invariant_of-self-then-is_over-clause-numbered g c =
+pub invariant_of-self-then-put_behind-clause-numbered : goal.invariant_of-self-then-put_behind-clause-numbered
+invariant_of-self-then-put_behind-clause-numbered g c =
     let s = c.args.self.now in
     let ls = s.live.items in
     let at = c.in-Some.at in
@@ -16,13 +17,13 @@ invariant_of-self-then-is_over-clause-numbered g c =
     let m = c.run-turn.new.self in
     let i = c.pop_ready.ensures.items in
     let h = rw i at c.index_mut.ensures.value in
-    let items = c.ready_behind.ensures.items ∙ ap (λ k. set k at m) i in
-    let ns = c.ready_behind.ensures.numbers ∙ c.pop_ready.ensures.numbers in
+    let items = c.put_behind.ensures.items ∙ ap (λ k. set k at m) i in
+    let ns = c.put_behind.ensures.numbers ∙ c.pop_ready.ensures.numbers in
     let k = gone s.last at s.live.numbers _ ls _ l m s.numbered s.live_known h (c.remove.ensures.numbers ∙ ap (λ k. remove k at) ns) (c.remove.ensures.items ∙ ap (λ k. remove k at) items) in
     k.numbered
 
-pub invariant_of-self-then-is_over-clause-live_known : goal.invariant_of-self-then-is_over-clause-live_known
-invariant_of-self-then-is_over-clause-live_known g c =
+pub invariant_of-self-then-put_behind-clause-live_known : goal.invariant_of-self-then-put_behind-clause-live_known
+invariant_of-self-then-put_behind-clause-live_known g c =
     let s = c.args.self.now in
     let ls = s.live.items in
     let at = c.in-Some.at in
@@ -30,13 +31,13 @@ invariant_of-self-then-is_over-clause-live_known g c =
     let m = c.run-turn.new.self in
     let i = c.pop_ready.ensures.items in
     let h = rw i at c.index_mut.ensures.value in
-    let items = c.ready_behind.ensures.items ∙ ap (λ k. set k at m) i in
-    let ns = c.ready_behind.ensures.numbers ∙ c.pop_ready.ensures.numbers in
+    let items = c.put_behind.ensures.items ∙ ap (λ k. set k at m) i in
+    let ns = c.put_behind.ensures.numbers ∙ c.pop_ready.ensures.numbers in
     let k = gone s.last at s.live.numbers _ ls _ l m s.numbered s.live_known h (c.remove.ensures.numbers ∙ ap (λ k. remove k at) ns) (c.remove.ensures.items ∙ ap (λ k. remove k at) items) in
     k.known
 
-pub invariant_of-self-then-is_over-clause-live_limit : goal.invariant_of-self-then-is_over-clause-live_limit
-invariant_of-self-then-is_over-clause-live_limit g c =
+pub invariant_of-self-then-put_behind-clause-live_limit : goal.invariant_of-self-then-put_behind-clause-live_limit
+invariant_of-self-then-put_behind-clause-live_limit g c =
     let s = c.args.self.now in
     let ls = s.live.items in
     let at = c.in-Some.at in
@@ -44,13 +45,13 @@ invariant_of-self-then-is_over-clause-live_limit g c =
     let m = c.run-turn.new.self in
     let i = c.pop_ready.ensures.items in
     let h = rw i at c.index_mut.ensures.value in
-    let items = c.ready_behind.ensures.items ∙ ap (λ k. set k at m) i in
-    let ns = c.ready_behind.ensures.numbers ∙ c.pop_ready.ensures.numbers in
+    let items = c.put_behind.ensures.items ∙ ap (λ k. set k at m) i in
+    let ns = c.put_behind.ensures.numbers ∙ c.pop_ready.ensures.numbers in
     let k = gone s.last at s.live.numbers _ ls _ l m s.numbered s.live_known h (c.remove.ensures.numbers ∙ ap (λ k. remove k at) ns) (c.remove.ensures.items ∙ ap (λ k. remove k at) items) in
     omega (arith, k.fewer, s.live_limit)
 
-pub invariant_of-self-else-is_over-clause-numbered : goal.invariant_of-self-else-is_over-clause-numbered
-invariant_of-self-else-is_over-clause-numbered g c =
+pub invariant_of-self-else-put_behind-clause-numbered : goal.invariant_of-self-else-put_behind-clause-numbered
+invariant_of-self-else-put_behind-clause-numbered g c =
     let s = c.args.self.now in
     let ls = s.live.items in
     let at = c.in-Some.at in
@@ -58,13 +59,13 @@ invariant_of-self-else-is_over-clause-numbered g c =
     let m = c.run-turn.new.self in
     let i = c.pop_ready.ensures.items in
     let h = rw i at c.index_mut.ensures.value in
-    let items = c.ready_behind.ensures.items ∙ ap (λ k. set k at m) i in
-    let ns = c.ready_behind.ensures.numbers ∙ c.pop_ready.ensures.numbers in
+    let items = c.put_behind.ensures.items ∙ ap (λ k. set k at m) i in
+    let ns = c.put_behind.ensures.numbers ∙ c.pop_ready.ensures.numbers in
     let k = kept s.last at s.live.numbers _ ls _ l m s.numbered s.live_known h c.run-turn.ensures.same.number ns items in
     k.numbered
 
-pub invariant_of-self-else-is_over-clause-live_known : goal.invariant_of-self-else-is_over-clause-live_known
-invariant_of-self-else-is_over-clause-live_known g c =
+pub invariant_of-self-else-put_behind-clause-live_known : goal.invariant_of-self-else-put_behind-clause-live_known
+invariant_of-self-else-put_behind-clause-live_known g c =
     let s = c.args.self.now in
     let ls = s.live.items in
     let at = c.in-Some.at in
@@ -72,13 +73,13 @@ invariant_of-self-else-is_over-clause-live_known g c =
     let m = c.run-turn.new.self in
     let i = c.pop_ready.ensures.items in
     let h = rw i at c.index_mut.ensures.value in
-    let items = c.ready_behind.ensures.items ∙ ap (λ k. set k at m) i in
-    let ns = c.ready_behind.ensures.numbers ∙ c.pop_ready.ensures.numbers in
+    let items = c.put_behind.ensures.items ∙ ap (λ k. set k at m) i in
+    let ns = c.put_behind.ensures.numbers ∙ c.pop_ready.ensures.numbers in
     let k = kept s.last at s.live.numbers _ ls _ l m s.numbered s.live_known h c.run-turn.ensures.same.number ns items in
     k.known
 
-pub invariant_of-self-else-is_over-clause-live_limit : goal.invariant_of-self-else-is_over-clause-live_limit
-invariant_of-self-else-is_over-clause-live_limit g c =
+pub invariant_of-self-else-put_behind-clause-live_limit : goal.invariant_of-self-else-put_behind-clause-live_limit
+invariant_of-self-else-put_behind-clause-live_limit g c =
     let s = c.args.self.now in
     let ls = s.live.items in
     let at = c.in-Some.at in
@@ -86,13 +87,13 @@ invariant_of-self-else-is_over-clause-live_limit g c =
     let m = c.run-turn.new.self in
     let i = c.pop_ready.ensures.items in
     let h = rw i at c.index_mut.ensures.value in
-    let items = c.ready_behind.ensures.items ∙ ap (λ k. set k at m) i in
-    let ns = c.ready_behind.ensures.numbers ∙ c.pop_ready.ensures.numbers in
+    let items = c.put_behind.ensures.items ∙ ap (λ k. set k at m) i in
+    let ns = c.put_behind.ensures.numbers ∙ c.pop_ready.ensures.numbers in
     let k = kept s.last at s.live.numbers _ ls _ l m s.numbered s.live_known h c.run-turn.ensures.same.number ns items in
     omega (arith, k.fewer, s.live_limit)
 
-pub returns-then-is_over-clause-runs : goal.returns-then-is_over-clause-runs
-returns-then-is_over-clause-runs g c =
+pub returns-then-put_behind-clause-runs : goal.returns-then-put_behind-clause-runs
+returns-then-put_behind-clause-runs g c =
     let s = c.args.self.now in
     let ls = s.live.items in
     let at = c.in-Some.at in
@@ -100,8 +101,8 @@ returns-then-is_over-clause-runs g c =
     let m = c.run-turn.new.self in
     let i = c.pop_ready.ensures.items in
     let h = rw i at c.index_mut.ensures.value in
-    let items = c.ready_behind.ensures.items ∙ ap (λ k. set k at m) i in
-    let ns = c.ready_behind.ensures.numbers ∙ c.pop_ready.ensures.numbers in
+    let items = c.put_behind.ensures.items ∙ ap (λ k. set k at m) i in
+    let ns = c.put_behind.ensures.numbers ∙ c.pop_ready.ensures.numbers in
     let p = c.in-Some.ensures.pops in
     let number = p.number in
     let rest = c.pop_ready.new.self.ring in
@@ -111,17 +112,21 @@ returns-then-is_over-clause-runs g c =
     let same = read_again ls at c.index.result.now l k h in
     let P : ℕ → Type 0 = λ v. IsSetup s.config s.statics.statics s.places v c.setup_at-setup.result in
     let told = ap (λ x. get_or x at 0) c.pop_ready.ensures.numbers ∙ number_in at s.live.numbers ls l s.numbered h ∙ n in
-    let ring = c.ready_behind.ensures.ring ∙ ap (λ x. ring_behind c.run-turn.result x rest) told in
+    let ring = c.put_behind.ensures.ring ∙ ap (λ x. ring_behind c.run-turn.result x rest) told in
     let told' = ap (λ x. get_or x at 0) ns ∙ number_in at s.live.numbers ls l s.numbered h ∙ n in
-    let over = sym c.is_over.ensures ∙ c.if-is_over.true in
+    let read = rw i at c.index-2.ensures in
+    let same_number = ap (λ x. x.number) (read_again ls at c.index-2.result.now l read h) ∙ n in
+    let queue_is : length s.queue.items < s.config.connections → c.put_behind.new.queue.items ≡ queue_behind c.run-turn.result number s.queue.items = λ few. c.put_behind.ensures.queue (omega (arith, few, s.queue_room)) ∙ ap (λ m. queue_behind c.run-turn.result m s.queue.items) same_number in
+    let over = sym c.put_behind.ensures.over ∙ c.if-put_behind.true in
     let left = ring ∙ behind_over c.run-turn.result number rest over in
-    let gone_ring = c.remove.ensures.ring ∙ ap (λ x. without x c.ready_behind.new.live.ring) told' ∙ ap (without number) left ∙ without_missing number rest p.once ∙ sym (behind_over c.run-turn.result number rest over) in (
+    let gone_ring = c.remove.ensures.ring ∙ ap (λ x. without x c.put_behind.new.live.ring) told' ∙ ap (without number) left ∙ without_missing number rest p.once ∙ sym (behind_over c.run-turn.result number rest over) in (
       c.run-turn.ensures.runs.0,
       c.run-turn.ensures.runs.1,
       front_runs _ _ s.live.ring rest number c.run-turn.ensures.runs.0 _ p.ring (record {
         keeps = record { config = refl; statics = refl; places = refl };
         last = refl;
         moment = refl;
+        store = refl;
         at = at;
         place = place;
         before = l;
@@ -135,13 +140,14 @@ returns-then-is_over-clause-runs g c =
         whole = given_is _ _ c.run-turn.ensures.runs.0 c.run-turn.result _ c.run-turn.ensures.runs.1 c.run-turn.ensures.slice;
         bounded = c.run-turn.ensures.bounded;
         ring = gone_ring;
+        queue = λ few. queue_is few;
         goes_on = λ f. let t : true ≡ false = sym over ∙ f in (cc);
         over = λ f. c.remove.ensures.items ∙ ap (λ x. remove x at) items ∙ remove_set at ls m;
       }),
     )
 
-pub returns-clause-runs : goal.returns-clause-runs
-returns-clause-runs g c =
+pub returns-else-put_behind-clause-runs : goal.returns-else-put_behind-clause-runs
+returns-else-put_behind-clause-runs g c =
     let s = c.args.self.now in
     let ls = s.live.items in
     let at = c.in-Some.at in
@@ -149,8 +155,8 @@ returns-clause-runs g c =
     let m = c.run-turn.new.self in
     let i = c.pop_ready.ensures.items in
     let h = rw i at c.index_mut.ensures.value in
-    let items = c.ready_behind.ensures.items ∙ ap (λ k. set k at m) i in
-    let ns = c.ready_behind.ensures.numbers ∙ c.pop_ready.ensures.numbers in
+    let items = c.put_behind.ensures.items ∙ ap (λ k. set k at m) i in
+    let ns = c.put_behind.ensures.numbers ∙ c.pop_ready.ensures.numbers in
     let p = c.in-Some.ensures.pops in
     let number = p.number in
     let rest = c.pop_ready.new.self.ring in
@@ -160,14 +166,18 @@ returns-clause-runs g c =
     let same = read_again ls at c.index.result.now l k h in
     let P : ℕ → Type 0 = λ v. IsSetup s.config s.statics.statics s.places v c.setup_at-setup.result in
     let told = ap (λ x. get_or x at 0) c.pop_ready.ensures.numbers ∙ number_in at s.live.numbers ls l s.numbered h ∙ n in
-    let ring = c.ready_behind.ensures.ring ∙ ap (λ x. ring_behind c.run-turn.result x rest) told in
-    let over = sym c.is_over.ensures ∙ c.if-is_over.false in (
+    let ring = c.put_behind.ensures.ring ∙ ap (λ x. ring_behind c.run-turn.result x rest) told in
+    let read = rw i at c.index-2.ensures in
+    let same_number = ap (λ x. x.number) (read_again ls at c.index-2.result.now l read h) ∙ n in
+    let queue_is : length s.queue.items < s.config.connections → c.put_behind.new.queue.items ≡ queue_behind c.run-turn.result number s.queue.items = λ few. c.put_behind.ensures.queue (omega (arith, few, s.queue_room)) ∙ ap (λ m. queue_behind c.run-turn.result m s.queue.items) same_number in
+    let over = sym c.put_behind.ensures.over ∙ c.if-put_behind.false in (
       c.run-turn.ensures.runs.0,
       c.run-turn.ensures.runs.1,
       front_runs _ _ s.live.ring rest number c.run-turn.ensures.runs.0 _ p.ring (record {
         keeps = record { config = refl; statics = refl; places = refl };
         last = refl;
         moment = refl;
+        store = refl;
         at = at;
         place = place;
         before = l;
@@ -181,13 +191,14 @@ returns-clause-runs g c =
         whole = given_is _ _ c.run-turn.ensures.runs.0 c.run-turn.result _ c.run-turn.ensures.runs.1 c.run-turn.ensures.slice;
         bounded = c.run-turn.ensures.bounded;
         ring = ring;
+        queue = λ few. queue_is few;
         goes_on = λ f. items;
         over = λ f. let t : true ≡ false = sym f ∙ over in (cc);
       }),
     )
 
-pub returns-then-is_over-clause-bounded : goal.returns-then-is_over-clause-bounded
-returns-then-is_over-clause-bounded g c kept =
+pub returns-then-put_behind-clause-bounded : goal.returns-then-put_behind-clause-bounded
+returns-then-put_behind-clause-bounded g c kept =
     let s = c.args.self.now in
     let ls = s.live.items in
     let at = c.in-Some.at in
@@ -195,13 +206,13 @@ returns-then-is_over-clause-bounded g c kept =
     let m = c.run-turn.new.self in
     let i = c.pop_ready.ensures.items in
     let h = rw i at c.index_mut.ensures.value in
-    let items = c.ready_behind.ensures.items ∙ ap (λ k. set k at m) i in
-    let ns = c.ready_behind.ensures.numbers ∙ c.pop_ready.ensures.numbers in
+    let items = c.put_behind.ensures.items ∙ ap (λ k. set k at m) i in
+    let ns = c.put_behind.ensures.numbers ∙ c.pop_ready.ensures.numbers in
     absurd (omega (arith, kept, c.remove.ensures.len, ap length items, length-set ls at m))
 
-pub returns-clause-bounded : goal.returns-clause-bounded
-returns-clause-bounded g c kept =
-    let few = bounded_on c.run-turn.result _ (sym c.is_over.ensures ∙ c.if-is_over.false) c.run-turn.ensures.bounded in
+pub returns-else-put_behind-clause-bounded : goal.returns-else-put_behind-clause-bounded
+returns-else-put_behind-clause-bounded g c kept =
+    let few = bounded_on c.run-turn.result _ (sym c.put_behind.ensures.over ∙ c.if-put_behind.false) c.run-turn.ensures.bounded in
     omega (arith, few)
 
 pub returns-in_default-clause-runs : goal.returns-in_default-clause-runs
@@ -216,6 +227,8 @@ returns-in_default-clause-runs g c =
         moment = refl;
         live = c.pop_ready.ensures.items;
         ring = e.1;
+        queue = refl;
+        store = refl;
         notes = refl;
         no_step = omega arith;
       }),

@@ -1,0 +1,133 @@
+-- The answers of shared calls: one history of the store, and what a connection hears of it.
+use Rattle.std.proofs.Common.{◌≡◌, refl, sym, ap, subst, ◌∙◌, ◌⊎◌, inl, inr, ℕ, List, [], ◌∷◌, ◌++◌, map, Bool, true, false, None, nat_eq, if◌then◌else◌}
+use Rattle.std.specs.Bool.{MatchBool}
+use Rattle.std.proofs.lemmas.List.{map-append}
+use Rattle.px_bytes.specs.declared.addr.Side.TheVariants.{Client, Server}
+use Rattle.px_bytes.specs.declared.fault.Reply.{Reply}
+use Rattle.connection_model.specs.declared.note.Cause.TheVariants.{Memory}
+use Rattle.connection_model.specs.declared.note.Note.{Note}
+use Rattle.connection_model.specs.declared.note.Note.TheVariants.{Finish}
+use Rattle.connection_model.specs.Heard.{Input, Bytes, Ends, Resets, Connects, Takes, EventKind, Accepts, Comes, Ticks, Turns, Runs, Marks, Heard, accepts, marks, event_marks, hears}
+use Rattle.connection_model.specs.Item.{Item, notes_of}
+use Rattle.connection_model.specs.Tellings.{tells, own, replies_told, notes_about}
+use Rattle.conn.specs.RunsItems.{closing, closing_if, ends}
+use Rattle.shared_store.specs.Calls.{reply}
+use Rattle.proxy_core.specs.History.{entries_in, store_of, IsAnswer, AreAnswers, IsHistory}
+use Rattle.proxy_core.specs.Live.{entry_note}
+use Rattle.proxy_core.specs.Moves.{Rests, MovesFailed, MovesLacks, MovesOn, MovesCome, MovesRing, MovesFront, MovesBy, MovesQueue, TurnNotes, RunsOn, RunsOut, RunsFailed, is_drained_at, may_come, Leads}
+use Rattle.proxy_core.specs.Past.{Past, kind_of, heard, shared}
+use Rattle.proxy_core.specs.Scheduler.{State, untaken_all}
+use Rattle.proxy_core.specs.declared.call.Asked.{Asked}
+use Rattle.proxy_core.specs.declared.config.Config.{Config}
+use Rattle.proxy_core.proofs.Besides.{replies_are}
+use Rattle.proxy_core.proofs.GroupNotes.{of_items, entries_items, entries_on}
+use Rattle.proxy_core.proofs.SoundEvents.{entries_closing}
+
+-- ---- one history
+
+none_answered : (C : Config) (past : Past) (v : EventKind) → AreAnswers C past v []
+none_answered C past (Accepts c vs from) = tt
+none_answered C past (Comes c input) = tt
+none_answered C past (Ticks moment) = tt
+none_answered C past Turns = tt
+none_answered C past Runs = tt
+none_answered C past (Marks pool member up) = tt
+
+no_entries : (C : Config) (past : Past) (v : EventKind) (group notes : List Note) → group ≡ notes → entries_in notes ≡ [] → AreAnswers C past v (entries_in group)
+no_entries C past v group notes e none = let P : List _ → Type 0 = λ es. AreAnswers C past v es in subst P (sym (ap entries_in e ∙ none)) (none_answered C past v)
+
+run_entries : (c : ℕ) (more : List Item) (behind : List Note) → entries_in behind ≡ [] → entries_in (notes_of c more ++ behind) ≡ []
+run_entries c more behind none = entries_on (notes_of c more) behind ∙ ap (λ es. es ++ entries_in behind) (entries_items c (notes_of c more) (of_items c more)) ∙ none
+
+ring_answers : (C : Config) (past : Past) (ring : List ℕ) (group : List Note) (old new : State) → MovesRing C past ring group old new → AreAnswers C past Runs (entries_in group)
+ring_answers C past [] group old new m = no_entries C past Runs group [] m.0 refl
+ring_answers C past (c ∷ rest) group old new m = by_failed (heard c past).failed m
+  where
+    by_failed : (b : Bool) → MatchBool b (RunsFailed (heard c past) c rest group old new) (RunsOn C (heard c past) c rest group old new ⊎ RunsOut C (heard c past) c rest group old new) → AreAnswers C past Runs (entries_in group)
+    by_failed true k = no_entries C past Runs group (closing c (untaken_all (heard c past) (old.places c))) k.notes refl
+    by_failed false (inl k) =
+        let behind = closing_if (ends k.turn) c (untaken_all (heard c past) (old.places c ++ k.more)) in
+        no_entries C past Runs group (notes_of c k.more ++ behind) k.items.noted (run_entries c k.more behind (entries_closing (ends k.turn) c (untaken_all (heard c past) (old.places c ++ k.more))))
+    by_failed false (inr k) =
+        let behind = Finish c Memory ∷ closing c (untaken_all (heard c past) (old.places c ++ k.more)) in
+        no_entries C past Runs group (notes_of c k.more ++ behind) k.notes (run_entries c k.more behind refl)
+
+input_answers : (C : Config) (past : Past) (c : ℕ) (input : Input) (group : List Note) (old new : State) (b : Bool) → MatchBool b (MovesCome C input (heard c past) (hears c (heard c past) (Comes c input) group) c group old new) ⊥ → AreAnswers C past (Comes c input) (entries_in group)
+input_answers C past c input group old new false m = absurd m
+input_answers C past c input group old new true m = by_failed (heard c past).failed m
+  where
+    v : EventKind
+    v = Comes c input
+
+    by_failed : (b : Bool) → MatchBool b (MovesFailed c group old new) (MovesOn C (hears c (heard c past) (Comes c input) group) c group old new ⊎ MovesLacks input c group old new) → AreAnswers C past (Comes c input) (entries_in group)
+    by_failed true k = no_entries C past (Comes c input) group [] k.notes refl
+    by_failed false (inl k) =
+        let over = is_drained_at C (hears c (heard c past) (Comes c input) group) (old.places c) in
+        let d = untaken_all (hears c (heard c past) (Comes c input) group) (old.places c) in
+        no_entries C past (Comes c input) group (closing_if over c d) k.notes (entries_closing over c d)
+    by_failed false (inr k) = no_entries C past (Comes c input) group (Finish c Memory ∷ []) k.notes refl
+
+one_answer : (C : Config) (past : Past) (a : Asked) (r : Reply) → r ≡ (reply (store_of C past) (shared past).moment a.call).reply → IsAnswer C past (record { conn = a.conn; moment = (shared past).moment; call = a.call; reply = r })
+one_answer C past a r e = record { moment = refl; reply_is = e }
+
+turn_answers : (C : Config) (past : Past) (a : Asked) (r : Reply) (group : List Note) → r ≡ (reply (store_of C past) (shared past).moment a.call).reply → TurnNotes a (shared past).moment r group → AreAnswers C past Turns (entries_in group)
+turn_answers C past a r group e (inl k) = let P : List Note → Type 0 = λ g. AreAnswers C past Turns (entries_in g) in subst P (sym k) (one_answer C past a r e)
+turn_answers C past a r group e (inr (inl k)) = let P : List Note → Type 0 = λ g. AreAnswers C past Turns (entries_in g) in subst P (sym k) (one_answer C past a r e)
+turn_answers C past a r group e (inr (inr k)) = no_entries C past Turns group (Finish a.conn Memory ∷ []) k refl
+
+queue_answers : (C : Config) (past : Past) (queue : List Asked) (group : List Note) (old new : State) → MovesQueue (store_of C past) (shared past).moment queue group old new → AreAnswers C past Turns (entries_in group)
+queue_answers C past [] group old new m = no_entries C past Turns group [] m.0 refl
+queue_answers C past (a ∷ rest) group old new m = turn_answers C past a (reply (store_of C past) (shared past).moment a.call).reply group refl m.notes
+
+accept_answers : (C : Config) (past : Past) (c : ℕ) (v : EventKind) (group : List Note) → (group ≡ []) ⊎ (group ≡ Finish c Memory ∷ []) → AreAnswers C past v (entries_in group)
+accept_answers C past c v group (inl k) = no_entries C past v group [] k refl
+accept_answers C past c v group (inr k) = no_entries C past v group (Finish c Memory ∷ []) k refl
+
+are_answers : (C : Config) (past : Past) (v : EventKind) (group : List Note) (old new : State) → MovesBy C past v group old new → AreAnswers C past v (entries_in group)
+are_answers C past (Accepts c vs from) group old new m = accept_answers C past c (Accepts c vs from) group m.notes
+are_answers C past (Comes c input) group old new m = input_answers C past c input group old new (may_come input) m
+are_answers C past (Ticks moment) group old new m = no_entries C past (Ticks moment) group [] m.0 refl
+are_answers C past Turns group old new m = queue_answers C past old.queue group old new m
+are_answers C past Runs group old new m = ring_answers C past old.ring group old new m
+are_answers C past (Marks pool member up) group old new m = no_entries C past (Marks pool member up) group [] m.0 refl
+
+pub one_history : (C : Config) (past : Past) (s : State) → Leads C past s → IsHistory C past
+one_history C [] s leads = tt
+one_history C (x ∷ past) s (before, leads, accepted, moves) = (one_history C past before leads, are_answers C past (kind_of x.event) x.group before s moves)
+
+-- ---- what a connection heard
+
+abbrev Recorded : Heard → Type 0
+Recorded h = h.replies ≡ map (λ e. e.reply) (entries_in h.notes)
+
+marks_recorded : (c : ℕ) (v : EventKind) (h : Heard) → Recorded h → Recorded (event_marks c v h)
+marks_recorded c (Accepts d vs from) h e = by_test (nat_eq d c)
+  where
+    by_test : (b : Bool) → Recorded (if b then accepts vs from h else h)
+    by_test true = e
+    by_test false = e
+marks_recorded c (Comes d input) h e = by_test (nat_eq d c) input
+  where
+    by_test : (b : Bool) (i : Input) → Recorded (if b then marks i h else h)
+    by_test false i = e
+    by_test true (Bytes side bytes) = e
+    by_test true (Ends side) = e
+    by_test true (Resets Client) = e
+    by_test true (Resets Server) = e
+    by_test true (Connects made) = e
+    by_test true (Takes Client n) = e
+    by_test true (Takes Server n) = e
+marks_recorded c (Ticks moment) h e = e
+marks_recorded c Turns h e = e
+marks_recorded c Runs h e = e
+marks_recorded c (Marks pool member up) h e = e
+
+-- the answers that were recorded are the replies of its entries
+pub heard_recorded : (c : ℕ) (past : Past) → Recorded (heard c past)
+heard_recorded c [] = refl
+heard_recorded c (x ∷ past) =
+    let k = event_marks c (kind_of x.event) (heard c past) in
+    let mine = own c x.group in
+    ap (λ rs. rs ++ replies_told (notes_about c x.group)) (marks_recorded c (kind_of x.event) (heard c past) (heard_recorded c past))
+    ∙ ap (λ rs. map (λ e. e.reply) (entries_in k.notes) ++ rs) (replies_are mine)
+    ∙ sym (map-append (λ e. e.reply) (entries_in k.notes) (entries_in mine)) ∙ ap (map (λ e. e.reply)) (sym (entries_on k.notes mine))

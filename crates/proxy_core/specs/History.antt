@@ -1,0 +1,79 @@
+-- The history of the shared calls: entry by entry, each with its moment and reply, and the store that
+-- it leaves.
+use Rattle.std.specs.Prelude.{◌≡◌, ℕ, List, [], ◌∷◌, ◌++◌, map}
+use Rattle.std.specs.List.{flat_map}
+use Rattle.px_bytes.specs.declared.fault.Reply.{Reply}
+use Rattle.connection_model.specs.declared.note.Note.{Note}
+use Rattle.connection_model.specs.declared.note.Note.TheVariants as note
+use Rattle.connection_model.specs.Heard.{EventKind, Turns, Marks}
+use Rattle.shared_store.specs.Calls.{live_reply, reply}
+use Rattle.shared_store.specs.Store.{StoreState, at_moment, marked, new_store}
+use Rattle.proxy_core.specs.Past.{Past, kind_of, shared}
+use Rattle.proxy_core.specs.declared.config.Config.{Config}
+
+-- an entry: whose call it answers, at which moment, its words, and the reply
+pub record Entry : Type 0 where
+  pub conn : ℕ
+  pub moment : ℕ
+  pub call : List (List ℕ)
+  pub reply : Reply
+
+abbrev pub entry_in : Note → List Entry
+entry_in (note.History c moment call r) =
+    record { conn = c; moment = moment; call = call; reply = r } ∷ []
+entry_in other = []
+
+-- the entries that notes tell of, and their calls
+abbrev pub entries_in : List Note → List Entry
+entries_in notes = flat_map entry_in notes
+
+abbrev pub called_in : List Note → List (List (List ℕ))
+called_in notes = map (λ e. e.call) (entries_in notes)
+
+-- all of a past, the oldest first
+abbrev pub history_of : Past → List Entry
+history_of [] = []
+history_of (x ∷ past) = history_of past ++ entries_in x.group
+
+-- ---- the store
+
+-- what is left where these calls were answered one after another, each at its moment
+abbrev pub answered : List Entry → StoreState → StoreState
+answered [] store = store
+answered (e ∷ es) store = answered es (live_reply store e.moment e.call).after
+
+-- a Turn that does anything first takes away what has run out
+abbrev pub turned : (moment : ℕ) → List Note → StoreState → StoreState
+turned moment [] store = store
+turned moment (n ∷ group) store = answered (entries_in (n ∷ group)) (at_moment moment store)
+
+abbrev pub store_after : EventKind → (moment : ℕ) → List Note → StoreState → StoreState
+store_after Turns moment group store = turned moment group store
+store_after (Marks pool member up) moment group store = marked pool member up store
+store_after other moment group store = store
+
+-- the store behind a past: its entries were answered and its members marked, in this order, from the
+-- pools of the configuration on
+abbrev pub store_of : Config → Past → StoreState
+store_of C [] = new_store C.pools []
+store_of C (x ∷ past) =
+    store_after (kind_of x.event) (shared past).moment x.group (store_of C past)
+
+-- ---- one history
+
+-- it was answered at the moment of the last Tick, by the store behind all entries and marks before it
+pub record IsAnswer (C : Config) (past : Past) (e : Entry) : Type 0 where
+  pub moment : e.moment ≡ (shared past).moment
+  pub reply_is : e.reply ≡ (reply (store_of C past) e.moment e.call).reply
+
+-- an entry stands in the group of a Turn, which has one at most
+abbrev pub AreAnswers : Config → Past → EventKind → List Entry → Type 0
+AreAnswers C past Turns (e ∷ []) = IsAnswer C past e
+AreAnswers C past v [] = Unit {0}
+AreAnswers C past v es = ⊥
+
+-- the entries of a past are one history of a sequential store
+abbrev pub IsHistory : Config → Past → Type 0
+IsHistory C [] = Unit {0}
+IsHistory C (x ∷ past) =
+    IsHistory C past × AreAnswers C past (kind_of x.event) (entries_in x.group)
