@@ -138,10 +138,10 @@ abbrev pub causes_behind : Bool → List Cause
 causes_behind failed = if failed then Memory ∷ [] else []
 
 -- The notes of a connection that show an item are those of the items that it passed. Besides them and
--- its entries in the history are its last ones alone: none while it goes on; that its client is closed, and that it ended with what a
--- reset left dropped; or a Finish for want of memory, and then so many bytes dropped as were sent and not
--- taken. Its trace finishes once at most, never for want of memory, and has finished where it
--- ended; a second Finish is for want of memory, and there is no third.
+-- its entries in the history are its last ones alone: none while it goes on; that its client is closed,
+-- and that it ended with what a reset left dropped; or a Finish for want of memory, and then so many
+-- bytes dropped as were sent and not taken. Its trace finishes once at most, never for want of memory,
+-- and has finished where it ended; a second Finish is for want of memory, and there is no third.
 pub record FinishCauses (C : Config) (c : ℕ) (h : Heard) (live : Bool)
     (place : List Item) : Type 0 where
   pub shown : filter shows h.notes ≡ notes_of c place
