@@ -15,15 +15,17 @@ use Rattle.px_bytes.specs.declared.addr.Side.TheVariants.{Client}
 use Rattle.connection_model.specs.declared.note.Cause.TheVariants.{Memory}
 use Rattle.connection_model.specs.declared.note.Note.{Note}
 use Rattle.connection_model.specs.declared.note.Note.TheVariants.{Finish}
-use Rattle.connection_model.specs.Heard.{Input, Bytes, Ends, Takes, EventKind, Accepts, Comes, Runs, Ticks, Turns, Accepted, Heard, hears, Resets}
+use Rattle.connection_model.specs.Heard.{Input, Bytes, Ends, Takes, EventKind, Accepts, Comes, Runs, Ticks, Turns, Marks, Accepted, Heard, hears, Resets}
 use Rattle.connection_model.specs.Item.{Item, to_client, client_output}
 use Rattle.connection_model.proofs.Hearing.{others_not_heard}
 use Rattle.conn.specs.declared.connection.Conn.{Conn}
 use Rattle.conn.specs.Queues.{queue_in}
+use Rattle.proxy_core.specs.Calls.{asker, calls_of}
+use Rattle.proxy_core.specs.History.{store_of}
 use Rattle.proxy_core.specs.Live.{pending_in}
 use Rattle.proxy_core.specs.Live.{taken_more}
 use Rattle.proxy_core.specs.Moves.{Leads, Moves, MovesBy, MovesCome, Rests, MovesFailed, MovesLacks, MovesOn, may_come}
-use Rattle.proxy_core.specs.Moves.{MovesRing, RunsOn, RunsOut, RunsFailed}
+use Rattle.proxy_core.specs.Moves.{MovesRing, MovesQueue, RunsOn, RunsOut, RunsFailed}
 use Rattle.proxy_core.specs.Past.{Happened, Past, kind_of, heard, with_accepted, shared}
 use Rattle.proxy_core.specs.Queries.{front_of, front_in, queue_on}
 use Rattle.proxy_core.specs.Ready.{is_in}
@@ -33,20 +35,22 @@ use Rattle.proxy_core.specs.Refusals.{live_at}
 use Rattle.proxy_core.specs.Represents.{ConnectionContinues, AgreesAt, Represents}
 use Rattle.proxy_core.specs.Scheduler.{State, Seen, seen}
 use Rattle.proxy_core.specs.Sound.{unseen, Served}
+use Rattle.proxy_core.specs.declared.call.Asked.{Asked}
 use Rattle.proxy_core.specs.declared.config.Config.{Config}
 use Rattle.proxy_core.specs.declared.core_state.Core.{Core}
 use Rattle.proxy_core.specs.declared.event.Event.{Event}
 use Rattle.proxy_core.specs.declared.event.Event.TheVariants.{Accept, FromClient, ClientEnd, ClientReset, Tick, Turn, ClientTook, Run, Mark}
-use Rattle.proxy_core.specs.declared.event.BadEvent.TheVariants.{NoMember}
 use Rattle.proxy_core.specs.declared.live.Live.{Live}
 use Rattle.proxy_core.specs.Others.{about, front}
+use Rattle.proxy_core.proofs.Entries.{calls_front}
 use Rattle.proxy_core.proofs.Framing.{touches, only_changed}
 use Rattle.proxy_core.proofs.GroupNotes.{About}
-use Rattle.proxy_core.proofs.Hearing.{come_told, run_told}
+use Rattle.proxy_core.proofs.Hearing.{come_told, run_told, turn_told}
 use Rattle.proxy_core.proofs.Members.{eq_self, eq_same, eq_turned, in_pushed_other}
 use Rattle.proxy_core.proofs.ReadyRing.{distinct_none, distinct_push, absent_all}
 use Rattle.proxy_core.proofs.SoundEvents.{seen_accept}
 use Rattle.proxy_core.proofs.SoundPast.{none_holds, may_come_at, not_accepted, front_served, unchanged}
+use Rattle.proxy_core.proofs.Standing.{is_served}
 use Rattle.connection_table.specs.Table.{Rises}
 use Rattle.connection_table.proofs.Numbers.{rises_push}
 use Rattle.proxy.specs.declared.taken.Taken.{Taken}
@@ -297,6 +301,29 @@ run_bytes C past s next core group r m (c ∷ rest) e k q = by_number (nat_eq c 
         let P : ℕ → Type 0 = λ n. taken_bytes (x ∷ past) next n ≡ taken_bytes past s n in subst P (eq_same c q f) (front_bytes C past s next c rest group v.1 e m k)
     by_number false f = bytes_stay C past s next Run group m q (ap (λ n. nat_eq n q) (ap front e) ∙ f)
 
+-- a Turn: the client of the connection that is answered took what it took before
+turn_bytes : (C : Config) (past : Past) (s next : State) (core : Core) (group : List Note) → Represents C past s core → Moves C past (record { event = Turn; group = group }) s next → (queue : List Asked) → s.queue ≡ queue
+    → MovesQueue (store_of C past) (shared past).moment queue group s next → (q : ℕ) → taken_bytes (record { event = Turn; group = group } ∷ past) next q ≡ taken_bytes past s q
+turn_bytes C past s next core group r m [] e k q = ap bytes_seen (unchanged past Turns group s next q k (λ h. others_not_heard q h Turns [] refl refl) refl)
+turn_bytes C past s next core group r m (a ∷ rest) e k q = by_number (nat_eq a.conn q) refl
+  where
+    x : Happened
+    x = record { event = Turn; group = group }
+
+    own : taken_bytes (x ∷ past) next a.conn ≡ taken_bytes past s a.conn
+    own =
+        let z = seen past s a.conn in
+        let asked : z.asked ≡ a.call ∷ calls_of a.conn rest = ap (calls_of a.conn) e ∙ calls_front a rest in
+        let v = is_served C a.conn z (λ u. let n = sym asked ∙ ap (λ y. y.asked) u in cc) (r.sound.each a.conn) in
+        let A : ℕ → Type 0 = λ n. About n group in
+        let t = turn_told a.conn (heard a.conn past) group v.1.plain.connects (subst A (ap asker e) (touches C past Turns group s next m).notes) in
+        let took : (heard a.conn (x ∷ past)).client.took ≡ (heard a.conn past).client.took = t.took ∙ (omega arith) in
+        ap (λ n. take n (client_output (next.places a.conn))) took ∙ ap (λ y. take (heard a.conn past).client.took (client_output (y.places a.conn))) k.state
+
+    by_number : (b : Bool) → nat_eq a.conn q ≡ b → taken_bytes (x ∷ past) next q ≡ taken_bytes past s q
+    by_number true f = let P : ℕ → Type 0 = λ n. taken_bytes (x ∷ past) next n ≡ taken_bytes past s n in subst P (eq_same a.conn q f) own
+    by_number false f = bytes_stay C past s next Turn group m q (ap (λ n. nat_eq n q) (ap asker e) ∙ f)
+
 -- where nothing changes what each took stays
 rests_kept : (past : Past) (s next : State) (e : Event) (group : List Note) → Rests group s next → with_accepted (kind_of e) (shared past).live ≡ (shared past).live → ((q : ℕ) (h : Heard) → hears q h (kind_of e) [] ≡ h)
     → taken_of past s (accepted past) ≡ taken_of (record { event = e; group = group } ∷ past) next (accepted past)
@@ -311,7 +338,7 @@ taken_kept C past s next core (ClientEnd c) group r h k m = came_kept C past s n
 taken_kept C past s next core (ClientReset c) group r h k m = came_kept C past s next core c (Resets Client) (ClientReset c) group refl refl refl r h m
 taken_kept C past s next core (ClientTook c n) group r h k m = took_kept C past s next core c n group r h k m
 taken_kept C past s next core (Tick moment) group r h k m = rests_kept past s next (Tick moment) group m refl (λ q y. others_not_heard q y (Ticks moment) [] refl refl)
-taken_kept C past s next core Turn group r h k m = rests_kept past s next Turn group m refl (λ q y. others_not_heard q y Turns [] refl refl)
+taken_kept C past s next core Turn group r h k m = sym (same_each past (record { event = Turn; group = group } ∷ past) s next (accepted past) (turn_bytes C past s next core group r m s.queue refl m))
 taken_kept C past s next core Run group r h k m = sym (same_each past (record { event = Run; group = group } ∷ past) s next (accepted past) (run_bytes C past s next core group r m s.ring refl m))
-taken_kept C past s next core (Mark pool member up) group r h k m = absurd (let x : Some NoMember ≡ None = k in cc)
+taken_kept C past s next core (Mark pool member up) group r h k m = rests_kept past s next (Mark pool member up) group m refl (λ q y. others_not_heard q y (Marks pool member up) [] refl refl)
 taken_kept C past s next core other group r h k m = absurd m

@@ -58,24 +58,24 @@ pub stands_at : (C : Config) (past : Past) (s : State) (c : ℕ) → is_in (shar
 stands_at C past s c live = ap (λ b. standing_by C b (seen past s c)) live
 
 -- none of the reasons holds
-come_rows : (C : Config) (k : Known) (c : ℕ) (input : Input) (p : Standing) → k.conn ≡ Some p → is_late p.edges input ≡ false
+come_rows : (C : Config) (k : Known) (c : ℕ) (input : Input) (p : Standing) → k.member ≡ true → k.conn ≡ Some p → is_late p.edges input ≡ false
     → answers_nothing p.edges input ≡ false → comes_too_much (Some p) input ≡ false → takes_too_much (Some p) input ≡ false
     → refusal_by C k (Comes c input) ≡ None
-come_rows C k c input p is late nothing much took = cc
+come_rows C k c input p member is late nothing much took = cc
 
 pub comes_taken : (C : Config) (past : Past) (s : State) (c : ℕ) (input : Input) → is_in (shared past).live c ≡ true
     → is_late (heard c past).edges input ≡ false → answers_nothing (heard c past).edges input ≡ false
     → comes_too_much (Some (standing_at C past s c)) input ≡ false → takes_too_much (Some (standing_at C past s c)) input ≡ false
     → refused C past s (Comes c input) ≡ None
 comes_taken C past s c input live late nothing much took =
-    come_rows C (known C past s (Comes c input)) c input (standing_at C past s c) (stands_at C past s c live) late nothing much took
+    come_rows C (known C past s (Comes c input)) c input (standing_at C past s c) refl (stands_at C past s c live) late nothing much took
 
-pub accept_rows : (C : Config) (k : Known) (n : ℕ) (vs : List ℕ) (from : Addr) → nat_le n k.last ≡ false
+pub accept_rows : (C : Config) (k : Known) (n : ℕ) (vs : List ℕ) (from : Addr) → k.member ≡ true → nat_le n k.last ≡ false
     → is_none (virtual_place C vs) ≡ false → nat_le C.connections k.live ≡ false → refusal_by C k (Accepts n vs from) ≡ None
-accept_rows C k n vs from above virtual room = cc
+accept_rows C k n vs from member above virtual room = cc
 
-pub tick_rows : (C : Config) (k : Known) (m : ℕ) → nat_lt m k.moment ≡ false → refusal_by C k (Ticks m) ≡ None
-tick_rows C k m back = cc
+pub tick_rows : (C : Config) (k : Known) (m : ℕ) → k.member ≡ true → nat_lt m k.moment ≡ false → refusal_by C k (Ticks m) ≡ None
+tick_rows C k m member back = cc
 
 pub not_less : (a b : ℕ) → b ≤ a → nat_lt a b ≡ false
 not_less a b le = grind (arith, common_steps)
@@ -216,7 +216,7 @@ pub may_accept_of : (core : Core) (last live limit : ℕ) → Always core (λ C 
     → TakesEvent core (told.Accept (last + 1) name from)
 may_accept_of core last live limit last_told live_told limit_told room slot name from named e is C past s r =
     by_event C past s e (event.Accept (last + 1) name from) is
-    (accept_rows C (known C past s (Accepts (last + 1) name from)) (last + 1) name from
+    (accept_rows C (known C past s (Accepts (last + 1) name from)) (last + 1) name from refl
     (not_at_most (last + 1) (shared past).last (above last (shared past).last (last_told C past s r)))
     (found C.virtuals 0 slot name (named C past s r))
     (not_at_most C.connections (live_of past) (less_by live (live_of past) limit C.connections (live_told C past s r) (limit_told C past s r) room)))
