@@ -42,6 +42,12 @@ not_written f (Ok x) P e h k = tt
 not_written failed.Failed (Err x) P e h k = subst P (sym e) h
 not_written failed.Memory (Err x) P e h k = subst P (sym e) k
 
+-- the same, where only a fault of the write has to be counted
+pub counted : {T : Type 0} (f : Failed) (r : Result T Stop) (X : Type 0) → IsErrAnd r (λ e. e ≡ stop_of f) → (f ≡ failed.Failed → X) → IfErr r (λ why. why ≡ stop.WriteFault → X)
+counted f (Ok x) X e h = tt
+counted failed.Failed (Err x) X e h = λ w. h refl
+counted failed.Memory (Err x) X e h = λ w. absurd (let k : stop.Memory ≡ stop.WriteFault = sym e ∙ w in cc)
+
 pub told_twice : (o : Option (List ℕ)) (a b : List ℕ) → told_more (told_more o a) b ≡ told_more o (a ++ b)
 told_twice None a b = refl
 told_twice (Some x) a b = ap Some (append_assoc x a b)

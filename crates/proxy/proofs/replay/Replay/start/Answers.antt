@@ -1,8 +1,8 @@
-use Rattle.std.proofs.Common.{◌∙◌, ap}
+use Rattle.std.proofs.Common.{◌∙◌, ap, Err}
 use Rattle.journal_text.specs.Notes.{note_lines}
 use Rattle.proxy_core.specs.Setup.{init_notes}
 use Rattle.proxy.specs.Stops.{StopsAtStart}
-use Rattle.proxy.proofs.Stopping.{out_of_memory, not_written, stands_first, start_front, front_none}
+use Rattle.proxy.proofs.Stopping.{counted, out_of_memory, not_written, stands_first, start_front, front_none}
 use Rattle.proxy.proofs.replay.Replay.start.Goals as goal
 
 pub returns-in_err-core-clause-stops : goal.returns-in_err-core-clause-stops
@@ -26,6 +26,11 @@ returns-in_err-write_all-clause-stops g c =
     let part = rw said at c.in_err-write_all.ensures.err_writes_prefix in
     let front = start_front C old new (part.taken, part.written) in
     not_written c.in_err-write_all.field-0.0 c.from_residual-in_err-write_all.result (StopsAtStart C old new) c.from_residual-in_err-write_all.ensures.1 front front
+
+pub returns-in_err-write_all-clause-failed_is_counted :
+    goal.returns-in_err-write_all-clause-failed_is_counted
+returns-in_err-write_all-clause-failed_is_counted g c =
+    counted c.in_err-write_all.field-0.0 c.from_residual-in_err-write_all.result _ c.from_residual-in_err-write_all.ensures.1 (λ e. c.in_err-write_all.ensures.failed_is_counted (ap Err e))
 
 pub returns-clause-stands : goal.returns-clause-stands
 returns-clause-stands g c =
