@@ -6,6 +6,7 @@ use Rattle.px_outside.specs.Outside.{told_more, Rose}
 use Rattle.proxy_core.specs.declared.config.Config as configured
 use Rattle.proxy_core.specs.declared.event.BadEvent.{BadEvent}
 use Rattle.proxy_core.proofs.Promises.{every_past_matches}
+use Rattle.journal_text.specs.declared.line_kind.LineKind.{LineKind}
 use Rattle.proxy.specs.declared.end.End.{End}
 use Rattle.proxy.specs.declared.end.End.TheVariants.{Done, Usage, Config, Schedule, ReadFault}
 use Rattle.proxy.specs.declared.end.End.TheVariants.{WriteFault, Memory}
@@ -84,15 +85,15 @@ done_replayed C schedule r last old mid new before between now res k h i f =
     (if_ok last (λ l. l ≡ end_text r.events) (λ l. Reports C s.past s.state k.text k.number l old new → ReplaysAll C schedule old new)
     (λ l e x. record { past = s.past; state = s.state; text = k.text; rest = k.rest; schedule_is = k.schedule_is; is_end = k.is_end; number = k.number; reports = (let P : List ℕ → Type 0 = λ y. Reports C s.past s.state k.text k.number y old new in subst P (is l e) x) }) i) f
 
-pub text_replayed : (C : configured.Config) (schedule : List ℕ) (r : Replay) (line : ℕ) (last : Result (List ℕ) want.Memory) (old mid new : Option (List ℕ)) (before between now : ℕ) (res : Result (Unit {0}) End) → StoppedText C schedule line r.core r.taken.items r.events old mid
-    → before ≤ between → IfOk last (λ l. l ≡ text_fault line 6) → Finished r last mid new between now res → Replayed C schedule old new before now (end_unless Schedule res)
-text_replayed C schedule r line last old mid new before between now res k h i f =
+pub text_replayed : (C : configured.Config) (schedule : List ℕ) (r : Replay) (line : ℕ) (kind : LineKind) (last : Result (List ℕ) want.Memory) (old mid new : Option (List ℕ)) (before between now : ℕ) (res : Result (Unit {0}) End) → StoppedText C schedule line kind r.core r.taken.items r.events old mid
+    → before ≤ between → IfOk last (λ l. l ≡ text_fault line kind) → Finished r last mid new between now res → Replayed C schedule old new before now (end_unless Schedule res)
+text_replayed C schedule r line kind last old mid new before between now res k h i f =
     let s = k.stands in
-    let is : (l : List ℕ) → l ≡ text_fault line 6 → l ≡ text_fault (k.number + 1) 6 = λ l e. e ∙ ap (λ n. text_fault n 6) k.line_is in
+    let is : (l : List ℕ) → l ≡ text_fault line kind → l ≡ text_fault (k.number + 1) kind = λ l e. e ∙ ap (λ n. text_fault n kind) k.line_is in
     ended C schedule r k.text k.rest k.number last old mid new before between now Schedule res k.schedule_is s h
-    (if_ok last (λ l. l ≡ text_fault line 6) (λ l. IsLast C s.past s.state k.number k.rest l) (λ l e. inr (inl (k.faulty, is l e))) i)
-    (if_ok last (λ l. l ≡ text_fault line 6) (λ l. Reports C s.past s.state k.text k.number l old new → Replayed C schedule old new before now Schedule)
-    (λ l e x. inl (record { past = s.past; state = s.state; text = k.text; rest = k.rest; schedule_is = k.schedule_is; number = k.number; faulty = k.faulty; reports = (let P : List ℕ → Type 0 = λ y. Reports C s.past s.state k.text k.number y old new in subst P (is l e) x) })) i) f
+    (if_ok last (λ l. l ≡ text_fault line kind) (λ l. IsLast C s.past s.state k.number k.rest l) (λ l e. inr (inl (kind, k.faulty, is l e))) i)
+    (if_ok last (λ l. l ≡ text_fault line kind) (λ l. Reports C s.past s.state k.text k.number l old new → Replayed C schedule old new before now Schedule)
+    (λ l e x. inl (record { past = s.past; state = s.state; text = k.text; rest = k.rest; schedule_is = k.schedule_is; number = k.number; kind = kind; faulty = k.faulty; reports = (let P : List ℕ → Type 0 = λ y. Reports C s.past s.state k.text k.number y old new in subst P (is l e) x) })) i) f
 
 pub event_replayed : (C : configured.Config) (schedule : List ℕ) (r : Replay) (line : ℕ) (why : BadEvent) (last : Result (List ℕ) want.Memory) (old mid new : Option (List ℕ)) (before between now : ℕ) (res : Result (Unit {0}) End) → StoppedEvent C schedule line why r.core r.taken.items r.events old mid
     → before ≤ between → IfOk last (λ l. l ≡ event_fault line why) → Finished r last mid new between now res → Replayed C schedule old new before now (end_unless Schedule res)
@@ -106,7 +107,7 @@ event_replayed C schedule r line why last old mid new before between now res k h
 
 -- it stopped at the start
 pub start_stopped : (C : configured.Config) (schedule : List ℕ) (old new : Option (List ℕ)) (why : Stop) → StopsAtStart C old new why → WritesFront C schedule old new
-start_stopped C schedule old new (stop.Text line) k = absurd k
+start_stopped C schedule old new (stop.Text line kind) k = absurd k
 start_stopped C schedule old new (stop.Event line why) k = absurd k
 start_stopped C schedule old new stop.WriteFault k = front_longer C [] schedule schedule old new refl k
 start_stopped C schedule old new stop.Memory k = front_longer C [] schedule schedule old new refl k

@@ -7,7 +7,7 @@ use Rattle.proxy_core.specs.declared.core_state.Core.{Core}
 use Rattle.proxy_core.specs.declared.event.Event.{Event}
 use Rattle.proxy.specs.declared.replay.Stop.{Stop}
 use Rattle.proxy.specs.declared.replay.Stop.TheVariants as stop
-use Rattle.proxy.specs.declared.schedule.LineFault.{LineFault}
+use Rattle.journal_text.specs.declared.line_kind.LineKind.{LineKind}
 use Rattle.proxy.specs.declared.taken.Taken.{Taken}
 use Rattle.proxy.specs.Lines.{IsLine, Gives, events_of, Reads}
 use Rattle.journal_text.specs.Line.{IsSkipped}
@@ -38,16 +38,16 @@ skips C text line number core taken events told now s is skipped = record {
 
 -- a stop at the event of a line is one at the line
 pub at_line : (C : Config) (text line : List ℕ) (number at : ℕ) (event : Event) (core : Core) (taken : List Taken) (events : ℕ) (old new : Option (List ℕ)) (why : Stop) → StoppedAtEvent C text line number at event core taken events old new why → StoppedAtLine C text line number at core taken events old new why
-at_line C text line number at event core taken events old new (stop.Text l) k = absurd k
+at_line C text line number at event core taken events old new (stop.Text l kind) k = absurd k
 at_line C text line number at event core taken events old new (stop.Event l why) k = (k.0, (k.1.0, event, k.1.1, k.1.2))
 at_line C text line number at event core taken events old new stop.WriteFault k = k
 at_line C text line number at event core taken events old new stop.Memory k = k
 
 -- what the reader of a line says of it
-pub event_gives : (line : List ℕ) (res : Result (Option Event) LineFault) (event : Event) → res ≡ Ok (Some event) → ((res ≡ Ok None) ↔ IsSkipped line) → IfOk res (λ found. IfSome found (SpellsEvent line)) → Gives line event
+pub event_gives : (line : List ℕ) (res : Result (Option Event) LineKind) (event : Event) → res ≡ Ok (Some event) → ((res ≡ Ok None) ↔ IsSkipped line) → IfOk res (λ found. IfSome found (SpellsEvent line)) → Gives line event
 event_gives line res event is skipped spells = record {
   not_skipped = λ k. (let e : res ≡ Ok None = skipped.1 k in cc);
-  spells = (let P : Result (Option Event) LineFault → Type 0 = λ r. IfOk r (λ found. IfSome found (SpellsEvent line)) in subst P is spells);
+  spells = (let P : Result (Option Event) LineKind → Type 0 = λ r. IfOk r (λ found. IfSome found (SpellsEvent line)) in subst P is spells);
 }
 
 pub goes_behind : {T E : Type 0} (r : Result T E) (P Q : Type 0) → (P → Q) → OnOk r P → OnOk r Q

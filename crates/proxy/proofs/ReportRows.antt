@@ -2,6 +2,7 @@
 use Rattle.std.proofs.Common.{◌≡◌, [], refl}
 use Rattle.std.specs.Prelude.{codes}
 use Rattle.std.specs.Fmt.{digits}
+use Rattle.journal_text.specs.declared.line_kind.LineKind.TheVariants.{NotEvent}
 use Rattle.proxy_core.specs.declared.event.BadEvent.TheVariants.{Full}
 use Rattle.proxy.specs.Report.{client_text, open_text, end_text, text_fault, event_fault, config_fault}
 
@@ -21,7 +22,7 @@ no_events : end_text 0 ≡ codes "> end 0\n"
 unfolding digits
 no_events = refl
 
-not_event : text_fault 3 6 ≡ codes "> fault line 3 text 6\n"
+not_event : text_fault 3 NotEvent ≡ codes "> fault line 3 text 3\n"
 unfolding digits
 not_event = refl
 

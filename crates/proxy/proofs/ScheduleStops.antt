@@ -10,7 +10,7 @@ use Rattle.proxy.specs.declared.replay.Stop.{Stop}
 use Rattle.proxy.specs.declared.replay.Stop.TheVariants as stop
 use Rattle.proxy.specs.declared.taken.Taken.{Taken}
 use Rattle.journal_text.specs.Line.{IsSkipped}
-use Rattle.proxy.specs.Lines.{IsLine, Faulty, Unended, NoEvent, events_of}
+use Rattle.proxy.specs.Lines.{IsLine, Faulty, Unended, NoEvent, events_of, unended_kind}
 use Rattle.proxy.specs.Stops.{with_line, StoppedAtLine, Stopped}
 use Rattle.proxy.specs.Written.{Stands, StandsAtEnd}
 use Rattle.proxy.proofs.LineCuts.{is_lf, cut, no_lf, next_line}
@@ -34,7 +34,7 @@ behind_line C s at len line core taken events told now e h st = let P : List ℕ
 -- a stop at a line is one of the schedule
 pub stops_there : (C : Config) (s : List ℕ) (at len line : ℕ) (core : Core) (taken : List Taken) (events : ℕ) (told now : Option (List ℕ)) (why : Stop) → position_from is_lf 0 (drop at s) ≡ Some len → len < length (drop at s)
     → StoppedAtLine C (take at s) (take len (drop at s)) line (line + 1) core taken events told now why → Stopped C s core taken events told now why
-stops_there C s at len line core taken events told now (stop.Text l) e h k =
+stops_there C s at len line core taken events told now (stop.Text l kind) e h k =
     let c = cut len (drop at s) e in
     record {
       text = take at s;
@@ -43,7 +43,7 @@ stops_there C s at len line core taken events told now (stop.Text l) e h k =
       number = line;
       line_is = k.0;
       stands = k.1.0;
-      faulty = (let P : List ℕ → Type 0 = λ t. Faulty t in subst P (sym c.whole) (NoEvent (take len (drop at s)) (drop (len + 1) (drop at s)) c.is_line k.1.1));
+      faulty = (let P : List ℕ → Type 0 = λ t. Faulty t kind in subst P (sym c.whole) (NoEvent (take len (drop at s)) (drop (len + 1) (drop at s)) kind c.is_line k.1.1));
     }
 stops_there C s at len line core taken events told now (stop.Event l why) e h k =
     let c = cut len (drop at s) e in
@@ -67,10 +67,10 @@ pub skips_last : (C : Config) (s : List ℕ) (at line : ℕ) (core : Core) (take
 skips_last C s at line core taken events told now e is st =
     record { text = take at s; rest = drop at s; schedule_is = split at s; is_end = (no_lf (drop at s) e, is); number = line; stands = st }
 
-pub stops_unended : (C : Config) (s : List ℕ) (at line : ℕ) (core : Core) (taken : List Taken) (events : ℕ) (told now : Option (List ℕ)) (why : Stop) → position_from is_lf 0 (drop at s) ≡ None → (why ≡ stop.Text (line + 1)) × (IsSkipped (drop at s) → ⊥) → Stands C (take at s) line core taken events told now
+pub stops_unended : (C : Config) (s : List ℕ) (at line : ℕ) (core : Core) (taken : List Taken) (events : ℕ) (told now : Option (List ℕ)) (why : Stop) → position_from is_lf 0 (drop at s) ≡ None → (why ≡ stop.Text (line + 1) (unended_kind (drop at s))) × (IsSkipped (drop at s) → ⊥) → Stands C (take at s) line core taken events told now
     → Stopped C s core taken events told now why
 stops_unended C s at line core taken events told now why e k st =
-    subst (λ w. Stopped C s core taken events told now w) (sym k.0) (record { text = take at s; rest = drop at s; schedule_is = split at s; number = line; line_is = refl; stands = st; faulty = Unended (drop at s) (no_lf (drop at s) e) k.1 })
+    subst (λ w. Stopped C s core taken events told now w) (sym k.0) (record { text = take at s; rest = drop at s; schedule_is = split at s; number = line; line_is = refl; stands = st; faulty = Unended (drop at s) (unended_kind (drop at s)) (no_lf (drop at s) e) k.1 refl })
 
 -- the same, by what was said of it, where what stands before it is known of whatever came before
 module _ (s : List ℕ) (at line : ℕ) (core : Core) (taken : List Taken) (events : ℕ) (now : Option (List ℕ)) (Before : Config → Option (List ℕ) → Type 0) (e : position_from is_lf 0 (drop at s) ≡ None)
@@ -79,7 +79,7 @@ module _ (s : List ℕ) (at line : ℕ) (core : Core) (taken : List Taken) (even
   last_skipped (Ok u) is = λ C told h. skips_last C s at line core taken events told now e (subst IsSkipped (take_rest s at) is) (st C told h)
   last_skipped (Err why) is = tt
 
-  pub last_unended : (r : Result (Unit {0}) Stop) → IfErr r (λ why. (why ≡ stop.Text (line + 1)) × (IsSkipped (take (length s - at) (drop at s)) → ⊥))
+  pub last_unended : (r : Result (Unit {0}) Stop) → IfErr r (λ why. (why ≡ stop.Text (line + 1) (unended_kind (take (length s - at) (drop at s)))) × (IsSkipped (take (length s - at) (drop at s)) → ⊥))
       → IfErr r (λ why. (C : Config) (told : Option (List ℕ)) → Before C told → Stopped C s core taken events told now why)
   last_unended (Ok u) k = tt
-  last_unended (Err why) k = λ C told h. stops_unended C s at line core taken events told now why e (k.0, λ is. k.1 (subst IsSkipped (sym (take_rest s at)) is)) (st C told h)
+  last_unended (Err why) k = λ C told h. stops_unended C s at line core taken events told now why e (k.0 ∙ ap (λ t. stop.Text (line + 1) (unended_kind t)) (take_rest s at), λ is. k.1 (subst IsSkipped (sym (take_rest s at)) is)) (st C told h)

@@ -7,6 +7,9 @@ use Rattle.proxy_core.specs.declared.event.Event.{Event}
 use Rattle.journal_text.specs.Line.{IsSkipped}
 use Rattle.proxy.specs.Lines.{IsEnd, IsLine, AllLines, lines_text, Gives, GivesNone, Spell, Reads, Faulty}
 use Rattle.proxy.specs.Lines.{Unended, NoEvent}
+use Rattle.proxy.specs.Schedule.{as_lined}
+use Rattle.journal_text.specs.declared.line_kind.LineKind.{LineKind}
+use Rattle.journal_text.proofs.FaultSpellsNone.{fault_spells_none}
 use Rattle.proxy.proofs.OneEvent.{one_event}
 
 -- one line at the front of a text
@@ -90,9 +93,9 @@ front_spells (l ∷ newer) lines events (inl s) = front_spells newer lines event
 front_spells (l ∷ newer) lines events (inr s) = front_spells newer lines s.1 s.4
 
 -- a line that spells isn't faulty
-line_not_faulty : (line : List ℕ) (lines : List (List ℕ)) (events : List Event) → Spell (line ∷ lines) events → GivesNone line → ⊥
-line_not_faulty line lines events (inl s) g = g.not_skipped s.0
-line_not_faulty line lines events (inr s) g = g.none s.0 s.3
+line_not_faulty : (kind : LineKind) (line : List ℕ) (lines : List (List ℕ)) (events : List Event) → Spell (line ∷ lines) events → GivesNone line kind → ⊥
+line_not_faulty kind line lines events (inl s) g = g.not_skipped s.0
+line_not_faulty kind line lines events (inr s) g = fault_spells_none line kind g.found_memory g.fails (as_lined s.0) s.3.spells
 
 -- the oldest of the lines behind a front
 behind : (newer : List (List ℕ)) (line : List ℕ) (lines : List (List ℕ)) (events : List Event) → Spell (reverse (line ∷ newer) ++ lines) events → (before : List Event) × Spell (line ∷ lines) before
@@ -105,29 +108,29 @@ unfolding forward
 unended_false [] last rest e end is bare = bare (subst IsSkipped (sym e) end.1)
 unended_false (m ∷ more) last rest e end is bare = lf_in m (forward more ++ last) (subst IsLine (e ∙ append_assoc m (10 ∷ forward more) last) is)
 
-no_event_false : (more lines : List (List ℕ)) (events : List Event) (last line rest : List ℕ) → line ++ 10 ∷ rest ≡ forward more ++ last → AllLines more → IsEnd last → Spell (reverse more ++ lines) events → IsLine line → GivesNone line → ⊥
+no_event_false : (kind : LineKind) (more lines : List (List ℕ)) (events : List Event) (last line rest : List ℕ) → line ++ 10 ∷ rest ≡ forward more ++ last → AllLines more → IsEnd last → Spell (reverse more ++ lines) events → IsLine line → GivesNone line kind → ⊥
 unfolding forward
-no_event_false [] lines events last line rest e all end s is g = lf_in line rest (subst IsLine (sym e) end.0)
-no_event_false (m ∷ more) lines events last line rest e all end s is g =
+no_event_false kind [] lines events last line rest e all end s is g = lf_in line rest (subst IsLine (sym e) end.0)
+no_event_false kind (m ∷ more) lines events last line rest e all end s is g =
     let c = one_cut line m rest (forward more ++ last) is all.0 (e ∙ append_assoc m (10 ∷ forward more) last) in
     let k = behind more m lines events s in
-    line_not_faulty m lines k.0 k.1 (subst GivesNone c.0 g)
+    line_not_faulty kind m lines k.0 k.1 (subst (λ l. GivesNone l kind) c.0 g)
 
-faulty_false : (more lines : List (List ℕ)) (events : List Event) (last text : List ℕ) → Faulty text → text ≡ forward more ++ last → AllLines more → IsEnd last → Spell (reverse more ++ lines) events → ⊥
-faulty_false more lines events last text (Unended rest is bare) e all end s = unended_false more last text e end is bare
-faulty_false more lines events last text (NoEvent line rest is g) e all end s = no_event_false more lines events last line rest e all end s is g
+faulty_false : (more lines : List (List ℕ)) (events : List Event) (last text : List ℕ) (kind : LineKind) → Faulty text kind → text ≡ forward more ++ last → AllLines more → IsEnd last → Spell (reverse more ++ lines) events → ⊥
+faulty_false more lines events last text kind (Unended rest k is bare kind_is) e all end s = unended_false more last text e end is bare
+faulty_false more lines events last text kind (NoEvent line rest k is g) e all end s = no_event_false k more lines events last line rest e all end s is g
 
 later_lines : (a b : List (List ℕ)) → AllLines (a ++ b) → AllLines b
 later_lines [] b h = h
 later_lines (l ∷ a) b h = later_lines a b h.1
 
 -- a schedule whose lines spell events, behind which a line may be skipped, has no faulty line behind any front of it
-pub whole_has_no_fault : (schedule whole last text rest : List ℕ) (m n : ℕ) (events before : List Event) → Reads whole m events → schedule ≡ whole ++ last → IsEnd last → schedule ≡ text ++ rest → Reads text n before → Faulty rest → ⊥
-whole_has_no_fault schedule whole last text rest m n events before r all end is f fault =
+pub whole_has_no_fault : (schedule whole last text rest : List ℕ) (m n : ℕ) (events before : List Event) (kind : LineKind) → Reads whole m events → schedule ≡ whole ++ last → IsEnd last → schedule ≡ text ++ rest → Reads text n before → Faulty rest kind → ⊥
+whole_has_no_fault schedule whole last text rest m n events before kind r all end is f fault =
     let of_whole = r.text_is ∙ turned r.lines in
     let of_text = f.text_is ∙ turned f.lines in
     let forwards : forward (reverse r.lines) ++ last ≡ forward (reverse f.lines) ++ rest = ap (λ t. t ++ last) (sym of_whole) ∙ sym all ∙ is ∙ ap (λ t. t ++ rest) of_text in
     let k = longer (reverse r.lines) (reverse f.lines) last rest (all_turned r.lines r.all_lines) (all_turned f.lines f.all_lines) end.0 forwards in
     let lines : r.lines ≡ reverse k.more ++ f.lines = sym (reverse-reverse r.lines) ∙ ap reverse k.whole ∙ reverse-append (reverse f.lines) k.more ∙ ap (λ x. reverse k.more ++ x) (reverse-reverse f.lines) in
     let more : AllLines k.more = later_lines (reverse f.lines) k.more (subst AllLines k.whole (all_turned r.lines r.all_lines)) in
-    faulty_false k.more f.lines events last rest fault k.rest_is more end (subst (λ x. Spell x events) lines r.spell)
+    faulty_false k.more f.lines events last rest kind fault k.rest_is more end (subst (λ x. Spell x events) lines r.spell)

@@ -1,13 +1,16 @@
 -- A schedule as lines, in this project's own format: which events they spell, and where the first
 -- faulty one stands.
-use Rattle.std.specs.Prelude.{◌≡◌, ◌⊎◌, ℕ, List, [], ◌∷◌, ◌++◌, length, false, nat_eq, Some}
+use Rattle.std.specs.Prelude.{◌≡◌, ◌⊎◌, ℕ, List, [], ◌∷◌, ◌++◌, length, false, nat_eq, nat_lt}
+use Rattle.std.specs.Prelude.{Some, if◌then◌else◌}
 use Rattle.proxy_core.specs.Past.{Past, kind_of}
 use Rattle.proxy_core.specs.Refusal.{refused}
 use Rattle.proxy_core.specs.Scheduler.{State}
 use Rattle.proxy_core.specs.declared.config.Config.{Config}
 use Rattle.proxy_core.specs.declared.event.Event.{Event}
 use Rattle.proxy_core.specs.declared.event.BadEvent.{BadEvent}
-use Rattle.journal_text.specs.Line.{IsSkipped}
+use Rattle.journal_text.specs.Line.{IsSkipped, LineFails, longest_line}
+use Rattle.journal_text.specs.declared.line_kind.LineKind.{LineKind}
+use Rattle.journal_text.specs.declared.line_kind.LineKind.TheVariants.{LongLine, NoNewline, Memory}
 use Rattle.proxy.specs.Schedule.{SpellsEvent}
 
 -- a line holds no LF
@@ -50,20 +53,27 @@ abbrev pub events_of : Past → List Event
 events_of [] = []
 events_of (x ∷ past) = x.event ∷ events_of past
 
--- the line gives no event, and isn't skipped
-pub record GivesNone (line : List ℕ) : Type 0 where
+-- the line isn't skipped, and this is wrong with it
+pub record GivesNone (line : List ℕ) (kind : LineKind) : Type 0 where
   pub not_skipped : IsSkipped line → ⊥
-  pub none : (event : Event) → Gives line event → ⊥
+  pub found_memory : kind ≡ Memory → ⊥
+  pub fails : LineFails line kind
+
+-- what is wrong with a last line that has no LF and isn't skipped: that it is too long, or just that
+abbrev pub unended_kind : List ℕ → LineKind
+unended_kind line = if nat_lt longest_line (length line) then LongLine else NoNewline
 
 -- what may stand behind the last LF: nothing, or a line that is skipped
 abbrev pub IsEnd : List ℕ → Type 0
 IsEnd rest = IsLine rest × IsSkipped rest
 
 -- The text begins with a faulty line: the last one, which has no LF and isn't skipped, or one that
--- gives no event.
-pub data Faulty : List ℕ → Type 0 where
-  Unended : (rest : List ℕ) → IsLine rest → (IsSkipped rest → ⊥) → Faulty rest
-  NoEvent : (line rest : List ℕ) → IsLine line → GivesNone line → Faulty (line ++ 10 ∷ rest)
+-- gives no event. Of several faults the one with the least number is told.
+pub data Faulty : List ℕ → LineKind → Type 0 where
+  Unended : (rest : List ℕ) (kind : LineKind) → IsLine rest → (IsSkipped rest → ⊥)
+      → kind ≡ unended_kind rest → Faulty rest kind
+  NoEvent : (line rest : List ℕ) (kind : LineKind) → IsLine line → GivesNone line kind
+      → Faulty (line ++ 10 ∷ rest) kind
 
 -- it begins with a line whose event the scheduler refuses
 pub record Refuses (C : Config) (past : Past) (s : State) (why : BadEvent)

@@ -9,6 +9,7 @@ use Rattle.proxy_core.specs.Scheduler.{State}
 use Rattle.proxy_core.specs.declared.config.Config as configured
 use Rattle.proxy_core.specs.declared.core_state.Core.{Core}
 use Rattle.proxy_core.specs.declared.event.BadEvent.{BadEvent}
+use Rattle.journal_text.specs.declared.line_kind.LineKind.{LineKind}
 use Rattle.proxy.specs.declared.end.End.{End}
 use Rattle.proxy.specs.declared.end.End.TheVariants.{Done, Usage, Config, Schedule, ReadFault}
 use Rattle.proxy.specs.declared.end.End.TheVariants.{WriteFault, Memory}
@@ -49,8 +50,9 @@ pub record MeetsFault (C : configured.Config) (schedule : List ℕ)
   pub rest : List ℕ
   pub schedule_is : schedule ≡ text ++ rest
   pub number : ℕ
-  pub faulty : Faulty rest
-  pub reports : Reports C past state text number (text_fault (number + 1) 6) old new
+  pub kind : LineKind
+  pub faulty : Faulty rest kind
+  pub reports : Reports C past state text number (text_fault (number + 1) kind) old new
 
 -- the first faulty line of the schedule gives an event that is refused
 pub record MeetsRefusal (C : configured.Config) (schedule : List ℕ)

@@ -2,6 +2,10 @@
 use Rattle.std.specs.Prelude.{ℕ, List, ◌++◌, codes}
 use Rattle.std.specs.Fmt.{decimal}
 use Rattle.px_bytes.specs.Hexadecimal.{hex_text}
+use Rattle.journal_text.specs.declared.line_kind.LineKind.{LineKind}
+use Rattle.journal_text.specs.declared.line_kind.LineKind.TheVariants.{LongLine, NoNewline}
+use Rattle.journal_text.specs.declared.line_kind.LineKind.TheVariants.{NotEvent, BadNumber, BadHex}
+use Rattle.journal_text.specs.declared.line_kind.LineKind.TheVariants.{Memory}
 use Rattle.proxy_core.specs.declared.event.BadEvent.{BadEvent}
 use Rattle.proxy_core.specs.declared.event.BadEvent.TheVariants.{NoConn, AfterEnd, NotConnecting}
 use Rattle.proxy_core.specs.declared.event.BadEvent.TheVariants.{MomentBack, TooMuch, TookTooMuch}
@@ -35,10 +39,20 @@ open_text conn to_client to_server =
 abbrev pub end_text : ℕ → List ℕ
 end_text events = codes "> end " ++ decimal events ++ codes "\n"
 
+-- the number of what is wrong with a line
+abbrev pub kind_number : LineKind → ℕ
+kind_number LongLine = 1
+kind_number NoNewline = 2
+kind_number NotEvent = 3
+kind_number BadNumber = 4
+kind_number BadHex = 5
+kind_number Memory = 7
+
 -- a line of the schedule, the first being 1, spells no event, with the kind of its fault
-abbrev pub text_fault : ℕ → ℕ → List ℕ
+abbrev pub text_fault : ℕ → LineKind → List ℕ
 text_fault line kind =
-    codes "> fault line " ++ decimal line ++ codes " text " ++ decimal kind ++ codes "\n"
+    codes "> fault line " ++ decimal line ++ codes " text " ++ decimal (kind_number kind)
+    ++ codes "\n"
 
 -- the event of a line of the schedule, the first being 1, was refused
 abbrev pub event_fault : ℕ → BadEvent → List ℕ

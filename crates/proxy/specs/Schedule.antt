@@ -5,10 +5,6 @@ use Rattle.proxy_core.specs.declared.event.Event.TheVariants as event
 use Rattle.journal_text.specs.Line.{SpellsEvent as Spells}
 use Rattle.journal_text.specs.declared.event.Event.{Event as Lined}
 use Rattle.journal_text.specs.declared.event.Event.TheVariants as lined
-use Rattle.journal_text.specs.declared.line_kind.LineKind.{LineKind}
-use Rattle.journal_text.specs.declared.line_kind.LineKind.TheVariants as kind
-use Rattle.proxy.specs.declared.schedule.LineFault.{LineFault}
-use Rattle.proxy.specs.declared.schedule.LineFault.TheVariants as fault
 
 -- the event among those of a schedule
 abbrev pub as_lined : Event → Lined
@@ -31,8 +27,3 @@ as_lined (event.Mark pool member up) = lined.Mark pool member up
 -- the line is that of the event
 abbrev pub SpellsEvent : (line : List ℕ) → Event → Type 0
 SpellsEvent line event = Spells line (as_lined event)
-
--- what a replay makes of a line's fault
-abbrev pub line_fault : LineKind → LineFault
-line_fault kind.Memory = fault.Memory
-line_fault other = fault.NotBuilt

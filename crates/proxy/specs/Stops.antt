@@ -8,6 +8,7 @@ use Rattle.proxy_core.specs.declared.config.Config.{Config}
 use Rattle.proxy_core.specs.declared.core_state.Core.{Core}
 use Rattle.proxy_core.specs.declared.event.BadEvent.{BadEvent}
 use Rattle.proxy_core.specs.declared.event.Event.{Event}
+use Rattle.journal_text.specs.declared.line_kind.LineKind.{LineKind}
 use Rattle.proxy.specs.declared.taken.Taken.{Taken}
 use Rattle.proxy.specs.declared.replay.Stop.{Stop}
 use Rattle.proxy.specs.declared.replay.Stop.TheVariants.{Text, Event as Refused, WriteFault, Memory}
@@ -26,7 +27,7 @@ with_line text line = text ++ (line ++ 10 ∷ [])
 -- else, and the scheduler refuses the event; or a prefix of notes is written.
 abbrev pub StoppedAtEvent : Config → (text line : List ℕ) → (number : ℕ) → (at : ℕ) → Event → Core
     → List Taken → ℕ → Option (List ℕ) → Option (List ℕ) → Stop → Type 0
-StoppedAtEvent C text line number at event core taken events old new (Text l) = ⊥
+StoppedAtEvent C text line number at event core taken events old new (Text l kind) = ⊥
 StoppedAtEvent C text line number at event core taken events old new (Refused l why) =
     (l ≡ at) × ((st : Stands C text number core taken events old new)
     × Gives line event
@@ -39,9 +40,9 @@ StoppedAtEvent C text line number at event core taken events old new Memory =
 -- At a line: it gives no event, or its event is refused; or a prefix of notes is written.
 abbrev pub StoppedAtLine : Config → (text line : List ℕ) → (number : ℕ) → (at : ℕ) → Core
     → List Taken → ℕ → Option (List ℕ) → Option (List ℕ) → Stop → Type 0
-StoppedAtLine C text line number at core taken events old new (Text l) =
+StoppedAtLine C text line number at core taken events old new (Text l kind) =
     (l ≡ at) × ((st : Stands C text number core taken events old new)
-    × GivesNone line)
+    × GivesNone line kind)
 StoppedAtLine C text line number at core taken events old new (Refused l why) =
     (l ≡ at) × ((st : Stands C text number core taken events old new) × (event : Event)
     × Gives line event
@@ -86,15 +87,15 @@ StopsBehind at line before after taken taken' events events' old new why =
 
 -- In a schedule: behind the lines that were read stands a faulty one, or one whose event is
 -- refused, and its number, the first being 1, is told.
-pub record StoppedText (C : Config) (schedule : List ℕ) (l : ℕ) (core : Core) (taken : List Taken)
-    (events : ℕ) (old new : Option (List ℕ)) : Type 0 where
+pub record StoppedText (C : Config) (schedule : List ℕ) (l : ℕ) (kind : LineKind) (core : Core)
+    (taken : List Taken) (events : ℕ) (old new : Option (List ℕ)) : Type 0 where
   pub text : List ℕ
   pub rest : List ℕ
   pub schedule_is : schedule ≡ text ++ rest
   pub number : ℕ
   pub line_is : l ≡ number + 1
   pub stands : Stands C text number core taken events old new
-  pub faulty : Faulty rest
+  pub faulty : Faulty rest kind
 
 pub record StoppedEvent (C : Config) (schedule : List ℕ) (l : ℕ) (why : BadEvent) (core : Core)
     (taken : List Taken) (events : ℕ) (old new : Option (List ℕ)) : Type 0 where
@@ -108,8 +109,8 @@ pub record StoppedEvent (C : Config) (schedule : List ℕ) (l : ℕ) (why : BadE
 
 abbrev pub Stopped : Config → List ℕ → Core → List Taken → ℕ → Option (List ℕ) → Option (List ℕ)
     → Stop → Type 0
-Stopped C schedule core taken events old new (Text l) =
-    StoppedText C schedule l core taken events old new
+Stopped C schedule core taken events old new (Text l kind) =
+    StoppedText C schedule l kind core taken events old new
 Stopped C schedule core taken events old new (Refused l why) =
     StoppedEvent C schedule l why core taken events old new
 Stopped C schedule core taken events old new WriteFault = WritesFront C schedule old new
@@ -117,14 +118,14 @@ Stopped C schedule core taken events old new Memory = WritesFront C schedule old
 
 -- a stop that no line of the schedule brings about
 abbrev pub IsOutside : Stop → Type 0
-IsOutside (Text line) = ⊥
+IsOutside (Text line kind) = ⊥
 IsOutside (Refused line why) = ⊥
 IsOutside WriteFault = Unit {0}
 IsOutside Memory = Unit {0}
 
 -- at the start no line is read yet, and a prefix of the notes of the start was written
 abbrev pub StopsAtStart : Config → Option (List ℕ) → Option (List ℕ) → Stop → Type 0
-StopsAtStart C old new (Text line) = ⊥
+StopsAtStart C old new (Text line kind) = ⊥
 StopsAtStart C old new (Refused line why) = ⊥
 StopsAtStart C old new WriteFault = WritesNotes C [] old new
 StopsAtStart C old new Memory = WritesNotes C [] old new

@@ -9,6 +9,7 @@ use Rattle.proxy_core.specs.declared.config.Config.{Config}
 use Rattle.proxy_core.specs.declared.core_state.Core.{Core}
 use Rattle.proxy_core.specs.declared.event.BadEvent.{BadEvent}
 use Rattle.proxy.specs.declared.taken.Taken.{Taken}
+use Rattle.journal_text.specs.declared.line_kind.LineKind.{LineKind}
 use Rattle.proxy.specs.Lines.{Reads, Faulty, IsEnd, Refuses, events_of}
 use Rattle.proxy.specs.Replay.{notes_text, accepted, taken_of, report_text}
 use Rattle.proxy.specs.Report.{end_text, text_fault, event_fault}
@@ -40,7 +41,7 @@ pub record StandsAtEnd (C : Config) (schedule : List ℕ) (core : Core) (taken :
 abbrev pub IsLast : Config → Past → State → (number : ℕ) → (rest : List ℕ) → List ℕ → Type 0
 IsLast C past s number rest last =
     (IsEnd rest × (last ≡ end_text (length past)))
-    ⊎ (Faulty rest × (last ≡ text_fault (number + 1) 6))
+    ⊎ ((kind : LineKind) × Faulty rest kind × (last ≡ text_fault (number + 1) kind))
     ⊎ ((why : BadEvent) × Refuses C past s why rest × (last ≡ event_fault (number + 1) why))
 
 -- a past of this configuration, whose events are those of a front of this schedule

@@ -6,12 +6,13 @@ ghost use Rattle.std.specs.List.{position_from};
 ghost use Rattle.px_outside.specs.Outside.{Rose};
 ghost use Rattle.proxy_core.specs.declared.config.Config.{Config};
 ghost use Rattle.journal_text.specs.Line.{IsSkipped};
-ghost use Rattle.proxy.specs.Lines.{IsLine};
+ghost use Rattle.proxy.specs.Lines.{IsLine, unended_kind};
 ghost use Rattle.proxy.specs.Stops.{GoesOnBehind, StopsBehind, Stopped};
 ghost use Rattle.proxy.specs.Written.{Stands, StandsAtEnd};
 
 use crate::replay::{Replay, Stop};
-use crate::schedule::{LineFault, line_event};
+use crate::schedule::line_event;
+use journal_text::{LONGEST_LINE, LineKind};
 use px_bytes::Steps;
 use px_outside::Sink;
 use std::alloc::Global;
@@ -81,8 +82,8 @@ impl Replay {
         match line_event(alloc, text) {
             Ok(None) => Ok(()),
             Ok(Some(event)) => self.event(alloc, line, event, steps, out),
-            Err(LineFault::NotBuilt) => Err(Stop::Text { line }),
-            Err(LineFault::Memory) => Err(Stop::Memory),
+            Err(LineKind::Memory) => Err(Stop::Memory),
+            Err(kind) => Err(Stop::Text { line, kind }),
         }
     }
 }
@@ -90,11 +91,24 @@ impl Replay {
 // A last line without its newline is a fault, unless it is skipped.
 fn last_line(alloc: Global, line: u64, text: &[u8]) -> Result<(), Stop>
     ensures skipped { OnOk result (IsSkipped text.now) }
-    ensures unended { IfErr result (λ why. (why ≡ Stop.Text line) × (IsSkipped text.now → ⊥)) }
+    ensures unended { IfErr result (λ why.
+        (why ≡ Stop.Text line (unended_kind text.now)) × (IsSkipped text.now → ⊥)) }
 {
-    match line_event(alloc, text) {
-        Ok(None) => Ok(()),
-        _ => Err(Stop::Text { line }),
+    if let Ok(None) = line_event(alloc, text) {
+        return Ok(());
+    }
+    let kind = unended_kind(text);
+    Err(Stop::Text { line, kind })
+}
+
+// What is wrong with a last line without its newline.
+fn unended_kind(text: &[u8]) -> LineKind
+    ensures { result ≡ unended_kind text.now }
+{
+    if LONGEST_LINE < text.len() {
+        LineKind::LongLine
+    } else {
+        LineKind::NoNewline
     }
 }
 

@@ -7,7 +7,7 @@ ghost use Rattle.proxy.specs.Written.{Stands};
 ghost use Rattle.proxy.specs.Stops.{GoesOnWith, StopsAtStart, StopsWith};
 
 use crate::taken::{Taken, add_took, took_by};
-use journal_text::write_notes;
+use journal_text::{LineKind, write_notes};
 use proxy_core::{BadEvent, Config, Core, Event, Notes};
 use px_bytes::{Memory, Steps};
 use px_outside::{Failed, Sink, write_all};
@@ -30,7 +30,7 @@ pub struct Replay {
 #[derive(Clone, Copy, Debug, PartialEq, Eq)]
 pub enum Stop {
     /// The line spells no event.
-    Text { line: u64 },
+    Text { line: u64, kind: LineKind },
     /// The event of the line is refused.
     Event { line: u64, why: BadEvent },
     WriteFault,

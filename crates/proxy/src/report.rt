@@ -1,9 +1,10 @@
 // The lines of a report besides those of notes.
 
 ghost use Rattle.std.specs.Prelude.{◌≡◌, IfOk, string_bytes};
-ghost use Rattle.proxy.specs.Report.{refusal_number, client_text, open_text, end_text};
+ghost use Rattle.proxy.specs.Report.{kind_number, refusal_number, client_text, open_text, end_text};
 ghost use Rattle.proxy.specs.Report.{text_fault, event_fault, config_fault, ok_text, usage_fault};
 
+use journal_text::LineKind;
 use proxy_core::BadEvent;
 use px_bytes::{M, Text, print_hex};
 use std::alloc::Global;
@@ -33,10 +34,17 @@ pub fn end_line(alloc: Global, events: u64) -> M<Text>
 }
 
 /// A line of the schedule, the first being 1, spells no event.
-pub fn text_fault_line(alloc: Global, line: u64, kind: u8) -> M<Text>
+pub fn text_fault_line(alloc: Global, line: u64, kind: LineKind) -> M<Text>
     ensures { IfOk result (λ text. text ≡ text_fault line kind) }
 {
-    Ok(text_of(format!(in alloc; "> fault line {line} text {kind}\n")?))
+    let number = kind_number(kind);
+    Ok(text_of(format!(in alloc; "> fault line {line} text {number}\n")?))
+}
+
+fn kind_number(kind: LineKind) -> u8
+    ensures { result ≡ kind_number kind }
+{
+    kind as u8
 }
 
 /// The event of a line of the schedule, the first being 1, was refused.

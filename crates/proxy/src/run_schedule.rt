@@ -13,9 +13,6 @@ use std::alloc::Global;
 use std::marker::Brand;
 use std::sync::ledger::{Blank, Ledger};
 
-/// The number of a line that spells no event.
-const NOT_BUILT: u8 = 6;
-
 /// Gives the events of the schedule to a core of this configuration, and writes the report.
 pub fn replay<K: Sink>(alloc: Global, config: Config, schedule: &[u8], out: &mut K) -> End
     ensures replayed { Replayed config schedule.now (K.written out.old) (K.written out.new)
@@ -51,8 +48,8 @@ fn counted_replay<K: Sink, L: Ledger>(
             let last = end_line(alloc, replay.events);
             End::Done.unless(finish(&replay, alloc, last, out))
         }
-        Err(Stop::Text { line }) => {
-            let last = text_fault_line(alloc, line, NOT_BUILT);
+        Err(Stop::Text { line, kind }) => {
+            let last = text_fault_line(alloc, line, kind);
             End::Schedule.unless(finish(&replay, alloc, last, out))
         }
         Err(Stop::Event { line, why }) => {

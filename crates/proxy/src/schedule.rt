@@ -1,36 +1,26 @@
 // The lines of a schedule.
 
-ghost use Rattle.std.specs.Prelude.{◌≡◌, ◌↔◌, IfOk, IfSome, IsErrOf, None, Ok};
-ghost use Rattle.journal_text.specs.Line.{IsSkipped};
-ghost use Rattle.proxy.specs.Schedule.{SpellsEvent, as_lined, line_fault};
+ghost use Rattle.std.specs.Prelude.{◌≡◌, ◌↔◌, IfErr, IfOk, IfSome, None, Ok};
+ghost use Rattle.journal_text.specs.Line.{IsSkipped, LineFails};
+ghost use Rattle.proxy.specs.Schedule.{SpellsEvent, as_lined};
 
 use journal_text::{Event as Lined, LineKind};
 use proxy_core::Event;
 use std::alloc::Global;
 
-/// Why a line gives no event.
-#[derive(Clone, Copy, Debug, PartialEq, Eq)]
-pub enum LineFault {
-    /// The line spells no event.
-    NotBuilt,
-    /// Memory was refused.
-    Memory,
-}
-
 /// The event that a line spells, which is given without its LF. None where the line is skipped: it
-/// is empty, or begins with `#` or `>`.
-pub fn line_event(alloc: Global, line: &[u8]) -> Result<Option<Event>, LineFault>
+/// is empty, or begins with `#` or `>`. Of several faults the one with the least number is told.
+pub fn line_event(alloc: Global, line: &[u8]) -> Result<Option<Event>, LineKind>
     ensures skipped { (result ≡ Ok None) ↔ IsSkipped line.now }
     ensures event { IfOk result (λ found. IfSome found (SpellsEvent line.now)) }
     ensures only_event { IfOk result (λ found. IfSome found (λ event.
         (other : Event) → SpellsEvent line.now other → other ≡ event)) }
-    ensures not_built { IsErrOf result LineFault.NotBuilt →
-        (event : Event) → ¬ SpellsEvent line.now event }
+    ensures fault { IfErr result (LineFails line.now) }
 {
     match journal_text::line_event(alloc, line) {
         Ok(None) => Ok(None),
         Ok(Some(event)) => Ok(Some(core_event(event))),
-        Err(kind) => Err(line_fault(kind)),
+        Err(kind) => Err(kind),
     }
 }
 
@@ -54,14 +44,5 @@ fn core_event(event: Lined) -> Event
         Lined::Turn => Event::Turn,
         Lined::Run => Event::Run,
         Lined::Mark { pool, member, up } => Event::Mark { pool, member, up },
-    }
-}
-
-fn line_fault(kind: LineKind) -> LineFault
-    ensures { result ≡ line_fault kind }
-{
-    match kind {
-        LineKind::Memory => LineFault::Memory,
-        _ => LineFault::NotBuilt,
     }
 }

@@ -13,7 +13,7 @@ pub returns-in-Err-Text-clause-replayed : goal.returns-in-Err-Text-clause-replay
 returns-in-Err-Text-clause-replayed g c =
     let old = g.K.Sink.written c.args.out.now in
     let st = (rw c.in-Err-Text.field-0-is at c.in-Err-Text.ensures.stops) c.args.config old c.in-Ok.ensures.stands in
-    rw c.unless-in-Err-Text.ensures (text_replayed c.args.config c.args.schedule.now c.lines.new.self c.in-Err-Text.line c.text_fault_line-last.result old _ _ _ _ _ c.finish-in-Err-Text.result st (omega (arith, c.start.ensures.faults_never_fall, c.lines.ensures.faults_never_fall)) c.text_fault_line-last.ensures c.finish-in-Err-Text.ensures.finished)
+    rw c.unless-in-Err-Text.ensures (text_replayed c.args.config c.args.schedule.now c.lines.new.self c.in-Err-Text.line c.in-Err-Text.kind c.text_fault_line-last.result old _ _ _ _ _ c.finish-in-Err-Text.result st (omega (arith, c.start.ensures.faults_never_fall, c.lines.ensures.faults_never_fall)) c.text_fault_line-last.ensures c.finish-in-Err-Text.ensures.finished)
 
 pub returns-in-Err-Event-clause-replayed : goal.returns-in-Err-Event-clause-replayed
 returns-in-Err-Event-clause-replayed g c =
