@@ -79,7 +79,7 @@ command_rows :
     × (commands no_groups closing_host (codes "log" ∷ codes "a" ∷ []) ≡ Gives [] closing_host (Noted (codes "a") ∷ []))
     × (commands no_groups closing_host (codes "class" ∷ codes "exists" ∷ codes "g" ∷ []) ≡ Gives (codes "0") closing_host [])
     × (commands no_groups closing_host (codes "TCP::respond" ∷ codes "a" ∷ []) ≡ Faults (not_here (codes "TCP::respond")) closing_host [])
-    × (commands no_groups accepted (codes "pool" ∷ codes "p" ∷ []) ≡ Faults (no_command (codes "pool")) accepted [])
+    × (commands no_groups accepted (codes "TCP::collect" ∷ codes "1" ∷ []) ≡ Faults (no_command (codes "TCP::collect")) accepted [])
     × (commands no_groups accepted [] ≡ Faults (no_command []) accepted [])
 unfolding commands digits
 command_rows = (refl, refl, refl, refl, refl, refl, refl, refl)

@@ -33,7 +33,13 @@ fn is_command_there(command: HostCommand) -> bool
         | HostCommand::TcpClientPort
         | HostCommand::LbServer
         | HostCommand::TcpRespond
-        | HostCommand::ActiveMembers => true,
+        | HostCommand::ActiveMembers
+        | HostCommand::Pool
+        | HostCommand::Node
+        | HostCommand::LbReselect
+        | HostCommand::Reject
+        | HostCommand::Drop
+        | HostCommand::TcpClose => true,
         _ => false,
     }
 }
