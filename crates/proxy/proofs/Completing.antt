@@ -24,7 +24,7 @@ module _ (told : List ℕ → Option (List ℕ)) (rb rn : ℕ) (name : List ℕ)
       let some : is_none (run_of C) ≡ false = ap is_none is in
       cc
 
-  no_refusal : (K : core.Config) → IsRun C K → (text : List ℕ) → IsRefusal told rb rn name text → ⊥
+  pub no_refusal : (K : core.Config) → IsRun C K → (text : List ℕ) → IsRefusal told rb rn name text → ⊥
   no_refusal K is text (inl t) = loads_rightly text t
   no_refusal K is text (inr n) = runs_rightly K is n.0
 

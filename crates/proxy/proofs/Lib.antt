@@ -16,3 +16,4 @@ pub mod ScheduleStops
 pub mod Finishing
 pub mod WholeReading
 pub mod Completing
+pub mod Serving

@@ -14,3 +14,4 @@ pub mod Says
 pub mod Complete
 pub mod Offline
 pub mod Schedule
+pub mod Serving

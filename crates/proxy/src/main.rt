@@ -7,23 +7,26 @@ mod finish;
 mod groups;
 mod lines;
 mod offline;
+mod outcome;
 mod replay;
 mod report;
 mod run_schedule;
 mod runnable;
 mod schedule;
 mod serve;
-mod serve_words;
+mod serve_real;
+#[cfg(test)]
+mod serve_tests;
 mod taken;
 #[cfg(test)]
 mod tests;
 
 use crate::end::Status;
 use crate::offline::offline;
-use crate::serve::serve_command;
-use crate::serve_words::is_serve;
+use crate::serve_real::serve_real;
 use px_bytes::{Text, Texts};
 use px_real::{RealFiles, StdoutSink};
+use serve_words::{UsageFault, serve_of};
 use std::alloc::Global;
 use std::io::{self, ErrorKind};
 use std::process::ExitCode;
@@ -48,12 +51,18 @@ fn run(rt: &HostRuntime) -> io::Result<Status> {
         Err(error) if error.kind() == ErrorKind::InvalidData => Texts::new(alloc),
         Err(error) => return Err(error),
     };
-    if is_serve(&words) {
-        return serve_command(rt, &words);
+    match serve_of(alloc, &words) {
+        Ok(serve) => serve_real(rt, &words, serve.journal),
+        Err(UsageFault::Usage) => run_offline(rt, &words),
+        Err(UsageFault::Memory) => Err(io::Error::from(ErrorKind::OutOfMemory)),
     }
+}
+
+// Runs a command that waits for nobody; words that are none say so.
+fn run_offline(rt: &HostRuntime, words: &Texts) -> io::Result<Status> {
     let mut files = RealFiles::new(rt.clone()?);
     let mut out = StdoutSink::new(rt.clone()?);
-    Ok(offline(alloc, &words, &mut files, &mut out))
+    Ok(offline(rt.alloc(), words, &mut files, &mut out))
 }
 
 // The words of the command line, but the program's own name.

@@ -111,7 +111,8 @@ fn refuse_for<K: Sink>(alloc: Global, fault: Fault, out: &mut K) -> End
     tell_fault(alloc, fault.kind.number(), fault.place.as_bytes(), out)
 }
 
-fn is_read_fault(kind: FaultKind) -> bool
+/// Whether a file could not be read.
+pub fn is_read_fault(kind: FaultKind) -> bool
     ensures { result ≡ is_read_fault kind }
 {
     matches!(kind, FaultKind::ReadFault)

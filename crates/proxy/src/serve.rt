@@ -1,91 +1,165 @@
-// `serve` over the real files, sockets and clock.
+// The command that serves.
+
+ghost use Rattle.std.specs.Prelude.{◌≡◌};
+ghost use Rattle.proxy.specs.Serving.{OfWords, ServeCompletes, ServesTo, end_of, refused_end, status_of};
 
 use crate::end::Status;
+use crate::offline::is_read_fault;
+use crate::outcome::Outcome;
 use crate::runnable::core_config;
-use crate::serve_words::{Serve, serve_of};
-use config::{ConfigFault, FaultKind, read_config};
-use proxy_core::Config;
+use config::{ConfigFault, read_config};
 use px_bytes::Texts;
 use px_outside::{Clock, Files, Net, Sink};
-use px_real::{FileSink, MioNet, NoSink, RealClock, RealFiles};
 use serve_loop::{ServeEnd, ServeFault};
+use serve_words::{Serve, UsageFault, serve_of};
 use served_core::serve_config;
 use std::alloc::Global;
-use std::io;
 
 /// Serves what the words say, and gives the status. Nothing is printed.
-pub fn serve_command(rt: &HostRuntime, words: &Texts) -> io::Result<Status> {
-    let Some(serve) = serve_of(words) else {
-        return Ok(Status(2));
-    };
-    let mut files = RealFiles::new(rt.clone()?);
-    match load(rt.alloc(), &mut files, serve.config) {
-        Ok(config) => serve_real(rt, config, &serve),
-        Err(status) => Ok(status),
+pub fn serve_command<F: Files, N: Net, T: Clock, K: Sink>(
+    alloc: Global,
+    words: &Texts,
+    files: &mut F,
+    net: &mut N,
+    clock: &mut T,
+    journal: &mut K,
+) -> Status
+    ensures { (end : Outcome) × (result.0 ≡ status_of end)
+        × OfWords N.did N.gave T.gave (F.told files.old) words.now
+        (record {
+          net = net.old;
+          clock = clock.old;
+          written = K.written journal.old;
+          reads = F.faults files.old;
+          net_faults = N.faults net.old;
+          writes = K.faults journal.old;
+        })
+        (record {
+          net = net.new;
+          clock = clock.new;
+          written = K.written journal.new;
+          reads = F.faults files.new;
+          net_faults = N.faults net.new;
+          writes = K.faults journal.new;
+        }) end
+        × ServeCompletes (F.told files.old) words.now
+        (record {
+          net = net.old;
+          clock = clock.old;
+          written = K.written journal.old;
+          reads = F.faults files.old;
+          net_faults = N.faults net.old;
+          writes = K.faults journal.old;
+        })
+        (record {
+          net = net.new;
+          clock = clock.new;
+          written = K.written journal.new;
+          reads = F.faults files.new;
+          net_faults = N.faults net.new;
+          writes = K.faults journal.new;
+        }) end }
+{
+    run(alloc, words, files, net, clock, journal).status()
+}
+
+fn run<F: Files, N: Net, T: Clock, K: Sink>(
+    alloc: Global,
+    words: &Texts,
+    files: &mut F,
+    net: &mut N,
+    clock: &mut T,
+    journal: &mut K,
+) -> Outcome
+    ensures { OfWords N.did N.gave T.gave (F.told files.old) words.now
+        (record {
+          net = net.old;
+          clock = clock.old;
+          written = K.written journal.old;
+          reads = F.faults files.old;
+          net_faults = N.faults net.old;
+          writes = K.faults journal.old;
+        })
+        (record {
+          net = net.new;
+          clock = clock.new;
+          written = K.written journal.new;
+          reads = F.faults files.new;
+          net_faults = N.faults net.new;
+          writes = K.faults journal.new;
+        }) result }
+{
+    match serve_of(alloc, words) {
+        Ok(serve) => serve_file(alloc, &serve, files, net, clock, journal),
+        Err(UsageFault::Usage) => Outcome::Usage,
+        Err(UsageFault::Memory) => Outcome::Memory,
     }
 }
 
-fn load<F: Files>(alloc: Global, files: &mut F, name: &[u8]) -> Result<Config, Status> {
-    let loaded = match read_config(alloc, files, name) {
+// Reads the configuration, and serves it.
+fn serve_file<F: Files, N: Net, T: Clock, K: Sink>(
+    alloc: Global,
+    serve: &Serve,
+    files: &mut F,
+    net: &mut N,
+    clock: &mut T,
+    journal: &mut K,
+) -> Outcome
+    ensures { ServesTo N.did N.gave T.gave (F.told files.old) serve.now
+        (record {
+          net = net.old;
+          clock = clock.old;
+          written = K.written journal.old;
+          reads = F.faults files.old;
+          net_faults = N.faults net.old;
+          writes = K.faults journal.old;
+        })
+        (record {
+          net = net.new;
+          clock = clock.new;
+          written = K.written journal.new;
+          reads = F.faults files.new;
+          net_faults = N.faults net.new;
+          writes = K.faults journal.new;
+        }) result }
+{
+    let loaded = match read_config(alloc, files, serve.config.as_bytes()) {
         Ok(loaded) => loaded,
-        Err(ConfigFault::Memory) => return Err(Status(7)),
-        Err(ConfigFault::Fault(fault)) => return Err(fault_status(fault.kind)),
+        Err(why) => return refused_end(&why),
     };
-    match core_config(alloc, loaded) {
-        Ok(Some(config)) => Ok(config),
-        Ok(None) => Err(Status(3)),
-        Err(_) => Err(Status(7)),
-    }
+    let Ok(config) = core_config(alloc, loaded) else {
+        return Outcome::Memory;
+    };
+    let Some(config) = config else {
+        return Outcome::Config;
+    };
+    end_of(serve_config(alloc, config, net, clock, journal, serve.conns, serve.turns))
 }
 
-fn fault_status(kind: FaultKind) -> Status {
-    match kind {
-        FaultKind::ReadFault => Status(5),
-        _ => Status(3),
-    }
-}
-
-// Makes the real objects.
-fn serve_real(rt: &HostRuntime, config: Config, serve: &Serve<'_>) -> io::Result<Status> {
-    let mut clock = RealClock::new(rt.clone()?);
-    let beside = clock.beside(rt.clone()?);
-    let Ok(mut net) = MioNet::new(rt.alloc(), rt.clone()?, beside) else {
-        return Ok(Status(7));
-    };
-    match serve.journal {
-        None => Ok(serve_on(rt.alloc(), config, &mut net, &mut clock, &mut NoSink, serve)),
-        Some(name) => {
-            let Ok(mut journal) = FileSink::create(rt, name) else {
-                return Ok(Status(6));
-            };
-            Ok(serve_on(
-                rt.alloc(),
-                config,
-                &mut net,
-                &mut clock,
-                &mut journal,
-                serve,
-            ))
+// How it ends where there is no configuration.
+fn refused_end(why: &ConfigFault) -> Outcome
+    ensures { result ≡ refused_end why.now }
+{
+    match why {
+        ConfigFault::Memory => Outcome::Memory,
+        ConfigFault::Fault(fault) => {
+            if is_read_fault(fault.kind) {
+                Outcome::ReadFault
+            } else {
+                Outcome::Config
+            }
         }
     }
 }
 
-fn serve_on<N: Net, T: Clock, K: Sink>(
-    alloc: Global,
-    config: Config,
-    net: &mut N,
-    clock: &mut T,
-    journal: &mut K,
-    serve: &Serve<'_>,
-) -> Status {
-    let (conns, turns) = (serve.most_conns(), serve.most_turns());
-    Status(
-        match serve_config(alloc, config, net, clock, journal, conns, turns) {
-            Ok(ServeEnd::Conns) => 0,
-            Ok(ServeEnd::Turns) => 9,
-            Err(ServeFault::Write) => 6,
-            Err(ServeFault::Memory) => 7,
-            Err(ServeFault::Net) => 8,
-        },
-    )
+fn end_of(served: Result<ServeEnd, ServeFault>) -> Outcome
+    ensures { result ≡ end_of served }
+{
+    match served {
+        Ok(ServeEnd::Conns) => Outcome::Conns,
+        Ok(ServeEnd::Turns) => Outcome::Turns,
+        Err(ServeFault::Write) => Outcome::WriteFault,
+        Err(ServeFault::Memory) => Outcome::Memory,
+        Err(ServeFault::Net) => Outcome::NetFault,
+    }
 }

@@ -9,3 +9,5 @@ pub mod Listing
 pub mod Turning
 pub mod Pairs
 pub mod Walking
+pub mod Failing
+pub mod Ending

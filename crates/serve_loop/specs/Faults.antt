@@ -1,6 +1,8 @@
--- Faults of serving.
+-- Faults of serving, and what each comes of.
+use Rattle.std.specs.Prelude.{ℕ}
 use Rattle.px_outside.specs.declared.failed.Failed.{Failed}
 use Rattle.px_outside.specs.declared.failed.Failed.TheVariants as failed
+use Rattle.px_outside.specs.Outside.{Rose}
 use Rattle.serve_loop.specs.declared.fault.ServeFault.{ServeFault}
 use Rattle.serve_loop.specs.declared.fault.ServeFault.TheVariants as fault
 
@@ -8,3 +10,21 @@ use Rattle.serve_loop.specs.declared.fault.ServeFault.TheVariants as fault
 abbrev pub fault_of : Failed → ServeFault
 fault_of failed.Failed = fault.Net
 fault_of failed.Memory = fault.Memory
+
+-- Net comes only where the net's own count rose, Write not at all.
+abbrev pub FromNet : (before now : ℕ) → ServeFault → Type 0
+FromNet before now fault.Net = Rose before now
+FromNet before now fault.Write = ⊥
+FromNet before now fault.Memory = Unit {0}
+
+-- Write comes only where the journal's count rose, Net not at all.
+abbrev pub FromSink : (before now : ℕ) → ServeFault → Type 0
+FromSink before now fault.Net = ⊥
+FromSink before now fault.Write = Rose before now
+FromSink before now fault.Memory = Unit {0}
+
+-- Net comes only where the net's count rose, Write only where the journal's did.
+abbrev pub FromNetOrSink : (net net' sink sink' : ℕ) → ServeFault → Type 0
+FromNetOrSink net net' sink sink' fault.Net = Rose net net'
+FromNetOrSink net net' sink sink' fault.Write = Rose sink sink'
+FromNetOrSink net net' sink sink' fault.Memory = Unit {0}

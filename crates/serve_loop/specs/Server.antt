@@ -1,5 +1,5 @@
 -- What a server does in a turn, and in a run of turns.
-use Rattle.std.specs.Prelude.{◌≡◌, ℕ, ◌≤◌, zero, suc, List, [], ◌∷◌, ◌++◌, Bool, false, Option, Some, None, Ok}
+use Rattle.std.specs.Prelude.{◌≡◌, ◌⊎◌, ℕ, ◌<◌, ◌≤◌, zero, suc, List, [], ◌∷◌, ◌++◌, Bool, true, false, Option, Some, None, Ok}
 use Rattle.px_outside.specs.declared.answers.ReadyAt.{ReadyAt}
 use Rattle.px_outside.specs.Net.{Call, Chain, Listen}
 use Rattle.served_links.specs.Added.{added}
@@ -16,7 +16,7 @@ use Rattle.serve_loop.specs.Part.{Part, Ready, stand}
 use Rattle.serve_loop.specs.Running.{Ran}
 use Rattle.serve_loop.specs.Turn.{Ticks, Waits, CanAccept, IsUntil, listed_slots, listed_links, due_now}
 use Rattle.serve_loop.specs.Turn.{ListenerAt, LinkAt, WritesAt}
-use Rattle.serve_loop.specs.Walk.{Around, Step, calls_in, text_in, Then}
+use Rattle.serve_loop.specs.Walk.{Around, Step, Walks, calls_in, text_in, Then}
 
 -- what a turn found and left: how long it waited, what was listed, which listeners and links stay due,
 -- whether something is ready, on which connections something was pending, to which it wrote, those and
@@ -110,29 +110,53 @@ pub record Running (C S T : Type 0) : Type 0 where
   pub clock : T
   pub written : Option (List ℕ)
 
--- one turn after another, each at the moment that the clock gave then
-abbrev pub Turns : {C S T : Type 0} → Face C → (S → Call → S → Type 0) → (S → ℕ → Type 0) → (T → ℕ → T → Type 0)
-    → ℕ → Running C S T → Running C S T → Type 0
-Turns face did gave ticked zero old new = new ≡ old
-Turns {C} {S} {T} face did gave ticked (suc n) old new =
-    (mid : Running C S T) × Turns face did gave ticked n old mid
-    × ((now : ℕ) × ticked mid.clock now new.clock
-    × OneTurn face did gave now mid.server new.server mid.net new.net mid.written new.written)
-
 -- as many connections were accepted as may be, and none is live
 pub record IsOver {C : Type 0} (face : Face C) (s : Serving C) : Type 0 where
   pub none_more : CanAccept face s.conns (stand s) false
   pub none_live : face.live s.core 0
 
--- so many turns were made, and then every connection was over; or all turns
+-- a connection may be accepted, or is live
+abbrev pub GoesOn : {C : Type 0} → Face C → Serving C → Type 0
+GoesOn face s = CanAccept face s.conns (stand s) true ⊎ ((n : ℕ) × face.live s.core n × (0 < n))
+
+abbrev pub IsOverOr : {C : Type 0} → Face C → Serving C → Bool → Type 0
+IsOverOr face s true = IsOver face s
+IsOverOr face s false = GoesOn face s
+
+-- behind each turn it goes on
+abbrev pub Behind : {C : Type 0} → Face C → (made : ℕ) → Serving C → Type 0
+Behind face zero s = Unit {0}
+Behind face (suc n) s = GoesOn face s
+
+-- one turn after another, each at the moment that the clock gave then; none behind one at whose end all
+-- were over
+abbrev pub Turns : {C S T : Type 0} → Face C → (S → Call → S → Type 0) → (S → ℕ → Type 0) → (T → ℕ → T → Type 0)
+    → ℕ → Running C S T → Running C S T → Type 0
+Turns face did gave ticked zero old new = new ≡ old
+Turns {C} {S} {T} face did gave ticked (suc n) old new =
+    (mid : Running C S T) × Turns face did gave ticked n old mid × Behind face n mid.server.serving
+    × ((now : ℕ) × ticked mid.clock now new.clock
+    × OneTurn face did gave now mid.server new.server mid.net new.net mid.written new.written)
+
+-- So many turns were made, one at least, and then every connection was over; or all turns, and it goes on.
 abbrev pub EndsAs : {C : Type 0} → Face C → (turns made : ℕ) → Serving C → ServeEnd → Type 0
-EndsAs face turns made s ending.Conns = (made ≤ turns) × IsOver face s
-EndsAs face turns made s ending.Turns = made ≡ turns
+EndsAs face turns made s ending.Conns = (0 < made) × ((made ≤ turns) × IsOver face s)
+EndsAs face turns made s ending.Turns = (made ≡ turns) × Behind face made s
+
+-- All steps of all turns: where a server began ready and no line waited, their calls are the net's, in order,
+-- and their events' lines were written.
+abbrev pub Walked : {C S T : Type 0} → Face C → (S → Call → S → Type 0) → (S → ℕ → Type 0)
+    → Running C S T → Running C S T → Type 0
+Walked face did gave old new =
+    Ready face (gave old.net) old.server.serving → old.server.serving.journal.text ≡ []
+    → Done face did gave (Walks face old.server.serving.conns) old.server.serving new.server.serving
+    old.net new.net old.written new.written
 
 pub record Served {C S T : Type 0} (face : Face C) (did : S → Call → S → Type 0) (gave : S → ℕ → Type 0)
     (ticked : T → ℕ → T → Type 0) (turns : ℕ) (old new : Running C S T) (end : ServeEnd) : Type 0 where
   pub made : ℕ
   pub turned : Turns face did gave ticked made old new
+  pub walked : Walked face did gave old new
   pub ends : EndsAs face turns made new.server.serving end
 
 -- a listener for each virtual server that has an address

@@ -1,12 +1,13 @@
 // A link is asked for the answer to its connect.
 
-ghost use Rattle.std.specs.Prelude.{◌≡◌, IfOk, Some, true};
+ghost use Rattle.std.specs.Prelude.{◌≡◌, IfOk, Some, true, IfErr, ◌≤◌};
 ghost use Rattle.px_bytes.specs.declared.addr.Side.TheVariants.{Server};
 ghost use Rattle.px_outside.specs.declared.answers.ReadyAt.TheVariants as ready;
 ghost use Rattle.served_links.specs.Links.{owner_in};
 ghost use Rattle.serve_loop.specs.Asking.{AskedOnce};
 ghost use Rattle.serve_loop.specs.Face.{MayAnswer};
 ghost use Rattle.serve_loop.specs.Part.{Part};
+ghost use Rattle.serve_loop.specs.Faults.{FromNet};
 
 use crate::serving::Serving;
 use crate::{Asked, Core, ServeFault};
@@ -16,6 +17,7 @@ use served_links::Row;
 
 impl<C: Core + Drop> Serving<C> {
     /// Asks what became of a connect. The net has closed a link that is refused.
+    #[tactic(auto, using(crate::proofs::Failing::from_later, crate::proofs::Failing::from_memory))]
     pub(crate) fn answer<N: Net>(
         &mut self,
         net: &mut N,
@@ -29,6 +31,8 @@ impl<C: Core + Drop> Serving<C> {
         ensures part { IfOk result (λ asked. Part C.face N.did N.gave
             (AskedOnce C.face self.old.conns (ready.Link link) asked)
             self.old self.new net.old net.new) }
+        ensures fails { IfErr result (FromNet (N.faults net.old) (N.faults net.new)) }
+        ensures faults_never_fall { N.faults net.old ≤ N.faults net.new }
     {
         match net.connect_answer(link) {
             ConnectAnswer::NotYet => Ok(Asked::Over),

@@ -1,11 +1,12 @@
 // Listeners and links are asked.
 
-ghost use Rattle.std.specs.Prelude.{◌≡◌, ◌<◌, ◌≤◌, IfOk, Some, vec_len};
+ghost use Rattle.std.specs.Prelude.{◌≡◌, ◌<◌, ◌≤◌, IfOk, Some, vec_len, IfErr};
 ghost use Rattle.px_bytes.specs.declared.addr.Addr.{Addr};
 ghost use Rattle.journal_text.specs.declared.event.Event.TheVariants as event;
 ghost use Rattle.px_outside.specs.declared.answers.ReadyAt.TheVariants as ready;
 ghost use Rattle.serve_loop.specs.Asking.{AskedOnce};
 ghost use Rattle.serve_loop.specs.Part.{Part};
+ghost use Rattle.serve_loop.specs.Faults.{FromNet};
 
 use crate::serving::Serving;
 use crate::{Asked, Core, ServeFault};
@@ -15,10 +16,13 @@ use px_outside::{Accepted, Net};
 
 impl<C: Core + Drop> Serving<C> {
     /// Asks a listener for a connection, if one may be accepted.
+    #[tactic(auto, using(crate::proofs::Failing::from_later, crate::proofs::Failing::from_memory))]
     pub(crate) fn accept<N: Net>(&mut self, net: &mut N, slot: u32) -> Result<Asked, ServeFault>
         ensures part { IfOk result (λ asked. Part C.face N.did N.gave
             (AskedOnce C.face self.old.conns (ready.Listener slot) asked)
             self.old self.new net.old net.new) }
+        ensures fails { IfErr result (FromNet (N.faults net.old) (N.faults net.new)) }
+        ensures faults_never_fall { N.faults net.old ≤ N.faults net.new }
     {
         let Some(number) = self.core.next() else {
             return Ok(Asked::Stays);
@@ -33,6 +37,7 @@ impl<C: Core + Drop> Serving<C> {
     }
 
     // Asks a listener for this connection.
+    #[tactic(auto, using(crate::proofs::Failing::from_later, crate::proofs::Failing::from_memory))]
     fn accept_as<N: Net>(
         &mut self,
         net: &mut N,
@@ -47,6 +52,8 @@ impl<C: Core + Drop> Serving<C> {
         ensures part { IfOk result (λ asked. Part C.face N.did N.gave
             (AskedOnce C.face self.old.conns (ready.Listener slot) asked)
             self.old self.new net.old net.new) }
+        ensures fails { IfErr result (FromNet (N.faults net.old) (N.faults net.new)) }
+        ensures faults_never_fall { N.faults net.old ≤ N.faults net.new }
     {
         match net.accept(slot)? {
             Accepted::NotYet => Ok(Asked::Over),
@@ -76,6 +83,7 @@ impl<C: Core + Drop> Serving<C> {
     }
 
     /// Asks a link for the answer to its connect, or for bytes, if any are wanted.
+    #[tactic(auto, using(crate::proofs::Failing::from_later, crate::proofs::Failing::from_memory))]
     pub(crate) fn ask_link<N: Net>(
         &mut self,
         net: &mut N,
@@ -87,6 +95,8 @@ impl<C: Core + Drop> Serving<C> {
             (AskedOnce C.face self.old.conns (ready.Link link) asked)
             self.old self.new net.old net.new) }
         ensures room { vec_len room.new ≡ vec_len room.old }
+        ensures fails { IfErr result (FromNet (N.faults net.old) (N.faults net.new)) }
+        ensures faults_never_fall { N.faults net.old ≤ N.faults net.new }
     {
         let Some(row) = self.links.owner(link) else {
             return Ok(Asked::Over);

@@ -1,9 +1,10 @@
 // A server before its first turn.
 
-ghost use Rattle.std.specs.Prelude.{◌≡◌, ◌<◌, ℕ, Option, IfOk, OnOk, vec_len};
+ghost use Rattle.std.specs.Prelude.{◌≡◌, ◌<◌, ℕ, Option, IfOk, OnOk, vec_len, IfErr, ◌≤◌};
 ghost use Rattle.px_bytes.specs.declared.addr.Addr.{Addr};
 ghost use Rattle.px_outside.specs.Net.{Chain};
 ghost use Rattle.serve_loop.specs.Server.{Begins, ListensAll, listen_calls};
+ghost use Rattle.serve_loop.specs.Faults.{FromNet};
 
 use crate::journal::Journal;
 use crate::server::Server;
@@ -20,6 +21,7 @@ const ROOM: usize = 65_536;
 
 impl<C: Core + Drop> Server<C> {
     /// Listens for each virtual server of a core, to accept so many connections at most.
+    #[tactic(auto, using(crate::proofs::Failing::from_later, crate::proofs::Failing::from_memory))]
     pub fn new<N: Net>(
         alloc: Global,
         core: C,
@@ -27,6 +29,8 @@ impl<C: Core + Drop> Server<C> {
         conns: u32,
     ) -> Result<Server<C>, ServeFault>
         ensures begins { IfOk result (λ server. Begins C.face N.did core conns net.old net.new server) }
+        ensures fails { IfErr result (FromNet (N.faults net.old) (N.faults net.new)) }
+        ensures faults_never_fall { N.faults net.old ≤ N.faults net.new }
     {
         listen_all(&core, net)?;
         let room = room(alloc)?;
@@ -54,9 +58,12 @@ fn room(alloc: Global) -> M<Vec<u8>>
     Ok(vec![in alloc; 0; ROOM]?)
 }
 
+#[tactic(auto, using(crate::proofs::Failing::from_later, crate::proofs::Failing::from_memory))]
 fn listen_all<C: Core, N: Net>(core: &C, net: &mut N) -> Result<(), ServeFault>
-    ensures { OnOk result ((n : ℕ) × C.face.slots core.now n
+    ensures listens { OnOk result ((n : ℕ) × C.face.slots core.now n
         × ListensAll C.face N.did core.now n net.old net.new) }
+    ensures fails { IfErr result (FromNet (N.faults net.old) (N.faults net.new)) }
+    ensures faults_never_fall { N.faults net.old ≤ N.faults net.new }
 {
     for slot in 0..core.slots() {
         listen_at(core, net, slot)?;
@@ -64,9 +71,12 @@ fn listen_all<C: Core, N: Net>(core: &C, net: &mut N) -> Result<(), ServeFault>
     Ok(())
 }
 
+#[tactic(auto, using(crate::proofs::Failing::from_later, crate::proofs::Failing::from_memory))]
 fn listen_at<C: Core, N: Net>(core: &C, net: &mut N, slot: u32) -> Result<(), ServeFault>
-    ensures { OnOk result ((at : Option Addr) × C.face.listens core.now slot at
+    ensures listens { OnOk result ((at : Option Addr) × C.face.listens core.now slot at
         × Chain N.did net.old (listen_calls slot at) net.new) }
+    ensures fails { IfErr result (FromNet (N.faults net.old) (N.faults net.new)) }
+    ensures faults_never_fall { N.faults net.old ≤ N.faults net.new }
 {
     match core.listen(slot) {
         None => Ok(()),

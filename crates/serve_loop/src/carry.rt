@@ -1,7 +1,8 @@
 // The calls that notes ask for.
 
-ghost use Rattle.std.specs.Prelude.{◌≡◌, OnOk, slice_get, option_map, take};
+ghost use Rattle.std.specs.Prelude.{◌≡◌, OnOk, slice_get, option_map, take, IfErr, ◌≤◌};
 ghost use Rattle.serve_loop.specs.Carrying.{action, Carried, CarriesOne, Carries};
+ghost use Rattle.serve_loop.specs.Faults.{FromNet};
 
 use crate::ServeFault;
 use connection_model::Note;
@@ -50,9 +51,12 @@ fn asked_for(note: &Note) -> Action
 }
 
 /// Makes the calls of the notes, in order.
+#[tactic(auto, using(crate::proofs::Failing::from_later, crate::proofs::Failing::from_memory))]
 pub fn carry<N: Net>(links: &mut Links, net: &mut N, notes: &[Note]) -> Result<(), ServeFault>
-    ensures { OnOk result
+    ensures carries { OnOk result
         (Carried N.did N.gave (Carries notes.now) links.old links.new net.old net.new) }
+    ensures fails { IfErr result (FromNet (N.faults net.old) (N.faults net.new)) }
+    ensures faults_never_fall { N.faults net.old ≤ N.faults net.new }
 {
     for note in notes {
         carry_one(links, net, asked_for(note))?;
@@ -60,9 +64,12 @@ pub fn carry<N: Net>(links: &mut Links, net: &mut N, notes: &[Note]) -> Result<(
     Ok(())
 }
 
+#[tactic(auto, using(crate::proofs::Failing::from_later, crate::proofs::Failing::from_memory))]
 fn carry_one<N: Net>(links: &mut Links, net: &mut N, action: Action) -> Result<(), ServeFault>
-    ensures { OnOk result
+    ensures carries { OnOk result
         (Carried N.did N.gave (CarriesOne action) links.old links.new net.old net.new) }
+    ensures fails { IfErr result (FromNet (N.faults net.old) (N.faults net.new)) }
+    ensures faults_never_fall { N.faults net.old ≤ N.faults net.new }
 {
     match action {
         Action::Nothing => Ok(()),

@@ -1,10 +1,11 @@
 // Lines of the journal that wait to be written.
 
-ghost use Rattle.std.specs.Prelude.{◌≡◌, OnOk, []};
+ghost use Rattle.std.specs.Prelude.{◌≡◌, ◌≤◌, IfErr, OnOk, []};
 ghost use Rattle.px_outside.specs.Outside.{told_more};
 ghost use Rattle.journal_text.specs.Line.{event_line};
 ghost use Rattle.journal_text.specs.Notes.{note_lines};
 ghost use Rattle.serve_loop.specs.Events.{Tells};
+ghost use Rattle.serve_loop.specs.Faults.{FromSink};
 
 use crate::ServeFault;
 use connection_model::Note;
@@ -57,6 +58,8 @@ impl Journal {
         ensures written { OnOk result
             (K.written sink.new ≡ told_more (K.written sink.old) self.old.text) }
         ensures none_waits { OnOk result (self.new.text ≡ []) }
+        ensures fails { IfErr result (FromSink (K.faults sink.old) (K.faults sink.new)) }
+        ensures faults_never_fall { K.faults sink.old ≤ K.faults sink.new }
     {
         match write_all(sink, self.text.as_bytes()) {
             Err(Failed::Failed) => Err(ServeFault::Write),

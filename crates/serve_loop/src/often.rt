@@ -1,10 +1,11 @@
 // A listener or a link is asked as often as it may be in one turn.
 
-ghost use Rattle.std.specs.Prelude.{◌≡◌, ◌<◌, IfOk, vec_len};
+ghost use Rattle.std.specs.Prelude.{◌≡◌, ◌<◌, IfOk, vec_len, IfErr, ◌≤◌};
 ghost use Rattle.px_outside.specs.declared.answers.ReadyAt.TheVariants as ready;
 ghost use Rattle.serve_loop.specs.Asking.{AskedOnce};
 ghost use Rattle.serve_loop.specs.Often.{Tried};
 ghost use Rattle.serve_loop.specs.Part.{Part};
+ghost use Rattle.serve_loop.specs.Faults.{FromNet};
 
 use crate::serving::Serving;
 use crate::{Asked, Core, ServeFault};
@@ -12,6 +13,7 @@ use px_outside::Net;
 
 impl<C: Core + Drop> Serving<C> {
     /// Asks a listener until it gives no more, 16 times at most. Says whether it stays due.
+    #[tactic(auto, using(crate::proofs::Failing::from_later, crate::proofs::Failing::from_memory))]
     pub(crate) fn ask_listener<N: Net>(
         &mut self,
         net: &mut N,
@@ -20,6 +22,8 @@ impl<C: Core + Drop> Serving<C> {
         ensures part { IfOk result (λ stays. Part C.face N.did N.gave
             (Tried (AskedOnce C.face self.old.conns (ready.Listener slot)) 16 stays)
             self.old self.new net.old net.new) }
+        ensures fails { IfErr result (FromNet (N.faults net.old) (N.faults net.new)) }
+        ensures faults_never_fall { N.faults net.old ≤ N.faults net.new }
     {
         for often in 0u32..16 {
             let _ = often;
@@ -33,6 +37,7 @@ impl<C: Core + Drop> Serving<C> {
     }
 
     /// Asks a link until it gives no more, four times at most. Says whether it stays due.
+    #[tactic(auto, using(crate::proofs::Failing::from_later, crate::proofs::Failing::from_memory))]
     pub(crate) fn ask_often<N: Net>(
         &mut self,
         net: &mut N,
@@ -44,6 +49,8 @@ impl<C: Core + Drop> Serving<C> {
             (Tried (AskedOnce C.face self.old.conns (ready.Link link)) 4 stays)
             self.old self.new net.old net.new) }
         ensures room { vec_len room.new ≡ vec_len room.old }
+        ensures fails { IfErr result (FromNet (N.faults net.old) (N.faults net.new)) }
+        ensures faults_never_fall { N.faults net.old ≤ N.faults net.new }
     {
         for often in 0u32..4 {
             let _ = often;

@@ -1,10 +1,11 @@
 // A link is asked for bytes.
 
-ghost use Rattle.std.specs.Prelude.{◌≡◌, ◌<◌, ◌≤◌, IfOk, Some, length, vec_len};
+ghost use Rattle.std.specs.Prelude.{◌≡◌, ◌<◌, ◌≤◌, IfOk, Some, length, vec_len, IfErr};
 ghost use Rattle.px_outside.specs.declared.answers.ReadyAt.TheVariants as ready;
 ghost use Rattle.served_links.specs.Links.{owner_in};
 ghost use Rattle.serve_loop.specs.Asking.{AskedOnce, IsWanted, NotConnecting};
 ghost use Rattle.serve_loop.specs.Part.{Part, stand};
+ghost use Rattle.serve_loop.specs.Faults.{FromNet};
 
 use crate::asked::{asked_by, read_to_event};
 use crate::serving::Serving;
@@ -14,6 +15,7 @@ use served_links::Row;
 
 impl<C: Core + Drop> Serving<C> {
     /// Reads from a link as much as is wanted, and no more than the room holds.
+    #[tactic(auto, using(crate::proofs::Failing::from_later, crate::proofs::Failing::from_memory))]
     pub(crate) fn read<N: Net>(
         &mut self,
         net: &mut N,
@@ -28,6 +30,8 @@ impl<C: Core + Drop> Serving<C> {
             (AskedOnce C.face self.old.conns (ready.Link link) asked)
             self.old self.new net.old net.new) }
         ensures room { vec_len room.new ≡ vec_len room.old }
+        ensures fails { IfErr result (FromNet (N.faults net.old) (N.faults net.new)) }
+        ensures faults_never_fall { N.faults net.old ≤ N.faults net.new }
     {
         let wanted = self.core.wants(row.conn, row.side);
         if wanted == 0 {
@@ -37,6 +41,7 @@ impl<C: Core + Drop> Serving<C> {
         self.read_into(net, link, row, &mut room[..n])
     }
 
+    #[tactic(auto, using(crate::proofs::Failing::from_later, crate::proofs::Failing::from_memory))]
     fn read_into<N: Net>(
         &mut self,
         net: &mut N,
@@ -47,9 +52,11 @@ impl<C: Core + Drop> Serving<C> {
         requires owned { owner_in self.old.links link ≡ Some row }
         requires some { 0 < length room.old }
         requires wanted { IsWanted C.face self.old.core row.conn row.side (length room.old) }
-        ensures { IfOk result (λ asked. Part C.face N.did N.gave
+        ensures part { IfOk result (λ asked. Part C.face N.did N.gave
             (AskedOnce C.face self.old.conns (ready.Link link) asked)
             self.old self.new net.old net.new) }
+        ensures fails { IfErr result (FromNet (N.faults net.old) (N.faults net.new)) }
+        ensures faults_never_fall { N.faults net.old ≤ N.faults net.new }
     {
         let answer = net.read(link, room);
         match read_to_event(self.alloc, row, answer, room)? {

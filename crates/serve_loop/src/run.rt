@@ -1,8 +1,9 @@
 // What is ready goes on.
 
-ghost use Rattle.std.specs.Prelude.{◌≡◌, ℕ, Option, IfOk, OnOk};
+ghost use Rattle.std.specs.Prelude.{◌≡◌, ℕ, Option, IfOk, OnOk, IfErr, ◌≤◌};
 ghost use Rattle.serve_loop.specs.Part.{Part};
 ghost use Rattle.serve_loop.specs.Running.{PairOnce, Ran, RunAndTurn, noted};
+ghost use Rattle.serve_loop.specs.Faults.{FromNet};
 
 use crate::serving::Serving;
 use crate::{Asked, Core, ServeFault};
@@ -14,6 +15,7 @@ use served_links::Numbers;
 impl<C: Core + Drop> Serving<C> {
     /// Gives pairs of a Run and a Turn until nothing is ready, 2,048 at most. The connections that
     /// ran are added to the writers. Says whether something is ready still.
+    #[tactic(auto, using(crate::proofs::Failing::from_later, crate::proofs::Failing::from_memory))]
     pub(crate) fn run_pairs<N: Net>(
         &mut self,
         net: &mut N,
@@ -21,6 +23,8 @@ impl<C: Core + Drop> Serving<C> {
     ) -> Result<bool, ServeFault>
         ensures part { IfOk result (λ ready. Part C.face N.did N.gave
             (Ran C.face 2048 ready writers.old writers.new) self.old self.new net.old net.new) }
+        ensures fails { IfErr result (FromNet (N.faults net.old) (N.faults net.new)) }
+        ensures faults_never_fall { N.faults net.old ≤ N.faults net.new }
     {
         for often in 0u32..2048 {
             let _ = often;
@@ -33,9 +37,12 @@ impl<C: Core + Drop> Serving<C> {
         Ok(true)
     }
 
+    #[tactic(auto, using(crate::proofs::Failing::from_later, crate::proofs::Failing::from_memory))]
     fn run_once<N: Net>(&mut self, net: &mut N, writers: &mut Numbers) -> Result<Asked, ServeFault>
         ensures part { IfOk result (λ asked. Part C.face N.did N.gave
             (PairOnce C.face writers.old writers.new asked) self.old self.new net.old net.new) }
+        ensures fails { IfErr result (FromNet (N.faults net.old) (N.faults net.new)) }
+        ensures faults_never_fall { N.faults net.old ≤ N.faults net.new }
     {
         if self.core.settled() {
             return Ok(Asked::Over);
@@ -56,9 +63,12 @@ impl<C: Core + Drop> Serving<C> {
         }
     }
 
+    #[tactic(auto, using(crate::proofs::Failing::from_later, crate::proofs::Failing::from_memory))]
     fn pair<N: Net>(&mut self, net: &mut N) -> Result<(), ServeFault>
-        ensures { OnOk result (Part C.face N.did N.gave
+        ensures part { OnOk result (Part C.face N.did N.gave
             (RunAndTurn C.face) self.old self.new net.old net.new) }
+        ensures fails { IfErr result (FromNet (N.faults net.old) (N.faults net.new)) }
+        ensures faults_never_fall { N.faults net.old ≤ N.faults net.new }
     {
         self.give(net, Event::Run)?;
         self.give(net, Event::Turn)?;

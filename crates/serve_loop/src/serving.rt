@@ -1,7 +1,8 @@
 // What is served.
 
-ghost use Rattle.std.specs.Prelude.{◌≡◌, OnOk};
+ghost use Rattle.std.specs.Prelude.{◌≡◌, OnOk, IfErr, ◌≤◌};
 ghost use Rattle.serve_loop.specs.Part.{IsGiven};
+ghost use Rattle.serve_loop.specs.Faults.{FromNet};
 
 use crate::carry::carry;
 use crate::journal::Journal;
@@ -27,16 +28,19 @@ pub struct Serving<C> {
 
 impl<C: Core + Drop> Serving<C> {
     /// Gives an event to the core, and makes the calls that its notes ask for.
+    #[tactic(auto, using(crate::proofs::Failing::from_later, crate::proofs::Failing::from_memory))]
     pub(crate) fn give<N: Net>(&mut self, net: &mut N, event: Event) -> Result<(), ServeFault>
         ensures gives { OnOk result
             (IsGiven C.face N.did N.gave event self.old self.new net.old net.new) }
+        ensures fails { IfErr result (FromNet (N.faults net.old) (N.faults net.new)) }
+        ensures faults_never_fall { N.faults net.old ≤ N.faults net.new }
     {
         self.notes.clear();
         self.notes.reserve(68)?;
         self.journal.event(&event)?;
         self.core.step(event, &mut self.notes);
-        carry(&mut self.links, net, self.notes.as_slice())?;
+        let carried = carry(&mut self.links, net, self.notes.as_slice());
         self.journal.notes(self.notes.as_slice())?;
-        Ok(())
+        carried
     }
 }

@@ -1,9 +1,10 @@
 // The clock, and how long to wait.
 
-ghost use Rattle.std.specs.Prelude.{◌≡◌, IsTrue, OnOk, min};
-ghost use Rattle.serve_loop.specs.Server.{IsOver};
+ghost use Rattle.std.specs.Prelude.{◌≡◌, OnOk, min, IfErr, ◌≤◌};
+ghost use Rattle.serve_loop.specs.Server.{IsOverOr};
 ghost use Rattle.serve_loop.specs.Part.{Part, stand};
 ghost use Rattle.serve_loop.specs.Turn.{Ticks, Waits, CanAccept, CanAsk, AnyAsks, IsUntil, tick_limit};
+ghost use Rattle.serve_loop.specs.Faults.{FromNet};
 
 use crate::serving::Serving;
 use crate::{Core, ServeFault};
@@ -16,9 +17,12 @@ const TICK_LIMIT: u64 = 9_007_199_254_740_992;
 
 impl<C: Core + Drop> Serving<C> {
     /// Gives the present moment to the core, where it is above the last one.
+    #[tactic(auto, using(crate::proofs::Failing::from_later, crate::proofs::Failing::from_memory))]
     pub(crate) fn tick<N: Net>(&mut self, net: &mut N, now: u64) -> Result<(), ServeFault>
         ensures part { OnOk result (Part C.face N.did N.gave
             (Ticks C.face now) self.old self.new net.old net.new) }
+        ensures fails { IfErr result (FromNet (N.faults net.old) (N.faults net.new)) }
+        ensures faults_never_fall { N.faults net.old ≤ N.faults net.new }
     {
         let moment = limited(now);
         if moment <= self.core.moment() {
@@ -29,6 +33,7 @@ impl<C: Core + Drop> Serving<C> {
     }
 
     /// Waits until something may be ready.
+    #[tactic(auto, using(crate::proofs::Failing::from_later, crate::proofs::Failing::from_memory))]
     pub(crate) fn wait<N: Net>(
         &mut self,
         net: &mut N,
@@ -37,6 +42,8 @@ impl<C: Core + Drop> Serving<C> {
     ) -> Result<(), ServeFault>
         ensures part { OnOk result (Part C.face N.did N.gave
             (Waits until listed.new) self.old self.new net.old net.new) }
+        ensures fails { IfErr result (FromNet (N.faults net.old) (N.faults net.new)) }
+        ensures faults_never_fall { N.faults net.old ≤ N.faults net.new }
     {
         net.wait(until, listed)?;
         Ok(())
@@ -60,9 +67,12 @@ impl<C: Core + Drop> Serving<C> {
 
     /// Whether as many connections were accepted as may be, and none is live.
     pub(crate) fn is_over(&self) -> bool
-        ensures { IsTrue result → IsOver C.face self.now }
+        ensures { IsOverOr C.face self.now result }
     {
-        self.core.live() == 0 && !self.can_accept()
+        if self.core.live() > 0 {
+            return false;
+        }
+        !self.can_accept()
     }
 
     fn can_accept(&self) -> bool

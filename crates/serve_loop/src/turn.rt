@@ -1,6 +1,7 @@
 // One turn, and turns.
 
-ghost use Rattle.std.specs.Prelude.{◌≡◌, ℕ, IfOk, OnOk};
+ghost use Rattle.std.specs.Prelude.{◌≡◌, ◌≤◌, ℕ, IfErr, OnOk};
+ghost use Rattle.serve_loop.specs.Faults.{FromNet, FromNetOrSink};
 ghost use Rattle.serve_loop.specs.Server.{OneTurn, Turned};
 
 use crate::due::{due_links, due_slots};
@@ -21,6 +22,11 @@ impl<C: Core + Drop> Server<C> {
         ensures turned { OnOk result ((now : ℕ) × T.gave clock.old now clock.new
             × OneTurn C.face N.did N.gave now self.old self.new net.old net.new
             (K.written journal.old) (K.written journal.new)) }
+        ensures fails { IfErr result (FromNetOrSink (N.faults net.old) (N.faults net.new)
+            (K.faults journal.old) (K.faults journal.new)) }
+        ensures net_faults_never_fall { N.faults net.old ≤ N.faults net.new }
+        ensures journal_faults_never_fall { K.faults journal.old ≤ K.faults journal.new }
+        ensures clock_faults_never_fall { T.faults clock.old ≤ T.faults clock.new }
     {
         self.serving.journal.recording = journal.keeps();
         let now = clock.now();
@@ -30,8 +36,11 @@ impl<C: Core + Drop> Server<C> {
     }
 
     // One turn at this moment.
+    #[tactic(auto, using(crate::proofs::Failing::from_later, crate::proofs::Failing::from_memory))]
     pub(crate) fn round<N: Net>(&mut self, net: &mut N, now: u64) -> Result<(), ServeFault>
         ensures turned { OnOk result (Turned C.face N.did N.gave now self.old self.new net.old net.new) }
+        ensures fails { IfErr result (FromNet (N.faults net.old) (N.faults net.new)) }
+        ensures faults_never_fall { N.faults net.old ≤ N.faults net.new }
     {
         self.serving.tick(net, now)?;
         let until = self

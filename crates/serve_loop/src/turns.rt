@@ -1,6 +1,7 @@
 // Turns.
 
-ghost use Rattle.std.specs.Prelude.{◌≡◌, IfOk, false};
+ghost use Rattle.std.specs.Prelude.{◌≡◌, ◌≤◌, IfOk, IfErr};
+ghost use Rattle.serve_loop.specs.Faults.{FromNetOrSink};
 ghost use Rattle.serve_loop.specs.Part.{stand};
 ghost use Rattle.serve_loop.specs.Server.{IsOver, Served};
 ghost use Rattle.serve_loop.specs.Turn.{CanAccept};
@@ -21,6 +22,10 @@ pub fn serve<C: Core + Drop, N: Net, T: Clock, K: Sink>(
         (record { server = server.old; net = net.old; clock = clock.old; written = K.written journal.old })
         (record { server = server.new; net = net.new; clock = clock.new; written = K.written journal.new })
         end) }
+    ensures fails { IfErr result (FromNetOrSink (N.faults net.old) (N.faults net.new)
+        (K.faults journal.old) (K.faults journal.new)) }
+    ensures net_faults_never_fall { N.faults net.old ≤ N.faults net.new }
+    ensures journal_faults_never_fall { K.faults journal.old ≤ K.faults journal.new }
 {
     for turn in 0..turns {
         let _ = turn;

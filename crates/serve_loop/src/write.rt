@@ -1,8 +1,9 @@
 // What is pending is written.
 
-ghost use Rattle.std.specs.Prelude.{◌≡◌, IfOk};
+ghost use Rattle.std.specs.Prelude.{◌≡◌, IfOk, IfErr, ◌≤◌};
 ghost use Rattle.serve_loop.specs.Part.{Part};
 ghost use Rattle.serve_loop.specs.Writing.{Wrote, WroteOnce, asked_of};
+ghost use Rattle.serve_loop.specs.Faults.{FromNet};
 
 use crate::asked::write_to_event;
 use crate::serving::Serving;
@@ -13,6 +14,7 @@ use px_outside::{Net, WriteAnswer};
 impl<C: Core + Drop> Serving<C> {
     /// Writes what is pending to a side until its link takes no more by now, or nothing is pending.
     /// Says whether something may be pending still.
+    #[tactic(auto, using(crate::proofs::Failing::from_later, crate::proofs::Failing::from_memory))]
     pub(crate) fn write<N: Net>(
         &mut self,
         net: &mut N,
@@ -21,6 +23,8 @@ impl<C: Core + Drop> Serving<C> {
     ) -> Result<bool, ServeFault>
         ensures part { IfOk result (λ stays. Part C.face N.did N.gave
             (Wrote C.face self.old.conns conn side stays) self.old self.new net.old net.new) }
+        ensures fails { IfErr result (FromNet (N.faults net.old) (N.faults net.new)) }
+        ensures faults_never_fall { N.faults net.old ≤ N.faults net.new }
     {
         let pending = self.core.front(conn, side).len();
         for often in 0..pending + 1 {
@@ -34,6 +38,7 @@ impl<C: Core + Drop> Serving<C> {
         Ok(true)
     }
 
+    #[tactic(auto, using(crate::proofs::Failing::from_later, crate::proofs::Failing::from_memory))]
     fn write_once<N: Net>(
         &mut self,
         net: &mut N,
@@ -42,6 +47,8 @@ impl<C: Core + Drop> Serving<C> {
     ) -> Result<Asked, ServeFault>
         ensures part { IfOk result (λ asked. Part C.face N.did N.gave
             (WroteOnce C.face self.old.conns conn side asked) self.old self.new net.old net.new) }
+        ensures fails { IfErr result (FromNet (N.faults net.old) (N.faults net.new)) }
+        ensures faults_never_fall { N.faults net.old ≤ N.faults net.new }
     {
         let Some(link) = self.links.link(conn, side) else {
             return Ok(Asked::Over);

@@ -1,31 +1,50 @@
 -- A configuration is served.
-use Rattle.std.specs.Prelude.{ℕ, List, [], Option}
-use Rattle.px_outside.specs.Net.{Call}
+use Rattle.std.specs.Prelude.{◌≡◌, ℕ, List, [], ◌∷◌, Option, Some, None}
+use Rattle.px_outside.specs.Net.{Call, Chain}
 use Rattle.px_outside.specs.Outside.{told_more}
 use Rattle.journal_text.specs.Notes.{note_lines}
 use Rattle.proxy_core.specs.Headline.{OutputMatchesEvaluator}
-use Rattle.proxy_core.specs.Past.{Past}
+use Rattle.proxy_core.specs.Past.{Happened, Past}
 use Rattle.proxy_core.specs.Represents.{Represents}
 use Rattle.proxy_core.specs.Scheduler.{State, no_connections}
 use Rattle.proxy_core.specs.Setup.{init_notes}
 use Rattle.proxy_core.specs.declared.config.Config.{Config}
 use Rattle.proxy_core.specs.declared.core_state.Core.{Core}
+use Rattle.serve_loop.specs.Part.{stand}
+use Rattle.serve_loop.specs.Walk.{Given, Step, Own, Asked, Walks, calls_in, text_in}
 use Rattle.serve_loop.specs.Server.{Begins, Served as IsServed}
 use Rattle.serve_loop.specs.declared.fault.ServeEnd.{ServeEnd}
 use Rattle.serve_loop.specs.declared.server.Server.{Server}
 use Rattle.served_core.specs.Served.{served_face}
+use Rattle.served_core.specs.Told.{meaning}
 use Rattle.served_core.specs.declared.served.Served.{Served}
 
--- It stands for a past of this configuration, and the promise holds of it: what each client took is a
--- front of what the evaluator gives, and all that `OutputMatchesEvaluator` says.
-pub record KeepsPromise (C : Config) (core : Core) : Type 0 where
-  pub past : Past
-  pub state : State
-  pub represents : Represents C past state core
-  pub matches : OutputMatchesEvaluator C past state
+-- an event with its notes, as the core was given it
+abbrev pub happened : Given → Happened
+happened g = record { event = meaning g.event; group = g.group }
 
--- A core that stands for no event begins to be served, behind the notes of its start, and is served
--- turn by turn; the core stands for its past then too.
+-- the past with the events of these steps
+abbrev pub past_after : List Step → Past → Past
+past_after [] past = past
+past_after (Own g ∷ steps) past = past_after steps (happened g ∷ past)
+past_after (Asked call None ∷ steps) past = past_after steps past
+past_after (Asked call (Some g) ∷ steps) past = past_after steps (happened g ∷ past)
+
+-- All that was done, step by step: the calls on the net are exactly those of the steps, in order; each step is
+-- what the loop may do there, and no event is refused; the journal grew by exactly the lines of the events and
+-- their notes. The core stands for the past of exactly these events, and the promise holds of it: what each client
+-- took is a front of what the evaluator gives, and all that `OutputMatchesEvaluator` says.
+pub record ServedEvents {S : Type 0} (did : S → Call → S → Type 0) (C : Config) (conns : ℕ)
+    (first last : Server Served) (begun net : S) (before after : Option (List ℕ)) : Type 0 where
+  pub steps : List Step
+  pub chain : Chain did begun (calls_in steps) net
+  pub walks : Walks served_face conns (stand first.serving) steps (stand last.serving)
+  pub written : after ≡ told_more before (text_in steps)
+  pub state : State
+  pub represents : Represents C (past_after steps []) state last.serving.core.core
+  pub matches : OutputMatchesEvaluator C (past_after steps []) state
+
+-- A core that stands for no event begins to be served, behind the notes of its start, and is served turn by turn.
 pub record ServesConfig {S T : Type 0} (did : S → Call → S → Type 0) (gave : S → ℕ → Type 0)
     (ticked : T → ℕ → T → Type 0) (C : Config) (conns turns : ℕ) (net net' : S) (clock clock' : T)
     (before after : Option (List ℕ)) (end : ServeEnd) : Type 0 where
@@ -38,4 +57,4 @@ pub record ServesConfig {S T : Type 0} (did : S → Call → S → Type 0) (gave
   pub served : IsServed served_face did gave ticked turns
       (record { server = first; net = begun; clock = clock; written = told_more before (note_lines (init_notes C)) })
       (record { server = last; net = net'; clock = clock'; written = after }) end
-  pub keeps : KeepsPromise C last.serving.core.core
+  pub events : ServedEvents did C conns first last begun net' (told_more before (note_lines (init_notes C))) after

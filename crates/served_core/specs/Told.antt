@@ -14,19 +14,22 @@ use Rattle.proxy_core.specs.declared.event.Event.TheVariants as event
 abbrev pub Always : Core → (Config → Past → State → Type 0) → Type 0
 Always core P = (C : Config) (past : Past) (s : State) → Represents C past s core → P C past s
 
+abbrev pub meaning : Told → Event
+meaning (told.Accept c vs from) = event.Accept c vs from
+meaning (told.FromClient c bytes) = event.FromClient c bytes
+meaning (told.ClientEnd c) = event.ClientEnd c
+meaning (told.ClientReset c) = event.ClientReset c
+meaning (told.Connected c) = event.Connected c
+meaning (told.Refused c) = event.Refused c
+meaning (told.FromServer c bytes) = event.FromServer c bytes
+meaning (told.ServerEnd c) = event.ServerEnd c
+meaning (told.ServerReset c) = event.ServerReset c
+meaning (told.ClientTook c n) = event.ClientTook c n
+meaning (told.ServerTook c n) = event.ServerTook c n
+meaning (told.Tick moment) = event.Tick moment
+meaning told.Turn = event.Turn
+meaning told.Run = event.Run
+meaning (told.Mark pool member up) = event.Mark pool member up
+
 abbrev pub Means : Told → Event → Type 0
-Means (told.Accept c vs from) e = e ≡ event.Accept c vs from
-Means (told.FromClient c bytes) e = e ≡ event.FromClient c bytes
-Means (told.ClientEnd c) e = e ≡ event.ClientEnd c
-Means (told.ClientReset c) e = e ≡ event.ClientReset c
-Means (told.Connected c) e = e ≡ event.Connected c
-Means (told.Refused c) e = e ≡ event.Refused c
-Means (told.FromServer c bytes) e = e ≡ event.FromServer c bytes
-Means (told.ServerEnd c) e = e ≡ event.ServerEnd c
-Means (told.ServerReset c) e = e ≡ event.ServerReset c
-Means (told.ClientTook c n) e = e ≡ event.ClientTook c n
-Means (told.ServerTook c n) e = e ≡ event.ServerTook c n
-Means (told.Tick moment) e = e ≡ event.Tick moment
-Means told.Turn e = e ≡ event.Turn
-Means told.Run e = e ≡ event.Run
-Means (told.Mark pool member up) e = e ≡ event.Mark pool member up
+Means told e = e ≡ meaning told

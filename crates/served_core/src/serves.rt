@@ -1,8 +1,9 @@
 // A configuration is served.
 
-ghost use Rattle.std.specs.Prelude.{◌≡◌, IfOk, OnOk};
+ghost use Rattle.std.specs.Prelude.{◌≡◌, ◌≤◌, IfOk, IfErr, OnOk};
 ghost use Rattle.journal_text.specs.Notes.{note_lines};
 ghost use Rattle.px_outside.specs.Outside.{told_more};
+ghost use Rattle.serve_loop.specs.Faults.{FromNetOrSink, FromSink};
 ghost use Rattle.served_core.specs.Serves.{ServesConfig};
 
 use crate::served::Served;
@@ -24,20 +25,25 @@ pub fn serve_config<N: Net, T: Clock, K: Sink>(
     conns: u32,
     turns: u64,
 ) -> Result<ServeEnd, ServeFault>
-    ensures { IfOk result (ServesConfig N.did N.gave T.gave config conns turns net.old net.new
+    ensures serves { IfOk result (ServesConfig N.did N.gave T.gave config conns turns net.old net.new
         clock.old clock.new (K.written journal.old) (K.written journal.new)) }
+    ensures fails { IfErr result (FromNetOrSink (N.faults net.old) (N.faults net.new)
+        (K.faults journal.old) (K.faults journal.new)) }
+    ensures net_faults_never_fall { N.faults net.old ≤ N.faults net.new }
+    ensures journal_faults_never_fall { K.faults journal.old ≤ K.faults journal.new }
 {
     let (core, notes) = Core::new(alloc, config)?;
     write_start(alloc, notes.as_slice(), journal)?;
     let mut server = Server::new(alloc, Served { core }, net, conns)?;
-    let end = serve(&mut server, net, clock, journal, turns)?;
-    Ok(end)
+    serve(&mut server, net, clock, journal, turns)
 }
 
 // Writes the notes of the start.
 fn write_start<K: Sink>(alloc: Global, notes: &[Note], journal: &mut K) -> Result<(), ServeFault>
-    ensures { OnOk result
+    ensures written { OnOk result
         (K.written journal.new ≡ told_more (K.written journal.old) (note_lines notes.now)) }
+    ensures fails { IfErr result (FromSink (K.faults journal.old) (K.faults journal.new)) }
+    ensures faults_never_fall { K.faults journal.old ≤ K.faults journal.new }
 {
     let text = write_notes(alloc, notes)?;
     match write_all(journal, text.as_bytes()) {

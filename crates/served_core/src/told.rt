@@ -1,13 +1,14 @@
 // Events of a journal and of the core.
 
-ghost use Rattle.served_core.specs.Told.{Means};
+ghost use Rattle.std.specs.Prelude.{◌≡◌};
+ghost use Rattle.served_core.specs.Told.{meaning};
 
 use journal_text::Event as Told;
 use proxy_core::Event;
 
 /// The core's event that an event of a journal is.
 pub fn meaning(told: Told) -> Event
-    ensures { Means told result }
+    ensures { result ≡ meaning told }
 {
     match told {
         Told::Accept { conn, vs, from } => Event::Accept { conn, vs, from },

@@ -1,4 +1,4 @@
-use Rattle.std.proofs.Common.{◌≡◌, ◌+◌, ◌∷◌, drop, subst, sym}
+use Rattle.std.proofs.Common.{arith, ◌≡◌, ◌+◌, ◌∷◌, drop, subst, sym}
 use Rattle.connection_model.specs.declared.note.Note.{Note}
 use Rattle.serve_loop.specs.declared.carry.Action.{Action}
 use Rattle.serve_loop.specs.Carrying.{CarriesOne, Carried}
@@ -7,13 +7,16 @@ use Rattle.serve_loop.proofs.Chains.{front_at, none_left}
 use Rattle.serve_loop.proofs.carry.carry.Goals as goal
 
 pub loop-note-init : goal.loop-note-init
-loop-note-init g c = carries_start c.args.notes.now c.args.links.now c.args.net.now
+loop-note-init g c =
+    (carries_start c.args.notes.now c.args.links.now c.args.net.now, omega arith)
 
 pub loop-note-preserved : goal.loop-note-preserved
-loop-note-preserved g c =
-    carries_next c.args.notes.now c.loop-note.note-index (c.loop-note.note-index + 1) _ c.args.links.now c.loop-note.links c.carry_one.new.links c.args.net.now c.loop-note.net c.carry_one.new.net
-    (subst (λ (x : Note). drop c.loop-note.note-index c.args.notes.now ≡ x ∷ drop (c.loop-note.note-index + 1) c.args.notes.now) (sym c.note-item.is) (front_at c.args.notes.now c.loop-note.note-index c.note-item.result c.loop-note-test.true)) c.loop-note.invariant
-    (subst (λ (x : Action). Carried g.N.Net.did g.N.Net.gave (CarriesOne x) c.loop-note.links c.carry_one.new.links c.loop-note.net c.carry_one.new.net) c.asked_for.ensures (c.in_ok-carry_one.ensures))
+loop-note-preserved g c = (
+  carries_next c.args.notes.now c.loop-note.note-index (c.loop-note.note-index + 1) _ c.args.links.now c.loop-note.links c.carry_one.new.links c.args.net.now c.loop-note.net c.carry_one.new.net
+      (subst (λ (x : Note). drop c.loop-note.note-index c.args.notes.now ≡ x ∷ drop (c.loop-note.note-index + 1) c.args.notes.now) (sym c.note-item.is) (front_at c.args.notes.now c.loop-note.note-index c.note-item.result c.loop-note-test.true)) c.loop-note.invariant.0
+      (subst (λ (x : Action). Carried g.N.Net.did g.N.Net.gave (CarriesOne x) c.loop-note.links c.carry_one.new.links c.loop-note.net c.carry_one.new.net) c.asked_for.ensures (c.in_ok-carry_one.ensures.carries)),
+  omega (arith, c.loop-note.invariant.1, c.carry_one.ensures.faults_never_fall),
+)
 
-pub returns : goal.returns
-returns g c = carries_all c.args.notes.now c.loop-note.note-index c.args.links.now c.loop-note.links c.args.net.now c.loop-note.net (none_left c.args.notes.now c.loop-note.note-index c.loop-note-test.false) c.loop-note.invariant
+pub returns-clause-carries : goal.returns-clause-carries
+returns-clause-carries g c = carries_all c.args.notes.now c.loop-note.note-index c.args.links.now c.loop-note.links c.args.net.now c.loop-note.net (none_left c.args.notes.now c.loop-note.note-index c.loop-note-test.false) c.loop-note.invariant.0

@@ -1,32 +1,51 @@
-use Rattle.std.proofs.Common.{◌≡◌, ◌≤◌, ◌+◌, refl, arith}
+use Rattle.std.proofs.Common.{◌≡◌, ◌≤◌, ◌<◌, ◌+◌, refl, arith}
 use Rattle.serve_loop.proofs.Turning.{turns_next}
+use Rattle.serve_loop.proofs.Ending.{turns_walk, goes_on, ends_over, behind_next}
 use Rattle.serve_loop.proofs.turns.serve.Goals as goal
 
 pub loop-turn-init : goal.loop-turn-init
-loop-turn-init g c = refl
+loop-turn-init g c = (refl, (tt, (omega arith, omega arith)))
 
 pub loop-turn-preserved : goal.loop-turn-preserved
-loop-turn-preserved g c =
-    turns_next g.C.Core.face g.N.Net.did g.N.Net.gave g.T.Clock.gave c.loop-turn.turn
+loop-turn-preserved g c = (
+  turns_next g.C.Core.face g.N.Net.did g.N.Net.gave g.T.Clock.gave c.loop-turn.turn
+      (record { server = c.args.server.now; net = c.args.net.now; clock = c.args.clock.now; written = g.K.Sink.written c.args.journal.now })
+      (record { server = c.loop-turn.server; net = c.loop-turn.net; clock = c.loop-turn.clock; written = g.K.Sink.written c.loop-turn.journal })
+      (record { server = c.turn.new.self; net = c.turn.new.net; clock = c.turn.new.clock; written = g.K.Sink.written c.turn.new.journal })
+      c.loop-turn.invariant.0 c.loop-turn.invariant.1.0 c.in_ok-turn.ensures.turned,
+  (
+    behind_next g.C.Core.face c.loop-turn.turn c.turn.new.self.serving (goes_on g.C.Core.face c.turn.new.self.serving c.is_over.result c.if-is_over.false c.is_over.ensures),
+    (omega (arith, c.loop-turn.invariant.1.1.0, c.turn.ensures.net_faults_never_fall), omega (arith, c.loop-turn.invariant.1.1.1, c.turn.ensures.journal_faults_never_fall)),
+  ),
+)
+
+pub returns-then-is_over-clause-served : goal.returns-then-is_over-clause-served
+returns-then-is_over-clause-served g c =
+    let within : c.loop-turn.turn + 1 ≤ c.args.turns = omega arith in
+    let some : 0 < c.loop-turn.turn + 1 = omega arith in
+    let turned = turns_next g.C.Core.face g.N.Net.did g.N.Net.gave g.T.Clock.gave c.loop-turn.turn
     (record { server = c.args.server.now; net = c.args.net.now; clock = c.args.clock.now; written = g.K.Sink.written c.args.journal.now })
     (record { server = c.loop-turn.server; net = c.loop-turn.net; clock = c.loop-turn.clock; written = g.K.Sink.written c.loop-turn.journal })
     (record { server = c.turn.new.self; net = c.turn.new.net; clock = c.turn.new.clock; written = g.K.Sink.written c.turn.new.journal })
-    c.loop-turn.invariant c.in_ok-turn.ensures.turned
-
-pub returns-then-is_over : goal.returns-then-is_over
-returns-then-is_over g c =
-    let within : c.loop-turn.turn + 1 ≤ c.args.turns = omega arith in record {
-      served = record {
-        made = c.loop-turn.turn + 1;
-        turned = turns_next g.C.Core.face g.N.Net.did g.N.Net.gave g.T.Clock.gave c.loop-turn.turn
-            (record { server = c.args.server.now; net = c.args.net.now; clock = c.args.clock.now; written = g.K.Sink.written c.args.journal.now })
-            (record { server = c.loop-turn.server; net = c.loop-turn.net; clock = c.loop-turn.clock; written = g.K.Sink.written c.loop-turn.journal })
-            (record { server = c.turn.new.self; net = c.turn.new.net; clock = c.turn.new.clock; written = g.K.Sink.written c.turn.new.journal })
-            c.loop-turn.invariant c.in_ok-turn.ensures.turned;
-        ends = (within, c.is_over.ensures c.if-is_over.true);
-      };
+    c.loop-turn.invariant.0 c.loop-turn.invariant.1.0 c.in_ok-turn.ensures.turned in
+    record {
+      made = c.loop-turn.turn + 1;
+      turned = turned;
+      walked = turns_walk g.C.Core.face g.N.Net.did g.N.Net.gave g.T.Clock.gave (c.loop-turn.turn + 1)
+          (record { server = c.args.server.now; net = c.args.net.now; clock = c.args.clock.now; written = g.K.Sink.written c.args.journal.now })
+          (record { server = c.turn.new.self; net = c.turn.new.net; clock = c.turn.new.clock; written = g.K.Sink.written c.turn.new.journal }) turned;
+      ends = (some, (within, ends_over g.C.Core.face c.turn.new.self.serving c.is_over.result c.if-is_over.true c.is_over.ensures));
     }
 
-pub returns : goal.returns
-returns g c =
-    let all : c.loop-turn.turn ≡ c.args.turns = omega arith in record { served = record { made = c.loop-turn.turn; turned = c.loop-turn.invariant; ends = all } }
+pub returns-clause-served : goal.returns-clause-served
+returns-clause-served g c =
+    let all : c.loop-turn.turn ≡ c.args.turns = omega arith in
+    record {
+      made = c.loop-turn.turn;
+      turned = c.loop-turn.invariant.0;
+      walked = turns_walk g.C.Core.face g.N.Net.did g.N.Net.gave g.T.Clock.gave c.loop-turn.turn
+          (record { server = c.args.server.now; net = c.args.net.now; clock = c.args.clock.now; written = g.K.Sink.written c.args.journal.now })
+          (record { server = c.loop-turn.server; net = c.loop-turn.net; clock = c.loop-turn.clock; written = g.K.Sink.written c.loop-turn.journal })
+          c.loop-turn.invariant.0;
+      ends = (all, c.loop-turn.invariant.1.0);
+    }

@@ -1,16 +1,23 @@
+use Rattle.std.proofs.lemmas.Result.{IfOk-weaker}
 use Rattle.std.proofs.Common.{List, ℕ, Option, ap, ◌∙◌, subst}
 use Rattle.px_outside.specs.Outside.{told_more}
 use Rattle.connection_model.specs.declared.note.Note.{Note}
 use Rattle.journal_text.specs.Notes.{note_lines}
 use Rattle.serve_loop.specs.Server.{Served}
+use Rattle.serve_loop.specs.declared.fault.ServeEnd.{ServeEnd}
 use Rattle.served_core.specs.Served.{served_face}
-use Rattle.served_core.proofs.Promising.{kept}
+use Rattle.served_core.specs.Serves.{ServedEvents, ServesConfig}
+use Rattle.served_core.proofs.Promising.{fails_later, kept}
 use Rattle.served_core.proofs.serves.serve_config.Goals as goal
 
-pub returns : goal.returns
-returns g c =
-    let written = c.in_ok-write_start.ensures
-    ∙ ap (λ (l : List Note). told_more (g.K.Sink.written c.args.journal.now) (note_lines l)) (c.as_slice.ensures ∙ c.in_ok-core.ensures.notes) in record {
+pub returns-clause-serves : goal.returns-clause-serves
+returns-clause-serves g c =
+    let written = c.in_ok-write_start.ensures.written
+    ∙ ap (λ (l : List Note). told_more (g.K.Sink.written c.args.journal.now) (note_lines l)) (c.as_slice.ensures ∙ c.in_ok-core.ensures.notes) in
+    IfOk-weaker c.serve.result _
+    (λ (end : ServeEnd). ServesConfig g.N.Net.did g.N.Net.gave g.T.Clock.gave c.args.config c.args.conns c.args.turns c.args.net.now c.serve.new.net
+    c.args.clock.now c.serve.new.clock (g.K.Sink.written c.args.journal.now) (g.K.Sink.written c.serve.new.journal) end)
+    (λ end it. record {
       core = c.in_ok-core.core;
       stands = c.in_ok-core.ensures.stands;
       first = c.in_ok-server.server;
@@ -19,7 +26,14 @@ returns g c =
       last = c.serve.new.server;
       served = subst (λ (w : Option (List ℕ)). Served served_face g.N.Net.did g.N.Net.gave g.T.Clock.gave c.args.turns
           (record { server = c.in_ok-server.server; net = c.new-2.new.net; clock = c.args.clock.now; written = w })
-          (record { server = c.serve.new.server; net = c.serve.new.net; clock = c.serve.new.clock; written = g.K.Sink.written c.serve.new.journal }) c.in_ok-end.end)
-          written c.in_ok-end.ensures.served;
-      keeps = kept c.args.config c.in_ok-core.core c.in_ok-core.ensures.stands c.in_ok-server.ensures.begins c.in_ok-end.ensures.served;
-    }
+          (record { server = c.serve.new.server; net = c.serve.new.net; clock = c.serve.new.clock; written = g.K.Sink.written c.serve.new.journal }) end)
+          written it;
+      events = subst (λ (w : Option (List ℕ)). ServedEvents g.N.Net.did c.args.config c.args.conns c.in_ok-server.server c.serve.new.server c.new-2.new.net c.serve.new.net w (g.K.Sink.written c.serve.new.journal))
+          written (kept c.args.config c.in_ok-core.core c.in_ok-core.ensures.stands c.in_ok-server.ensures.begins it);
+    }) c.serve.ensures.served
+
+pub returns-clause-fails : goal.returns-clause-fails
+returns-clause-fails g c =
+    fails_later (g.N.Net.faults c.args.net.now) (g.N.Net.faults c.new-2.new.net) (g.N.Net.faults c.serve.new.net)
+    (g.K.Sink.faults c.args.journal.now) (g.K.Sink.faults c.write_start.new.journal) (g.K.Sink.faults c.serve.new.journal) c.serve.result
+    c.new-2.ensures.faults_never_fall c.write_start.ensures.faults_never_fall c.serve.ensures.fails

@@ -9,15 +9,15 @@ use Rattle.serve_loop.proofs.Compose.{part_at}
 use Rattle.serve_loop.proofs.Trying.{part_next}
 use Rattle.serve_loop.proofs.server.Server.round.Goals as goal
 
-pub returns : goal.returns
-returns g c =
+pub returns-clause-turned : goal.returns-clause-turned
+returns-clause-turned g c =
     let face = g.C.Core.face in
     let slots = c.args.self.now.slots in
     let links = c.args.self.now.links in
     let listed = c.wait.new.listed in
-    let all_slots = c.in_ok-ask_listeners.ensures in
+    let all_slots = c.in_ok-ask_listeners.ensures.all in
     let all_links = c.in_ok-ask_links.ensures.all in
-    let all_writes = c.in_ok-write_all.ensures in
+    let all_writes = c.in_ok-write_all.ensures.all in
     let r : Round = record {
       now = c.args.now;
       slots = slots;
@@ -39,21 +39,20 @@ returns g c =
     ∙ ap (λ (l : List ReadyAt). due_now links (listed_links l)) c.as_slice-6.ensures in
     let asks_slots = subst (λ (o : List ℕ). Part face g.N.Net.did g.N.Net.gave (Each (ListenerAt face c.wait.new.self.conns) o all_slots.stay) c.wait.new.self c.ask_listeners.new.self c.wait.new.net c.ask_listeners.new.net) slots_due all_slots.did in
     let asks_links = subst (λ (o : List ℕ). Part face g.N.Net.did g.N.Net.gave (Each (LinkAt face c.ask_listeners.new.self.conns) o all_links.stay) c.ask_listeners.new.self c.ask_links.new.self c.ask_listeners.new.net c.ask_links.new.net) links_due all_links.did in
-    let waits = part_at (λ steps w. record { until = until; waits = w }) c.in_ok-wait.ensures.part in record {
-      turned = record {
-        round = r;
-        now_is = refl;
-        part = part_next (λ (conns : ℕ). WaitsAndAsks face r conns) c.in_ok-tick.ensures.part
-            (part_next (λ (conns : ℕ). AsksAll face r conns) waits
-            (part_next (λ (conns : ℕ). AsksLinks face r conns) asks_slots
-            (part_next (λ (conns : ℕ). RunsAndWrites face r conns) asks_links
-            (part_next (λ (conns : ℕ). Each (WritesAt face conns) r.writers r.writers_stay) c.in_ok-run_pairs.ensures.part all_writes.did))));
-        slots_were = refl;
-        links_were = refl;
-        writers_were = refl;
-        slots_are = all_slots.kept ∙ ap (λ (l : List ℕ). l ++ all_slots.stay) c.clear.ensures;
-        links_are = all_links.kept ∙ ap (λ (l : List ℕ). l ++ all_links.stay) c.clear-2.ensures;
-        writers_are = c.in_ok-add_all.ensures ∙ ap (λ (l : List ℕ). added l c.as_slice-7.result.now) c.clear-3.ensures
-            ∙ ap (λ (l : List ℕ). added [] l) (c.as_slice-7.ensures ∙ all_writes.kept ∙ ap (λ (l : List ℕ). l ++ all_writes.stay) c.new-later.ensures);
-      };
+    let waits = part_at (λ steps w. record { until = until; waits = w }) c.in_ok-wait.ensures.part in
+    record {
+      round = r;
+      now_is = refl;
+      part = part_next (λ (conns : ℕ). WaitsAndAsks face r conns) c.in_ok-tick.ensures.part
+          (part_next (λ (conns : ℕ). AsksAll face r conns) waits
+          (part_next (λ (conns : ℕ). AsksLinks face r conns) asks_slots
+          (part_next (λ (conns : ℕ). RunsAndWrites face r conns) asks_links
+          (part_next (λ (conns : ℕ). Each (WritesAt face conns) r.writers r.writers_stay) c.in_ok-run_pairs.ensures.part all_writes.did))));
+      slots_were = refl;
+      links_were = refl;
+      writers_were = refl;
+      slots_are = all_slots.kept ∙ ap (λ (l : List ℕ). l ++ all_slots.stay) c.clear.ensures;
+      links_are = all_links.kept ∙ ap (λ (l : List ℕ). l ++ all_links.stay) c.clear-2.ensures;
+      writers_are = c.in_ok-add_all.ensures ∙ ap (λ (l : List ℕ). added l c.as_slice-7.result.now) c.clear-3.ensures
+          ∙ ap (λ (l : List ℕ). added [] l) (c.as_slice-7.ensures ∙ all_writes.kept ∙ ap (λ (l : List ℕ). l ++ all_writes.stay) c.new-later.ensures);
     }

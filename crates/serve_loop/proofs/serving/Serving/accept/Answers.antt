@@ -3,9 +3,7 @@ use Rattle.px_outside.specs.declared.answers.ReadyAt.TheVariants as ready
 use Rattle.serve_loop.proofs.Calling.{part_unknown}
 use Rattle.serve_loop.proofs.serving.Serving.accept.Goals as goal
 
-pub returns-in-None : goal.returns-in-None
-returns-in-None g c = record {
-  part =
-      part_unknown c.args.self.now.conns (ready.Listener c.args.slot) c.args.self.now c.args.net.now
-      (subst (λ (o : Option (List _)). g.C.Core.face.name c.args.self.now.core c.args.slot o) c.in-None.is c.in_ok-name.ensures);
-}
+pub returns-in-None-clause-part : goal.returns-in-None-clause-part
+returns-in-None-clause-part g c =
+    part_unknown c.args.self.now.conns (ready.Listener c.args.slot) c.args.self.now c.args.net.now
+    (subst (λ (o : Option (List _)). g.C.Core.face.name c.args.self.now.core c.args.slot o) c.in-None.is c.in_ok-name.ensures)

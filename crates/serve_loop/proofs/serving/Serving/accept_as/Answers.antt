@@ -8,23 +8,19 @@ use Rattle.serve_loop.proofs.Carried.{known_open}
 use Rattle.serve_loop.proofs.Calling.{part_quiet, part_heard, part_again, part_over}
 use Rattle.serve_loop.proofs.serving.Serving.accept_as.Goals as goal
 
-pub returns-in-NotYet : goal.returns-in-NotYet
-returns-in-NotYet g c = record {
-  part =
-      part_over (part_quiet (ready.Listener c.args.slot) c.args.self.now c.args.net.now c.accept.new.self (Accept c.args.slot (Ok accepted.NotYet))
-      (subst (λ r. g.N.Net.did c.args.net.now (Accept c.args.slot r) c.accept.new.self) (c.in_ok-accept.was ∙ ap Ok c.in-NotYet.is) c.accept.ensures.did)
-      c.accept.ensures.lasts.given refl ((c.args.number, (c.requires.next, c.requires.within)), refl) refl);
-}
+pub returns-in-NotYet-clause-part : goal.returns-in-NotYet-clause-part
+returns-in-NotYet-clause-part g c =
+    part_over (part_quiet (ready.Listener c.args.slot) c.args.self.now c.args.net.now c.accept.new.self (Accept c.args.slot (Ok accepted.NotYet))
+    (subst (λ r. g.N.Net.did c.args.net.now (Accept c.args.slot r) c.accept.new.self) (c.in_ok-accept.was ∙ ap Ok c.in-NotYet.is) c.accept.ensures.did)
+    c.accept.ensures.lasts.given refl ((c.args.number, (c.requires.next, c.requires.within)), refl) refl)
 
-pub returns-in_ok-give-in-One : goal.returns-in_ok-give-in-One
-returns-in_ok-give-in-One g c =
+pub returns-in_ok-give-in-One-clause-part : goal.returns-in_ok-give-in-One-clause-part
+returns-in_ok-give-in-One-clause-part g c =
     let answer = c.in_ok-accept.was ∙ ap Ok c.in-One.is in
-    let new = subst (λ r. IfOk r (GivesNew (g.N.Net.gave c.args.net.now) (g.N.Net.gave c.accept.new.self))) answer c.accept.ensures.is_new in record {
-      part =
-          part_again (part_heard (ready.Listener c.args.slot) c.args.self.now c.open.new.self c.give.new.self c.args.net.now c.accept.new.self c.give.new.net
-          (Accept c.args.slot (Ok (accepted.One c.in-One.link c.in-One.from))) _
-          (subst (λ r. g.N.Net.did c.args.net.now (Accept c.args.slot r) c.accept.new.self) answer c.accept.ensures.did)
-          (known_open (g.N.Net.gave c.args.net.now) (g.N.Net.gave c.accept.new.self) c.args.self.now.links c.open.new.self c.in-One.link c.args.number Client c.accept.ensures.lasts.given new.now c.in_ok-open-in-One.ensures.opens)
-          refl (record { number = c.args.number; may = (c.requires.next, c.requires.within); name = c.args.vs; named = c.requires.named; becomes = refl })
-          (c.args.number, c.requires.next, c.in_ok-open-in-One.ensures.opens) (c.requires.may c.in-One.from) c.in_ok-give-in-One.ensures.gives);
-    }
+    let new = subst (λ r. IfOk r (GivesNew (g.N.Net.gave c.args.net.now) (g.N.Net.gave c.accept.new.self))) answer c.accept.ensures.is_new in
+    part_again (part_heard (ready.Listener c.args.slot) c.args.self.now c.open.new.self c.give.new.self c.args.net.now c.accept.new.self c.give.new.net
+    (Accept c.args.slot (Ok (accepted.One c.in-One.link c.in-One.from))) _
+    (subst (λ r. g.N.Net.did c.args.net.now (Accept c.args.slot r) c.accept.new.self) answer c.accept.ensures.did)
+    (known_open (g.N.Net.gave c.args.net.now) (g.N.Net.gave c.accept.new.self) c.args.self.now.links c.open.new.self c.in-One.link c.args.number Client c.accept.ensures.lasts.given new.now c.in_ok-open-in-One.ensures.opens)
+    refl (record { number = c.args.number; may = (c.requires.next, c.requires.within); name = c.args.vs; named = c.requires.named; becomes = refl })
+    (c.args.number, c.requires.next, c.in_ok-open-in-One.ensures.opens) (c.requires.may c.in-One.from) c.in_ok-give-in-One.ensures.gives)

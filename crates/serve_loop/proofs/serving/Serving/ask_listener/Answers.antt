@@ -6,16 +6,21 @@ use Rattle.serve_loop.proofs.Trying.{often_none, often_next, tried_stays, tried_
 use Rattle.serve_loop.proofs.serving.Serving.ask_listener.Goals as goal
 
 pub loop-often-init : goal.loop-often-init
-loop-often-init g c = often_none (AskedOnce g.C.Core.face c.args.self.now.conns (ready.Listener c.args.slot)) c.args.self.now c.args.net.now
+loop-often-init g c =
+    (often_none (AskedOnce g.C.Core.face c.args.self.now.conns (ready.Listener c.args.slot)) c.args.self.now c.args.net.now, omega arith)
 
 pub loop-often-preserved : goal.loop-often-preserved
-loop-often-preserved g c = often_next (λ (conns : ℕ). AskedOnce g.C.Core.face conns (ready.Listener c.args.slot)) c.loop-often.often c.loop-often.invariant (subst (λ o. Part g.C.Core.face g.N.Net.did g.N.Net.gave (AskedOnce g.C.Core.face c.loop-often.self.conns (ready.Listener c.args.slot) o) c.loop-often.self c.accept.new.self c.loop-often.net c.accept.new.net) c.in-Again.is c.in_ok-accept.ensures.part)
+loop-often-preserved g c =
+    (often_next (λ (conns : ℕ). AskedOnce g.C.Core.face conns (ready.Listener c.args.slot)) c.loop-often.often c.loop-often.invariant.0 (subst (λ o. Part g.C.Core.face g.N.Net.did g.N.Net.gave (AskedOnce g.C.Core.face c.loop-often.self.conns (ready.Listener c.args.slot) o) c.loop-often.self c.accept.new.self c.loop-often.net c.accept.new.net) c.in-Again.is c.in_ok-accept.ensures.part), omega (arith, c.loop-often.invariant.1, c.accept.ensures.faults_never_fall))
 
-pub returns-in-Stays : goal.returns-in-Stays
-returns-in-Stays g c = let within : c.loop-often.often ≤ 16 = omega arith in record { part = tried_stays (λ (conns : ℕ). AskedOnce g.C.Core.face conns (ready.Listener c.args.slot)) c.loop-often.often 16 within c.loop-often.invariant (subst (λ o. Part g.C.Core.face g.N.Net.did g.N.Net.gave (AskedOnce g.C.Core.face c.loop-often.self.conns (ready.Listener c.args.slot) o) c.loop-often.self c.accept.new.self c.loop-often.net c.accept.new.net) c.in-Stays.is c.in_ok-accept.ensures.part) }
+pub returns-in-Stays-clause-part : goal.returns-in-Stays-clause-part
+returns-in-Stays-clause-part g c = let within : c.loop-often.often ≤ 16 = omega arith in
+    tried_stays (λ (conns : ℕ). AskedOnce g.C.Core.face conns (ready.Listener c.args.slot)) c.loop-often.often 16 within c.loop-often.invariant.0 (subst (λ o. Part g.C.Core.face g.N.Net.did g.N.Net.gave (AskedOnce g.C.Core.face c.loop-often.self.conns (ready.Listener c.args.slot) o) c.loop-often.self c.accept.new.self c.loop-often.net c.accept.new.net) c.in-Stays.is c.in_ok-accept.ensures.part)
 
-pub returns-in-Over : goal.returns-in-Over
-returns-in-Over g c = let within : c.loop-often.often ≤ 16 = omega arith in record { part = tried_over (λ (conns : ℕ). AskedOnce g.C.Core.face conns (ready.Listener c.args.slot)) c.loop-often.often 16 within c.loop-often.invariant (subst (λ o. Part g.C.Core.face g.N.Net.did g.N.Net.gave (AskedOnce g.C.Core.face c.loop-often.self.conns (ready.Listener c.args.slot) o) c.loop-often.self c.accept.new.self c.loop-often.net c.accept.new.net) c.in-Over.is c.in_ok-accept.ensures.part) }
+pub returns-in-Over-clause-part : goal.returns-in-Over-clause-part
+returns-in-Over-clause-part g c = let within : c.loop-often.often ≤ 16 = omega arith in
+    tried_over (λ (conns : ℕ). AskedOnce g.C.Core.face conns (ready.Listener c.args.slot)) c.loop-often.often 16 within c.loop-often.invariant.0 (subst (λ o. Part g.C.Core.face g.N.Net.did g.N.Net.gave (AskedOnce g.C.Core.face c.loop-often.self.conns (ready.Listener c.args.slot) o) c.loop-often.self c.accept.new.self c.loop-often.net c.accept.new.net) c.in-Over.is c.in_ok-accept.ensures.part)
 
-pub returns : goal.returns
-returns g c = let within : c.loop-often.often ≤ 16 = omega arith in let all : c.loop-often.often ≡ 16 = omega arith in record { part = tried_all (λ (conns : ℕ). AskedOnce g.C.Core.face conns (ready.Listener c.args.slot)) c.loop-often.often 16 within all c.loop-often.invariant }
+pub returns-clause-part : goal.returns-clause-part
+returns-clause-part g c = let within : c.loop-often.often ≤ 16 = omega arith in let all : c.loop-often.often ≡ 16 = omega arith in
+    tried_all (λ (conns : ℕ). AskedOnce g.C.Core.face conns (ready.Listener c.args.slot)) c.loop-often.often 16 within all c.loop-often.invariant.0

@@ -4,8 +4,8 @@ use Rattle.serve_loop.specs.Part.{Part}
 use Rattle.serve_loop.specs.Turn.{ListenerAt}
 use Rattle.serve_loop.proofs.serving.Serving.ask_listener_at.Goals as goal
 
-pub returns : goal.returns
-returns g c = record {
+pub returns-clause-one : goal.returns-clause-one
+returns-clause-one g c = record {
   number = c.number-slot.result;
   is = c.number-slot.ensures;
   stays = false;

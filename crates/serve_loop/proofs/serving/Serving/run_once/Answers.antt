@@ -2,8 +2,6 @@ use Rattle.std.proofs.Common.{Bool, subst}
 use Rattle.serve_loop.proofs.Compose.{part_at}
 use Rattle.serve_loop.proofs.serving.Serving.run_once.Goals as goal
 
-pub returns : goal.returns
-returns g c = let it = c.in_ok-note_ready.ensures in record {
-  part =
-      part_at (λ steps r. record { unsettled = subst (λ (b : Bool). g.C.Core.face.settled c.args.self.now.core b) c.if-settled.false c.settled.ensures; ready = it.0; is_ready = it.1; noted_is = it.2; events = r }) c.in_ok-pair.ensures;
-}
+pub returns-clause-part : goal.returns-clause-part
+returns-clause-part g c = let it = c.in_ok-note_ready.ensures in
+    part_at (λ steps r. record { unsettled = subst (λ (b : Bool). g.C.Core.face.settled c.args.self.now.core b) c.if-settled.false c.settled.ensures; ready = it.0; is_ready = it.1; noted_is = it.2; events = r }) c.in_ok-pair.ensures.part

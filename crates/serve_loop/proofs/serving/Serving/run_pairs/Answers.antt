@@ -5,16 +5,21 @@ use Rattle.serve_loop.proofs.Pairs.{pairs_none, pairs_next, ran_over, ran_all, r
 use Rattle.serve_loop.proofs.serving.Serving.run_pairs.Goals as goal
 
 pub loop-often-init : goal.loop-often-init
-loop-often-init g c = pairs_none c.args.writers.now c.args.self.now c.args.net.now
+loop-often-init g c =
+    (pairs_none c.args.writers.now c.args.self.now c.args.net.now, omega arith)
 
 pub loop-often-preserved : goal.loop-often-preserved
-loop-often-preserved g c = pairs_next c.loop-often.often c.args.writers.now c.loop-often.writers c.run_once.new.writers c.loop-often.invariant (subst (λ o. Part g.C.Core.face g.N.Net.did g.N.Net.gave (PairOnce g.C.Core.face c.loop-often.writers c.run_once.new.writers o) c.loop-often.self c.run_once.new.self c.loop-often.net c.run_once.new.net) c.in-Again.is c.in_ok-run_once.ensures.part)
+loop-often-preserved g c =
+    (pairs_next c.loop-often.often c.args.writers.now c.loop-often.writers c.run_once.new.writers c.loop-often.invariant.0 (subst (λ o. Part g.C.Core.face g.N.Net.did g.N.Net.gave (PairOnce g.C.Core.face c.loop-often.writers c.run_once.new.writers o) c.loop-often.self c.run_once.new.self c.loop-often.net c.run_once.new.net) c.in-Again.is c.in_ok-run_once.ensures.part), omega (arith, c.loop-often.invariant.1, c.run_once.ensures.faults_never_fall))
 
-pub returns-in-Stays : goal.returns-in-Stays
-returns-in-Stays g c = record { part = ran_never 2048 c.args.writers.now c.loop-often.writers c.run_once.new.writers c.loop-often.often c.loop-often.invariant (subst (λ o. Part g.C.Core.face g.N.Net.did g.N.Net.gave (PairOnce g.C.Core.face c.loop-often.writers c.run_once.new.writers o) c.loop-often.self c.run_once.new.self c.loop-often.net c.run_once.new.net) c.in-Stays.is c.in_ok-run_once.ensures.part) }
+pub returns-in-Stays-clause-part : goal.returns-in-Stays-clause-part
+returns-in-Stays-clause-part g c =
+    ran_never 2048 c.args.writers.now c.loop-often.writers c.run_once.new.writers c.loop-often.often c.loop-often.invariant.0 (subst (λ o. Part g.C.Core.face g.N.Net.did g.N.Net.gave (PairOnce g.C.Core.face c.loop-often.writers c.run_once.new.writers o) c.loop-often.self c.run_once.new.self c.loop-often.net c.run_once.new.net) c.in-Stays.is c.in_ok-run_once.ensures.part)
 
-pub returns-in-Over : goal.returns-in-Over
-returns-in-Over g c = let within : c.loop-often.often ≤ 2048 = omega arith in record { part = ran_over c.loop-often.often 2048 c.args.writers.now c.loop-often.writers c.run_once.new.writers within c.loop-often.invariant (subst (λ o. Part g.C.Core.face g.N.Net.did g.N.Net.gave (PairOnce g.C.Core.face c.loop-often.writers c.run_once.new.writers o) c.loop-often.self c.run_once.new.self c.loop-often.net c.run_once.new.net) c.in-Over.is c.in_ok-run_once.ensures.part) }
+pub returns-in-Over-clause-part : goal.returns-in-Over-clause-part
+returns-in-Over-clause-part g c = let within : c.loop-often.often ≤ 2048 = omega arith in
+    ran_over c.loop-often.often 2048 c.args.writers.now c.loop-often.writers c.run_once.new.writers within c.loop-often.invariant.0 (subst (λ o. Part g.C.Core.face g.N.Net.did g.N.Net.gave (PairOnce g.C.Core.face c.loop-often.writers c.run_once.new.writers o) c.loop-often.self c.run_once.new.self c.loop-often.net c.run_once.new.net) c.in-Over.is c.in_ok-run_once.ensures.part)
 
-pub returns : goal.returns
-returns g c = let within : c.loop-often.often ≤ 2048 = omega arith in let all : c.loop-often.often ≡ 2048 = omega arith in record { part = ran_all c.loop-often.often 2048 c.args.writers.now c.loop-often.writers within all c.loop-often.invariant }
+pub returns-clause-part : goal.returns-clause-part
+returns-clause-part g c = let within : c.loop-often.often ≤ 2048 = omega arith in let all : c.loop-often.often ≡ 2048 = omega arith in
+    ran_all c.loop-often.often 2048 c.args.writers.now c.loop-often.writers within all c.loop-often.invariant.0

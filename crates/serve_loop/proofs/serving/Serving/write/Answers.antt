@@ -6,24 +6,22 @@ use Rattle.serve_loop.proofs.Trying.{often_next, tried_stays, tried_over, tried_
 use Rattle.serve_loop.proofs.serving.Serving.write.Goals as goal
 
 pub loop-often-preserved : goal.loop-often-preserved
-loop-often-preserved g c = often_next (λ (conns : ℕ). WroteOnce g.C.Core.face conns c.args.conn c.args.side) c.loop-often.often c.loop-often.invariant (subst (λ o. Part g.C.Core.face g.N.Net.did g.N.Net.gave (WroteOnce g.C.Core.face c.loop-often.self.conns c.args.conn c.args.side o) c.loop-often.self c.write_once.new.self c.loop-often.net c.write_once.new.net) c.in-Again.is c.in_ok-write_once.ensures.part)
+loop-often-preserved g c =
+    (often_next (λ (conns : ℕ). WroteOnce g.C.Core.face conns c.args.conn c.args.side) c.loop-often.often c.loop-often.invariant.0 (subst (λ o. Part g.C.Core.face g.N.Net.did g.N.Net.gave (WroteOnce g.C.Core.face c.loop-often.self.conns c.args.conn c.args.side o) c.loop-often.self c.write_once.new.self c.loop-often.net c.write_once.new.net) c.in-Again.is c.in_ok-write_once.ensures.part), omega (arith, c.loop-often.invariant.1, c.write_once.ensures.faults_never_fall))
 
-pub returns-in-Stays : goal.returns-in-Stays
-returns-in-Stays g c = let within : c.loop-often.often ≤ length c.front-pending.result.now + 1 = omega arith in record {
-  part = part_at (λ steps r. record { pending = c.front-pending.result.now; queued = c.front-pending.ensures.queue; tried = r })
-      (tried_stays (λ (conns : ℕ). WroteOnce g.C.Core.face conns c.args.conn c.args.side) c.loop-often.often (length c.front-pending.result.now + 1) within c.loop-often.invariant (subst (λ o. Part g.C.Core.face g.N.Net.did g.N.Net.gave (WroteOnce g.C.Core.face c.loop-often.self.conns c.args.conn c.args.side o) c.loop-often.self c.write_once.new.self c.loop-often.net c.write_once.new.net) c.in-Stays.is c.in_ok-write_once.ensures.part));
-}
+pub returns-in-Stays-clause-part : goal.returns-in-Stays-clause-part
+returns-in-Stays-clause-part g c = let within : c.loop-often.often ≤ length c.front-pending.result.now + 1 = omega arith in
+    part_at (λ steps r. record { pending = c.front-pending.result.now; queued = c.front-pending.ensures.queue; tried = r })
+    (tried_stays (λ (conns : ℕ). WroteOnce g.C.Core.face conns c.args.conn c.args.side) c.loop-often.often (length c.front-pending.result.now + 1) within c.loop-often.invariant.0 (subst (λ o. Part g.C.Core.face g.N.Net.did g.N.Net.gave (WroteOnce g.C.Core.face c.loop-often.self.conns c.args.conn c.args.side o) c.loop-often.self c.write_once.new.self c.loop-often.net c.write_once.new.net) c.in-Stays.is c.in_ok-write_once.ensures.part))
 
-pub returns-in-Over : goal.returns-in-Over
-returns-in-Over g c = let within : c.loop-often.often ≤ length c.front-pending.result.now + 1 = omega arith in record {
-  part = part_at (λ steps r. record { pending = c.front-pending.result.now; queued = c.front-pending.ensures.queue; tried = r })
-      (tried_over (λ (conns : ℕ). WroteOnce g.C.Core.face conns c.args.conn c.args.side) c.loop-often.often (length c.front-pending.result.now + 1) within c.loop-often.invariant (subst (λ o. Part g.C.Core.face g.N.Net.did g.N.Net.gave (WroteOnce g.C.Core.face c.loop-often.self.conns c.args.conn c.args.side o) c.loop-often.self c.write_once.new.self c.loop-often.net c.write_once.new.net) c.in-Over.is c.in_ok-write_once.ensures.part));
-}
+pub returns-in-Over-clause-part : goal.returns-in-Over-clause-part
+returns-in-Over-clause-part g c = let within : c.loop-often.often ≤ length c.front-pending.result.now + 1 = omega arith in
+    part_at (λ steps r. record { pending = c.front-pending.result.now; queued = c.front-pending.ensures.queue; tried = r })
+    (tried_over (λ (conns : ℕ). WroteOnce g.C.Core.face conns c.args.conn c.args.side) c.loop-often.often (length c.front-pending.result.now + 1) within c.loop-often.invariant.0 (subst (λ o. Part g.C.Core.face g.N.Net.did g.N.Net.gave (WroteOnce g.C.Core.face c.loop-often.self.conns c.args.conn c.args.side o) c.loop-often.self c.write_once.new.self c.loop-often.net c.write_once.new.net) c.in-Over.is c.in_ok-write_once.ensures.part))
 
-pub returns : goal.returns
-returns g c =
+pub returns-clause-part : goal.returns-clause-part
+returns-clause-part g c =
     let within : c.loop-often.often ≤ length c.front-pending.result.now + 1 = omega arith in
-    let all : c.loop-often.often ≡ length c.front-pending.result.now + 1 = omega arith in record {
-      part = part_at (λ steps r. record { pending = c.front-pending.result.now; queued = c.front-pending.ensures.queue; tried = r })
-          (tried_all (λ (conns : ℕ). WroteOnce g.C.Core.face conns c.args.conn c.args.side) c.loop-often.often (length c.front-pending.result.now + 1) within all c.loop-often.invariant);
-    }
+    let all : c.loop-often.often ≡ length c.front-pending.result.now + 1 = omega arith in
+    part_at (λ steps r. record { pending = c.front-pending.result.now; queued = c.front-pending.ensures.queue; tried = r })
+    (tried_all (λ (conns : ℕ). WroteOnce g.C.Core.face conns c.args.conn c.args.side) c.loop-often.often (length c.front-pending.result.now + 1) within all c.loop-often.invariant.0)

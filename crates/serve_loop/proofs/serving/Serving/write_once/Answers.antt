@@ -5,34 +5,30 @@ use Rattle.serve_loop.specs.Writing.{WroteOnce}
 use Rattle.serve_loop.proofs.Calling.{call_quiet, call_heard, nothing_to_write, part_wrote, takes_write, is_nothing, is_some}
 use Rattle.serve_loop.proofs.serving.Serving.write_once.Goals as goal
 
-pub returns-in_default : goal.returns-in_default
-returns-in_default g c = record { part = nothing_to_write c.args.self.now.conns c.args.conn c.args.side c.args.self.now c.args.net.now (inl (sym c.in_default.ensures)) }
+pub returns-in_default-clause-part : goal.returns-in_default-clause-part
+returns-in_default-clause-part g c =
+    nothing_to_write c.args.self.now.conns c.args.conn c.args.side c.args.self.now c.args.net.now (inl (sym c.in_default.ensures))
 
-pub returns-then-is_empty : goal.returns-then-is_empty
-returns-then-is_empty g c = record {
-  part = nothing_to_write c.args.self.now.conns c.args.conn c.args.side c.args.self.now c.args.net.now
-      (inr (subst (λ (l : List ℕ). g.C.Core.face.queue c.args.self.now.core c.args.conn c.args.side l) (is_nothing c.front-bytes.result.now c.if-is_empty.ensures) c.front-bytes.ensures.queue));
-}
+pub returns-then-is_empty-clause-part : goal.returns-then-is_empty-clause-part
+returns-then-is_empty-clause-part g c =
+    nothing_to_write c.args.self.now.conns c.args.conn c.args.side c.args.self.now c.args.net.now
+    (inr (subst (λ (l : List ℕ). g.C.Core.face.queue c.args.self.now.core c.args.conn c.args.side l) (is_nothing c.front-bytes.result.now c.if-is_empty.ensures) c.front-bytes.ensures.queue))
 
-pub returns-in-None : goal.returns-in-None
-returns-in-None g c =
-    let some : 0 < length c.front-bytes.result.now = is_some c.front-bytes.result.now c.if-is_empty.ensures in record {
-      part =
-          subst (λ o. Part g.C.Core.face g.N.Net.did g.N.Net.gave (WroteOnce g.C.Core.face c.args.self.now.conns c.args.conn c.args.side o) c.args.self.now c.args.self.now c.args.net.now c.write-answer.new.self) (sym c.asked_of.ensures)
-          (part_wrote c.args.conn c.args.side c.in-Some.link c.front-bytes.result.now c.write-answer.result (sym c.in-Some.ensures) c.front-bytes.ensures.queue
-          (call_quiet c.args.self.now c.args.net.now c.write-answer.new.self (Write c.in-Some.link c.front-bytes.result.now c.write-answer.result) c.write-answer.ensures.did c.write-answer.ensures.lasts.given
-          (record { conn = c.args.conn; side = c.args.side; linked = sym c.in-Some.ensures; queued = c.front-bytes.ensures.queue; some = some; becomes = c.in-None.ensures }) refl));
-    }
+pub returns-in-None-clause-part : goal.returns-in-None-clause-part
+returns-in-None-clause-part g c =
+    let some : 0 < length c.front-bytes.result.now = is_some c.front-bytes.result.now c.if-is_empty.ensures in
+    subst (λ o. Part g.C.Core.face g.N.Net.did g.N.Net.gave (WroteOnce g.C.Core.face c.args.self.now.conns c.args.conn c.args.side o) c.args.self.now c.args.self.now c.args.net.now c.write-answer.new.self) (sym c.asked_of.ensures)
+    (part_wrote c.args.conn c.args.side c.in-Some.link c.front-bytes.result.now c.write-answer.result (sym c.in-Some.ensures) c.front-bytes.ensures.queue
+    (call_quiet c.args.self.now c.args.net.now c.write-answer.new.self (Write c.in-Some.link c.front-bytes.result.now c.write-answer.result) c.write-answer.ensures.did c.write-answer.ensures.lasts.given
+    (record { conn = c.args.conn; side = c.args.side; linked = sym c.in-Some.ensures; queued = c.front-bytes.ensures.queue; some = some; becomes = c.in-None.ensures }) refl))
 
-pub returns-in_ok-give-in-Some-write_to_event : goal.returns-in_ok-give-in-Some-write_to_event
-returns-in_ok-give-in-Some-write_to_event g c =
-    let some : 0 < length c.front-bytes.result.now = is_some c.front-bytes.result.now c.if-is_empty.ensures in record {
-      part =
-          subst (λ o. Part g.C.Core.face g.N.Net.did g.N.Net.gave (WroteOnce g.C.Core.face c.args.self.now.conns c.args.conn c.args.side o) c.args.self.now c.give.new.self c.args.net.now c.give.new.net) (sym c.asked_of-in-Some-write_to_event.ensures)
-          (part_wrote c.args.conn c.args.side c.in-Some.link c.front-bytes.result.now c.write-answer.result (sym c.in-Some.ensures) c.front-bytes.ensures.queue
-          (call_heard c.args.self.now c.args.self.now.links c.give.new.self c.args.net.now c.write-answer.new.self c.give.new.net (Write c.in-Some.link c.front-bytes.result.now c.write-answer.result) c.in-Some-write_to_event.event
-          c.write-answer.ensures.did (λ known l r e. c.write-answer.ensures.lasts.given l (known l r e))
-          (record { conn = c.args.conn; side = c.args.side; linked = sym c.in-Some.ensures; queued = c.front-bytes.ensures.queue; some = some; becomes = c.in-Some-write_to_event.ensures }) refl
-          (takes_write c.args.conn c.args.side (length c.front-bytes.result.now) c.write-answer.result c.in-Some-write_to_event.event (c.front-bytes.ensures.takes some) c.write-answer.ensures.within (sym c.in-Some-write_to_event.ensures))
-          c.in_ok-give-in-Some-write_to_event.ensures.gives));
-    }
+pub returns-in_ok-give-in-Some-write_to_event-clause-part : goal.returns-in_ok-give-in-Some-write_to_event-clause-part
+returns-in_ok-give-in-Some-write_to_event-clause-part g c =
+    let some : 0 < length c.front-bytes.result.now = is_some c.front-bytes.result.now c.if-is_empty.ensures in
+    subst (λ o. Part g.C.Core.face g.N.Net.did g.N.Net.gave (WroteOnce g.C.Core.face c.args.self.now.conns c.args.conn c.args.side o) c.args.self.now c.give.new.self c.args.net.now c.give.new.net) (sym c.asked_of-in-Some-write_to_event.ensures)
+    (part_wrote c.args.conn c.args.side c.in-Some.link c.front-bytes.result.now c.write-answer.result (sym c.in-Some.ensures) c.front-bytes.ensures.queue
+    (call_heard c.args.self.now c.args.self.now.links c.give.new.self c.args.net.now c.write-answer.new.self c.give.new.net (Write c.in-Some.link c.front-bytes.result.now c.write-answer.result) c.in-Some-write_to_event.event
+    c.write-answer.ensures.did (λ known l r e. c.write-answer.ensures.lasts.given l (known l r e))
+    (record { conn = c.args.conn; side = c.args.side; linked = sym c.in-Some.ensures; queued = c.front-bytes.ensures.queue; some = some; becomes = c.in-Some-write_to_event.ensures }) refl
+    (takes_write c.args.conn c.args.side (length c.front-bytes.result.now) c.write-answer.result c.in-Some-write_to_event.event (c.front-bytes.ensures.takes some) c.write-answer.ensures.within (sym c.in-Some-write_to_event.ensures))
+    c.in_ok-give-in-Some-write_to_event.ensures.gives))

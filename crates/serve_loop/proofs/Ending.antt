@@ -1,0 +1,61 @@
+-- Turns are a walk, and where they end.
+use Rattle.std.proofs.Common.{◌≡◌, ◌⊎◌, ℕ, zero, suc, ◌+◌, ◌<◌, List, [], ◌∷◌, ◌++◌, Bool, true, false, not, Option, Some, None, inl, inr, refl, sym, ap, subst, ◌∙◌, append_assoc, add-one}
+use Rattle.std.proofs.lemmas.List.{append-nil}
+use Rattle.px_outside.specs.Net.{Call, Chain}
+use Rattle.px_outside.specs.Outside.{told_more}
+use Rattle.serve_loop.specs.declared.serving.Serving.{Serving}
+use Rattle.serve_loop.specs.Face.{Face}
+use Rattle.serve_loop.specs.Part.{Ready, stand}
+use Rattle.serve_loop.specs.Server.{Running, OneTurn, Turns, Done, Walked, IsOver, GoesOn, IsOverOr, Behind, Rounds}
+use Rattle.serve_loop.specs.Turn.{CanAccept}
+use Rattle.serve_loop.specs.Walk.{Around, Step, Walks, calls_in, text_in}
+use Rattle.serve_loop.proofs.Chains.{chain_append}
+use Rattle.serve_loop.proofs.Compose.{calls_append, text_append, walks_append}
+use Rattle.serve_loop.proofs.Walking.{rounds_walk}
+
+told_nothing : (o : Option (List ℕ)) → o ≡ told_more o []
+told_nothing None = refl
+told_nothing (Some text) = ap Some (sym (append-nil text))
+
+told_then : (o : Option (List ℕ)) (a b : List ℕ) → told_more (told_more o a) b ≡ told_more o (a ++ b)
+told_then None a b = refl
+told_then (Some text) a b = ap Some (append_assoc text a b)
+
+-- all turns
+pub turns_walk : {C S T : Type 0} (face : Face C) (did : S → Call → S → Type 0) (gave : S → ℕ → Type 0) (ticked : T → ℕ → T → Type 0)
+    (n : ℕ) (old new : Running C S T) → Turns face did gave ticked n old new → Walked face did gave old new
+turns_walk {C} {S} {T} face did gave ticked zero old new same ready none =
+    subst (λ (x : Running C S T). Done face did gave (Walks face old.server.serving.conns) old.server.serving x.server.serving old.net x.net old.written x.written) (sym same)
+    (record { steps = []; chain = refl; leads = refl; ready = ready; told = told_nothing old.written; no_line_waits = none; conns = refl })
+turns_walk {C} {S} {T} face did gave ticked (suc n) old new turns ready none =
+    let mid = turns.0 in
+    let turn = turns.3.2 in
+    let one = turns_walk face did gave ticked n old mid turns.1 ready none in
+    let two = turn.done one.ready one.no_line_waits in
+    let walks = rounds_walk face turn.round mid.server.serving.conns (stand mid.server.serving) two.steps (stand new.server.serving) two.leads in
+    record {
+      steps = one.steps ++ two.steps;
+      chain = subst (λ (calls : List Call). Chain did old.net calls new.net) (sym (calls_append one.steps two.steps))
+          (chain_append did (calls_in one.steps) (calls_in two.steps) old.net mid.net new.net one.chain two.chain);
+      leads = walks_append face old.server.serving.conns one.steps two.steps (stand old.server.serving) (stand mid.server.serving) (stand new.server.serving) one.leads
+          (subst (λ (conns : ℕ). Walks face conns (stand mid.server.serving) two.steps (stand new.server.serving)) one.conns walks);
+      ready = two.ready;
+      told = two.told ∙ ap (λ (o : Option (List ℕ)). told_more o (text_in two.steps)) one.told ∙ told_then old.written (text_in one.steps) (text_in two.steps)
+          ∙ ap (λ (text : List ℕ). told_more old.written text) (sym (text_append one.steps two.steps));
+      no_line_waits = two.no_line_waits;
+      conns = two.conns ∙ one.conns;
+    }
+
+-- none is live
+pub over_by : {C : Type 0} (face : Face C) (s : Serving C) → face.live s.core 0 → (b : Bool) → CanAccept face s.conns (stand s) b → IsOverOr face s (not b)
+over_by face s none true may = inl may
+over_by face s none false may = record { none_more = may; none_live = none }
+
+pub goes_on : {C : Type 0} (face : Face C) (s : Serving C) (b : Bool) → b ≡ false → IsOverOr face s b → GoesOn face s
+goes_on face s b is it = subst (IsOverOr face s) is it
+
+pub ends_over : {C : Type 0} (face : Face C) (s : Serving C) (b : Bool) → b ≡ true → IsOverOr face s b → IsOver face s
+ends_over face s b is it = subst (IsOverOr face s) is it
+
+pub behind_next : {C : Type 0} (face : Face C) (n : ℕ) (s : Serving C) → GoesOn face s → Behind face (n + 1) s
+behind_next face n s goes = subst (λ (k : ℕ). Behind face k s) (sym (add-one n)) goes
