@@ -43,5 +43,7 @@ pub mod RunAgrees
 pub mod TurnAgrees
 pub mod Resting
 pub mod FrontRuns
+pub mod Waiting
+pub mod Wanted
 pub mod Stepping
 pub mod Asked
