@@ -21,7 +21,7 @@ use Rattle.proxy_core.specs.declared.live.Live.{Live}
 use Rattle.proxy_core.proofs.Finished.{heard_finish}
 use Rattle.proxy_core.proofs.Standing.{as_live}
 use Rattle.proxy_core.proofs.Waiting.{pending_is, pending_same, queue_same}
-use Rattle.proxy_core.proofs.Wanted.{none_arrives, wants_same}
+use Rattle.proxy_core.proofs.Wanted.{wants_same}
 
 -- of a live connection, by its number
 asked : {A : Type 0} (f : Live → A) (x : A) (C : Config) (past : Past) (s : State) (core : Core) (c : ℕ) → Represents C past s core → ((l : Live) → Served C c (seen past s c) → AgreesLive C (seen past s c) l → f l ≡ x)
@@ -74,7 +74,7 @@ pub wants_told : (C : Config) (past : Past) (s : State) (core : Core) (c : ℕ) 
 wants_told C past s core c side o h r =
     let z = seen past s c in
     h ∙ asked (λ l. wanted_of side l.conn) (wants_at C z side) C past s core c r
-    (λ l v a. wants_same C c z v (heard_finish c past) side l.conn l.edges a.edges (none_arrives C c z v) a.continues)
+    (λ l v a. wants_same C c z v (heard_finish c past) side l.conn l.edges a.edges a.continues)
 
 pub pending_told : (C : Config) (past : Past) (s : State) (core : Core) (c : ℕ) (side : Side) (o : Option ℕ) → o ≡ option_map (λ l. pending_on side l.conn) (live_at core.live.items c) → Represents C past s core → o ≡ pending_of past s c side
 pending_told C past s core c side o h r =

@@ -33,7 +33,7 @@ use Rattle.proxy_core.proofs.SoundPast.{sound_start, sound_step}
 use Rattle.proxy_core.proofs.Standing.{as_live}
 use Rattle.proxy_core.proofs.TurnAgrees.{turns}
 use Rattle.proxy_core.proofs.Waiting.{pending_same}
-use Rattle.proxy_core.proofs.Wanted.{none_arrives, wants_same}
+use Rattle.proxy_core.proofs.Wanted.{wants_same}
 
 -- how a live connection stands
 abbrev standing : Edges → ℕ → ℕ → ℕ → ℕ → Option Standing
@@ -43,12 +43,11 @@ standing_same : (C : Config) (c : ℕ) (z : Seen) (o : Option Live) → z.heard.
 standing_same C c z None told s a = sym (ap (λ b. standing_by C b z) a)
 standing_same C c z (Some l) told s a =
     let v = as_live C c z a.live s in
-    let none = none_arrives C c z v in
     let w = wants_same C c z v told in
     let p = λ side. pending_same C c z side l.conn v a.continues in
     ap (λ e. standing e (wanted_of Client l.conn) (wanted_of Server l.conn) (pending_in Client l.conn) (pending_in Server l.conn)) (sym a.edges)
-    ∙ ap (λ m. standing z.heard.edges m (wanted_of Server l.conn) (pending_in Client l.conn) (pending_in Server l.conn)) (w Client l.conn l.edges a.edges none a.continues)
-    ∙ ap (λ n. standing z.heard.edges (wants_at C z Client) n (pending_in Client l.conn) (pending_in Server l.conn)) (w Server l.conn l.edges a.edges none a.continues)
+    ∙ ap (λ m. standing z.heard.edges m (wanted_of Server l.conn) (pending_in Client l.conn) (pending_in Server l.conn)) (w Client l.conn l.edges a.edges a.continues)
+    ∙ ap (λ n. standing z.heard.edges (wants_at C z Client) n (pending_in Client l.conn) (pending_in Server l.conn)) (w Server l.conn l.edges a.edges a.continues)
     ∙ ap (λ n. standing z.heard.edges (wants_at C z Client) (wants_at C z Server) n (pending_in Server l.conn)) (p Client)
     ∙ ap (λ n. standing z.heard.edges (wants_at C z Client) (wants_at C z Server) (untaken_of z.heard z.place Client) n) (p Server)
     ∙ sym (ap (λ b. standing_by C b z) a.live)

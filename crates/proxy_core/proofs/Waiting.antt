@@ -1,5 +1,5 @@
 -- What waits for the sides of a connection of the code is what was sent to them and not taken.
-use Rattle.std.proofs.Common.{◌≡◌, inl, inr, refl, sym, ap, ◌∙◌, ℕ, ◌+◌, List, [], ◌∷◌, length, drop, Bool, true, false, Option, Some, None, if◌then◌else◌, arith}
+use Rattle.std.proofs.Common.{◌≡◌, inl, inr, refl, sym, ap, ◌∙◌, ℕ, zero, suc, ◌+◌, List, [], ◌∷◌, length, drop, Bool, true, false, Option, Some, None, if◌then◌else◌, arith}
 use Rattle.px_bytes.specs.declared.addr.Side.{Side}
 use Rattle.px_bytes.specs.declared.addr.Side.TheVariants.{Client, Server}
 use Rattle.connection_model.specs.Gates.{Counts, no_bytes, sent_from, taken_of, to_take, untaken}
@@ -58,7 +58,7 @@ pending_is side (Some conn) = refl
 
 -- nothing is left of no bytes
 drop_none : (n : ℕ) → ◌≡◌ {A = List ℕ} (drop n []) []
-drop_none 0 = refl
+drop_none zero = refl
 drop_none (suc n) = refl
 
 left_none : (o : Option ℕ) → left_of o [] ≡ []
