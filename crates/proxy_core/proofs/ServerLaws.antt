@@ -47,7 +47,7 @@ same_number : (i : Item) (sent : Counts) → (shown i).renews ≡ false → (sen
 same_number i sent e = part_number (shown i).sends (renewed (shown i).renews sent) ∙ ap (λ b. (renewed b sent).number) e
 
 -- whether it had finished
-went_on : (l m : TraceState) (i : Item) → Steps l i m → m.finished ≡ false → l.finished ≡ false
+pub went_on : (l m : TraceState) (i : Item) → Steps l i m → m.finished ≡ false → l.finished ≡ false
 went_on l m i s e = or_right (finishes i) l.finished (sym s.finished ∙ e)
 
 unserved_by : (l m : TraceState) (i : Item) → Unserved l → Steps l i m → m.sent ≡ sent_after i l.sent → SideBy i l.phase l m → Unserved m
