@@ -50,7 +50,7 @@ last_one o [] le = refl
 last_one o (x ∷ xs) le = absurd (omega (arith, le))
 
 -- where no answer is awaited
-settled : (finished : Bool) (l : TraceState) (s : EdgeState) → awaits l.phase ≡ false → l.answers.connects ≡ [] → (finished ≡ false → LinkedAt (is_up (link_of l.server)) s) → Linked finished l s
+pub settled : (finished : Bool) (l : TraceState) (s : EdgeState) → awaits l.phase ≡ false → l.answers.connects ≡ [] → (finished ≡ false → LinkedAt (is_up (link_of l.server)) s) → Linked finished l s
 settled finished l s e none k = record {
   waits = from_false (length l.answers.connects ≤ 1) (l.answers.connects ≡ []) (awaits l.phase) e none;
   edge = λ x. from_false (AskedAt l.answers.connects s) (LinkedAt (is_up (link_of l.server)) s) (awaits l.phase) e (k x);
@@ -76,8 +76,23 @@ pub linked_then : (finished : Bool) (l : TraceState) (s : EdgeState) → Linked 
 linked_then finished l s k e x = as_false (AskedAt l.answers.connects s) (LinkedAt (is_up (link_of l.server)) s) (awaits l.phase) e (k.edge x)
 
 -- once it has finished its end may stand anywhere
-pub linked_done : (finished : Bool) (l : TraceState) (s other : EdgeState) → Linked finished l s → Linked true l other
-linked_done finished l s other k = record { waits = k.waits; edge = λ x. absurd (true≢false x) }
+pub linked_over : (finished over : Bool) (l : TraceState) (s other : EdgeState) → over ≡ true → Linked finished l s → Linked over l other
+linked_over finished over l s other e k = record { waits = k.waits; edge = λ x. absurd (true≢false (sym e ∙ x)) }
+
+-- and before it, it stands where it stood
+pub linked_now : (finished now : Bool) (l : TraceState) (s s' : EdgeState) → (now ≡ false → finished ≡ false) → (now ≡ false → s' ≡ s) → Linked finished l s → Linked now l s'
+linked_now finished now l s s' back same k = record {
+  waits = k.waits;
+  edge = λ x. (let P : EdgeState → Type 0 = λ y. MatchBool (awaits l.phase) (AskedAt l.answers.connects y) (LinkedAt (is_up (link_of l.server)) y) in subst P (sym (same x)) (k.edge (back x)));
+}
+
+-- an answer that waits is awaited
+pub must_wait : (finished : Bool) (l : TraceState) (s : EdgeState) (o : Option Stream) (more : List (Option Stream)) → Linked finished l s → l.answers.connects ≡ o ∷ more → awaits l.phase ≡ true
+must_wait finished l s o more k e = by_waits (awaits l.phase) refl
+  where
+    by_waits : (b : Bool) → awaits l.phase ≡ b → awaits l.phase ≡ true
+    by_waits true w = w
+    by_waits false w = absurd (let n : [] ≡ o ∷ more = sym (none_waits finished l s k w) ∙ e in cc)
 
 -- ---- along items
 

@@ -1,5 +1,5 @@
 -- What the server connections of one connection took, by what was heard: of each by its number, and of the last.
-use Rattle.std.proofs.Common.{◌≡◌, ◌⊎◌, inl, inr, refl, sym, ap, subst, ◌∙◌, ℕ, zero, suc, ◌+◌, ◌-◌, ◌≤◌, List, [], ◌∷◌, ◌++◌, map, Bool, true, false, true≢false, if◌then◌else◌, Option, Some, None, is_none, nat_eq, arith}
+use Rattle.std.proofs.Common.{◌≡◌, ◌⊎◌, inl, inr, refl, sym, ap, subst, ◌∙◌, ℕ, zero, suc, ◌+◌, ◌-◌, ◌≤◌, List, [], ◌∷◌, ◌++◌, map, Bool, true, false, true≢false, if◌then◌else◌, Option, Some, None, nat_eq, arith}
 use Rattle.std.specs.Prelude.{slice_get, unwrap_or}
 use Rattle.px_bytes.specs.declared.addr.Side.TheVariants.{Client, Server}
 use Rattle.connection_model.specs.declared.note.Note.{Note}
@@ -7,6 +7,7 @@ use Rattle.connection_model.specs.Gates.{untaken, taken_of}
 use Rattle.connection_model.specs.Heard.{Input, Bytes, Ends, Resets, Connects, Takes, Comes, SideHeard, fresh_side, Heard, taken_by, side_taken, servers_taken, has_made, hears_by, hears_more, at_last, answer, as_answer, Brought, brought_nothing, brings_in, marks, event_brings, event_marks, brought, hears}
 use Rattle.connection_model.specs.Further.{Coming}
 use Rattle.connection_model.specs.State.{Stream}
+use Rattle.proxy_core.specs.Scheduler.{last_took}
 use Rattle.proxy_core.specs.Servers.{made, took_behind, took_of, last_reset}
 
 never : {A : Type 0} → false ≡ true → A
@@ -33,31 +34,29 @@ made_as [] = refl
 made_as (None ∷ more) = made_as more
 made_as (Some s ∷ more) = ap suc (made_as more)
 
--- what was taken of the last, as the traces count it
-pub taken_last : (cs : List (Option SideHeard)) (took : List (Option SideHeard) → ℕ) → ((s : SideHeard) (more : List (Option SideHeard)) → took (Some s ∷ more) ≡ (if has_made more then took more else s.took))
-    → ((more : List (Option SideHeard)) → took (None ∷ more) ≡ took more) → took [] ≡ 0 → taken_of (servers_taken cs) (made cs) ≡ taken_by (last_reset cs) (took cs)
-taken_last [] took by_some by_none at_none = ap (λ n. Some n) (sym at_none)
-taken_last (None ∷ more) took by_some by_none at_none = taken_last more took by_some by_none at_none ∙ ap (taken_by (last_reset more)) (sym (by_none more))
-taken_last (Some s ∷ more) took by_some by_none at_none = by_made (has_made more) refl (taken_last more took by_some by_none at_none) ∙ ap (taken_by (if has_made more then last_reset more else s.reset)) (sym (by_some s more))
+-- what was taken of the last, as traces count it
+pub taken_last : (cs : List (Option SideHeard)) → taken_of (servers_taken cs) (made cs) ≡ taken_by (last_reset cs) (last_took cs)
+taken_last [] = refl
+taken_last (None ∷ more) = taken_last more
+taken_last (Some s ∷ more) = by_made (has_made more) refl (taken_last more)
   where
-    by_made : (b : Bool) → has_made more ≡ b → taken_of (servers_taken more) (made more) ≡ taken_by (last_reset more) (took more)
-        → taken_of (side_taken s ∷ servers_taken more) (suc (made more)) ≡ taken_by (if b then last_reset more else s.reset) (if b then took more else s.took)
+    by_made : (b : Bool) → has_made more ≡ b → taken_of (servers_taken more) (made more) ≡ taken_by (last_reset more) (last_took more)
+        → taken_of (side_taken s ∷ servers_taken more) (suc (made more)) ≡ taken_by (if b then last_reset more else s.reset) (if b then last_took more else s.took)
     by_made true e h =
         let k = some_made more e in
         ap (λ n. taken_of (side_taken s ∷ servers_taken more) (suc n)) k.is ∙ sym (ap (taken_of (servers_taken more)) k.is) ∙ h
     by_made false e h = ap (λ n. taken_of (side_taken s ∷ servers_taken more) (suc n)) (none_made more e)
 
-pub took_last : (cs : List (Option SideHeard)) (took : List (Option SideHeard) → ℕ) → ((s : SideHeard) (more : List (Option SideHeard)) → took (Some s ∷ more) ≡ (if has_made more then took more else s.took))
-    → ((more : List (Option SideHeard)) → took (None ∷ more) ≡ took more) → took [] ≡ 0 → took_of cs (made cs) ≡ took cs
-took_last [] took by_some by_none at_none = sym at_none
-took_last (None ∷ more) took by_some by_none at_none = skip (made more) ∙ took_last more took by_some by_none at_none ∙ sym (by_none more)
+pub took_last : (cs : List (Option SideHeard)) → took_of cs (made cs) ≡ last_took cs
+took_last [] = refl
+took_last (None ∷ more) = skip (made more) ∙ took_last more
   where
     skip : (n : ℕ) → took_of (None ∷ more) n ≡ took_of more n
     skip zero = refl
     skip (suc n) = refl
-took_last (Some s ∷ more) took by_some by_none at_none = by_made (has_made more) refl (took_last more took by_some by_none at_none) ∙ sym (by_some s more)
+took_last (Some s ∷ more) = by_made (has_made more) refl (took_last more)
   where
-    by_made : (b : Bool) → has_made more ≡ b → took_of more (made more) ≡ took more → took_behind (made more) (Some s ∷ more) ≡ (if b then took more else s.took)
+    by_made : (b : Bool) → has_made more ≡ b → took_of more (made more) ≡ last_took more → took_behind (made more) (Some s ∷ more) ≡ (if b then last_took more else s.took)
     by_made true e h = let k = some_made more e in ap (λ n. took_behind n (Some s ∷ more)) k.is ∙ sym (ap (took_of more) k.is) ∙ h
     by_made false e h = ap (λ n. took_behind n (Some s ∷ more)) (none_made more e)
 
@@ -151,7 +150,7 @@ abbrev pub more_of : Input → ℕ
 more_of (Takes Server n) = n
 more_of other = 0
 
-abbrev TookBy : ℕ → ℕ → List (Option SideHeard) → List (Option SideHeard) → Type 0
+abbrev pub TookBy : ℕ → ℕ → List (Option SideHeard) → List (Option SideHeard) → Type 0
 TookBy n k old new = (took_behind k new ≡ took_behind k old) ⊎ ((suc k ≡ made old) × (took_behind k new ≡ took_behind k old + n))
 
 marks_took : (input : Input) (h : Heard) (k : ℕ) → TookBy (more_of input) k h.connects (marks input h).connects

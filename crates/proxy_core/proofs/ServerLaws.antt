@@ -2,6 +2,7 @@
 use Rattle.std.proofs.Common.{◌≡◌, refl, sym, ap, subst, ◌∙◌, ℕ, suc, ◌+◌, ◌<◌, ◌≤◌, List, [], ◌∷◌, ◌++◌, length, map, Bool, true, false, ◌||◌, not, true≢false, if◌then◌else◌, Option, Some, None, is_some, nat_eq, arith, eqb-true, eq-eqb, ne_eqb}
 use Rattle.std.proofs.lemmas.List.{length-append}
 use Rattle.px_bytes.specs.declared.addr.Side.TheVariants.{Client, Server}
+use Rattle.connection_model.specs.Further.{Further, longer}
 use Rattle.connection_model.specs.Gates.{Counts, no_bytes, TakenCounts, to_take, may_give, sent_to, sent_part, renewed, sent_after, Met}
 use Rattle.connection_model.specs.Item.{Item, Answered, Connected, CutBy, Peer, ToClient, ToServer, Sending, shown, bytes_to_server, server_part, to_server, server_output}
 use Rattle.connection_model.specs.Phases.{finishes, Orderly, Steps}
@@ -12,7 +13,9 @@ use Rattle.connection_model.specs.Trace.{finish, uncut, phase_next, cut_takes, c
 use Rattle.connection_model.proofs.Fair.{PeerIs, SendsTo, FairNext, phase_fair}
 use Rattle.connection_model.proofs.Given.{sent_step}
 use Rattle.connection_model.proofs.Stepping.{start_orderly, steps}
+use Rattle.connection_model.proofs.Streams.{link_same}
 use Rattle.proxy_core.specs.Servers.{awaits, made}
+use Rattle.proxy_core.proofs.Drains.{longer_orderly}
 use Rattle.proxy_core.proofs.ServerSteps.{unlinked, NotUp, SideBy, item_side}
 
 never : {A : Type 0} → false ≡ true → A
@@ -78,6 +81,14 @@ unserved_step g l m i h is = unserved_by l m i h (steps g l m i h.orderly is) (s
 pub unserved : (g : Setup) (l m : TraceState) (items : List Item) → Unserved l → Unfolds g l items m → Unserved m
 unserved g l m [] h is = subst Unserved is h
 unserved g l m (i ∷ items) h (mid, step, rest) = unserved g mid m items (unserved_step g l mid i h step) rest
+
+-- where more comes
+pub unserved_longer : (f : Further) (l : TraceState) → Unserved l → Unserved (longer f l)
+unserved_longer f l h = record {
+  orderly = longer_orderly f l h.orderly;
+  not_up = λ x e. ap is_up (link_same f l) ∙ h.not_up x e;
+  first = λ x e. h.first x (ap is_up (sym (link_same f l)) ∙ e);
+}
 
 -- ---- how many were made
 
