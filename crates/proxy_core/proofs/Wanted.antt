@@ -45,10 +45,6 @@ no_stream l e edge absent server connects k = by_link e.link (awaits l.phase) se
     by_link link.Up true s c w h = let P : List (Option Stream) → Type 0 = λ x. AskedAt x edge in let t : edge ≡ state.Connecting = subst P c h in cc
     by_link link.Up false s c w h = let P : ServerSide → Type 0 = λ x. LinkedAt (is_up (link_of x)) edge in let t : edge ≡ state.Open = subst P s h in cc
 
--- the server's end stands where its trace says
-linked : (C : Config) (c : ℕ) (z : Seen) → Served C c z → Linked z.heard.finished (stand_of C z.heard z.place) z.heard.edges.server.state
-linked C c z v = ?
-
 module _ (C : Config) (c : ℕ) (z : Seen) (v : Served C c z) (told : z.heard.finished ≡ finish_told (map tells z.heard.notes)) where
   abbrev at : TraceState
   at = stand_of C z.heard z.place
@@ -69,7 +65,7 @@ module _ (C : Config) (c : ℕ) (z : Seen) (v : Served C c z) (told : z.heard.fi
   closed_wants conn state.Absent is e same going k =
       let P : Bool → Type 0 = λ b. Linked b at z.heard.edges.server.state in
       let h = k.holds.ends in
-      fresh_wants (has_finished conn.stage) conn.ends.server (h.nothing_came (no_stream at conn.ends z.heard.edges.server.state is h.server h.connects (subst P going (linked C c z v))))
+      fresh_wants (has_finished conn.stage) conn.ends.server (h.nothing_came (no_stream at conn.ends z.heard.edges.server.state is h.server h.connects (subst P going v.linked)))
   closed_wants conn state.Connecting is e same going k =
       let asked : conn.ends.link ≡ link.Asked = k.holds.ends.connecting (ap (λ x. is_connecting x.server.state) (sym same) ∙ ap is_connecting is) in
       fresh_wants (has_finished conn.stage) conn.ends.server (k.holds.ends.nothing_came (ap has_stream asked))
