@@ -1,6 +1,7 @@
 -- What a step did.
 use Rattle.std.proofs.Common.{◌≡◌, refl, sym, ap, ◌∙◌, ℕ, ◌+◌, ◌≤◌, arith, List, [], ◌++◌, length, map, Bool, true, false, Option, Some, None, Result, Ok, Err, OnOk, IfErr}
 use Rattle.std.proofs.lemmas.List.{length-append, length-map}
+use Rattle.px_bytes.specs.declared.addr.Side.{Side}
 use Rattle.px_bytes.specs.declared.addr.Side.TheVariants.{Client, Server}
 use Rattle.connection_model.specs.declared.edges.Edges.{Edges}
 use Rattle.connection_model.specs.declared.note.Note.{Note}
@@ -44,7 +45,7 @@ standing_same C c z None told s a = sym (ap (λ b. standing_by C b z) a)
 standing_same C c z (Some l) told s a =
     let v = as_live C c z a.live s in
     let w = wants_same C c z v told in
-    let p = λ side. pending_same C c z side l.conn v a.continues in
+    let p : (side : Side) → pending_in side l.conn ≡ untaken_of z.heard z.place side = λ side. pending_same C c z side l.conn v a.continues in
     ap (λ e. standing e (wanted_of Client l.conn) (wanted_of Server l.conn) (pending_in Client l.conn) (pending_in Server l.conn)) (sym a.edges)
     ∙ ap (λ m. standing z.heard.edges m (wanted_of Server l.conn) (pending_in Client l.conn) (pending_in Server l.conn)) (w Client l.conn l.edges a.edges a.continues)
     ∙ ap (λ n. standing z.heard.edges (wants_at C z Client) n (pending_in Client l.conn) (pending_in Server l.conn)) (w Server l.conn l.edges a.edges a.continues)
