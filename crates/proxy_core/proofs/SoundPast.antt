@@ -428,7 +428,7 @@ own C past Runs group old new s h m = own_ring C past old.ring group old new s.d
 own C past (Marks pool member up) group old new s h m = own_rest C past (Marks pool member up) group old new 0 m (λ k. others_not_heard 0 k (Marks pool member up) [] refl refl) refl (s.each 0)
 
 -- above the last number nothing was heard
-marked_accepted : (input : Input) (h : Heard) → (marks input h).accepted ≡ h.accepted
+pub marked_accepted : (input : Input) (h : Heard) → (marks input h).accepted ≡ h.accepted
 marked_accepted (Bytes side bytes) h = refl
 marked_accepted (Ends side) h = refl
 marked_accepted (Resets Client) h = refl
