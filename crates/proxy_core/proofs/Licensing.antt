@@ -27,7 +27,8 @@ use Rattle.proxy_core.proofs.Members.{eq_self}
 use Rattle.proxy_core.proofs.ServerCounts.{taken_last}
 use Rattle.proxy_core.proofs.ServerLaws.{made_along, unserved, unserved_longer}
 use Rattle.proxy_core.proofs.ServerLeft.{all_made, unserved_at}
-use Rattle.proxy_core.proofs.ServerSteps.{never, rest_side}
+use Rattle.proxy_core.proofs.ServerGone.{never}
+use Rattle.proxy_core.proofs.ServerSteps.{rest_side}
 
 abbrev pub Licensed : Heard → Type 0
 Licensed h = (cut : Cut) → h.cut ≡ Some cut → licenses h cut.reason ≡ true

@@ -17,7 +17,8 @@ use Rattle.proxy_core.specs.Sound.{ServedAt}
 use Rattle.proxy_core.proofs.Linking.{must_wait}
 use Rattle.proxy_core.proofs.ServerCounts.{made_as, most_untaken, taken_last, took_last}
 use Rattle.proxy_core.proofs.ServerLaws.{Unserved, start_unserved, unserved, made_along, awaits_taken, none_sent}
-use Rattle.proxy_core.proofs.ServerSteps.{never, unlinked, rest_side}
+use Rattle.proxy_core.proofs.ServerGone.{never, unlinked}
+use Rattle.proxy_core.proofs.ServerSteps.{rest_side}
 use Rattle.proxy_core.proofs.Standing.{sent_at}
 
 pub unserved_at : (g : Setup) (h : Heard) (place : List Item) (at : TraceState) → Unfolds g (start_of g h) place at → Unserved at

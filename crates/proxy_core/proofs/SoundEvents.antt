@@ -68,7 +68,7 @@ use Rattle.proxy_core.proofs.LinkedComes.{come_linked}
 use Rattle.proxy_core.proofs.Linking.{linked_now, linked_over, longer_linked, run_linked, settled}
 use Rattle.proxy_core.proofs.ServerLaws.{unserved_longer}
 use Rattle.proxy_core.proofs.ServerLeft.{unserved_at}
-use Rattle.proxy_core.proofs.ServerSteps.{enter_waits}
+use Rattle.proxy_core.proofs.ServerGone.{enter_waits}
 use Rattle.proxy_core.proofs.Overs.{over_at, over_done, over_stays, still_over}
 use Rattle.proxy_core.proofs.Drains.{drained_items, longer_orderly}
 use Rattle.std.proofs.lemmas.List.{map-append}
