@@ -9,7 +9,6 @@ pub mod Bodies
 pub mod Init
 pub mod InitPlaces
 pub mod Setup
-pub mod Servers
 pub mod Serving
 pub mod Changes
 pub mod Queries
