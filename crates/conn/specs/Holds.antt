@@ -4,6 +4,7 @@ use Rattle.std.specs.Prelude.{Option, None}
 use Rattle.px_bytes.specs.declared.addr.Addr.{Addr}
 use Rattle.px_bytes.specs.declared.fault.Reply.{Reply}
 use Rattle.event_order.specs.declared.event.EventName.{EventName}
+use Rattle.irule_net.specs.State.{collected, other, side_of}
 use Rattle.irule_net.specs.declared.state.NetState.{NetState}
 use Rattle.irule_net.specs.declared.state.Target.{Target}
 use Rattle.irule_net.specs.declared.state.Target.TheVariants.{Default, PoolOf, MemberOf, NodeAt}
@@ -26,7 +27,7 @@ use Rattle.conn.specs.declared.stage.Stage.TheVariants as stage
 use Rattle.conn.specs.Ends.{arrived, connects_by, fresh_end, has_stream, is_up, number_by}
 use Rattle.conn.specs.Ends.{server_by, servers_by}
 use Rattle.conn.specs.Events.{event_of}
-use Rattle.conn.specs.Hosts.{CollectsNothing, seen_host}
+use Rattle.conn.specs.Hosts.{seen_host}
 use Rattle.conn.specs.Stages.{InEvent as HostIn, fits, has_finished, reason_for, selects}
 
 -- What was told of it from outside: what was taken, where a side that was reset counts as having
@@ -46,14 +47,14 @@ pub record Between (l : TraceState) (c : Conn) : Type 0 where
   pub replies : l.answers.replies ≡ []
 
 -- A body runs whose frames the connection has: whatever replies follow, the body that is evaluated
--- from its beginning comes to what the frames come to. So many of its acts were given, and `open`
--- more where it waits for a reply.
+-- from its beginning comes to what the frames come to. So many of its acts were given, and `waiting`
+-- more where it waits for a reply. It leaves the collect of the other side as it was.
 pub record BodyGoesOn (g : Setup) (e : EventName) (b : Handler) (bs : List Handler) (waiting : ℕ)
     (l : TraceState) (c : Conn) : Type 0 where
   pub acts : List Act
   pub cost : ℕ
   pub phase : l.phase ≡ InEvent e (Running b bs (length acts + waiting))
-  pub no_collect : CollectsNothing g l.host.net
+  pub kept : collected (other (side_of e)) c.host.net ≡ collected (other (side_of e)) l.host.net
   pub same : (more : List Reply)
       → evaluate (body_setting g b.procedures) b.body l.vars l.host (l.answers.replies ++ more)
       g.budget
@@ -105,6 +106,8 @@ Stands g (stage.Chosen addr) l c =
     (l.phase ≡ phase.Selecting (call_of g c.host.net)) × ReplyCame l c addr
 Stands g (stage.Connecting to) l c = (l.phase ≡ phase.Connecting to) × Between l c
 Stands g (stage.Answering to) l c = (l.phase ≡ phase.Answering to) × Between l c
+Stands g stage.Collecting l c = (l.phase ≡ phase.Collecting) × Between l c
+Stands g stage.Releasing l c = (l.phase ≡ phase.Releasing) × Between l c
 Stands g stage.Relaying l c = (l.phase ≡ phase.Relaying) × Between l c
 Stands g (stage.Finishing f) l c = (l.phase ≡ phase.Finishing (reason_for f)) × Between l c
 Stands g stage.Draining l c = (l.phase ≡ phase.Draining) × Between l c
@@ -127,13 +130,15 @@ pub record HoldsEnds (a : Around) (l : TraceState) (e : Ends) : Type 0 where
   pub nothing_came : has_stream e.link ≡ false → e.server ≡ fresh_end
   pub connecting : is_connecting e.edges.server.state ≡ true → e.link ≡ link.Asked
 
--- What it holds where its trace stands at l. No choice and no cut was heard that wasn't taken.
+-- What it holds where its trace stands at l. Its rules are told the client's address, and that there
+-- is a server connection only where one is. No choice and no cut was heard that wasn't taken.
 pub record Holds (g : Setup) (a : Around) (l : TraceState) (c : Conn) : Type 0 where
   pub stage : Stands g c.stage l c
   pub finished : l.finished ≡ has_finished c.stage
   pub fits : fits c.stage c.ends.link ≡ true
   pub event : HostIn c.stage c.host.event
-  pub no_collect : CollectsNothing g c.host.net
+  pub from : c.host.net.from ≡ g.from
+  pub relays : c.host.net.relays ≡ true → is_up c.ends.link ≡ true
   pub ends : HoldsEnds a l c.ends
   pub no_choice : l.answers.choices ≡ []
   pub no_cut : l.answers.cut ≡ None

@@ -78,6 +78,16 @@ impl Conn {
                 *spent += 1;
                 Ok(self.answer(setup, number, notes))
             }
+            Stage::Collecting => {
+                steps.tick();
+                *spent += 1;
+                self.collect(setup, number, notes)
+            }
+            Stage::Releasing => {
+                steps.tick();
+                *spent += 1;
+                self.release(alloc, setup, number, notes)
+            }
             Stage::Relaying => {
                 steps.tick();
                 *spent += 1;
