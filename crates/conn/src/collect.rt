@@ -60,12 +60,9 @@ impl Conn {
         ensures room { notes.new.spare + length notes.new.items
             ≡ notes.old.spare + length notes.old.items }
     {
-        let from = match side {
-            Side::Client => &mut self.ends.client,
-            Side::Server => &mut self.ends.server,
-        };
-        self.host.fire(side, &from.unread.front()[..n])?;
-        from.unread.drop_front(n);
+        let bytes = self.ends.end_of(side).unread.front();
+        self.host.fire(side, &bytes[..n])?;
+        self.ends.read(side, n);
         notes.push_reserved(Note::Fired { conn: number, side });
         self.enter(setup, At::data(side));
         Ok(())

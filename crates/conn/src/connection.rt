@@ -12,7 +12,7 @@ ghost use Rattle.conn.specs.Queues.{queue_in};
 ghost use Rattle.conn.specs.Stages.{has_finished, is_asking, selects};
 
 use crate::body::Body;
-use crate::ends::{End, Ends, Link, UNREAD_LIMIT};
+use crate::ends::{Ends, Link, UNREAD_LIMIT};
 use crate::events::At;
 use crate::host::RuleHost;
 use crate::setup::Setup;
@@ -127,27 +127,18 @@ impl Conn {
         self.ends.connected(made, finished);
     }
 
-    pub(crate) fn end_of(&self, side: Side) -> &End
-        ensures { result.now ≡ end_of side self.now.ends }
-    {
-        match side {
-            Side::Client => &self.ends.client,
-            Side::Server => &self.ends.server,
-        }
-    }
-
     /// How many bytes a side is to take.
     pub fn pending(&self, side: Side) -> usize
         ensures { result ≡ length (queue_in side self.now) }
     {
-        self.end_of(side).pending()
+        self.ends.end_of(side).pending()
     }
 
     /// The bytes that a side is to take.
     pub fn front(&self, side: Side) -> &[u8]
         ensures { result.now ≡ queue_in side self.now }
     {
-        self.end_of(side).front()
+        self.ends.end_of(side).front()
     }
 
     /// The first `n` of them.
@@ -155,7 +146,7 @@ impl Conn {
         requires { n ≤ length (queue_in side self.now) }
         ensures { IfOk result (λ text. text ≡ take n (queue_in side self.now)) }
     {
-        self.end_of(side).copy(n)
+        self.ends.end_of(side).copy(n)
     }
 
     /// How many bytes of a side may come.
@@ -172,7 +163,7 @@ impl Conn {
         if self.stage.has_finished() {
             return UNREAD_LIMIT;
         }
-        let unread = self.end_of(side).unread.len();
+        let unread = self.ends.end_of(side).unread.len();
         UNREAD_LIMIT.saturating_sub(unread - self.counted_held(side))
     }
 
@@ -186,7 +177,7 @@ impl Conn {
         }
         match self.host.collected(side).asks {
             Asks::NotAsked => 0,
-            Asks::Stated(n) => n.min(self.end_of(side).unread.len()),
+            Asks::Stated(n) => n.min(self.ends.end_of(side).unread.len()),
         }
     }
 
