@@ -27,7 +27,7 @@ use Rattle.conn.specs.declared.stage.Stage.TheVariants as stage
 use Rattle.conn.specs.Ends.{arrived, connects_by, fresh_end, has_stream, is_up, number_by}
 use Rattle.conn.specs.Ends.{server_by, servers_by}
 use Rattle.conn.specs.Events.{event_of}
-use Rattle.conn.specs.Hosts.{seen_host}
+use Rattle.conn.specs.Hosts.{Told, seen_host}
 use Rattle.conn.specs.Stages.{InEvent as HostIn, fits, has_finished, reason_for, selects}
 
 -- What was told of it from outside: what was taken, where a side that was reset counts as having
@@ -130,15 +130,13 @@ pub record HoldsEnds (a : Around) (l : TraceState) (e : Ends) : Type 0 where
   pub nothing_came : has_stream e.link ≡ false → e.server ≡ fresh_end
   pub connecting : is_connecting e.edges.server.state ≡ true → e.link ≡ link.Asked
 
--- What it holds where its trace stands at l. Its rules are told the client's address, and that there
--- is a server connection only where one is. No choice and no cut was heard that wasn't taken.
+-- What it holds where its trace stands at l. No choice and no cut was heard that wasn't taken.
 pub record Holds (g : Setup) (a : Around) (l : TraceState) (c : Conn) : Type 0 where
   pub stage : Stands g c.stage l c
   pub finished : l.finished ≡ has_finished c.stage
   pub fits : fits c.stage c.ends.link ≡ true
   pub event : HostIn c.stage c.host.event
-  pub from : c.host.net.from ≡ g.from
-  pub relays : c.host.net.relays ≡ true → is_up c.ends.link ≡ true
+  pub told : Told g c.ends.link c.host.net
   pub ends : HoldsEnds a l c.ends
   pub no_choice : l.answers.choices ≡ []
   pub no_cut : l.answers.cut ≡ None

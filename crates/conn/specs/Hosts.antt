@@ -1,5 +1,5 @@
 -- The host of a connection's rules: what its commands see of it, and what is done of what they made.
-use Rattle.std.specs.Prelude.{◌≡◌, ℕ, List, [], ◌∷◌, ◌++◌, Bool, Option}
+use Rattle.std.specs.Prelude.{◌≡◌, ℕ, List, [], ◌∷◌, ◌++◌, Bool, true, Option}
 use Rattle.px_bytes.specs.Host.{Effect, Logged, Sent}
 use Rattle.px_bytes.specs.declared.addr.Side.{Side}
 use Rattle.px_bytes.specs.declared.addr.Side.TheVariants.{Client, Server}
@@ -9,11 +9,14 @@ use Rattle.irule_net.specs.declared.state.Asks.TheVariants.{NotAsked}
 use Rattle.irule_net.specs.declared.state.NetState.{NetState}
 use Rattle.irule_net.specs.declared.state.Selected.{Selected}
 use Rattle.connection_model.specs.Host.{HostState}
+use Rattle.connection_model.specs.Setup.{Setup}
 use Rattle.connection_model.specs.declared.note.Note.{Note}
 use Rattle.connection_model.specs.declared.note.Note.TheVariants as note
+use Rattle.conn.specs.declared.ends.Link.{Link}
 use Rattle.conn.specs.declared.events.At.{At}
 use Rattle.conn.specs.declared.events.At.TheVariants.{Accepted}
 use Rattle.conn.specs.declared.host.RuleHost.{RuleHost}
+use Rattle.conn.specs.Ends.{is_up}
 use Rattle.conn.specs.Events.{event_of}
 
 abbrev pub seen_net : EventName → NetState → HostState
@@ -89,3 +92,9 @@ pub record KeepsOther (side : Side) (s t : NetState) : Type 0 where
   pub from : t.from ≡ s.from
   pub relays : t.relays ≡ s.relays
   pub kept : collected (other side) t ≡ collected (other side) s
+
+-- What its rules are told of a connection: the client's address, and that there is a server connection
+-- only where one is.
+pub record Told (g : Setup) (k : Link) (s : NetState) : Type 0 where
+  pub from : s.from ≡ g.from
+  pub relays : s.relays ≡ true → is_up k ≡ true
