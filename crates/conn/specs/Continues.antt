@@ -58,7 +58,7 @@ phase_at g net (stage.Connecting to) = phase.Connecting to
 phase_at g net (stage.Answering to) = phase.Answering to
 phase_at g net stage.Collecting = phase.Collecting
 phase_at g net stage.Releasing = phase.Releasing
-phase_at g net stage.Relaying = phase.Relaying
+phase_at g net (stage.Relaying first) = phase.Relaying
 phase_at g net (stage.Finishing f) = phase.Finishing (reason_for f)
 phase_at g net other = phase.Draining
 

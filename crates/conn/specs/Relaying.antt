@@ -6,6 +6,7 @@ use Rattle.px_bytes.specs.declared.addr.Side.TheVariants.{Client, Server}
 use Rattle.irule_net.specs.declared.state.Asks.{Asks}
 use Rattle.irule_net.specs.declared.state.Asks.TheVariants.{NotAsked, Stated}
 use Rattle.irule_net.specs.declared.state.NetState.{NetState}
+use Rattle.connection_model.specs.Gates.{other}
 use Rattle.connection_model.specs.Relay.{Incoming, is_done}
 use Rattle.connection_model.specs.declared.note.Note.{Note}
 use Rattle.connection_model.specs.declared.note.Note.TheVariants as note
@@ -39,13 +40,20 @@ side_plan side (Stated n) from to later =
 abbrev pub incoming_of : Asks → End → Incoming
 incoming_of asks e = record { asks = asks; stream = arrived e }
 
--- it is done where both ends are; the client's bytes go first
-abbrev pub relay_plan : NetState → Ends → Relay
-relay_plan net e =
+abbrev pub plan_of : Side → NetState → Ends → Relay → Relay
+plan_of Client net e later = side_plan Client net.client.asks e.client e.server later
+plan_of Server net e later = side_plan Server net.server.asks e.server e.client later
+
+-- it is done where both ends are; the bytes of the side whose turn it is go first
+abbrev pub relay_plan : (first : Side) → NetState → Ends → Relay
+relay_plan first net e =
     if is_done (incoming_of net.client.asks e.client) && is_done (incoming_of net.server.asks e.server)
     then relay.Done
-    else side_plan Client net.client.asks e.client e.server
-    (side_plan Server net.server.asks e.server e.client relay.Rest)
+    else plan_of first net e (plan_of (other first) net e relay.Rest)
+
+-- where it rests the next turn is the client's
+abbrev pub round_begun : Conn → Conn
+round_begun c = record c { stage = stage.Relaying Client }
 
 -- so many bytes of a side lie unread
 abbrev pub passes_now : Side → ℕ → Ends → Type 0
@@ -68,10 +76,10 @@ moved Server n e = record e {
   client = queue_end (take n e.server.unread) e.client;
 }
 
--- it passes them on
+-- it passes them on, and the next turn is the other side's
 pub record PassesOn (c : ℕ) (side : Side) (n : ℕ) (old new : Conn) (before after : List Note)
     : Type 0 where
-  pub there : new.stage ≡ old.stage
+  pub there : new.stage ≡ stage.Relaying (other side)
   pub vars : new.vars ≡ old.vars
   pub host : new.host ≡ old.host
   pub ends : new.ends ≡ moved side n old.ends
@@ -92,7 +100,7 @@ pub record Fires (s : Setup) (c : ℕ) (side : Side) (n : ℕ) (old new : Conn) 
 
 -- the client's bytes that were released before there was a server are queued to it
 pub record Releases (old new : Conn) : Type 0 where
-  pub there : new.stage ≡ stage.Relaying
+  pub there : new.stage ≡ stage.Relaying Client
   pub vars : new.vars ≡ old.vars
   pub host : new.host ≡ released_host old.host
   pub ends : new.ends

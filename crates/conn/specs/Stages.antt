@@ -4,6 +4,7 @@ use Rattle.std.specs.Prelude.{Option, Some, None}
 use Rattle.std.specs.Prelude.{if◌then◌else◌}
 use Rattle.px_bytes.specs.declared.addr.Addr.{Addr}
 use Rattle.px_bytes.specs.declared.addr.Side.{Side}
+use Rattle.px_bytes.specs.declared.addr.Side.TheVariants.{Client, Server}
 use Rattle.px_bytes.specs.declared.fault.Reply.{Reply}
 use Rattle.px_bytes.specs.declared.fault.Reply.TheVariants as reply
 use Rattle.irule_net.specs.declared.state.Asks.{Asks}
@@ -62,14 +63,15 @@ abbrev pub accepted_stage : Asks → Stage
 accepted_stage NotAsked = stage.Choosing
 accepted_stage (Stated n) = stage.Collecting
 
--- behind CLIENT_DATA, by whether there is a server, and whether its bodies released
+-- Behind CLIENT_DATA, by whether there is a server, and whether its bodies released. The sides of a
+-- relay take turns.
 abbrev pub data_stage : (up released : Bool) → Stage
-data_stage true released = stage.Relaying
+data_stage true released = stage.Relaying Server
 data_stage false released = if released then stage.Choosing else stage.Collecting
 
 -- behind SERVER_CONNECTED, by the bytes that were released before
 abbrev pub connected_stage : (loose : List ℕ) → Stage
-connected_stage [] = stage.Relaying
+connected_stage [] = stage.Relaying Client
 connected_stage (b ∷ bs) = stage.Releasing
 
 -- where it goes behind an event that nothing ended
@@ -80,7 +82,7 @@ goes_on_stage at.Selected link net = connecting_stage net.selected
 goes_on_stage at.Failed link net =
     if net.wishes.reselects then stage.Choosing else stage.Finishing finish.Unselected
 goes_on_stage at.Connected link net = connected_stage net.loose
-goes_on_stage at.ServerData link net = stage.Relaying
+goes_on_stage at.ServerData link net = stage.Relaying Client
 goes_on_stage at.ServerClosed link net = stage.Draining
 goes_on_stage at.Closed link net = stage.Draining
 
@@ -114,7 +116,7 @@ is_draining other = false
 
 -- bytes are passed on both ways, also at the gate of an event of collected bytes
 abbrev pub is_relaying : Stage → Link → Bool
-is_relaying stage.Relaying link = is_up link
+is_relaying (stage.Relaying first) link = is_up link
 is_relaying (stage.Gated at) link = is_data at && is_up link
 is_relaying other link = false
 
@@ -183,6 +185,6 @@ fits (stage.Connecting to) link = not (is_sought link)
 fits (stage.Answering to) link = is_sought link && not (is_up link)
 fits stage.Collecting link = not (is_sought link)
 fits stage.Releasing link = is_up link
-fits stage.Relaying link = is_up link
+fits (stage.Relaying first) link = is_up link
 fits (stage.Finishing (finish.Cut reason)) link = false
 fits other link = true

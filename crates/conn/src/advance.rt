@@ -88,10 +88,10 @@ impl Conn {
                 *spent += 1;
                 self.release(alloc, setup, number, notes)
             }
-            Stage::Relaying => {
+            Stage::Relaying(first) => {
                 steps.tick();
                 *spent += 1;
-                self.relay(setup, number, notes)
+                self.relay(setup, number, first, notes)
             }
             Stage::Finishing(finish) => {
                 steps.tick();

@@ -91,7 +91,7 @@ impl Conn {
         }
         self.ends.server.queued.push(self.host.net.loose.as_bytes())?;
         self.host.released(alloc);
-        self.stage = Stage::Relaying;
+        self.stage = Stage::Relaying(Side::Client);
         Ok(Act::Goes)
     }
 }

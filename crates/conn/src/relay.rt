@@ -2,13 +2,15 @@
 
 ghost use Rattle.std.specs.Prelude.{◌≡◌, ◌+◌, ◌≤◌, ◌++◌, length, take, drop, IfOk, OnErr, OnOk};
 ghost use Rattle.conn.specs.Acts.{Relays};
+ghost use Rattle.connection_model.specs.Gates.{other};
 ghost use Rattle.connection_model.specs.Relay.{is_done};
-ghost use Rattle.conn.specs.Relaying.{incoming_of, moved, passes_now, relay_plan, side_plan, to_pass};
+ghost use Rattle.conn.specs.Relaying.{incoming_of, moved, passes_now, plan_of, relay_plan, side_plan};
+ghost use Rattle.conn.specs.Relaying.{to_pass};
 
 use crate::connection::Conn;
 use crate::ends::{End, Ends};
 use crate::setup::Setup;
-use crate::stage::Finish;
+use crate::stage::{Finish, Stage};
 use crate::turn::Act;
 use connection_model::{Note, Notes};
 use irule_net::Asks;
@@ -28,10 +30,17 @@ pub(crate) enum Relay {
 }
 
 impl Conn {
-    /// Passes bytes on, collects them, finishes where both ends have ended, or rests.
-    pub(crate) fn relay(&mut self, setup: &Setup<'_>, number: u32, notes: &mut Notes) -> M<Act>
+    /// Passes bytes on, collects them, finishes where both ends have ended, or rests. The bytes of
+    /// the first side go first.
+    pub(crate) fn relay(
+        &mut self,
+        setup: &Setup<'_>,
+        number: u32,
+        first: Side,
+        notes: &mut Notes,
+    ) -> M<Act>
         requires { 1 ≤ notes.old.spare }
-        ensures ok { IfOk result (λ act. Relays setup.now number self.old self.new
+        ensures ok { IfOk result (λ act. Relays setup.now number first self.old self.new
             notes.old.items notes.new.items act) }
         ensures err { OnErr result (notes.new ≡ notes.old) }
         ensures kept { OnErr result (self.new.ends.edges ≡ self.old.ends.edges) }
@@ -40,7 +49,7 @@ impl Conn {
         ensures room { notes.new.spare + length notes.new.items
             ≡ notes.old.spare + length notes.old.items }
     {
-        match self.plan() {
+        match self.plan(first) {
             Relay::Done => {
                 self.finish(setup, number, Finish::Closed, notes);
                 Ok(Act::Goes)
@@ -52,29 +61,49 @@ impl Conn {
                     side,
                     n,
                 });
+                self.stage = Stage::Relaying(other(side));
                 Ok(Act::Goes)
             }
             Relay::Fire(side, n) => {
                 self.fire(setup, number, side, n, notes)?;
                 Ok(Act::Goes)
             }
-            Relay::Rest => Ok(self.rest_or_cut(setup, number, notes)),
+            Relay::Rest => {
+                self.stage = Stage::Relaying(Side::Client);
+                Ok(self.rest_or_cut(setup, number, notes))
+            }
         }
     }
 
-    // The client's bytes go first.
-    fn plan(&self) -> Relay
-        ensures { result ≡ relay_plan self.now.host.net self.now.ends }
+    fn plan(&self, first: Side) -> Relay
+        ensures { result ≡ relay_plan first self.now.host.net self.now.ends }
     {
-        let (client, server) = (&self.ends.client, &self.ends.server);
-        let (of_client, of_server) = (self.host.net.client.asks, self.host.net.server.asks);
-        if is_done(of_client, client) {
-            if is_done(of_server, server) {
+        if is_done(self.host.net.client.asks, &self.ends.client) {
+            if is_done(self.host.net.server.asks, &self.ends.server) {
                 return Relay::Done;
             }
         }
-        let later = side_plan(Side::Server, of_server, server, client, Relay::Rest);
-        side_plan(Side::Client, of_client, client, server, later)
+        let later = self.plan_of(other(first), Relay::Rest);
+        self.plan_of(first, later)
+    }
+
+    fn plan_of(&self, side: Side, later: Relay) -> Relay
+        ensures { result ≡ plan_of side self.now.host.net self.now.ends later }
+    {
+        let (client, server) = (&self.ends.client, &self.ends.server);
+        match side {
+            Side::Client => side_plan(side, self.host.net.client.asks, client, server, later),
+            Side::Server => side_plan(side, self.host.net.server.asks, server, client, later),
+        }
+    }
+}
+
+fn other(side: Side) -> Side
+    ensures { result ≡ other side }
+{
+    match side {
+        Side::Client => Side::Server,
+        Side::Server => Side::Client,
     }
 }
 

@@ -80,8 +80,9 @@ pub enum Stage {
     Collecting,
     /// The client's bytes that were released before there was a server are to go to it.
     Releasing,
-    /// Bytes are passed on both ways, or collected.
-    Relaying,
+    /// Bytes are passed on both ways, or collected. The sides take turns, and it is the turn of this
+    /// one.
+    Relaying(Side),
     /// It is to finish.
     Finishing(Finish),
     /// What is queued is to be taken.
@@ -127,7 +128,7 @@ impl Stage {
             At::Failed if net.wishes.reselects => Stage::Choosing,
             At::Failed => Stage::Finishing(Finish::Unselected),
             At::Connected => Stage::behind_connected(net.loose.as_bytes()),
-            At::ServerData => Stage::Relaying,
+            At::ServerData => Stage::Relaying(Side::Client),
             At::ServerClosed | At::Closed => Stage::Draining,
         }
     }
@@ -145,7 +146,7 @@ impl Stage {
         ensures { result ≡ data_stage up released }
     {
         match (up, released) {
-            (true, _) => Stage::Relaying,
+            (true, _) => Stage::Relaying(Side::Server),
             (false, true) => Stage::Choosing,
             (false, false) => Stage::Collecting,
         }
@@ -155,7 +156,7 @@ impl Stage {
         ensures { result ≡ connected_stage loose.now }
     {
         match loose {
-            [] => Stage::Relaying,
+            [] => Stage::Relaying(Side::Client),
             _ => Stage::Releasing,
         }
     }
@@ -227,7 +228,7 @@ impl Stage {
         ensures { result ≡ is_relaying self.now link }
     {
         match self {
-            Stage::Relaying => link.is_up(),
+            Stage::Relaying(_) => link.is_up(),
             Stage::Gated { at } => at.is_data() && link.is_up(),
             _ => false,
         }
