@@ -79,7 +79,7 @@ gone_holds g a fin p l ends new k is h no_choice no_cut = record {
 -- nothing is given
 pub stays : (g : Setup) (a : Around) (l : TraceState) (c : ℕ) (old new : Conn) (did : code.Act) → Holds g a l old → is_in_body old.stage ≡ false → did ≡ done.Rests → new ≡ old → GivesNoMore false l.sent a.took (next_item g l) → is_cut a.took l ≡ false → ActGave g a l c old new [] did
 stays g a l c old new did h quiet rests same stops kept =
-    subst (λ x. ActGave g a l c old x [] did) (sym same) (subst (λ x. ActGave g a l c old old [] x) (sym rests) (record { at = l; gave = gave_none g a l c old h; stops = (stops, kept, quiet) }))
+    subst (λ x. ActGave g a l c old x [] did) (sym same) (subst (λ x. ActGave g a l c old old [] x) (sym rests) (record { at = l; gave = gave_none g a l c old h; stops = (stops, (kept, quiet)) }))
 
 -- a reason that isn't a cut
 abbrev pub IsPlain : Finish → Type 0
