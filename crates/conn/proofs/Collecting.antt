@@ -30,11 +30,11 @@ use Rattle.conn.proofs.Firing.{fires_client}
 use Rattle.conn.proofs.SelectItems.{next_in}
 
 -- it collects, and this collect is in force
-record InCollect (asks : Asks) (unread : List ℕ) (l : TraceState) : Type 0 where
+record InCollect (x : Asks) (u : List ℕ) (l : TraceState) : Type 0 where
   no_cut : l.answers.cut ≡ None
   phase : l.phase ≡ Collecting
-  asks : l.host.net.client.asks ≡ asks
-  unread : l.client.unread ≡ unread
+  asks : l.host.net.client.asks ≡ x
+  unread : l.client.unread ≡ u
 
 -- a met collect, by its number
 met_by : (asks : Asks) (u : List ℕ) (n : ℕ) → meets asks u ≡ Some n → (asks ≡ Stated n) × (nat_le n (length u) ≡ true)

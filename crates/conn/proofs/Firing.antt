@@ -8,7 +8,7 @@ use Rattle.connection_model.specs.Item.{Fired, Fires}
 use Rattle.connection_model.specs.Places.{at as put, data_event, enter}
 use Rattle.connection_model.specs.Relay.{fired_host as fires_host}
 use Rattle.connection_model.specs.Setup.{Setup}
-use Rattle.connection_model.specs.State.{Link as ModelLink, Stream, TraceState, Does, link_of, read, read_server, read_side, server_stream, stream_of, with_choices}
+use Rattle.connection_model.specs.State.{Link as ModelLink, Stream, TraceState, Does, Next, link_of, read, read_server, read_side, server_stream, stream_of, with_choices}
 use Rattle.connection_model.specs.Trace.{counted, fired_next, next_item}
 use Rattle.connection_model.specs.declared.note.Note.{Note}
 use Rattle.connection_model.specs.declared.note.Note.TheVariants as note
@@ -110,10 +110,10 @@ module _ (s : code_setup.Setup) (g : Setup) (serves : Serves s g) (a : Around) (
       }
 
   -- what the trace does, with this host and this link, of these bytes
-  chosen : Side → TraceState
+  abbrev pub chosen : Side → TraceState
   chosen side = with_choices (Fires side ∷ []) l
 
-  entered_at : Side → ℕ → List ℕ → TraceState → TraceState
+  abbrev entered_at : Side → ℕ → List ℕ → TraceState → TraceState
   entered_at side n u at = put (enter g (data_event side) (link_by old.ends.link) (seen_host (fired_host side (take n u) old.host))) at
 
   client_item : (n : ℕ) → counted l.sent (fired_next g (chosen Client) Client n []) ≡ Does (Fired Client n) (entered_at Client n old.ends.client.unread (fired_client n l))
@@ -122,7 +122,7 @@ module _ (s : code_setup.Setup) (g : Setup) (serves : Serves s g) (a : Around) (
       ∙ ap (λ x. goes x l.host old.ends.client.unread) (link_is a l old.ends h.ends)
       ∙ ap (λ x. goes (link_by old.ends.link) x old.ends.client.unread) b.host
     where
-      goes : ModelLink → HostState → List ℕ → _
+      goes : ModelLink → HostState → List ℕ → Next
       goes k hs u = Does (Fired Client n) (put (enter g (data_event Client) k (fires_host Client (take n u) hs)) (fired_client n l))
 
   server_item : (n : ℕ) → old.ends.link ≡ link.Up → counted l.sent (fired_next g (chosen Server) Server n []) ≡ Does (Fired Server n) (entered_at Server n old.ends.server.unread (fired_server n l))
@@ -131,7 +131,7 @@ module _ (s : code_setup.Setup) (g : Setup) (serves : Serves s g) (a : Around) (
       ∙ ap (λ x. goes x l.host old.ends.server.unread) (link_is a l old.ends h.ends)
       ∙ ap (λ x. goes (link_by old.ends.link) x old.ends.server.unread) b.host
     where
-      goes : ModelLink → HostState → List ℕ → _
+      goes : ModelLink → HostState → List ℕ → Next
       goes k hs u = Does (Fired Server n) (put (enter g (data_event Server) k (fires_host Server (take n u) hs)) (fired_server n l))
 
   on_choice : (side : Side) → longer (choosing (Fires side ∷ []) None) l ≡ chosen side

@@ -1,6 +1,8 @@
 -- Where a connection goes behind an event, or where one is entered: whether it has finished, and whether there may be a server connection.
 use Rattle.std.proofs.Common.{◌≡◌, refl, sym, subst, ℕ, List, [], ◌∷◌, Bool, true, false, true≢false, Option, Some, None}
 use Rattle.std.specs.Prelude.{if◌then◌else◌}
+use Rattle.px_bytes.specs.declared.addr.Side.{Side}
+use Rattle.px_bytes.specs.declared.addr.Side.TheVariants.{Client, Server}
 use Rattle.irule_net.specs.declared.state.Asks.{Asks}
 use Rattle.irule_net.specs.declared.state.Asks.TheVariants.{NotAsked, Stated}
 use Rattle.irule_net.specs.declared.state.Ending.{Ending}
@@ -33,12 +35,12 @@ accepted_keeps : (P : Stage → Type 0) → P stage.Choosing → P stage.Collect
 accepted_keeps P r c NotAsked = r
 accepted_keeps P r c (Stated n) = c
 
-data_keeps : (P : Stage → Type 0) → P stage.Relaying → P stage.Choosing → P stage.Collecting → (up released : Bool) → P (data_stage up released)
+data_keeps : (P : Stage → Type 0) → P (stage.Relaying Server) → P stage.Choosing → P stage.Collecting → (up released : Bool) → P (data_stage up released)
 data_keeps P up r c true released = up
 data_keeps P up r c false true = r
 data_keeps P up r c false false = c
 
-connected_keeps : (P : Stage → Type 0) → P stage.Relaying → P stage.Releasing → (loose : List ℕ) → P (connected_stage loose)
+connected_keeps : (P : Stage → Type 0) → P (stage.Relaying Client) → P stage.Releasing → (loose : List ℕ) → P (connected_stage loose)
 connected_keeps P r c [] = r
 connected_keeps P r c (b ∷ bs) = c
 
@@ -51,7 +53,7 @@ record Everywhere (P : Stage → Type 0) : Type 0 where
   choosing : P stage.Choosing
   collecting : P stage.Collecting
   releasing : P stage.Releasing
-  relaying : P stage.Relaying
+  relaying : (first : Side) → P (stage.Relaying first)
   connecting : (s : Selected) → P (stage.Connecting s.addr)
   unselected : P (stage.Finishing finish.Unselected)
   rejected : P (stage.Finishing finish.Rejected)
@@ -59,11 +61,11 @@ record Everywhere (P : Stage → Type 0) : Type 0 where
 
 goes_keeps : (P : Stage → Type 0) → Everywhere P → (at : At) (k : Link) (net : NetState) → is_closed at ≡ false → P (after_stage at k net)
 goes_keeps P e at.Accepted k net open_yet = ended_keeps P e.rejected e.closed net.wishes.ends _ (accepted_keeps P e.choosing e.collecting net.client.asks)
-goes_keeps P e at.ClientData k net open_yet = ended_keeps P e.rejected e.closed net.wishes.ends _ (data_keeps P e.relaying e.choosing e.collecting (is_up k) net.wishes.released)
+goes_keeps P e at.ClientData k net open_yet = ended_keeps P e.rejected e.closed net.wishes.ends _ (data_keeps P (e.relaying Server) e.choosing e.collecting (is_up k) net.wishes.released)
 goes_keeps P e at.Selected k net open_yet = ended_keeps P e.rejected e.closed net.wishes.ends _ (selected_keeps P e.unselected e.connecting net.selected)
 goes_keeps P e at.Failed k net open_yet = ended_keeps P e.rejected e.closed net.wishes.ends _ (choice_keeps P e.choosing e.unselected net.wishes.reselects)
-goes_keeps P e at.Connected k net open_yet = ended_keeps P e.rejected e.closed net.wishes.ends _ (connected_keeps P e.relaying e.releasing net.loose)
-goes_keeps P e at.ServerData k net open_yet = ended_keeps P e.rejected e.closed net.wishes.ends _ e.relaying
+goes_keeps P e at.Connected k net open_yet = ended_keeps P e.rejected e.closed net.wishes.ends _ (connected_keeps P (e.relaying Client) e.releasing net.loose)
+goes_keeps P e at.ServerData k net open_yet = ended_keeps P e.rejected e.closed net.wishes.ends _ (e.relaying Client)
 goes_keeps P e at.ServerClosed k net open_yet = absurd (true≢false open_yet)
 goes_keeps P e at.Closed k net open_yet = absurd (true≢false open_yet)
 
@@ -81,7 +83,7 @@ everywhere_plain = record {
   choosing = plain stage.Choosing refl refl (λ e. tt);
   collecting = plain stage.Collecting refl refl (λ e. tt);
   releasing = plain stage.Releasing refl refl (λ e. tt);
-  relaying = plain stage.Relaying refl refl (λ e. tt);
+  relaying = λ first. plain (stage.Relaying first) refl refl (λ e. tt);
   connecting = λ s. plain (stage.Connecting s.addr) refl refl (λ e. tt);
   unselected = plain (stage.Finishing finish.Unselected) refl refl (λ e. tt);
   rejected = plain (stage.Finishing finish.Rejected) refl refl (λ e. tt);
@@ -110,7 +112,7 @@ after_fits at.ClientData net k fit = ended_keeps (λ st. fits st k ≡ true) ref
 after_fits at.Selected net k fit = ended_keeps (λ st. fits st k ≡ true) refl refl net.wishes.ends _ (selected_keeps (λ st. fits st k ≡ true) refl (λ s. fit) net.selected)
 after_fits at.Failed net k fit = ended_keeps (λ st. fits st k ≡ true) refl refl net.wishes.ends _ (choice_keeps (λ st. fits st k ≡ true) fit refl net.wishes.reselects)
 after_fits at.Connected net k fit = ended_keeps (λ st. fits st k ≡ true) refl refl net.wishes.ends _ (connected_keeps (λ st. fits st k ≡ true) fit fit net.loose)
-after_fits at.ServerData net k fit = ended_keeps (λ st. fits st k ≡ true) refl refl net.wishes.ends stage.Relaying fit
+after_fits at.ServerData net k fit = ended_keeps (λ st. fits st k ≡ true) refl refl net.wishes.ends (stage.Relaying Client) fit
 after_fits at.ServerClosed net k fit = refl
 after_fits at.Closed net k fit = refl
 

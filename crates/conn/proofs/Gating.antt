@@ -71,6 +71,10 @@ gate_noted s c at old new before after did k = by_test (has_room old) k
     by_test true k = k.2 ∙ sym (append-nil before)
     by_test false k = rest_noted s c old new before after did (cut_of old) k
 
+-- a gate that is shut
+pub gate_rests : (s : code_setup.Setup) (c : ℕ) (at : At) (old new : Conn) (before after : List Note) (did : step_act.Act) → has_room old ≡ false → Rests s c old new before after did → PassesGate s c at old new before after did
+gate_rests s c at old new before after did shut k = subst (λ b. MatchBool b ((did ≡ done.Goes) × StartsBody s at 0 old new × (after ≡ before)) (Rests s c old new before after did)) (sym shut) k
+
 -- no cut is left to be finished
 pub fit_plain : (f : Finish) (k : code.Link) → fits (stage.Finishing f) k ≡ true → IsPlain f
 fit_plain finish.Closed k fit = tt

@@ -33,6 +33,7 @@ pub mod Pending
 pub mod Gating
 pub mod Choosing
 pub mod Linking
+pub mod Planning
 pub mod Firing
 pub mod Collecting
 pub mod Releasing

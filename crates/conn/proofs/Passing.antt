@@ -91,7 +91,7 @@ relay_group (relay.Pass side n) c cut = note.Pass c side n ∷ []
 relay_group (relay.Fire side n) c cut = note.Fired c side ∷ []
 relay_group relay.Rest c cut = rest_group c cut
 
-pub relay_noted : (s : code_setup.Setup) (c : ℕ) (plan : Relay) (old new : Conn) (before after : List Note) (did : step_act.Act) → RelaysBy plan s c old new before after did → after ≡ before ++ relay_group plan c (cut_of old)
+pub relay_noted : (s : code_setup.Setup) (c : ℕ) (plan : Relay) (old new : Conn) (before after : List Note) (did : step_act.Act) → RelaysBy plan s c old new before after did → after ≡ before ++ relay_group plan c (cut_of (round_begun old))
 relay_noted s c relay.Done old new before after did (goes, k) = k.1
 relay_noted s c (relay.Pass side n) old new before after did (goes, k) = k.noted
 relay_noted s c (relay.Fire side n) old new before after did (goes, k) = k.noted
@@ -215,7 +215,7 @@ module _ (s : code_setup.Setup) (g : Setup) (serves : Serves s g) (a : Around) (
       }
 
   -- it isn't done yet
-  left : Type 0
+  abbrev left : Type 0
   left = (is_done (of_client old) && is_done (of_server old)) ≡ false
 
   passes_side : (side : Side) (before after : List Note) → left → asks_of side old ≡ NotAsked → 0 < passable side old → PassesBytes c side (passable side old) old new before after → ActGave g a l c old new (note.Pass c side (passable side old) ∷ []) done.Goes
@@ -253,10 +253,13 @@ module _ (s : code_setup.Setup) (g : Setup) (serves : Serves s g) (a : Around) (
       (relay_fires g (of_client old) (of_server old) (with_choices (Fires Server ∷ []) l) (on_choices (Fires Server ∷ [])) Server n [] refl more asked met) k
 
   -- where nothing may be given the client's turn is next
-  round : Holds g a l (round_begun old)
-  round = record { stage = st; finished = going; fits = ap is_up up; event = tt; told = h.told; ends = h.ends; no_choice = h.no_choice; no_cut = h.no_cut }
+  between_round : Between l (round_begun old)
+  between_round = record { vars = b.vars; host = b.host; replies = b.replies }
 
-  waits : Side → Type 0
+  round : Holds g a l (round_begun old)
+  round = record { stage = (st.0, between_round); finished = going; fits = ap is_up up; event = tt; told = h.told; ends = h.ends; no_choice = h.no_choice; no_cut = h.no_cut }
+
+  abbrev waits : Side → Type 0
   waits side = may_relay (ready (asks_of side old) (end_of side old.ends).unread) (nat_lt (length (queue_of (end_of (other side) old.ends))) room_limit) ≡ false
 
   rests : (before after : List Note) (did : step_act.Act) → left → waits Client → waits Server → Rests s c (round_begun old) new before after did → ActGave g a l c old new (rest_group c (cut_of (round_begun old))) did
@@ -265,7 +268,7 @@ module _ (s : code_setup.Setup) (g : Setup) (serves : Serves s g) (a : Around) (
       let of_c : may_relay (ready_of (of_client old)) (has_room l.sent a.took Server) ≡ false = ap (λ m. may_relay (ready_of (of_client old)) (nat_lt m room_limit)) (server_waits a l old.ends h.ends) ∙ client in
       let of_s : may_relay (ready_of (of_server old)) (has_room l.sent a.took Client) ≡ false = ap (λ m. may_relay (ready_of (of_server old)) (nat_lt m room_limit)) (client_waits a l old.ends h.ends) ∙ server in
       let stop : GivesNoMore false l.sent a.took (next_item g l) = subst (λ o. GivesNoMore false l.sent a.took o) (sym waiting) (relay_rests (of_client old) (of_server old) l.sent a.took of_c of_s) in
-      let gave = rests_gave s g serves a l c (round_begun old) new round b before after did refl (λ m. let x = sym up ∙ m in cc) stop (λ o. let x = sym waiting ∙ o in cc) k in
+      let gave = rests_gave s g serves a l c (round_begun old) new round between_round before after did refl (λ m. let x = sym up ∙ m in cc) stop (λ o. let x = sym waiting ∙ o in cc) k in
       record {
         at = gave.at;
         gave = record {

@@ -3,6 +3,7 @@ use Rattle.std.proofs.Common.{◌≡◌, refl, sym, ap, subst, ◌∙◌, ℕ, z
 use Rattle.std.specs.Bool.{MatchBool}
 use Rattle.std.specs.Prelude.{option_and_then, slice_get}
 use Rattle.std.proofs.lemmas.Bool.Decides.{nat_tests}
+use Rattle.px_bytes.specs.declared.addr.Side.TheVariants.{Client}
 use Rattle.px_bytes.specs.declared.fault.Reply.{Reply}
 use Rattle.tcl_compile.specs.Tree.{Tree}
 use Rattle.tcl_vars.specs.Scopes.{Scopes}
@@ -198,7 +199,7 @@ module _ (g : Setup) (l : TraceState) where
       by_event event.Selected p = by_end new.host.net.wishes.ends (connecting_stage new.host.net.selected) (connecting new.host.net.selected) (by_server new.host.net.selected)
       by_event event.Failed p = by_end new.host.net.wishes.ends _ _ (by_test new.host.net.wishes.reselects)
       by_event event.Connected p = by_end new.host.net.wishes.ends (connected_stage new.host.net.loose) (behind_connected new.host.net.loose) (by_loose new.host.net.loose)
-      by_event event.ServerData p = by_end new.host.net.wishes.ends stage.Relaying Relaying (refl, between _)
+      by_event event.ServerData p = by_end new.host.net.wishes.ends (stage.Relaying Client) Relaying (refl, between _)
       by_event event.ServerClosed p = absurd (p refl)
       by_event event.Closed p = (refl, between _)
 

@@ -1,5 +1,5 @@
--- What a command of today does: it collects nothing, and has one effect at most, to the side of the event; one that asks a shared call has none.
-use Rattle.std.proofs.Common.{◌≡◌, refl, sym, subst, ℕ, List, [], ◌∷◌, length, Bool, true, false, Option, Some, None, Result, Ok, Err, codes, not, ◌&&◌, ◌+◌, nat_lt, if◌then◌else◌}
+-- What a command of today does: it leaves the other side's collect as it was, and has one effect at most; it sends to the server only where there is one; one that asks a shared call has none.
+use Rattle.std.proofs.Common.{◌≡◌, refl, sym, subst, ℕ, List, [], ◌∷◌, length, Bool, true, false, Option, Some, None, Result, Ok, Err, ℤ, codes, not, ◌&&◌, ◌+◌, ◌++◌, ◌==◌, nat_lt, if◌then◌else◌}
 use Rattle.std.specs.Option.{is_some}
 use Rattle.std.specs.Str.{bytes_eq}
 use Rattle.px_bytes.specs.FaultText.{no_command}
@@ -7,6 +7,7 @@ use Rattle.px_bytes.specs.Gives.{with_value}
 use Rattle.px_bytes.specs.Host.{Effect, HostStep, Gives, Faults, Asks, Logged, Sent}
 use Rattle.px_bytes.specs.Limit.{limited}
 use Rattle.px_bytes.specs.declared.addr.Side.{Side}
+use Rattle.px_bytes.specs.declared.addr.Side.TheVariants.{Client, Server}
 use Rattle.px_bytes.specs.declared.fault.TclFault.{TclFault}
 use Rattle.event_order.specs.declared.command.HostCommand.{HostCommand}
 use Rattle.event_order.specs.declared.command.HostCommand.TheVariants as command
@@ -14,11 +15,14 @@ use Rattle.event_order.specs.declared.event.EventName.{EventName}
 use Rattle.irule_net.specs.Checks.{allows, command_of, shaped}
 use Rattle.irule_net.specs.FaultText.{not_here}
 use Rattle.irule_net.specs.Commands.{asked_by, asked_of, is_http, net_step, stepped}
-use Rattle.irule_net.specs.Forms.{class_form, form_of, reselect_form, server_form, without_http}
+use Rattle.irule_net.specs.Forms.{class_form, form_of, payload_form, reselect_form, server_form, without_http}
 use Rattle.irule_net.specs.Classes.{class_value}
-use Rattle.irule_net.specs.Requests.{Asked, class_asked, log_asked, members_asked, node_asked, pool_asked, request_of, reselect_node_asked, reselect_pool_asked, respond_asked}
-use Rattle.irule_net.specs.State.{respond_limit, side_of}
-use Rattle.irule_net.specs.Steps.{Step, ends, reselect_limit, reselects}
+use Rattle.irule_net.specs.Requests.{Asked, class_asked, collect_asked, count_in, log_asked, members_asked, node_asked, part_asked, pool_asked, replace_asked, request_of, reselect_node_asked, reselect_pool_asked, respond_asked}
+use Rattle.px_bytes.specs.WholeWord.{number_of}
+use Rattle.irule_net.specs.State.{asked_bytes, collected, gone, holds, other, respond_limit, side_of, with_collected}
+use Rattle.irule_net.specs.declared.state.Asks.TheVariants.{Stated}
+use Rattle.irule_net.specs.declared.state.Collected.{Collected}
+use Rattle.irule_net.specs.Steps.{Step, collects, ends, released, releases, replaced, replaces, reselect_limit, reselects}
 use Rattle.irule_net.specs.Targets.{node_target, pool_named, pool_target}
 use Rattle.irule_net.specs.declared.groups.Groups.{Groups}
 use Rattle.irule_net.specs.declared.groups.NamedGroup.{NamedGroup}
@@ -27,23 +31,46 @@ use Rattle.irule_net.specs.declared.state.Ending.TheVariants.{Rejects, Closes}
 use Rattle.irule_net.specs.declared.state.NetState.{NetState}
 use Rattle.irule_net.specs.declared.state.Target.{Target}
 use Rattle.irule_net.specs.declared.state.Target.TheVariants.{PoolOf}
-use Rattle.conn.specs.Hosts.{SameCollects}
+use Rattle.conn.specs.Hosts.{KeepsOther}
 use Rattle.connection_model.specs.Host.{HostState, commands, first_word, host_step, is_there, names_one}
 
--- one effect at most, and what is sent goes to this side
-abbrev pub OneTo : Side → List Effect → Type 0
-OneTo side [] = Unit {0}
-OneTo side (Logged text ∷ []) = Unit {0}
-OneTo side (Sent to bytes ∷ []) = to ≡ side
-OneTo side (e ∷ (f ∷ es)) = ⊥
+-- in an event of this side, where there is a server or none, bytes may be sent to a side
+abbrev pub MaySend : Side → (relays : Bool) → Side → Type 0
+MaySend Server relays to = Unit {0}
+MaySend Client relays Client = Unit {0}
+MaySend Client relays Server = relays ≡ true
 
-pub same_collects : (s : NetState) → SameCollects s s
-same_collects s = record { from = refl; client = refl; server = refl; loose = refl }
+-- one effect at most, and what is sent may be
+abbrev pub OneTo : Side → (relays : Bool) → List Effect → Type 0
+OneTo side relays [] = Unit {0}
+OneTo side relays (Logged text ∷ []) = Unit {0}
+OneTo side relays (Sent to bytes ∷ []) = MaySend side relays to
+OneTo side relays (e ∷ (f ∷ es)) = ⊥
+
+to_own : (side : Side) (relays : Bool) → MaySend side relays side
+to_own Client relays = tt
+to_own Server relays = tt
+
+-- a state with the same collects
+same_side : (side : Side) (s t : NetState) → t.client ≡ s.client → t.server ≡ s.server → collected side t ≡ collected side s
+same_side Client s t client server = client
+same_side Server s t client server = server
+
+beside : (side : Side) (s t : NetState) → t.from ≡ s.from → t.relays ≡ s.relays → t.client ≡ s.client → t.server ≡ s.server → KeepsOther side s t
+beside side s t from relays client server = record { from = from; relays = relays; kept = same_side (other side) s t client server }
+
+pub keeps_all : (side : Side) (s : NetState) → KeepsOther side s s
+keeps_all side s = record { from = refl; relays = refl; kept = refl }
+
+-- or with another collect of the event's side
+own_changed : (side : Side) (c : Collected) (s : NetState) → KeepsOther side s (with_collected side c s)
+own_changed Client c s = record { from = refl; relays = refl; kept = refl }
+own_changed Server c s = record { from = refl; relays = refl; kept = refl }
 
 abbrev pub Quick : Side → NetState → Step → Type 0
-Quick side s (Gives v t es) = SameCollects s t × OneTo side es
-Quick side s (Faults f t es) = SameCollects s t × OneTo side es
-Quick side s (Asks call t) = SameCollects s t
+Quick side s (Gives v t es) = KeepsOther side s t × OneTo side s.relays es
+Quick side s (Faults f t es) = KeepsOther side s t × OneTo side s.relays es
+Quick side s (Asks call t) = KeepsOther side s t
 
 -- what an option holds that isn't empty
 abbrev some_of : {A : Type 0} (o : Option A) → is_some o ≡ true → A
@@ -98,37 +125,73 @@ module _ (groups : Groups) (event : EventName) (s : NetState) (words : List (Lis
   does q = record { is = q }
 
   bad : (e : TclFault) → P (Err e)
-  bad e = record { is = (same_collects s, tt) }
+  bad e = record { is = (keeps_all (side_of event) s, tt) }
 
   -- it only gives a text
   quiet : (v : List ℕ) → Quick (side_of event) s (Gives v s [])
-  quiet v = (same_collects s, tt)
+  quiet v = (keeps_all (side_of event) s, tt)
 
   log_quick : (ws : List (List ℕ)) → P (log_asked ws)
   log_quick [] = bad _
-  log_quick (text ∷ []) = record { is = (same_collects s, tt) }
-  log_quick (facility ∷ (text ∷ [])) = record { is = (same_collects s, tt) }
+  log_quick (text ∷ []) = record { is = (keeps_all (side_of event) s, tt) }
+  log_quick (facility ∷ (text ∷ [])) = record { is = (keeps_all (side_of event) s, tt) }
   log_quick (facility ∷ (text ∷ (other ∷ ws))) = bad _
 
   respond_quick : (ws : List (List ℕ)) → P (respond_asked ws)
   respond_quick [] = bad _
-  respond_quick (text ∷ []) = record { is = either_quick (side_of event) s (nat_lt respond_limit (s.wishes.sent + length text)) _ _ (same_collects s, tt) (record { from = refl; client = refl; server = refl; loose = refl }, refl) }
+  respond_quick (text ∷ []) = record { is = either_quick (side_of event) s (nat_lt respond_limit (s.wishes.sent + length text)) _ _ (keeps_all (side_of event) s, tt) (beside (side_of event) s _ refl refl refl refl, to_own (side_of event) s.relays) }
   respond_quick (text ∷ (other ∷ ws)) = bad _
 
   members_quick : (ws : List (List ℕ)) → P (members_asked groups.pools ws)
   members_quick [] = bad _
-  members_quick (name ∷ []) = one_test {A = Unit {0}} P (pool_named groups.pools name) _ (λ there. does (same_collects s)) bad
+  members_quick (name ∷ []) = one_test {A = Unit {0}} P (pool_named groups.pools name) _ (λ there. does (keeps_all (side_of event) s)) bad
   members_quick (name ∷ (other ∷ ws)) = bad _
+
+  -- a collect of the event's side, its release, and what it holds
+  collects_quick : (side : Side) (n : ℕ) → Quick side s (collects side n s)
+  collects_quick side n =
+      either_quick side s (n == 0) _ _ (keeps_all side s, tt)
+      (either_quick side s (holds (length (collected side s).held) (gone side s) n) _ _ (own_changed side (record (collected side s) { asks = Stated n }) s, tt) (keeps_all side s, tt))
+
+  releases_quick : (side : Side) → Quick side s (releases side s)
+  releases_quick Server = (record { from = refl; relays = refl; kept = refl }, tt)
+  releases_quick Client = by_server s.relays refl
+    where
+      by_server : (b : Bool) → s.relays ≡ b → Quick Client s (if b then Gives [] (released Client s) (Sent Server s.client.held ∷ []) else Gives [] (record (released Client s) { loose = s.loose ++ s.client.held }) [])
+      by_server true is = (record { from = refl; relays = refl; kept = refl }, is)
+      by_server false is = (record { from = refl; relays = refl; kept = refl }, tt)
+
+  replaces_quick : (side : Side) (offset count : ℕ) (text : List ℕ) → Quick side s (replaces side offset count text s)
+  replaces_quick side offset count text =
+      let held = replaced offset count text (collected side s).held in
+      either_quick side s (holds (length held) (gone side s) (asked_bytes (collected side s).asks)) _ _ (own_changed side (record (collected side s) { held = held }) s, tt) (keeps_all side s, tt)
+
+  collect_quick : (ws : List (List ℕ)) → P (collect_asked ws)
+  collect_quick [] = bad _
+  collect_quick (word ∷ []) = two_tests {A = ℤ} {B = ℕ} P (number_of word) count_in _ (λ n. does (collects_quick (side_of event) n)) bad
+  collect_quick (word ∷ (more ∷ ws)) = bad _
+
+  part_quick : (first second text : List ℕ) → P (part_asked first second text)
+  part_quick first second text =
+      one_test {A = ℤ} P (number_of first) _ (λ n. one_test {A = ℤ} P (number_of second) _ (λ m. one_test {A = ℕ} P (count_in n) _ (λ offset. one_test {A = ℕ} P (count_in m) _ (λ count. does (replaces_quick (side_of event) offset count text)) bad) bad) bad) bad
+
+  replace_quick : (ws : List (List ℕ)) → P (replace_asked ws)
+  replace_quick [] = bad _
+  replace_quick (word ∷ []) = bad _
+  replace_quick (word ∷ (offset ∷ [])) = bad _
+  replace_quick (word ∷ (offset ∷ (count ∷ []))) = bad _
+  replace_quick (word ∷ (offset ∷ (count ∷ (text ∷ [])))) = part_quick offset count text
+  replace_quick (word ∷ (offset ∷ (count ∷ (text ∷ (more ∷ ws))))) = bad _
 
   -- where a server comes from
   target_quick : (target : Target) → Quick (side_of event) s (Gives [] (record s { target = target }) [])
-  target_quick target = (record { from = refl; client = refl; server = refl; loose = refl }, tt)
+  target_quick target = (beside (side_of event) s _ refl refl refl refl, tt)
 
   ends_quick : (ending : Ending) → Quick (side_of event) s (Gives [] (ends ending s) [])
-  ends_quick ending = (record { from = refl; client = refl; server = refl; loose = refl }, tt)
+  ends_quick ending = (beside (side_of event) s _ refl refl refl refl, tt)
 
   reselects_quick : (target : Target) → Quick (side_of event) s (reselects target s)
-  reselects_quick target = either_quick (side_of event) s (nat_lt s.reselects reselect_limit) _ _ (record { from = refl; client = refl; server = refl; loose = refl }, tt) (same_collects s, tt)
+  reselects_quick target = either_quick (side_of event) s (nat_lt s.reselects reselect_limit) _ _ (beside (side_of event) s _ refl refl refl refl, tt) (keeps_all (side_of event) s, tt)
 
   pool_quick : P (pool_asked groups.pools s.port words)
   pool_quick = one_test {A = Target} P (pool_target groups.pools s.port words) _ (λ target. does (target_quick target)) bad
@@ -193,6 +256,15 @@ module _ (groups : Groups) (event : EventName) (s : NetState) (words : List (Lis
       (fitting P _ (allowed command.LbReselect) _ _ _ _ (reselect_node_quick words) bad)
       (unnamed P _ (allowed command.LbReselect) _ _ _ _ bad)
 
+  payload_quick : (ws : List (List ℕ)) → P (with_value (if allowed command.TcpPayload then shaped command.TcpPayload (payload_form ws) (length words) else Err (not_here (codes "TCP::payload"))) (λ form. request_of groups s.port form words))
+  payload_quick [] = fitting P _ (allowed command.TcpPayload) _ _ _ _ (tell_request (some_of (payload_form []) refl) _ refl) bad
+  payload_quick (word ∷ ws) =
+      two (λ o. P (with_value (if allowed command.TcpPayload then shaped command.TcpPayload o (length words) else Err (not_here (codes "TCP::payload"))) (λ form. request_of groups s.port form words)))
+      (bytes_eq word (codes "length")) (bytes_eq word (codes "replace")) _ _ _
+      (fitting P _ (allowed command.TcpPayload) _ _ _ _ (tell_request (some_of (payload_form (codes "length" ∷ [])) refl) _ refl) bad)
+      (fitting P _ (allowed command.TcpPayload) _ _ _ _ (replace_quick words) bad)
+      (unnamed P _ (allowed command.TcpPayload) _ _ _ _ bad)
+
   command_quick : (c : HostCommand) → is_there c ≡ true → P (asked_by groups event s c words)
   command_quick command.Log there = fitting P _ (allowed command.Log) _ _ _ _ (log_quick words) bad
   command_quick command.Class there = class_quick words
@@ -201,6 +273,9 @@ module _ (groups : Groups) (event : EventName) (s : NetState) (words : List (Lis
   command_quick command.TcpClientPort there = fitting P _ (allowed command.TcpClientPort) _ _ _ _ (tell_request (some_of (form_of command.TcpClientPort []) refl) _ refl) bad
   command_quick command.IpServerAddr there = fitting P _ (allowed command.IpServerAddr) _ _ _ _ (tell_request (some_of (form_of command.IpServerAddr []) refl) _ refl) bad
   command_quick command.TcpRespond there = fitting P _ (allowed command.TcpRespond) _ _ _ _ (respond_quick words) bad
+  command_quick command.TcpCollect there = fitting P _ (allowed command.TcpCollect) _ _ _ _ (collect_quick words) bad
+  command_quick command.TcpRelease there = fitting P _ (allowed command.TcpRelease) _ _ _ _ (does (releases_quick (side_of event))) bad
+  command_quick command.TcpPayload there = payload_quick words
   command_quick command.ActiveMembers there = fitting P _ (allowed command.ActiveMembers) _ _ _ _ (members_quick words) bad
   command_quick command.Pool there = fitting P _ (allowed command.Pool) _ _ _ _ pool_quick bad
   command_quick command.Node there = fitting P _ (allowed command.Node) _ _ _ _ node_quick bad
@@ -211,22 +286,22 @@ module _ (groups : Groups) (event : EventName) (s : NetState) (words : List (Lis
   command_quick other there = absurd (cc)
 
 named_quick : (groups : Groups) (event : EventName) (s : NetState) (name : List ℕ) (words : List (List ℕ)) (o : Option HostCommand) → names_one o ≡ true → Quick (side_of event) s (stepped event (asked_of groups event s name words o) s)
-named_quick groups event s name words None there = (same_collects s, tt)
+named_quick groups event s name words None there = (keeps_all (side_of event) s, tt)
 named_quick groups event s name words (Some c) there = (command_quick groups event s words c there).is
 
 net_quick : (groups : Groups) (event : EventName) (s : NetState) (words : List (List ℕ)) → names_one (command_of (first_word words)) ≡ true → Quick (side_of event) s (net_step groups event s words)
-net_quick groups event s [] there = (same_collects s, tt)
+net_quick groups event s [] there = (keeps_all (side_of event) s, tt)
 net_quick groups event s (name ∷ words) there = by_http (is_http name)
   where
     by_http : (b : Bool) → Quick (side_of event) s (stepped event (if b then Err (no_command name) else asked_of groups event s name words (command_of name)) s)
-    by_http true = (same_collects s, tt)
+    by_http true = (keeps_all (side_of event) s, tt)
     by_http false = named_quick groups event s name words (command_of name) there
 
 -- the same of the host's state
 abbrev pub QuickHost : HostState → HostStep HostState → Type 0
-QuickHost h (Gives v t es) = (t.event ≡ h.event) × SameCollects h.net t.net × OneTo (side_of h.event) es
-QuickHost h (Faults f t es) = (t.event ≡ h.event) × SameCollects h.net t.net × OneTo (side_of h.event) es
-QuickHost h (Asks call t) = (t.event ≡ h.event) × SameCollects h.net t.net
+QuickHost h (Gives v t es) = (t.event ≡ h.event) × KeepsOther (side_of h.event) h.net t.net × OneTo (side_of h.event) h.net.relays es
+QuickHost h (Faults f t es) = (t.event ≡ h.event) × KeepsOther (side_of h.event) h.net t.net × OneTo (side_of h.event) h.net.relays es
+QuickHost h (Asks call t) = (t.event ≡ h.event) × KeepsOther (side_of h.event) h.net t.net
 
 step_quick : (h : HostState) (step : Step) → Quick (side_of h.event) h.net step → QuickHost h (host_step h step)
 step_quick h (Gives v s es) q = (refl, q.0, q.1)
@@ -239,4 +314,4 @@ commands_quick groups h words = by_test (names_one (command_of (first_word words
   where
     by_test : (b : Bool) → names_one (command_of (first_word words)) ≡ b → QuickHost h (if b then host_step h (net_step groups h.event h.net words) else Faults (no_command (first_word words)) h [])
     by_test true is = step_quick h (net_step groups h.event h.net words) (net_quick groups h.event h.net words is)
-    by_test false is = (refl, same_collects h.net, tt)
+    by_test false is = (refl, keeps_all (side_of h.event) h.net, tt)

@@ -77,10 +77,10 @@ module _ (s : code_setup.Setup) (g : Setup) (serves : Serves s g) (a : Around) (
   going : l.finished ≡ false
   going = h.finished ∙ ap has_finished is
 
-  loose : List ℕ
+  abbrev loose : List ℕ
   loose = old.host.net.loose
 
-  at : TraceState
+  abbrev at : TraceState
   at = released_at loose (seen_host (released_host old.host)) l
 
   step : next_item g l ≡ Does (Moved Client 0 (ToServer l.sent.number) loose) at
