@@ -9,6 +9,7 @@ use Rattle.proxy_core.specs.declared.event.Event.{Event}
 use Rattle.proxy_core.specs.declared.event.Event.TheVariants as event
 use Rattle.proxy_core.specs.Refusals.{live_at}
 use Rattle.proxy_core.specs.Queries.{front_of}
+use Rattle.proxy.specs.ServerBytes.{on_last}
 use Rattle.proxy.specs.declared.taken.Taken.{Taken}
 use Rattle.proxy.specs.declared.taken.Took.{Took}
 use Rattle.proxy.specs.declared.taken.Took.TheVariants.{Nothing, Begins, Connects, More}
@@ -35,12 +36,6 @@ none_taken conn = record { conn = conn; client = []; servers = [] }
 -- one more server connection, of which nothing was taken yet
 abbrev pub begins_server : Taken → Taken
 begins_server t = record t { servers = t.servers ++ [] ∷ [] }
-
--- the last one changed
-abbrev pub on_last : (List ℕ → List ℕ) → List (List ℕ) → List (List ℕ)
-on_last f [] = []
-on_last f (x ∷ []) = f x ∷ []
-on_last f (x ∷ y ∷ more) = x ∷ on_last f (y ∷ more)
 
 -- a side took more bytes: the client, or the last server connection
 abbrev pub took_on : Side → List ℕ → Taken → Taken

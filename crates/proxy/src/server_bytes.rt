@@ -1,7 +1,7 @@
 // The bytes that the servers of a connection took.
 
-ghost use Rattle.std.specs.Prelude.{◌≡◌, List, [], ◌∷◌, ◌++◌, OnOk};
-ghost use Rattle.proxy.specs.Taken.{on_last};
+ghost use Rattle.std.specs.Prelude.{◌≡◌, ℕ, List, [], ◌∷◌, ◌++◌, OnOk};
+ghost use Rattle.proxy.specs.ServerBytes.{on_last};
 
 use px_bytes::{M, Text};
 use std::alloc::Global;
