@@ -47,9 +47,10 @@ impl ServerBytes {
     pub fn add(&mut self, bytes: &[u8]) -> M<()>
         ensures { OnOk result (self.new ≡ on_last (λ b. b ++ bytes.now) self.old) }
     {
-        match self.items.last_mut() {
-            Some(last) => last.push(bytes),
-            None => Ok(()),
+        let len = self.items.len();
+        if len == 0 {
+            return Ok(());
         }
+        self.items[len - 1].push(bytes)
     }
 }
