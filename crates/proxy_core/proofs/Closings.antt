@@ -30,10 +30,10 @@ shut b x = if b then record x { state = state.Closed } else x
 abbrev pub halved : Bool → Edge → Edge
 halved b x = if b then record x { half = true } else x
 
-abbrev both : Edge → Edge → Edges
+abbrev pub both : Edge → Edge → Edges
 both c s = record { client = c; server = s }
 
-server_edges : (b : Bool) (c : ℕ) (x : Edges) → edges_noted (note_if b (note.CloseServer c)) x ≡ both x.client (shut b x.server)
+pub server_edges : (b : Bool) (c : ℕ) (x : Edges) → edges_noted (note_if b (note.CloseServer c)) x ≡ both x.client (shut b x.server)
 server_edges true c x = refl
 server_edges false c x = refl
 
@@ -41,11 +41,11 @@ client_edges : (b : Bool) (c : ℕ) (x : Edges) → edges_noted (note_if b (note
 client_edges true c x = refl
 client_edges false c x = refl
 
-half_client : (b : Bool) (c : ℕ) (x : Edges) → edges_noted (note_if b (note.HalfClose c Client)) x ≡ both (halved b x.client) x.server
+pub half_client : (b : Bool) (c : ℕ) (x : Edges) → edges_noted (note_if b (note.HalfClose c Client)) x ≡ both (halved b x.client) x.server
 half_client true c x = refl
 half_client false c x = refl
 
-half_server : (b : Bool) (c : ℕ) (x : Edges) → edges_noted (note_if b (note.HalfClose c Server)) x ≡ both x.client (halved b x.server)
+pub half_server : (b : Bool) (c : ℕ) (x : Edges) → edges_noted (note_if b (note.HalfClose c Server)) x ≡ both x.client (halved b x.server)
 half_server true c x = refl
 half_server false c x = refl
 

@@ -24,6 +24,13 @@ pub mod Ending
 pub mod Overs
 pub mod Drains
 pub mod Finished
+pub mod ServerSteps
+pub mod ServerLaws
+pub mod ServerCounts
+pub mod Linking
+pub mod LinkedComes
+pub mod ServerLeft
+pub mod Licensing
 pub mod SoundEvents
 pub mod SoundPast
 pub mod Others
@@ -43,5 +50,7 @@ pub mod RunAgrees
 pub mod TurnAgrees
 pub mod Resting
 pub mod FrontRuns
+pub mod Waiting
+pub mod Wanted
 pub mod Stepping
 pub mod Asked

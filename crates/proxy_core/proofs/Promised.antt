@@ -13,7 +13,7 @@ use Rattle.connection_model.specs.declared.note.Note.{Note}
 use Rattle.connection_model.specs.Further.{is_some_of}
 use Rattle.connection_model.specs.Gates.{Counts, TakenCounts, no_bytes, sent_from, to_take, untaken}
 use Rattle.connection_model.specs.Heard.{Heard, taken, taken_by}
-use Rattle.connection_model.specs.Item.{Item, Reason, cause_of, to_client, client_output, notes_of, reasons_in}
+use Rattle.connection_model.specs.Item.{Item, Reason, cause_of, to_client, to_server, client_output, server_output, notes_of, reasons_in}
 use Rattle.connection_model.specs.Laws.{Stops, cut_is_taken, takes_cut}
 use Rattle.connection_model.specs.Setup.{Setup}
 use Rattle.connection_model.specs.State.{TraceState, Next, Does, Waits, Over, link_of}
@@ -35,6 +35,7 @@ use Rattle.proxy_core.specs.Calls.{calls_of}
 use Rattle.proxy_core.specs.Headline.{first_items, SentIsPrefix, IsSettled, FinishCauses, ClosesRightly, EntriesAreCalls}
 use Rattle.proxy_core.specs.Past.{Past, heard}
 use Rattle.proxy_core.specs.Scheduler.{State, entries, Seen, seen, untaken_of, untaken_all}
+use Rattle.proxy_core.specs.Servers.{took_of}
 use Rattle.proxy_core.specs.Setup.{setup_of, begins_at, stand_of}
 use Rattle.proxy_core.specs.Shown.{causes_behind}
 use Rattle.proxy_core.specs.Sound.{Rested, Spot, Served}
@@ -53,6 +54,9 @@ longer_front C c z k n = trace_unfolds n (setup_of C z.heard) (begins_at C z.hea
 same_taken : (took : ℕ) (place rest : List Item) → took ≤ length (client_output place) → take took (client_output (place ++ rest)) ≡ take took (client_output place)
 same_taken took place rest h = ap (take took) (flat_map-append to_client place rest) ∙ take-append-le took (client_output place) (client_output rest) h
 
+same_server : (took k : ℕ) (place rest : List Item) → took ≤ length (server_output k place) → take took (server_output k (place ++ rest)) ≡ take took (server_output k place)
+same_server took k place rest h = ap (take took) (flat_map-append (to_server k) place rest) ∙ take-append-le took (server_output k place) (server_output k rest) h
+
 pub sent_is_prefix : (C : Config) (c : ℕ) (z : Seen) → Served C c z → SentIsPrefix C z.heard z.place
 sent_is_prefix C c z k =
     let e : length z.place + 0 ≡ length z.place = omega arith in
@@ -61,6 +65,8 @@ sent_is_prefix C c z k =
       longer = λ n. (trace n (setup_of C z.heard) (stand_of C z.heard z.place), longer_front C c z k n);
       took_within = k.within.client;
       taken = λ n. ap (λ items. take z.heard.client.took (client_output items)) (longer_front C c z k n) ∙ same_taken z.heard.client.took z.place _ k.within.client;
+      server_took_within = k.within.servers;
+      server_taken = λ n j. ap (λ items. take (took_of z.heard.connects j) (server_output j items)) (longer_front C c z k n) ∙ same_server (took_of z.heard.connects j) j z.place _ (k.within.servers j);
     }
 
 -- where all is taken and no more may be given, the trace stops

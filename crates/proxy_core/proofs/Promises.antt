@@ -1,5 +1,4 @@
--- The promise, of every past that leads to a state, from what holds of it and from what isn't proved yet of a
--- server's counts and of the cuts that were heard (`ServerFacts`).
+-- The promise, of every past that leads to a state, from what holds of it.
 use Rattle.std.proofs.Common.{◌≡◌, refl, sym, ap, subst, ◌∙◌, ℕ, ◌+◌, ◌-◌, ◌≤◌, List, length, Bool, true, false, Option, Some, arith}
 use Rattle.std.specs.Prelude.{is_some}
 use Rattle.px_bytes.specs.declared.addr.Side.TheVariants.{Client, Server}
@@ -7,12 +6,11 @@ use Rattle.connection_model.specs.Gates.{Counts, no_bytes, sent_from}
 use Rattle.connection_model.specs.Heard.{Heard, taken}
 use Rattle.connection_model.specs.Item.{Item, client_output}
 use Rattle.connection_model.specs.Setup.{Setup}
-use Rattle.connection_model.specs.State.{Cut, Next, Over, TraceState}
+use Rattle.connection_model.specs.State.{TraceState}
 use Rattle.connection_model.specs.Trace.{next_item, GivesNoMore}
 use Rattle.connection_model.specs.declared.note.CutReason.{CutReason}
 use Rattle.connection_model.specs.declared.note.CutReason.TheVariants.{ClientReset, ServerReset, Idle}
-use Rattle.conn.specs.RunsItems.{licenses as licensed_at}
-use Rattle.proxy_core.specs.Headline.{IsSettled, NoCutIsDue, last_reset, licenses, ConnectionPromise, OutputMatchesEvaluator}
+use Rattle.proxy_core.specs.Headline.{IsSettled, NoCutIsDue, ConnectionPromise, EveryPastMatches, OutputMatchesEvaluator}
 use Rattle.proxy_core.specs.Moves.{Leads}
 use Rattle.proxy_core.specs.Past.{Past, heard}
 use Rattle.proxy_core.specs.Scheduler.{State, Seen, last_took, seen, untaken_of, untaken_all}
@@ -21,20 +19,18 @@ use Rattle.proxy_core.specs.Sound.{Rested, Served}
 use Rattle.proxy_core.specs.declared.config.Config.{Config}
 use Rattle.proxy_core.proofs.Answering.{one_history}
 use Rattle.proxy_core.proofs.Promised.{sent_is_prefix, settled_at, settled_has_ended, drained_is_whole, half_at_rest, rest_not_cut, client_license, ended_at, ended_is_whole, ended_finished, client_counts, client_gone, client_took_all, trace_memory, once_finished, second_memory, calls_promised}
+use Rattle.proxy_core.proofs.ServerLeft.{FactsAt, server_facts}
+use Rattle.proxy_core.proofs.SoundPast.{leads_sound}
 use Rattle.proxy_core.proofs.Standing.{as_served, sent_at}
 use Rattle.proxy_core.specs.Sound.{Sound}
 
--- what isn't proved yet of a connection
-pub record ServerFacts (C : Config) (h : Heard) (place : List Item) : Type 0 where
-  pub kept : last_reset h.connects ≡ false → last_took h.connects + untaken_of h place Server ≡ (sent_from no_bytes place).server
-  pub gone : last_reset h.connects ≡ true → untaken_of h place Server ≡ 0
-  pub within : last_took h.connects ≤ (sent_from no_bytes place).server
-  pub license : last_reset h.connects ≡ true → licensed_at ServerReset (stand_of C h place).sent (taken h) ≡ true
-  pub cut_is_allowed : (cut : Cut) → h.cut ≡ Some cut → licenses h cut.reason ≡ true
+-- what holds of its server, where it stands
+abbrev ServerFacts : Config → Heard → List Item → Type 0
+ServerFacts C h place = FactsAt (setup_of C h) h place (stand_of C h place)
 
 none_due : (C : Config) (h : Heard) (place : List Item) → ServerFacts C h place → Rested (setup_of C h) (taken h) (stand_of C h place) h.edges → NoCutIsDue C h place
 none_due C h place f r ClientReset e = rest_not_cut (setup_of C h) (taken h) (stand_of C h place) r.no_cut ClientReset (client_license h (stand_of C h place).sent e)
-none_due C h place f r ServerReset e = rest_not_cut (setup_of C h) (taken h) (stand_of C h place) r.no_cut ServerReset (f.license e)
+none_due C h place f r ServerReset e = rest_not_cut (setup_of C h) (taken h) (stand_of C h place) r.no_cut ServerReset (f.license r.gives_no_more e)
 none_due C h place f r Idle e = cc
 
 -- where nothing is dropped both sides took all
@@ -65,7 +61,7 @@ promised C past s c f k = record {
     finishes_once = once_finished C c z k;
     second_is_memory = λ first other more e. second_memory C c z k first other more (sym k.causes ∙ e);
     ended_has_finished = ended_finished C c z k;
-    cut_is_allowed = f.cut_is_allowed;
+    cut_is_allowed = k.licensed;
   };
   closes_rightly = record {
     told = k.ends;
@@ -103,6 +99,14 @@ promised C past s c f k = record {
     rests e live = settled_at C c s z refl refl k e live
 
 -- from what is sound
-pub matches_by : (C : Config) (past : Past) (s : State) → Leads C past s → Sound C past s → ((c : ℕ) → is_some (heard c past).accepted ≡ true → ServerFacts C (heard c past) (s.places c)) → OutputMatchesEvaluator C past s
-matches_by C past s leads sound facts =
-    record { replay_has_scheduler_run = leads; one_history = one_history C past s leads; each_connection = λ c e. promised C past s c (facts c e) (as_served C c (seen past s c) e (sound.each c)) }
+pub matches_by : (C : Config) (past : Past) (s : State) → Leads C past s → Sound C past s → OutputMatchesEvaluator C past s
+matches_by C past s leads sound = record {
+  replay_has_scheduler_run = leads;
+  one_history = one_history C past s leads;
+  each_connection = λ c e. (let k = as_served C c (seen past s c) e (sound.each c) in
+      promised C past s c (server_facts (setup_of C (heard c past)) c (seen past s c) (stand_of C (heard c past) (s.places c)) k) k);
+}
+
+-- and so of every past
+pub every_past_matches : EveryPastMatches
+every_past_matches C past s leads = matches_by C past s leads (leads_sound C past s leads)

@@ -17,14 +17,17 @@ use Rattle.connection_model.specs.Further.{Further, Same, longer, first_cut, rep
 use Rattle.connection_model.specs.Further as further
 use Rattle.connection_model.specs.Gates.{Counts, TakenCounts, no_bytes, sent_from, to_take, untaken, Met}
 use Rattle.connection_model.specs.Heard.{Input, EventKind, Accepts, Comes, Turns, Runs, Accepted, SideHeard, Heard, nothing_heard, taken, hears, start_of, further_of, edges_met}
+use Rattle.connection_model.specs.Host.{first_host}
+use Rattle.connection_model.specs.declared.edges.EdgeState.TheVariants as state
+use Rattle.event_order.specs.declared.event.EventName.TheVariants.{ClientAccepted}
 use Rattle.connection_model.specs.HeardLaws.{cut_in, cut_for, taken_by_items, TellsNothing}
-use Rattle.connection_model.specs.Item.{Item, Reason, Closed, Tcl, Unselected, Rejected, CutBy, Choice, note_of, shown, listed, to_client, calls_in, cause_of, client_output, notes_of, reasons_in}
+use Rattle.connection_model.specs.Item.{Item, Reason, Closed, Tcl, Unselected, Rejected, CutBy, Choice, note_of, shown, listed, to_client, to_server, calls_in, cause_of, client_output, server_output, notes_of, reasons_in}
 use Rattle.connection_model.specs.Laws.{AtLeast, TakesMore}
 use Rattle.connection_model.specs.Phases.{Orderly}
 use Rattle.connection_model.specs.Setup.{Setup}
-use Rattle.connection_model.specs.State.{Cut, TraceState, ForReply, Next, Waits, Over}
+use Rattle.connection_model.specs.State.{Stream, Absent, Answers as Recorded, Cut, TraceState, ForReply, Next, Waits, Over}
 use Rattle.connection_model.specs.Tellings.{tells, notes_about, replies_told, choices_told, cut_told, finish_told, failure_told}
-use Rattle.connection_model.specs.Trace.{next_item, Unfolds, GivesNoMore}
+use Rattle.connection_model.specs.Trace.{next_item, start, Unfolds, GivesNoMore}
 use Rattle.connection_model.proofs.Given.{no_cut_behind, next_same_on_replies}
 use Rattle.connection_model.proofs.Hearing.{event_stands, finished_stands, run_stands}
 use Rattle.connection_model.proofs.Longer.{next_same}
@@ -35,7 +38,7 @@ use Rattle.connection_model.proofs.Telling.{run_tells}
 use Rattle.connection_model.proofs.Unfolding.{unfolds_on}
 use Rattle.conn.specs.Calls.{unless_finished}
 use Rattle.conn.specs.RunsItems.{Passes}
-use Rattle.conn.specs.Settling.{closing, is_drained, is_over, is_there, settling_at, took_all}
+use Rattle.conn.specs.Settling.{closing, is_drained, is_over, is_there, settling, settling_at, took_all}
 use Rattle.proxy_core.specs.Calls.{calls_of, is_any}
 use Rattle.proxy_core.specs.History.{called_in, entries_in}
 use Rattle.proxy_core.specs.Live.{further_in}
@@ -43,7 +46,9 @@ use Rattle.proxy_core.specs.Moves.{came, lacked, ran}
 use Rattle.proxy_core.specs.declared.call.Asked.{Asked}
 use Rattle.proxy_core.specs.Past.{Past, heard, ended_in, without_all, shared}
 use Rattle.proxy_core.specs.Ready.{is_in, with_ready}
+use Rattle.proxy_core.specs.Refusal.{answers_nothing}
 use Rattle.proxy_core.specs.Scheduler.{State, entries, Seen, seen, seen_after, last_took, untaken_all, untaken_of}
+use Rattle.proxy_core.specs.Servers.{took_of, Linked}
 use Rattle.proxy_core.specs.Setup.{begins_at, setup_in, setup_of, stand_of}
 use Rattle.proxy_core.specs.Shown.{shows, closes, ends_it, causes_told, causes_behind}
 use Rattle.proxy_core.specs.Sound.{unseen, is_closed, TookWithin, EndsClosed, EndsTold, Rested, Spot, CallsTold, ServedAt, Served, SoundAt}
@@ -59,6 +64,12 @@ use Rattle.proxy_core.proofs.GroupNotes.{About, AreDue, about_joined, of_items, 
 use Rattle.proxy_core.proofs.Hearing.{Told, come_told, come_takes, run_told, run_stays, run_further, turn_told, turn_stays, turn_further}
 use Rattle.proxy_core.proofs.Meeting.{come_further, last_further}
 use Rattle.proxy_core.proofs.Members.{eq_self, in_pushed_self, not_in_without}
+use Rattle.proxy_core.proofs.Licensing.{come_licensed, cut_stays, run_licensed, stays_licensed}
+use Rattle.proxy_core.proofs.LinkedComes.{come_linked}
+use Rattle.proxy_core.proofs.Linking.{linked_now, linked_over, longer_linked, run_linked, settled}
+use Rattle.proxy_core.proofs.ServerLaws.{unserved_longer}
+use Rattle.proxy_core.proofs.ServerLeft.{unserved_at}
+use Rattle.proxy_core.proofs.ServerSteps.{enter_waits}
 use Rattle.proxy_core.proofs.Overs.{over_at, over_done, over_stays, still_over}
 use Rattle.proxy_core.proofs.Drains.{drained_items, longer_orderly}
 use Rattle.std.proofs.lemmas.List.{map-append}
@@ -86,8 +97,19 @@ fresh c a failed = record {
 no_calls : (failed : Bool) (notes : List Note) → entries_in notes ≡ [] → CallsTold failed [] [] notes
 no_calls failed notes none = record { unanswered = []; calls = sym (ap (λ es. map (λ e. e.call) es ++ []) none); few = omega arith; open_now = λ e. refl }
 
+none_took : (k : ℕ) → took_of [] k ≤ length (server_output k [])
+none_took zero = omega arith
+none_took (suc k) = omega arith
+
 took_nothing : TookWithin nothing_heard []
-took_nothing = record { client = omega arith }
+took_nothing = record { client = omega arith; servers = none_took }
+
+-- no server is asked for where it begins
+first_linked : (g : Setup) (client : Stream) (answers : Recorded) (failed : Bool) → answers.connects ≡ [] → Linked failed (start g client answers) state.Absent
+first_linked g client answers failed none = settled failed (start g client answers) state.Absent (enter_waits g ClientAccepted Absent (first_host g) refl) none (λ x. refl)
+
+no_cut : {A : Type 0} (cut : Cut) → None ≡ Some cut → A
+no_cut cut e = absurd (cc)
 
 none_closed : (side : Side) → is_closed (edge_of side accepted_edges).state ≡ true → ⊥
 none_closed Client e = cc
@@ -98,8 +120,8 @@ first_ends c a true = record { while_live = λ e. refl; over = λ e. absurd (let
 first_ends c a false = record { while_live = λ e. refl; over = λ e. absurd (let f : true ≡ false = e in cc); closed_has_finished = λ e. absurd (let f : false ≡ true = e in cc); client_took_all = λ f e. absurd (none_closed Client e); server_took_all = λ f e. absurd (none_closed Server e) }
 
 pub fresh_sound : (C : Config) (c : ℕ) (a : Accepted) (failed : Bool) → SoundAt C c (fresh c a failed)
-fresh_sound C c a true = record { stands = refl; met = tt; within = record { client = took_nothing.client }; shown = refl; causes = refl; ends = first_ends c a true; closed_over = λ f side e. absurd (none_closed side e); told = no_calls true (Finish c Memory ∷ []) refl; spot = tt }
-fresh_sound C c a false = record { stands = refl; met = tt; within = record { client = took_nothing.client }; shown = refl; causes = refl; ends = first_ends c a false; closed_over = λ f side e. absurd (none_closed side e); told = no_calls false [] refl; spot = tt }
+fresh_sound C c a true = record { stands = refl; met = tt; within = record { client = took_nothing.client; servers = none_took }; linked = (let l = begins_at C (fresh c a true).heard in first_linked (setup_of C (fresh c a true).heard) l.client l.answers true refl); licensed = λ cut e. no_cut cut e; shown = refl; causes = refl; ends = first_ends c a true; closed_over = λ f side e. absurd (none_closed side e); told = no_calls true (Finish c Memory ∷ []) refl; spot = tt }
+fresh_sound C c a false = record { stands = refl; met = tt; within = record { client = took_nothing.client; servers = none_took }; linked = (let l = begins_at C (fresh c a false).heard in first_linked (setup_of C (fresh c a false).heard) l.client l.answers false refl); licensed = λ cut e. no_cut cut e; shown = refl; causes = refl; ends = first_ends c a false; closed_over = λ f side e. absurd (none_closed side e); told = no_calls false [] refl; spot = tt }
 
 first_heard : (c : ℕ) (a : Accepted) (failed : Bool) → hears c nothing_heard (Accepts c a.virtual a.from) (first_notes c failed) ≡ (fresh c a failed).heard
 first_heard c a true = rw (eq_self c) refl
@@ -177,6 +199,7 @@ pub record MayCome (C : Config) (c : ℕ) (input : Input) (z : Seen) : Type 0 wh
   pub accepted : is_some z.heard.accepted ≡ true
   pub served : Served C c z
   pub within : (group : List Note) → TookWithin (hears c z.heard (Comes c input) group) z.place
+  pub asked : answers_nothing z.heard.edges input ≡ false
 
 -- where it waits for a reply it waits on, unless one comes
 waits_still : (C : Config) (c : ℕ) (z : Seen) (input : Input) (group : List Note) → Served C c z → UncutOr z.heard.cut z.heard.finished → TellsNothing c group → finish_told (notes_about c group) ≡ false → (call : List (List ℕ)) → next_item (setup_of C z.heard) (stand_of C z.heard z.place) ≡ Waits (ForReply call)
@@ -242,6 +265,14 @@ or_true false = refl
 or_first : (a b : Bool) → a ≡ true → (a || b) ≡ true
 or_first true b e = refl
 or_first false b e = cc
+
+unless : (b : Bool) → (b ≡ true → ⊥) → b ≡ false
+unless true n = absurd (n refl)
+unless false n = refl
+
+or_none : (a b : Bool) → (a || b) ≡ false → a ≡ false
+or_none true b e = cc
+or_none false b e = refl
 
 -- the ends of one that was live, by its notes
 ends_told : (c : ℕ) (z z' : Seen) (group : List Note) (over : Bool) → EndsTold c z → z.live ≡ true → z'.heard.notes ≡ z.heard.notes ++ group → z'.live ≡ not over → EndsBy c (untaken_all z'.heard z'.place) over group
@@ -329,6 +360,9 @@ come_served C past c input group over old distinct m found is drained =
     (settling_closed g took at c e e d side (let Q : Edges → Type 0 = λ x. is_closed (edge_of side x).state ≡ true in subst Q edges q))
     (λ o p. record { next = over_at (next_item g at) o; finished = same ∙ opens (over_at (next_item g at) o); none = ap (λ s. to_take s took side) (sym sent) ∙ eqb-true (to_take at.sent took side) 0 p })
     (λ w. (let b = met_closed input h.edges side w in let o = k.closed_over found side b in record { next = over_stays g l f o.1 o.0; finished = o.1; none = side_less (sent_from no_bytes z.place) (taken h) took side more (took_each c z k.ends found side b) })) in
+    let finished : h'.finished ≡ h.finished = t.finished ∙ ap (λ b. h.finished || b) (due_finish c group due) ∙ or_false h.finished in
+    let goes : h.finished ≡ false → is_over (next_item g at) ≡ false = λ x. unless (is_over (next_item g at)) (λ o. (let y = sym (opens (over_at (next_item g at) o)) ∙ x in cc)) in
+    let state : h.finished ≡ false → h'.edges.server.state ≡ e.server.state = λ x. ap (λ y. y.server.state) edges ∙ ap (λ b. (edges_noted (settling b c e (took_all at took Server) (took_all at took Client) d) e).server.state) (goes x) in
     let by : EndsBy c d over group = (let E : Bool → Type 0 = λ b. EndsBy c d b group in let N : List Note → Type 0 = λ ns. EndsBy c d (is_drained g took at) ns in subst E (sym drained) (subst N (sym is) (settling_at_ends g took at c e d))) in
     served_at C c z' g at (ap (setup_in C) t.accepted) (record {
       stands = stands;
@@ -342,9 +376,21 @@ come_served C past c input group over old distinct m found is drained =
           (λ o. t.finished ∙ or_first h.finished (finish_told (map tells group)) (opens (over_at (next_item g at) (settling_opens (is_over (next_item g at)) c e (took_all at took Server) (took_all at took Client) d (ap (list_any closes) (sym is) ∙ o)))))
           (λ x side q. (now side q).none);
       closed_over = λ x side q. ((now side q).next, (now side q).finished);
+      linked = come_linked h.finished h'.finished input f l h.edges h'.edges (come_further c h input group quiet going) finished m.asked state k.linked;
+      licensed = come_licensed c h input group uncut quiet.cut k.licensed;
       told = subst K (sym t.notes) (calls_on h.failed h'.failed z.asked z'.asked z.place h.notes group k.told (due_entries c group due) (λ x. (sym failed ∙ x, refl)));
       spot = subst F (sym (failed ∙ found)) (subst L (sym live) (subst R (sym ready) spot));
     })
+
+-- one that found no memory has finished
+some_last : (cs : List Cause) → further.is_some_of (cs ++ Memory ∷ []) ≡ true
+some_last [] = refl
+some_last (x ∷ xs) = refl
+
+failed_finished : (C : Config) (c : ℕ) (z : Seen) → Served C c z → z.heard.finished ≡ finish_told (map tells z.heard.notes) → z.heard.failed ≡ true → z.heard.finished ≡ true
+failed_finished C c z k told has =
+    let causes = map cause_of (reasons_in z.place) in
+    told ∙ finish_of_causes z.heard.notes ∙ ap (λ x. further.is_some_of x) (k.causes ∙ ap (λ b. causes ++ causes_behind b) has) ∙ some_last causes
 
 -- something comes of one that found no memory
 spot_failed : (c : ℕ) (ready : List ℕ) (asked : List (List (List ℕ))) (g : Setup) (took took' : TakenCounts) (l at : TraceState) (e e' : Edges) → Spot true true ready asked g took l e → Spot true true (woken_of (is_any asked) c ready) asked g took' at e'
@@ -371,6 +417,8 @@ failed_comes C past c input old m has_failed =
     let stands = stands_come g c h input [] z.place l (heard_uncut c past) quiet going k.stands in
     let same : h'.failed ≡ h.failed = t.failed ∙ or_false h.failed in
     let failed : h'.failed ≡ true = same ∙ has_failed in
+    let finished = failed_finished C c z k (heard_finish c past) has_failed in
+    let none : f.connects ≡ [] = ap (λ x. x.connects) (come_further c h input [] quiet going) ∙ ap (λ b. (unless_finished b (further_in input)).connects) finished in
     let z' = seen_after past v [] (came c false old) c in
     let ready : z'.ready ≡ woken_of (is_any z.asked) c z.ready = ring_came false c old in
     let T : Bool → Type 0 = λ b. Spot b z.live z.ready z.asked g (taken h) l h.edges in
@@ -388,6 +436,8 @@ failed_comes C past c input old m has_failed =
       causes = ap causes_told t.notes ∙ causes_due c h.notes [] (map cause_of (reasons_in z.place) ++ causes_behind h.failed) tt k.causes ∙ ap (λ b. map cause_of (reasons_in z.place) ++ causes_behind b) (sym same);
       ends = ends_told c z z' [] false k.ends m.live t.notes m.live (none_ends c (untaken_all h' z.place)) (λ o. absurd (let x : false ≡ true = o in cc)) (λ o. t.finished ∙ or_first h.finished (finish_told (map tells [])) o) (λ o. absurd (let x : false ≡ true = o in cc)) (λ x side q. absurd (let y : true ≡ false = sym failed ∙ x in cc));
       closed_over = λ x side q. absurd (let y : true ≡ false = sym failed ∙ x in cc);
+      linked = linked_over h.finished h'.finished at h.edges.server.state h'.edges.server.state (t.finished ∙ or_first h.finished (finish_told (map tells [])) finished) (longer_linked h.finished f l h.edges.server.state none k.linked);
+      licensed = come_licensed c h input [] (heard_uncut c past) quiet.cut k.licensed;
       told = subst K (sym t.notes) (calls_on h.failed h'.failed z.asked z'.asked z.place h.notes [] k.told refl (λ x. (sym same ∙ x, refl)));
       spot = subst F (sym failed) (subst L (sym m.live) (subst R (sym ready) spot));
     })
@@ -447,21 +497,26 @@ lack_served C past c input old m found =
       causes = ap causes_told t.notes ∙ causes_on h.notes group ∙ ap (λ x. x ++ Memory ∷ []) (k.causes ∙ ap (λ b. causes ++ causes_behind b) found ∙ append-nil causes) ∙ ap (λ b. causes ++ causes_behind b) (sym failed);
       ends = ends_told c z z' group false k.ends m.live t.notes m.live (record { going = λ n. refl; last = λ o. absurd (let x : false ≡ true = o in cc) }) (λ o. absurd (let x : false ≡ true = o in cc)) (λ o. finished) (λ o. finished) (λ x side q. absurd (let y : true ≡ false = sym failed ∙ x in cc));
       closed_over = λ x side q. absurd (let y : true ≡ false = sym failed ∙ x in cc);
+      linked = linked_over h.finished h'.finished at h.edges.server.state h'.edges.server.state finished (longer_linked h.finished nothing_further l h.edges.server.state refl k.linked);
+      licensed = come_licensed c h input group (heard_uncut c past) (quiet_finish c).cut k.licensed;
       told = subst K (sym t.notes) (calls_on h.failed h'.failed z.asked z'.asked z.place h.notes group k.told refl (λ x. absurd (let y : true ≡ false = sym failed ∙ x in cc)));
       spot = subst F (sym failed) (subst L (sym m.live) (subst R (sym ready) (subst A (sym asked) spot)));
     })
 
 -- ---- events that tell nothing of the sides
 
-within_same : (h h' : Heard) (place more : List Item) → h'.client ≡ h.client → TookWithin h place → TookWithin h' (place ++ more)
-within_same h h' place more e k = record {
+within_same : (h h' : Heard) (place more : List Item) → h'.client ≡ h.client → h'.connects ≡ h.connects → TookWithin h place → TookWithin h' (place ++ more)
+within_same h h' place more e f k = record {
   client = (let P : SideHeard → Type 0 = λ s. s.took ≤ length (client_output (place ++ more)) in
       subst P (sym e) (rw (ap length (flat_map-append to_client place more)) (simp length-append (omega (arith, k.client)))));
+  servers = λ n. (let P : List (Option SideHeard) → Type 0 = λ cs. took_of cs n ≤ length (server_output n (place ++ more)) in
+      subst P (sym f) (rw (ap length (flat_map-append (to_server n) place more)) (simp length-append (let w = k.servers n in omega (arith, w)))));
 }
 
-same_within : (h h' : Heard) (place : List Item) → h'.client ≡ h.client → TookWithin h place → TookWithin h' place
-same_within h h' place e k = record {
+same_within : (h h' : Heard) (place : List Item) → h'.client ≡ h.client → h'.connects ≡ h.connects → TookWithin h place → TookWithin h' place
+same_within h h' place e f k = record {
   client = (let P : SideHeard → Type 0 = λ s. s.took ≤ length (client_output place) in subst P (sym e) k.client);
+  servers = λ n. (let P : List (Option SideHeard) → Type 0 = λ cs. took_of cs n ≤ length (server_output n place) in subst P (sym f) (k.servers n));
 }
 
 left_same : (h h' : Heard) (place : List Item) → h'.client ≡ h.client → h'.connects ≡ h.connects → untaken_all h' place ≡ untaken_all h place
@@ -566,11 +621,13 @@ turn_served C past a rest old group fails e k b entry =
     served_at C c z' g at (ap (setup_in C) t.accepted) (record {
       stands = stands;
       met = subst M (sym s.taken) k.met;
-      within = same_within h h' z.place s.client k.within;
+      within = same_within h h' z.place s.client s.connects k.within;
       shown = ap (filter shows) t.notes ∙ shown_on h.notes group ∙ ap (λ x. filter shows h.notes ++ x) b.hidden ∙ append-nil (filter shows h.notes) ∙ k.shown;
       causes = ap causes_told t.notes ∙ causes_on h.notes group ∙ ap (λ x. x ++ causes_told group) (k.causes ∙ ap (λ x. causes ++ causes_behind x) f.found ∙ append-nil causes) ∙ ap (λ x. causes ++ x) b.causes ∙ ap (λ x. causes ++ causes_behind x) (sym failed);
       ends = ends_told c z z' group false k.ends f.is_live t.notes live (record { going = λ n. b.goes_on; last = λ o. absurd (let x : false ≡ true = o in cc) }) (λ o. absurd (let x : false ≡ true = o in cc)) (λ o. t.finished ∙ or_first h.finished (finish_told (map tells group)) o) (λ o. absurd (let x : false ≡ true = sym b.opens ∙ o in cc)) (λ x side q. absurd (none side q));
       closed_over = λ x side q. absurd (none side q);
+      linked = linked_now h.finished h'.finished at h.edges.server.state h'.edges.server.state (λ x. or_none h.finished (finish_told (map tells group)) (sym t.finished ∙ x)) (λ x. ap (λ y. y.server.state) edges) (longer_linked h.finished (replies_only (replies_told (notes_about c group))) l h.edges.server.state refl k.linked);
+      licensed = stays_licensed h h' (cut_stays c h Turns group cut) s.client s.connects k.licensed;
       told = subst K (sym t.notes) (subst A (sym f.one) told);
       spot = subst F (sym failed) (subst L (sym live) (subst R (sym ready) (subst Q (sym f.one) (ready_once fails c g (taken h') at h'.edges))));
     })
@@ -599,16 +656,6 @@ at_front c rest failed live asked g took l ends s = by_spot failed live (entries
     by_spot false false r as' k = absurd k
 
 -- ---- Runs
-
--- one that found no memory has finished
-some_last : (cs : List Cause) → further.is_some_of (cs ++ Memory ∷ []) ≡ true
-some_last [] = refl
-some_last (x ∷ xs) = refl
-
-failed_finished : (C : Config) (c : ℕ) (z : Seen) → Served C c z → z.heard.finished ≡ finish_told (map tells z.heard.notes) → z.heard.failed ≡ true → z.heard.finished ≡ true
-failed_finished C c z k told has =
-    let causes = map cause_of (reasons_in z.place) in
-    told ∙ finish_of_causes z.heard.notes ∙ ap (λ x. further.is_some_of x) (k.causes ∙ ap (λ b. causes ++ causes_behind b) has) ∙ some_last causes
 
 stands_still : (g : Setup) (c : ℕ) (h : Heard) (group : List Note) (place : List Item) (l : TraceState) → UncutOr h.cut h.finished → TellsNothing c group → Unfolds g (start_of g h) place l → Unfolds g (start_of g (hears c h Runs group)) place (longer (replies_only []) l)
 stands_still g c h group place l (inl none) quiet u =
@@ -655,7 +702,7 @@ failed_served C past c rest old distinct front_is has_failed k =
     served_at C c z' g at (ap (setup_in C) t.accepted) (record {
       stands = stands;
       met = subst M (sym s.taken) k.met;
-      within = same_within h h' z.place s.client k.within;
+      within = same_within h h' z.place s.client s.connects k.within;
       shown = ap (filter shows) t.notes ∙ shown_due c h.notes group (notes_of c z.place) due k.shown;
       causes = ap causes_told t.notes ∙ causes_due c h.notes group (map cause_of (reasons_in z.place) ++ causes_behind h.failed) due k.causes ∙ ap (λ b. map cause_of (reasons_in z.place) ++ causes_behind b) (sym same);
       ends = ends_told c z z' group true k.ends f.is_live t.notes live (subst D (sym left) (closing_ends c h.edges d))
@@ -663,6 +710,8 @@ failed_served C past c rest old distinct front_is has_failed k =
           (λ o. t.finished ∙ or_first h.finished (finish_told (map tells group)) finished) (λ o. t.finished ∙ or_first h.finished (finish_told (map tells group)) finished)
           (λ x side q. absurd (let y : true ≡ false = sym failed ∙ x in cc));
       closed_over = λ x side q. absurd (let y : true ≡ false = sym failed ∙ x in cc);
+      linked = linked_over h.finished h'.finished at h.edges.server.state h'.edges.server.state (t.finished ∙ or_first h.finished (finish_told (map tells group)) finished) (longer_linked h.finished (replies_only []) l h.edges.server.state refl k.linked);
+      licensed = stays_licensed h h' (cut_stays c h Runs group (due_quiet c group due).cut) s.client s.connects k.licensed;
       told = subst K (sym t.notes) (calls_on h.failed h'.failed z.asked z'.asked z.place h.notes group k.told (due_entries c group due) (λ x. (sym same ∙ x, refl)));
       spot = subst F (sym failed) (subst L (sym live) (subst R (sym f.once) (subst A (sym f.none_asked) tt)));
     })
@@ -678,6 +727,7 @@ pub record Behind (g : Setup) (took : TakenCounts) (at : TraceState) (c d : ℕ)
   pub entries : entries_in behind ≡ []
   pub by : EndsBy c d over behind
   pub gone : over ≡ true → (is_there (edges_noted behind ends).client.state ≡ false) × (is_there (edges_noted behind ends).server.state ≡ false)
+  pub kept : list_any closes behind ≡ false → (edges_noted behind ends).server.state ≡ ends.server.state
   pub opens : list_any closes behind ≡ true → (finish_told (map tells behind) ≡ true) ⊎ (is_over (next_item g at) ≡ true)
   pub closed : fails ≡ false → (side : Side) → is_closed (edge_of side (edges_noted behind ends)).state ≡ true → ((is_over (next_item g at) ≡ true) × (took_all at took side ≡ true)) ⊎ (is_closed (edge_of side ends).state ≡ true)
 
@@ -758,6 +808,11 @@ run_served C past c rest after ready queue called asked old more at behind fails
     (λ o y. record { next = over_at (next_item g at) o; finished = over_done g at new_done.orderly (over_at (next_item g at) o); none = ap (λ x. to_take (sent_from no_bytes (z.place ++ more)) x side) s.taken ∙ ap (λ x. to_take x (taken h) side) (sym sent) ∙ eqb-true (to_take at.sent (taken h) side) 0 y })
     (λ w. (let v = items_closed c notes h.edges side items w in let o = k.closed_over not_failed side v in let still = still_over g l at (taken h) more o.1 o.0 p.passed in
         record { next = still.next; finished = still.finished; none = ap (λ x. to_take (sent_from no_bytes (z.place ++ more)) x side) s.taken ∙ ap (λ ms. to_take (sent_from no_bytes (z.place ++ ms)) (taken h) side) still.none ∙ ap (λ ms. to_take (sent_from no_bytes ms) (taken h) side) (append-nil z.place) ∙ took_each c z k.ends not_failed side v })) in
+    let f' = taken_by_items (taken h) more in
+    let state = h.edges.server.state in
+    let was_linked : Linked l.finished l state = linked_now h.finished l.finished l state state (λ x. sym same ∙ x) (λ x. refl) k.linked in
+    let ran = run_linked g (longer f' l) at more c h.edges (unserved_longer f' l (unserved_at g h z.place l k.stands)) (longer_linked l.finished f' l state refl was_linked) p.passed in
+    let closed_finishes : list_any closes behind ≡ true → h'.finished ≡ true = λ o. by_opens (b.opens o) t.finished over_finishes in
     let M : TakenCounts → Type 0 = λ y. Met no_bytes y (z.place ++ more) in
     let N : Counts → Type 0 = λ x. Met x (taken h) more in
     let W : List Item → Type 0 = λ place. ServedAt g c (record z' { place = place }) at in
@@ -778,7 +833,7 @@ run_served C past c rest after ready queue called asked old more at behind fails
     served_at C c z' g at (ap (setup_in C) t.accepted) (subst W (sym place) (record {
       stands = stands;
       met = subst M (sym s.taken) (met_joins no_bytes (taken h) z.place more k.met (subst N (sent_at g h z.place l k.stands) p.met));
-      within = within_same h h' z.place more s.client k.within;
+      within = within_same h h' z.place more s.client s.connects k.within;
       shown =
           ap (filter shows) t.notes ∙ shown_on h.notes group ∙ ap (λ x. x ++ filter shows group) k.shown
           ∙ ap (λ x. notes_of c z.place ++ x) (shown_on notes behind ∙ ap (λ x. x ++ filter shows behind) (shown_items c more) ∙ ap (λ x. notes ++ x) b.hidden ∙ append-nil notes)
@@ -795,6 +850,9 @@ run_served C past c rest after ready queue called asked old more at behind fails
           (λ o. by_opens (b.opens (sym (none_on closes notes behind (items_open c notes items)) ∙ o)) t.finished over_finishes)
           (λ found side q. (now side q found).none);
       closed_over = λ found side q. ((now side q found).next, (now side q found).finished);
+      linked = linked_now at.finished h'.finished at ends.server.state h'.edges.server.state (λ x. unless at.finished (λ o. (let y = sym (finishes o) ∙ x in cc)))
+          (λ x. ap (λ y. y.server.state) edges ∙ b.kept (unless (list_any closes behind) (λ o. (let y = sym (closed_finishes o) ∙ x in cc)))) ran.linked;
+      licensed = run_licensed g c h z.place more behind l at h.edges k.stands was_linked b.quiet p k.licensed;
       told = subst K (sym t.notes) (calls_more h'.failed called z'.asked z.place more h.notes group was none_told all few (λ e. opens (sym failed ∙ e) ∙ sym asks));
       spot = subst F (sym failed) (subst L (sym live) (subst R (sym (put f.once)) (subst A (sym asks) (subst T (sym s.taken) (subst E (sym edges) spot)))));
     }))

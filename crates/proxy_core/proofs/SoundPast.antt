@@ -1,5 +1,5 @@
 -- What holds of every state that a past leads to.
-use Rattle.std.proofs.Common.{◌≡◌, refl, sym, ap, subst, ◌∙◌, ℕ, ◌+◌, ◌-◌, ◌≤◌, ◌<◌, List, [], ◌∷◌, ◌++◌, length, Bool, true, false, ◌⊎◌, inl, inr, Some, None, nat_eq, nat_lt, arith, zero-add, if◌then◌else◌}
+use Rattle.std.proofs.Common.{◌≡◌, refl, sym, ap, subst, ◌∙◌, ℕ, zero, suc, ◌+◌, ◌-◌, ◌≤◌, ◌<◌, List, [], ◌∷◌, ◌++◌, length, Bool, true, false, ◌⊎◌, inl, inr, Some, None, nat_eq, nat_lt, arith, zero-add, if◌then◌else◌}
 use Rattle.std.specs.Prelude.{is_none, is_some, not}
 use Rattle.std.specs.Bool.{MatchBool}
 use Rattle.std.specs.List.{IsDistinct}
@@ -17,7 +17,7 @@ use Rattle.connection_model.specs.Trace.{next_item}
 use Rattle.connection_model.proofs.Given.{sent_output}
 use Rattle.connection_model.specs.Heard.{Input, Bytes, Ends, Resets, Connects, Takes, EventKind, Accepts, Comes, Ticks, Turns, Runs, Marks, Accepted, Heard, taken, taken_by, event_marks, marks, brought, edges_met, further_of, hears}
 use Rattle.connection_model.specs.declared.edges.Edges.{Edges}
-use Rattle.connection_model.specs.Item.{Item, client_output, notes_of}
+use Rattle.connection_model.specs.Item.{Item, client_output, notes_of, server_output}
 use Rattle.connection_model.specs.State.{TraceState}
 use Rattle.connection_model.specs.Setup.{Setup}
 use Rattle.connection_model.proofs.Hearing.{others_not_heard}
@@ -32,7 +32,8 @@ use Rattle.proxy_core.specs.Moves.{Rests, MovesFailed, MovesLacks, MovesOn, Move
 use Rattle.proxy_core.specs.declared.call.Asked.{Asked}
 use Rattle.proxy_core.specs.Past.{Happened, Past, kind_of, heard, ended_in, without_all, with_accepted, shared, shared_after}
 use Rattle.proxy_core.specs.Ready.{is_in, ring_behind, without}
-use Rattle.proxy_core.specs.Refusal.{Row, wants_at, standing_by, known, takes_too_much, refusal_rows, first_of, refused}
+use Rattle.proxy_core.specs.Refusal.{Row, answers_nothing, by_edges, wants_at, standing_by, known, takes_too_much, refusal_rows, first_of, refused}
+use Rattle.proxy_core.specs.Servers.{took_of}
 use Rattle.conn.specs.RunsItems.{asked_at, ends, Passes, StopsAt, out_of_memory, told_behind}
 use Rattle.conn.specs.Settling.{closing, is_drained, is_over, resting, settling_at, took_all}
 use Rattle.connection_model.specs.Item.{calls_in}
@@ -56,6 +57,9 @@ use Rattle.proxy_core.proofs.Hearing.{Told, come_told, run_told, turn_told}
 use Rattle.proxy_core.proofs.Members.{eq_self}
 use Rattle.proxy_core.proofs.ReadyRing.{distinct_none, distinct_push, distinct_without}
 use Rattle.proxy_core.proofs.SoundEvents.{lack_served, failed_comes, first_notes, fresh_sound, seen_accept, MayCome, come_served, Answers, turned_to, turn_served, Behind, ran_at, run_about, run_served, failed_served}
+use Rattle.proxy_core.proofs.LinkedComes.{closing_closes, due_state}
+use Rattle.proxy_core.proofs.ServerCounts.{TookBy, more_of, come_took}
+use Rattle.proxy_core.proofs.ServerLeft.{server_left}
 use Rattle.proxy_core.proofs.Standing.{drained_at, from_served, is_served, is_unseen, stands_at}
 
 -- no row holds
@@ -112,6 +116,26 @@ client_left h place =
     let P : ℕ → Type 0 = λ n. untaken n (taken_by h.client.reset h.client.took) ≤ length (client_output place) - h.client.took in
     subst P (sym (sent_output no_bytes place ∙ zero-add (length (client_output place)))) (left_within h.client.reset (length (client_output place)) h.client.took)
 
+-- what a server takes is pending to it
+server_few : (edges : Edges) (from from_server : ℕ) (input : Input) (left right : ℕ) → takes_too_much (Some (record { edges = edges; from_client = from; from_server = from_server; to_client = left; to_server = right })) input ≡ false → more_of input ≤ right
+server_few edges from from_server (Bytes side bytes) left right h = omega arith
+server_few edges from from_server (Ends side) left right h = omega arith
+server_few edges from from_server (Resets side) left right h = omega arith
+server_few edges from from_server (Connects made) left right h = omega arith
+server_few edges from from_server (Takes Client n) left right h = omega arith
+server_few edges from from_server (Takes Server n) left right h = let t : nat_lt right n ≡ false = h in grind (arith, nat_tests)
+
+servers_within : (C : Config) (c : ℕ) (z : Seen) (input : Input) (group : List Note) → Served C c z → more_of input ≤ untaken_of z.heard z.place Server → (k : ℕ) → took_of (hears c z.heard (Comes c input) group).connects k ≤ length (server_output k z.place)
+servers_within C c z input group s few zero = omega arith
+servers_within C c z input group s few (suc k) = by_number (come_took c z.heard input group k)
+  where
+    by_number : TookBy (more_of input) k z.heard.connects (hears c z.heard (Comes c input) group).connects → took_of (hears c z.heard (Comes c input) group).connects (suc k) ≤ length (server_output (suc k) z.place)
+    by_number (inl e) = let w = s.within.servers (suc k) in omega (arith, e, w)
+    by_number (inr (e, f)) =
+        let L : ℕ → Type 0 = λ n. took_of z.heard.connects n + untaken_of z.heard z.place Server ≤ length (server_output n z.place) in
+        let w = subst L (sym e) (server_left (setup_of C z.heard) c z (stand_of C z.heard z.place) s) in
+        omega (arith, f, w, few)
+
 pub may_come_at : (C : Config) (past : Past) (old : State) (c : ℕ) (input : Input) → SoundAt C c (seen past old c) → refused C past old (Comes c input) ≡ None → MayCome C c input (seen past old c)
 may_come_at C past old c input s h =
     let z = seen past old c in
@@ -120,7 +144,15 @@ may_come_at C past old c input s h =
     let k = is_served C c z (λ u. let n : z.live ≡ false = ap (λ y. y.live) u in let m : true ≡ false = sym live ∙ n in cc) s in
     let P : Bool → Type 0 = λ b. takes_too_much (standing_by C b z) input ≡ false in
     let le = takes_within z.heard.edges (wants_at C z Client) (wants_at C z Server) input z.heard.client.took (length (client_output z.place)) (untaken_of z.heard z.place Client) (untaken_of z.heard z.place Server) k.1.within.client (client_left z.heard z.place) (subst P live r.1.1.1.1.1.1.1.1.0) in
-    record { live = live; accepted = k.0; served = k.1; within = λ group. record { client = (let e = client_took c z.heard input group in omega (arith, e, le)) } }
+    let few = server_few z.heard.edges (wants_at C z Client) (wants_at C z Server) input (untaken_of z.heard z.place Client) (untaken_of z.heard z.place Server) (subst P live r.1.1.1.1.1.1.1.1.0) in
+    let A : Bool → Type 0 = λ b. by_edges answers_nothing (standing_by C b z) input ≡ false in
+    record {
+      live = live;
+      accepted = k.0;
+      served = k.1;
+      within = λ group. record { client = (let e = client_took c z.heard input group in omega (arith, e, le)); servers = servers_within C c z input group k.1 few };
+      asked = subst A live r.1.1.1.1.1.0;
+    }
 
 -- an event that changes nothing
 pub unchanged : (past : Past) (v : EventKind) (group : List Note) (old new : State) (q : ℕ) → Rests group old new → ((h : Heard) → hears q h v [] ≡ h) → with_accepted v (shared past).live ≡ (shared past).live → seen_after past v group new q ≡ seen past old q
@@ -198,7 +230,7 @@ spot_ran turn.Over c d g took at e k = k
 
 -- what is told behind the items
 none_behind : (g : Setup) (took : TakenCounts) (at : TraceState) (c d : ℕ) (e : Edges) → Behind g took at c d e [] false false
-none_behind g took at c d e = record { about = tt; quiet = due_quiet c [] tt; failure = refl; ended = refl; hidden = refl; causes = refl; entries = refl; by = none_ends c d; gone = λ o. absurd (let x : false ≡ true = o in cc); opens = λ o. absurd (let x : false ≡ true = o in cc); closed = λ f side q. inr q }
+none_behind g took at c d e = record { about = tt; quiet = due_quiet c [] tt; failure = refl; ended = refl; hidden = refl; causes = refl; entries = refl; by = none_ends c d; gone = λ o. absurd (let x : false ≡ true = o in cc); opens = λ o. absurd (let x : false ≡ true = o in cc); kept = λ o. refl; closed = λ f side q. inr q }
 
 rest_behind : (g : Setup) (took : TakenCounts) (at : TraceState) (c d : ℕ) (e : Edges) (over : Bool) → is_drained g took at ≡ over → Behind g took at c d e (resting g took at c e d) false over
 rest_behind g took at c d e over is =
@@ -216,6 +248,7 @@ rest_behind g took at c d e over is =
       by = subst E is (resting_ends g took at c e d);
       gone = λ o. (let x = resting_gone g took at c e d (is ∙ o) in (x.client, x.server));
       opens = λ o. inr (resting_opens g took at c e d o);
+      kept = λ o. due_state c group due o e;
       closed = λ f side q. resting_closed g took at c e e d side q;
     }
 
@@ -241,6 +274,7 @@ memory_behind g took at c d e =
       by = ends_behind c d true (Finish c Memory ∷ []) last refl (closing_ends c e d);
       gone = λ o. (let x = closing_gone c e d in (x.client, x.server));
       opens = λ o. inl refl;
+      kept = λ o. absurd (let x : true ≡ false = sym (closing_closes c e d) ∙ o in cc);
       closed = λ f. absurd (let x : true ≡ false = f in cc);
     }
 
@@ -394,7 +428,7 @@ own C past Runs group old new s h m = own_ring C past old.ring group old new s.d
 own C past (Marks pool member up) group old new s h m = own_rest C past (Marks pool member up) group old new 0 m (λ k. others_not_heard 0 k (Marks pool member up) [] refl refl) refl (s.each 0)
 
 -- above the last number nothing was heard
-marked_accepted : (input : Input) (h : Heard) → (marks input h).accepted ≡ h.accepted
+pub marked_accepted : (input : Input) (h : Heard) → (marks input h).accepted ≡ h.accepted
 marked_accepted (Bytes side bytes) h = refl
 marked_accepted (Ends side) h = refl
 marked_accepted (Resets Client) h = refl

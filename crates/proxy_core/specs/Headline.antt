@@ -8,17 +8,15 @@ use Rattle.px_bytes.specs.declared.addr.Side.TheVariants.{Client, Server}
 use Rattle.connection_model.specs.declared.note.Cause.{Cause}
 use Rattle.connection_model.specs.declared.note.Cause.TheVariants.{Memory}
 use Rattle.connection_model.specs.declared.note.CutReason.{CutReason}
-use Rattle.connection_model.specs.declared.note.CutReason.TheVariants.{ClientReset, ServerReset}
-use Rattle.connection_model.specs.declared.note.CutReason.TheVariants.{Idle}
 use Rattle.connection_model.specs.declared.note.Note.{Note}
 use Rattle.connection_model.specs.declared.note.Note.TheVariants as note
 use Rattle.connection_model.specs.Gates.{no_bytes, sent_from}
-use Rattle.connection_model.specs.Heard.{SideHeard, Heard, taken}
+use Rattle.connection_model.specs.Heard.{Heard, taken}
 use Rattle.connection_model.specs.Edges.{edge_of}
 use Rattle.connection_model.specs.Queries.{half_close_due}
 use Rattle.connection_model.specs.State.{Cut}
 use Rattle.connection_model.specs.Item.{Item, calls_in, cause_of, client_output, notes_of}
-use Rattle.connection_model.specs.Item.{reasons_in}
+use Rattle.connection_model.specs.Item.{reasons_in, server_output}
 use Rattle.connection_model.specs.Laws.{cut_is_taken}
 use Rattle.connection_model.specs.Tellings.{notes_about, failure_told}
 use Rattle.connection_model.specs.Trace.{next_item, trace, GivesNoMore}
@@ -26,6 +24,7 @@ use Rattle.proxy_core.specs.History.{IsHistory, called_in, entries_in}
 use Rattle.proxy_core.specs.Moves.{Leads}
 use Rattle.proxy_core.specs.Past.{Past, heard}
 use Rattle.proxy_core.specs.Scheduler.{State, Seen, last_took, seen, untaken_of, untaken_all, pending}
+use Rattle.proxy_core.specs.Servers.{last_reset, licenses, took_of}
 use Rattle.proxy_core.specs.Shown.{shows, causes_told, causes_behind}
 use Rattle.proxy_core.specs.Setup.{setup_of, begins_at, stand_of}
 use Rattle.proxy_core.specs.Sound.{EndsTold}
@@ -36,7 +35,8 @@ abbrev pub first_items : Config → Heard → ℕ → List Item
 first_items C h n = trace n (setup_of C h) (begins_at C h)
 
 -- The items that a connection passed are the first of its trace, and of each longer front of it.
--- What its client took is a front of what they send to it, and of what each longer front sends.
+-- What its client took is a front of what they send to it, and of what each longer front sends; so is
+-- what each server connection took.
 pub record SentIsPrefix (C : Config) (h : Heard) (place : List Item) : Type 0 where
   pub passed : place ≡ first_items C h (length place)
   pub longer : (n : ℕ)
@@ -45,6 +45,10 @@ pub record SentIsPrefix (C : Config) (h : Heard) (place : List Item) : Type 0 wh
   pub taken : (n : ℕ)
       → take h.client.took (client_output (first_items C h (length place + n)))
       ≡ take h.client.took (client_output place)
+  pub server_took_within : (k : ℕ) → took_of h.connects k ≤ length (server_output k place)
+  pub server_taken : (n k : ℕ)
+      → take (took_of h.connects k) (server_output k (first_items C h (length place + n)))
+      ≡ take (took_of h.connects k) (server_output k place)
 
 -- its trace is no longer, and its client and its present server connection took all that was sent to
 -- them
@@ -58,18 +62,6 @@ abbrev pub GaveDeliverable : Config → Heard → List Item → Type 0
 GaveDeliverable C h place =
     GivesNoMore false (sent_from no_bytes place) (taken h)
     (next_item (setup_of C h) (stand_of C h place))
-
-abbrev pub last_reset : List (Option SideHeard) → Bool
-last_reset [] = false
-last_reset (None ∷ more) = last_reset more
-last_reset (Some s ∷ []) = s.reset
-last_reset (Some s ∷ more) = last_reset more
-
--- what was heard allows a cut for this reason; there is no idle limit yet
-abbrev pub licenses : Heard → CutReason → Bool
-licenses h ClientReset = h.client.reset
-licenses h ServerReset = last_reset h.connects
-licenses h Idle = false
 
 -- no cut that is allowed goes on from there; once it has finished none does
 abbrev pub NoCutIsDue : Config → Heard → List Item → Type 0

@@ -13,10 +13,10 @@ use Rattle.connection_model.specs.declared.edges.Edges.{Edges}
 use Rattle.connection_model.specs.declared.edges.EdgeState.{EdgeState}
 use Rattle.connection_model.specs.declared.edges.EdgeState.TheVariants as state
 use Rattle.connection_model.specs.Item.{Item, calls_in, cause_of, client_output, notes_of}
-use Rattle.connection_model.specs.Item.{reasons_in}
+use Rattle.connection_model.specs.Item.{reasons_in, server_output}
 use Rattle.connection_model.specs.Setup.{Setup}
 use Rattle.connection_model.specs.Edges.{edge_of}
-use Rattle.connection_model.specs.State.{ForReply, Over, TraceState, Waits}
+use Rattle.connection_model.specs.State.{Cut, ForReply, Over, TraceState, Waits}
 use Rattle.connection_model.specs.Trace.{next_item, Unfolds, GivesNoMore}
 use Rattle.conn.specs.RunsItems.{is_cut}
 use Rattle.conn.specs.Settling.{is_drained, is_there, resting}
@@ -25,6 +25,7 @@ use Rattle.proxy_core.specs.Moves.{Leads}
 use Rattle.proxy_core.specs.Past.{Past, heard, shared}
 use Rattle.proxy_core.specs.Scheduler.{State, Seen, seen, untaken_all, untaken_of}
 use Rattle.proxy_core.specs.Shown.{shows, closes, ends_it, causes_told, causes_behind}
+use Rattle.proxy_core.specs.Servers.{Linked, licenses, took_of}
 use Rattle.proxy_core.specs.Setup.{setup_of, stand_of}
 use Rattle.proxy_core.specs.declared.config.Config.{Config}
 
@@ -55,9 +56,10 @@ pub record EndsTold (c : ℕ) (z : Seen) : Type 0 where
   pub server_took_all : z.heard.failed ≡ false → is_closed z.heard.edges.server.state ≡ true
       → untaken_of z.heard z.place Server ≡ 0
 
--- what its client took is within what was sent to it
+-- what its client and each server connection took is within what was sent to them
 pub record TookWithin (h : Heard) (place : List Item) : Type 0 where
   pub client : h.client.took ≤ length (client_output place)
+  pub servers : (k : ℕ) → took_of h.connects k ≤ length (server_output k place)
 
 -- it rests: no more may be given, no cut is due, it isn't over, and nothing is due to be told
 pub record Rested (g : Setup) (took : TakenCounts) (at : TraceState) (e : Edges) : Type 0 where
@@ -87,8 +89,8 @@ pub record CallsTold (failed : Bool) (asked : List (List (List ℕ))) (place : L
   pub few : length unanswered ≤ 1
   pub open_now : failed ≡ false → unanswered ≡ asked
 
--- a connection that was accepted, by the state where it stands; while nothing failed an end is closed
--- where its trace is over alone
+-- A connection that was accepted, by the state where it stands. While nothing failed an end is closed
+-- where its trace is over alone; its server's end stands where the trace says; a cut was allowed.
 pub record ServedAt (g : Setup) (c : ℕ) (z : Seen) (at : TraceState) : Type 0 where
   pub stands : Unfolds g (start_of g z.heard) z.place at
   pub met : Met no_bytes (taken z.heard) z.place
@@ -100,6 +102,8 @@ pub record ServedAt (g : Setup) (c : ℕ) (z : Seen) (at : TraceState) : Type 0 
   pub closed_over : z.heard.failed ≡ false → (side : Side)
       → is_closed (edge_of side z.heard.edges).state ≡ true
       → (next_item g at ≡ Over) × (at.finished ≡ true)
+  pub linked : Linked z.heard.finished at z.heard.edges.server.state
+  pub licensed : (cut : Cut) → z.heard.cut ≡ Some cut → licenses z.heard cut.reason ≡ true
   pub told : CallsTold z.heard.failed z.asked z.place z.heard.notes
   pub spot : Spot z.heard.failed z.live z.ready z.asked g (taken z.heard) at z.heard.edges
 
