@@ -5,27 +5,23 @@ use Rattle.std.specs.List.{IsDistinct, position_from}
 use Rattle.std.specs.Str.{bytes_eq}
 use Rattle.std.proofs.lemmas.Slice.Eq.{bytes_eq-Decides}
 use Rattle.connection_model.specs.declared.note.Note.{Note}
-use Rattle.connection_model.specs.Heard.{EventKind, Heard, start_of, Accepts, Accepted}
-use Rattle.connection_model.specs.Item.{Item}
+use Rattle.connection_model.specs.Heard.{EventKind, Accepts, Accepted}
 use Rattle.connection_model.specs.Setup.{Setup}
-use Rattle.connection_model.specs.State.{TraceState}
-use Rattle.connection_model.specs.Trace.{Unfolds}
-use Rattle.conn.specs.Holds.{Holds}
 use Rattle.conn.specs.declared.connection.Conn.{Conn}
 use Rattle.conn.specs.declared.setup.Place.{Place}
 use Rattle.proxy_core.specs.Bodies.{all_places}
 use Rattle.proxy_core.specs.Changes as code
-use Rattle.proxy_core.specs.Calls.{calls_of, is_any}
+use Rattle.proxy_core.specs.Calls.{is_any}
 use Rattle.proxy_core.specs.History.{store_of, store_after}
 use Rattle.proxy_core.specs.Live.{KeepsPlace, asks_in, edges_by_conn, edges_in}
 use Rattle.proxy_core.specs.Moves.{MovesBy}
 use Rattle.proxy_core.specs.Past.{Past, ended_in, without_all, with_accepted, last_after, moment_after, Shared, shared, shared_after}
 use Rattle.proxy_core.specs.Ready.{numbers, is_in, without}
 use Rattle.proxy_core.specs.Refusals.{live_at, virtual_place}
-use Rattle.proxy_core.specs.Represents.{around, ConnectionContinues, AgreesLive, AgreesAt, AgreesBy, Represents}
+use Rattle.proxy_core.specs.Represents.{ConnectionContinues, AgreesLive, AgreesAt, AgreesBy, Represents}
 use Rattle.proxy_core.specs.Scheduler.{State, Seen, seen_after}
 use Rattle.proxy_core.specs.Serving.{Serves}
-use Rattle.proxy_core.specs.Setup.{statics_of, setup_of, stand_of, handlers_in, setup_in, name_at, name_in, pool_in, port_in}
+use Rattle.proxy_core.specs.Setup.{statics_of, setup_of, handlers_in, setup_in, name_at, name_in, pool_in, port_in}
 use Rattle.proxy_core.specs.declared.config.Config.{Config}
 use Rattle.proxy_core.specs.declared.config.Virtual.{Virtual}
 use Rattle.proxy_core.specs.declared.core_state.Core.{Core}

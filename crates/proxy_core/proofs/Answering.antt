@@ -1,5 +1,5 @@
 -- The answers of shared calls: one history of the store, and what a connection hears of it.
-use Rattle.std.proofs.Common.{◌≡◌, refl, sym, ap, subst, ◌∙◌, ◌⊎◌, inl, inr, ℕ, List, [], ◌∷◌, ◌++◌, map, Bool, true, false, None, nat_eq, if◌then◌else◌}
+use Rattle.std.proofs.Common.{◌≡◌, refl, sym, ap, subst, ◌∙◌, ◌⊎◌, inl, inr, ℕ, List, [], ◌∷◌, ◌++◌, map, Bool, true, false, nat_eq, if◌then◌else◌}
 use Rattle.std.specs.Bool.{MatchBool}
 use Rattle.std.proofs.lemmas.List.{map-append}
 use Rattle.px_bytes.specs.declared.addr.Side.TheVariants.{Client, Server}
@@ -9,7 +9,7 @@ use Rattle.connection_model.specs.declared.note.Note.{Note}
 use Rattle.connection_model.specs.declared.note.Note.TheVariants.{Finish}
 use Rattle.connection_model.specs.Heard.{Input, Bytes, Ends, Resets, Connects, Takes, EventKind, Accepts, Comes, Ticks, Turns, Runs, Marks, Heard, accepts, marks, event_marks, hears}
 use Rattle.connection_model.specs.Item.{Item, notes_of}
-use Rattle.connection_model.specs.Tellings.{tells, own, replies_told, notes_about}
+use Rattle.connection_model.specs.Tellings.{own, replies_told, notes_about}
 use Rattle.connection_model.specs.declared.edges.Edges.{Edges}
 use Rattle.connection_model.specs.Edges.{edges_noted}
 use Rattle.connection_model.specs.Heard.{edges_met, taken}
@@ -18,8 +18,7 @@ use Rattle.connection_model.specs.Trace.{next_item}
 use Rattle.conn.specs.Settling.{closing, is_over, settling_at, took_all}
 use Rattle.shared_store.specs.Calls.{reply}
 use Rattle.proxy_core.specs.History.{entries_in, store_of, IsAnswer, AreAnswers, IsHistory}
-use Rattle.proxy_core.specs.Live.{entry_note}
-use Rattle.proxy_core.specs.Moves.{Rests, MovesFailed, MovesLacks, MovesOn, MovesCome, MovesRing, MovesFront, MovesBy, MovesQueue, TurnNotes, RunsOn, RunsOut, RunsFailed, Leads}
+use Rattle.proxy_core.specs.Moves.{MovesFailed, MovesLacks, MovesOn, MovesCome, MovesRing, MovesBy, MovesQueue, TurnNotes, RunsOn, RunsOut, RunsFailed, Leads}
 use Rattle.proxy_core.specs.Past.{Past, kind_of, heard, shared}
 use Rattle.proxy_core.specs.Scheduler.{State, untaken_all}
 use Rattle.proxy_core.specs.Setup.{setup_of, stand_of}

@@ -1,8 +1,7 @@
 -- Where a place stands behind something that comes of its connection.
-use Rattle.std.proofs.Common.{◌≡◌, ◌⊎◌, inl, inr, refl, sym, ap, subst, ◌∙◌, ℕ, List, [], ◌∷◌, map, Bool, true, false, ◌||◌, Option, Some, None, nat_eq, if◌then◌else◌}
+use Rattle.std.proofs.Common.{◌≡◌, ◌⊎◌, inl, inr, refl, sym, ap, subst, ◌∙◌, ℕ, List, [], ◌∷◌, map, Bool, true, false, ◌||◌, Option, None, nat_eq, if◌then◌else◌}
 use Rattle.px_bytes.specs.declared.addr.Side.TheVariants.{Client, Server}
 use Rattle.px_bytes.specs.declared.fault.Reply.{Reply}
-use Rattle.connection_model.specs.declared.note.Cause.{Cause}
 use Rattle.connection_model.specs.declared.note.Note.{Note}
 use Rattle.connection_model.specs.declared.note.Note.TheVariants as note
 use Rattle.connection_model.specs.Further.{CutMeets, Further, first_cut, longer, nothing_further, replies_only}
@@ -12,7 +11,7 @@ use Rattle.connection_model.specs.HeardLaws.{TellsNothing}
 use Rattle.connection_model.specs.Item.{Item}
 use Rattle.connection_model.specs.Setup.{Setup}
 use Rattle.connection_model.specs.State.{Cut, TraceState}
-use Rattle.connection_model.specs.Tellings.{tells, own, notes_about, cut_told, cut_by, finish_told}
+use Rattle.connection_model.specs.Tellings.{tells, own, notes_about, cut_told, finish_told}
 use Rattle.connection_model.specs.Trace.{Unfolds}
 use Rattle.connection_model.proofs.Hearing.{event_stands, finished_stands}
 use Rattle.conn.specs.Calls.{unless_finished}

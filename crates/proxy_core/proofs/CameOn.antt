@@ -1,5 +1,5 @@
 -- A connection of the code on which something came: what it goes on with, for what was heard then.
-use Rattle.std.proofs.Common.{◌≡◌, ◌⊎◌, inl, inr, refl, sym, ap, subst, ◌∙◌, ℕ, ◌+◌, ◌-◌, ◌≤◌, List, [], ◌∷◌, length, drop, map, append-nil, Bool, true, false, ◌||◌, ◌&&◌, Option, Some, None, if◌then◌else◌, arith}
+use Rattle.std.proofs.Common.{◌≡◌, ◌⊎◌, inl, inr, refl, sym, ap, subst, ◌∙◌, ℕ, ◌+◌, ◌-◌, List, [], ◌∷◌, length, drop, append-nil, Bool, true, false, ◌||◌, Option, Some, None, if◌then◌else◌, arith}
 use Rattle.std.specs.Bool.{MatchBool}
 use Rattle.std.proofs.lemmas.List.{length-drop}
 use Rattle.px_bytes.specs.declared.addr.Side.TheVariants.{Client, Server}
@@ -7,20 +7,20 @@ use Rattle.connection_model.specs.declared.edges.Edges.{Edges}
 use Rattle.connection_model.specs.declared.note.Cause.TheVariants.{Memory}
 use Rattle.connection_model.specs.declared.note.Note.{Note}
 use Rattle.connection_model.specs.declared.note.Note.TheVariants.{Finish}
-use Rattle.connection_model.specs.Edges.{answered_edge, edge_ends, edges_noted, is_connecting}
+use Rattle.connection_model.specs.Edges.{answered_edge, edge_ends, edges_noted}
 use Rattle.connection_model.specs.Further.{longer, nothing_comes, nothing_further}
 use Rattle.connection_model.specs.Gates.{no_bytes, sent_from}
-use Rattle.connection_model.specs.Heard.{Input, Bytes, Ends, Resets, Connects, Takes, Comes, SideHeard, servers_taken, Heard, taken, edges_met, hears, further_of, start_of, has_made}
+use Rattle.connection_model.specs.Heard.{Input, Bytes, Ends, Resets, Connects, Takes, Comes, SideHeard, servers_taken, Heard, taken, edges_met, hears, further_of, start_of}
 use Rattle.connection_model.specs.HeardLaws.{TellsNothing}
 use Rattle.connection_model.specs.Item.{Item, client_output, server_output}
 use Rattle.connection_model.specs.Phases.{Orderly}
 use Rattle.connection_model.specs.Setup.{Setup}
 use Rattle.connection_model.specs.State.{Cut, TraceState}
-use Rattle.connection_model.specs.Tellings.{tells, notes_about, finish_told, failure_told}
+use Rattle.connection_model.specs.Tellings.{notes_about, finish_told, failure_told}
 use Rattle.connection_model.specs.Trace.{Unfolds}
 use Rattle.connection_model.proofs.Streams.{nothing_stream, nothing_server, nothing_on_last}
-use Rattle.conn.specs.Calls.{reset_in, took_more, unless_finished}
-use Rattle.conn.specs.Ends.{end_of, fresh_end, has_stream, heard_end, queue_of, queued_in, servers_by}
+use Rattle.conn.specs.Calls.{unless_finished}
+use Rattle.conn.specs.Ends.{fresh_end, has_stream, queue_of, queued_in, servers_by}
 use Rattle.conn.specs.Holds.{Around, Holds, HoldsEnds}
 use Rattle.conn.specs.Settling.{is_over, noted_in, over_in, settle_notes, settling_at, took_all}
 use Rattle.conn.specs.Stages.{has_finished, is_asking, is_draining}

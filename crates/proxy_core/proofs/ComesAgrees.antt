@@ -1,22 +1,19 @@
 -- Something came of a connection: from what changed in a core to what the core stands for.
-use Rattle.std.proofs.Common.{◌≡◌, refl, sym, ap, subst, ◌∙◌, ℕ, List, [], ◌∷◌, Bool, true, false, not, Option, Some, None, if◌then◌else◌, remove, set, nat_eq}
+use Rattle.std.proofs.Common.{◌≡◌, refl, sym, ap, ◌∙◌, ℕ, List, [], ◌∷◌, Bool, true, false, not, Option, Some, None, if◌then◌else◌, remove, set, nat_eq}
 use Rattle.std.specs.List.{IsDistinct}
-use Rattle.px_bytes.specs.declared.addr.Side.TheVariants.{Client, Server}
 use Rattle.connection_model.specs.declared.note.Note.{Note}
 use Rattle.connection_model.specs.Edges.{edges_noted}
-use Rattle.connection_model.specs.Heard.{Input, Bytes, Ends, Resets, Connects, Takes, Comes, Heard, edges_met}
-use Rattle.connection_model.specs.declared.edges.Edges.{Edges}
+use Rattle.connection_model.specs.Heard.{Input, Bytes, Ends, Resets, Connects, Takes, Comes, edges_met}
 use Rattle.conn.specs.declared.connection.Conn.{Conn}
 use Rattle.proxy_core.specs.Changes as code
-use Rattle.proxy_core.specs.Live.{KeepsPlace, MayCome, asks_in}
+use Rattle.proxy_core.specs.Live.{MayCome, asks_in}
 use Rattle.proxy_core.specs.Calls.{calls_of, is_any, without_calls, woken}
 use Rattle.proxy_core.specs.Past.{Past, heard, ended_in, without_all, shared}
 use Rattle.proxy_core.specs.Ready.{numbers, is_in, without, with_ready}
 use Rattle.proxy_core.specs.Refusals.{live_at}
-use Rattle.proxy_core.specs.Represents.{AgreesAt, Represents}
-use Rattle.proxy_core.specs.Scheduler.{Seen, State, seen, seen_after}
-use Rattle.proxy_core.specs.Serving.{Serves}
-use Rattle.proxy_core.specs.Setup.{statics_of, setup_in, setup_of}
+use Rattle.proxy_core.specs.Represents.{Represents}
+use Rattle.proxy_core.specs.Scheduler.{State, seen, seen_after}
+use Rattle.proxy_core.specs.Setup.{setup_in, setup_of}
 use Rattle.proxy_core.specs.Sound.{Served}
 use Rattle.proxy_core.specs.declared.config.Config.{Config}
 use Rattle.proxy_core.specs.declared.core_state.Core.{Core}

@@ -8,10 +8,9 @@ use Rattle.px_bytes.specs.declared.addr.Side.{Side}
 use Rattle.px_bytes.specs.declared.addr.Side.TheVariants.{Client, Server}
 use Rattle.connection_model.specs.Further.{longer, nothing_further}
 use Rattle.connection_model.specs.Heard.{Input, Bytes, Ends, Resets, Connects, Takes, edges_met}
-use Rattle.connection_model.specs.Setup.{Setup}
 use Rattle.connection_model.specs.State.{TraceState}
-use Rattle.conn.specs.Calls.{Connects as Answers, Hears, Resets as Reset, Takes as Took, answered_in, connected_ends, ended_ends, heard_ends, reset_ends, reset_in, took_ends, took_more, unless_finished}
-use Rattle.conn.specs.Holds.{Around, Holds}
+use Rattle.conn.specs.Calls.{Connects as Answers, Hears, Resets as Reset, Takes as Took, connected_ends, ended_ends, heard_ends, reset_ends, reset_in, took_ends, took_more, unless_finished}
+use Rattle.conn.specs.Holds.{Holds}
 use Rattle.conn.specs.Stages.{has_finished}
 use Rattle.conn.specs.declared.connection.Conn.{Conn}
 use Rattle.conn.specs.declared.setup.Setup as given

@@ -19,7 +19,7 @@ use Rattle.proxy_core.specs.declared.call.Asked.{Asked}
 use Rattle.proxy_core.specs.declared.config.Config.{Config}
 use Rattle.proxy_core.specs.declared.core_state.Core.{Core}
 use Rattle.proxy_core.proofs.Entries.{calls_front, calls_without, calls_without_self}
-use Rattle.proxy_core.proofs.Members.{eq_same, eq_self, in_without_other}
+use Rattle.proxy_core.proofs.Members.{eq_same, in_without_other}
 
 -- the calls of one connection, and the others
 parted : (n : ℕ) (queue : List Asked) → length queue ≡ length (without_calls n queue) + length (calls_of n queue)

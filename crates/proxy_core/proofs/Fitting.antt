@@ -1,5 +1,5 @@
 -- The notes of each event fit where the ends of their connection stand.
-use Rattle.std.proofs.Common.{◌≡◌, ◌⊎◌, inl, inr, refl, sym, ap, subst, ◌∙◌, ℕ, List, [], ◌∷◌, ◌++◌, Bool, true, false, ◌&&◌, not, true≢false, None, nat_eq, if◌then◌else◌}
+use Rattle.std.proofs.Common.{◌≡◌, ◌⊎◌, inl, inr, refl, sym, ap, subst, ◌∙◌, ℕ, List, [], ◌∷◌, ◌++◌, Bool, true, false, ◌&&◌, not, true≢false, nat_eq, if◌then◌else◌}
 use Rattle.std.specs.Prelude.{is_some}
 use Rattle.std.specs.Bool.{MatchBool}
 use Rattle.std.proofs.lemmas.Bool.{and_parts}
@@ -36,7 +36,7 @@ use Rattle.proxy_core.specs.Calls.{asker}
 use Rattle.proxy_core.specs.Fitting.{fits, Fit, NotesFitEdges}
 use Rattle.proxy_core.specs.History.{store_of}
 use Rattle.proxy_core.specs.Live.{entry_note}
-use Rattle.proxy_core.specs.Moves.{MovesFailed, MovesLacks, MovesOn, MovesCome, MovesRing, MovesFront, MovesQueue, TurnNotes, MovesBy, RunsOn, RunsOut, RunsFailed, Leads}
+use Rattle.proxy_core.specs.Moves.{MovesFailed, MovesLacks, MovesOn, MovesCome, MovesRing, MovesFront, MovesQueue, TurnNotes, MovesBy, RunsOn, RunsOut, RunsFailed}
 use Rattle.proxy_core.specs.Others.{about, front}
 use Rattle.proxy_core.specs.Past.{Past, kind_of, heard, shared}
 use Rattle.proxy_core.specs.Scheduler.{State, Seen, seen, untaken_all}

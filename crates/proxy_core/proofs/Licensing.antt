@@ -1,5 +1,5 @@
 -- A cut that was heard was allowed: behind each event what was told still allows it.
-use Rattle.std.proofs.Common.{◌≡◌, ◌⊎◌, inl, inr, refl, sym, ap, subst, ◌∙◌, ℕ, ◌+◌, List, [], ◌∷◌, ◌++◌, append-nil, map, Bool, true, false, ◌||◌, true≢false, if◌then◌else◌, Option, Some, None, is_none, nat_eq, arith, zero-add}
+use Rattle.std.proofs.Common.{◌≡◌, inl, inr, refl, sym, ap, ◌∙◌, ℕ, ◌+◌, List, [], ◌∷◌, ◌++◌, append-nil, Bool, true, false, ◌||◌, true≢false, if◌then◌else◌, Option, Some, None, is_none, zero-add}
 use Rattle.px_bytes.specs.declared.addr.Side.TheVariants.{Client, Server}
 use Rattle.connection_model.specs.declared.edges.Edges.{Edges}
 use Rattle.connection_model.specs.declared.note.CutReason.{CutReason}
@@ -7,7 +7,7 @@ use Rattle.connection_model.specs.declared.note.CutReason.TheVariants.{ClientRes
 use Rattle.connection_model.specs.declared.note.Note.{Note}
 use Rattle.connection_model.specs.Further.{Coming, nothing_comes, choosing, longer, first_cut, on_last}
 use Rattle.connection_model.specs.Gates.{TakenCounts, taken_of}
-use Rattle.connection_model.specs.Heard.{Input, Bytes, Ends, Resets, Connects, Takes, EventKind, Comes, Runs, SideHeard, Heard, taken, taken_by, side_taken, servers_taken, has_made, hears_by, hears_more, at_last, Brought, brought_nothing, event_brings, brought, hear_brought, marks, event_marks, hears_event, hears, start_of}
+use Rattle.connection_model.specs.Heard.{Input, Bytes, Ends, Resets, Connects, Takes, EventKind, Comes, Runs, SideHeard, Heard, taken, taken_by, servers_taken, has_made, hears_by, hears_more, at_last, brought_nothing, event_brings, brought, hear_brought, marks, event_marks, hears_event, hears, start_of}
 use Rattle.connection_model.specs.HeardLaws.{cut_for, cut_in, TellsNothing}
 use Rattle.connection_model.specs.Item.{Item, Reason, Closed, Tcl, Unselected, Rejected, CutBy, choices_in, notes_of, shown}
 use Rattle.connection_model.specs.Setup.{Setup}

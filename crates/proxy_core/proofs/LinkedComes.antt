@@ -1,13 +1,11 @@
 -- Where the server's end stands behind something that comes of its connection, and behind notes that are due.
-use Rattle.std.proofs.Common.{◌≡◌, refl, sym, ap, subst, ◌∙◌, ℕ, List, [], ◌∷◌, ◌++◌, Bool, true, false, ◌||◌, not, true≢false}
+use Rattle.std.proofs.Common.{◌≡◌, refl, sym, subst, ◌∙◌, ℕ, List, [], ◌∷◌, Bool, true, false, ◌||◌, not, true≢false}
 use Rattle.std.specs.List.{list_any}
 use Rattle.px_bytes.specs.declared.addr.Side.TheVariants.{Client, Server}
 use Rattle.connection_model.specs.declared.edges.Edges.{Edges}
-use Rattle.connection_model.specs.declared.note.Cause.{Cause}
-use Rattle.connection_model.specs.declared.note.Cause.TheVariants.{Memory}
 use Rattle.connection_model.specs.declared.note.Note.{Note}
 use Rattle.connection_model.specs.declared.note.Note.TheVariants as note
-use Rattle.connection_model.specs.Edges.{edges_by, edges_noted, answered_edge, is_connecting}
+use Rattle.connection_model.specs.Edges.{edges_by, edges_noted, is_connecting}
 use Rattle.connection_model.specs.Further.{Further, longer, nothing_further}
 use Rattle.connection_model.specs.Heard.{Input, Bytes, Ends, Resets, Connects, Takes, edges_met}
 use Rattle.connection_model.specs.State.{TraceState}

@@ -1,18 +1,16 @@
 -- What something that comes of a connection makes of what was told of it from outside.
-use Rattle.std.proofs.Common.{◌≡◌, refl, sym, ap, subst, ◌∙◌, ℕ, ◌+◌, List, [], ◌∷◌, ◌++◌, append-nil, map, drop, Bool, true, false, ◌||◌, Option, Some, None, option_map, nat_eq, if◌then◌else◌, arith}
+use Rattle.std.proofs.Common.{◌≡◌, refl, sym, ap, ◌∙◌, ℕ, ◌+◌, List, [], ◌∷◌, ◌++◌, append-nil, map, drop, Bool, true, false, ◌||◌, Option, Some, None, option_map, if◌then◌else◌, arith}
 use Rattle.std.proofs.lemmas.List.{drop-drop}
-use Rattle.px_bytes.specs.declared.addr.Side.{Side}
 use Rattle.px_bytes.specs.declared.addr.Side.TheVariants.{Client, Server}
 use Rattle.px_bytes.specs.declared.fault.Reply.{Reply}
 use Rattle.connection_model.specs.Further.{Coming, Further, nothing_comes, nothing_further}
-use Rattle.connection_model.specs.Gates.{TakenCounts}
 use Rattle.connection_model.specs.Heard.{Input, Bytes, Ends, Resets, Connects, Takes, Comes, EventKind, SideHeard, fresh_side, Heard, taken_by, side_taken, servers_taken, taken, hears_by, hears_more, has_made, at_last, answer, as_answer, Brought, brought_nothing, brings_in, event_brings, marks, event_marks, brought, hears_event, hears, further_of}
 use Rattle.connection_model.specs.HeardLaws.{TellsNothing}
 use Rattle.connection_model.specs.Item.{Choice, Item, client_output, server_output}
 use Rattle.connection_model.specs.State.{Cut}
 use Rattle.connection_model.specs.Tellings.{notes_about, replies_told, choices_told, cut_told, finish_told, failure_told}
 use Rattle.connection_model.specs.declared.note.Note.{Note}
-use Rattle.conn.specs.Calls.{answered_by, answered_in, more_at_last, none_at_last, reset_in, took_more, unless_finished}
+use Rattle.conn.specs.Calls.{answered_by, more_at_last, none_at_last, unless_finished}
 use Rattle.conn.specs.Ends.{has_stream, heard_by, heard_end}
 use Rattle.conn.specs.Holds.{Around}
 use Rattle.conn.specs.declared.ends.End.{End}

@@ -1,6 +1,5 @@
 -- Parts of the promise, of a connection of which `Served` holds.
-use Rattle.std.proofs.Common.{◌≡◌, refl, sym, ap, subst, ◌∙◌, ℕ, zero, suc, ◌+◌, ◌≤◌, List, [], ◌∷◌, ◌++◌, length, take, map, Bool, true, false, ◌||◌, ◌&&◌, not, nat_eq, arith, eqb-true, append-nil, if◌then◌else◌, is_none, zero-add, ◌-◌, Option, Some, None}
-use Rattle.std.specs.List.{list_any}
+use Rattle.std.proofs.Common.{◌≡◌, refl, sym, ap, subst, ◌∙◌, ℕ, ◌+◌, ◌≤◌, List, [], ◌∷◌, ◌++◌, length, take, map, Bool, true, false, ◌&&◌, not, nat_eq, arith, eqb-true, append-nil, if◌then◌else◌, is_none, zero-add, ◌-◌}
 use Rattle.std.proofs.lemmas.Bool.{and_parts}
 use Rattle.std.proofs.lemmas.List.{take-append-le}
 use Rattle.std.proofs.lemmas.Grind.{flat_map-append}
@@ -11,7 +10,7 @@ use Rattle.connection_model.specs.declared.note.Cause.{Cause}
 use Rattle.connection_model.specs.declared.note.Cause.TheVariants.{Memory}
 use Rattle.connection_model.specs.declared.note.Note.{Note}
 use Rattle.connection_model.specs.Further.{is_some_of}
-use Rattle.connection_model.specs.Gates.{Counts, TakenCounts, no_bytes, sent_from, to_take, untaken}
+use Rattle.connection_model.specs.Gates.{Counts, TakenCounts, no_bytes, to_take, untaken}
 use Rattle.connection_model.specs.Heard.{Heard, taken, taken_by}
 use Rattle.connection_model.specs.Item.{Item, Reason, cause_of, to_client, to_server, client_output, server_output, notes_of, reasons_in}
 use Rattle.connection_model.specs.Laws.{Stops, cut_is_taken, takes_cut}
@@ -30,11 +29,11 @@ use Rattle.connection_model.specs.declared.note.Note.TheVariants.{HalfClose}
 use Rattle.connection_model.specs.declared.note.CutReason.{CutReason}
 use Rattle.connection_model.specs.declared.note.CutReason.TheVariants.{ClientReset, ServerReset, Idle}
 use Rattle.conn.specs.RunsItems.{is_cut, licenses}
-use Rattle.conn.specs.Settling.{half_close, is_drained, is_over, note_if, resting, settling_at}
+use Rattle.conn.specs.Settling.{half_close, is_drained, is_over, note_if, settling_at}
 use Rattle.proxy_core.specs.Calls.{calls_of}
-use Rattle.proxy_core.specs.Headline.{first_items, SentIsPrefix, IsSettled, FinishCauses, ClosesRightly, EntriesAreCalls}
+use Rattle.proxy_core.specs.Headline.{first_items, SentIsPrefix, IsSettled, EntriesAreCalls}
 use Rattle.proxy_core.specs.Past.{Past, heard}
-use Rattle.proxy_core.specs.Scheduler.{State, entries, Seen, seen, untaken_of, untaken_all}
+use Rattle.proxy_core.specs.Scheduler.{State, entries, Seen, seen, untaken_of}
 use Rattle.proxy_core.specs.Servers.{took_of}
 use Rattle.proxy_core.specs.Setup.{setup_of, begins_at, stand_of}
 use Rattle.proxy_core.specs.Shown.{causes_behind}

@@ -1,19 +1,17 @@
 -- The promise, of every past that leads to a state, from what holds of it.
-use Rattle.std.proofs.Common.{◌≡◌, refl, sym, ap, subst, ◌∙◌, ℕ, ◌+◌, ◌-◌, ◌≤◌, List, length, Bool, true, false, Option, Some, arith}
-use Rattle.std.specs.Prelude.{is_some}
-use Rattle.px_bytes.specs.declared.addr.Side.TheVariants.{Client, Server}
+use Rattle.std.proofs.Common.{◌≡◌, refl, sym, subst, ◌∙◌, ℕ, ◌+◌, ◌-◌, ◌≤◌, List, length, true, false, arith}
+use Rattle.px_bytes.specs.declared.addr.Side.TheVariants.{Server}
 use Rattle.connection_model.specs.Gates.{Counts, no_bytes, sent_from}
 use Rattle.connection_model.specs.Heard.{Heard, taken}
 use Rattle.connection_model.specs.Item.{Item, client_output}
 use Rattle.connection_model.specs.Setup.{Setup}
 use Rattle.connection_model.specs.State.{TraceState}
 use Rattle.connection_model.specs.Trace.{next_item, GivesNoMore}
-use Rattle.connection_model.specs.declared.note.CutReason.{CutReason}
 use Rattle.connection_model.specs.declared.note.CutReason.TheVariants.{ClientReset, ServerReset, Idle}
 use Rattle.proxy_core.specs.Headline.{IsSettled, NoCutIsDue, ConnectionPromise, EveryPastMatches, OutputMatchesEvaluator}
 use Rattle.proxy_core.specs.Moves.{Leads}
 use Rattle.proxy_core.specs.Past.{Past, heard}
-use Rattle.proxy_core.specs.Scheduler.{State, Seen, last_took, seen, untaken_of, untaken_all}
+use Rattle.proxy_core.specs.Scheduler.{State, Seen, last_took, seen, untaken_of}
 use Rattle.proxy_core.specs.Setup.{setup_of, stand_of}
 use Rattle.proxy_core.specs.Sound.{Rested, Served}
 use Rattle.proxy_core.specs.declared.config.Config.{Config}

@@ -1,11 +1,11 @@
 -- A Run: from what changed in a core to what the core stands for.
-use Rattle.std.proofs.Common.{◌≡◌, refl, sym, ap, subst, ◌∙◌, ℕ, ◌<◌, List, [], ◌∷◌, length, Bool, true, false, not, Option, Some, None, nat_eq, if◌then◌else◌, remove, set}
+use Rattle.std.proofs.Common.{◌≡◌, refl, sym, ap, subst, ◌∙◌, ℕ, ◌<◌, List, [], ◌∷◌, length, Bool, true, false, not, nat_eq, if◌then◌else◌, remove, set}
 use Rattle.tcl_vars.specs.Scopes.{Level}
 use Rattle.connection_model.specs.declared.edges.Edges.{Edges}
 use Rattle.connection_model.specs.declared.note.Note.{Note}
 use Rattle.connection_model.specs.Edges.{edges_noted}
 use Rattle.connection_model.specs.Gates.{TakenCounts}
-use Rattle.connection_model.specs.Heard.{Runs, hears, taken}
+use Rattle.connection_model.specs.Heard.{Runs, taken}
 use Rattle.connection_model.specs.Setup.{Setup}
 use Rattle.connection_model.specs.State.{TraceState}
 use Rattle.connection_model.proofs.Hearing.{others_not_heard}
@@ -14,7 +14,7 @@ use Rattle.proxy_core.specs.Changes as code
 use Rattle.proxy_core.specs.Calls.{calls_of, queue_behind}
 use Rattle.proxy_core.specs.Live.{edges_in}
 use Rattle.proxy_core.specs.Moves.{MovesRing}
-use Rattle.proxy_core.specs.Past.{Past, heard, ended_in, shared, without_all}
+use Rattle.proxy_core.specs.Past.{Past, ended_in, shared, without_all}
 use Rattle.proxy_core.specs.Ready.{numbers}
 use Rattle.proxy_core.specs.Refusals.{live_at}
 use Rattle.proxy_core.specs.Represents.{AgreesAt, Represents}

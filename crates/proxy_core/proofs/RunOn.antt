@@ -1,9 +1,8 @@
 -- A connection of the code that runs: what it goes on with, for what was heard then.
-use Rattle.std.proofs.Common.{◌≡◌, ◌⊎◌, inl, inr, refl, sym, ap, subst, ◌∙◌, ℕ, ◌+◌, ◌-◌, ◌≤◌, List, [], ◌∷◌, ◌++◌, length, drop, map, Bool, true, false, ◌||◌, Option, Some, None, nat_eq, if◌then◌else◌, arith, length-append}
+use Rattle.std.proofs.Common.{◌≡◌, ◌⊎◌, inl, inr, refl, sym, ap, subst, ◌∙◌, ℕ, ◌+◌, ◌-◌, ◌≤◌, List, [], ◌∷◌, ◌++◌, length, drop, Bool, true, false, ◌||◌, Option, Some, None, nat_eq, if◌then◌else◌, arith, length-append}
 use Rattle.std.specs.Bool.{MatchBool}
 use Rattle.std.proofs.lemmas.List.{length-drop, drop-append-le}
 use Rattle.std.proofs.lemmas.Grind.{flat_map-append}
-use Rattle.px_bytes.specs.declared.addr.Side.TheVariants.{Client, Server}
 use Rattle.connection_model.specs.declared.edges.Edges.{Edges}
 use Rattle.connection_model.specs.declared.note.Cause.TheVariants.{Memory}
 use Rattle.connection_model.specs.declared.note.Note.{Note}
@@ -16,7 +15,7 @@ use Rattle.connection_model.specs.HeardLaws.{TellsNothing, taken_by_items}
 use Rattle.connection_model.specs.Item.{Item, to_client, to_server, client_output, server_output, notes_of}
 use Rattle.connection_model.specs.Setup.{Setup}
 use Rattle.connection_model.specs.State.{TraceState}
-use Rattle.connection_model.specs.Tellings.{tells, notes_about, failure_told}
+use Rattle.connection_model.specs.Tellings.{notes_about, failure_told}
 use Rattle.connection_model.specs.Trace.{Unfolds}
 use Rattle.connection_model.proofs.Given.{sent_counted, sent_output}
 use Rattle.connection_model.proofs.Sending.{sent_to_server}
@@ -24,7 +23,7 @@ use Rattle.conn.specs.Ends.{is_up, number_by, queued_in}
 use Rattle.conn.specs.Holds.{Around, Holds, HoldsEnds}
 use Rattle.conn.specs.Runs.{GoesOnWith, StopsWithout}
 use Rattle.conn.specs.RunsItems.{Passes, StopsAt, asks, ends, is_resting, out_of_memory, told_behind}
-use Rattle.conn.specs.Settling.{closing, is_drained, resting}
+use Rattle.conn.specs.Settling.{closing, resting}
 use Rattle.conn.specs.Setups as conn
 use Rattle.conn.specs.declared.connection.Conn.{Conn}
 use Rattle.conn.specs.declared.ends.Ends.{Ends}
@@ -38,13 +37,13 @@ use Rattle.proxy_core.specs.Live.{LiveRuns, asks_in, edges_by_conn}
 use Rattle.proxy_core.specs.Moves.{MovesFront, RunsFailed, RunsOn, RunsOut, ran}
 use Rattle.proxy_core.specs.Past.{Past, ended_in, heard}
 use Rattle.proxy_core.specs.Ready.{ring_behind}
-use Rattle.proxy_core.specs.Represents.{ConnectionContinues, Continues, HoldsQueues, Lacks, NeverBegan, around}
+use Rattle.proxy_core.specs.Represents.{ConnectionContinues, Continues, HoldsQueues, around}
 use Rattle.proxy_core.specs.Scheduler.{State, last_took, seen, seen_after, untaken_all}
-use Rattle.proxy_core.specs.Setup.{setup_in, setup_of, stand_of}
+use Rattle.proxy_core.specs.Setup.{setup_of, stand_of}
 use Rattle.proxy_core.specs.declared.config.Config.{Config}
 use Rattle.proxy_core.proofs.CameOn.{Stood, queued_untaken, to_standing}
 use Rattle.proxy_core.proofs.Entries.{asked_behind, calls_behind_self}
-use Rattle.proxy_core.proofs.GroupNotes.{About, AreDue, OfItems, about_items, about_joined, closing_due, due_about, due_failure, due_quiet, ended_behind, ended_closing, ended_resting, failure_behind, of_items, resting_due, tells_all}
+use Rattle.proxy_core.proofs.GroupNotes.{About, AreDue, about_items, about_joined, closing_due, due_about, due_failure, due_quiet, ended_behind, ended_closing, ended_resting, failure_behind, of_items, resting_due, tells_all}
 use Rattle.proxy_core.proofs.Meeting.{around_quiet}
 use Rattle.proxy_core.proofs.Members.{eq_self}
 use Rattle.proxy_core.proofs.Standing.{sent_at}

@@ -1,12 +1,11 @@
 -- What the server connections of one connection took, by what was heard: of each by its number, and of the last.
-use Rattle.std.proofs.Common.{◌≡◌, ◌⊎◌, inl, inr, refl, sym, ap, subst, ◌∙◌, ℕ, zero, suc, ◌+◌, ◌-◌, ◌≤◌, List, [], ◌∷◌, ◌++◌, map, Bool, true, false, true≢false, if◌then◌else◌, Option, Some, None, nat_eq, arith}
+use Rattle.std.proofs.Common.{◌≡◌, ◌⊎◌, inl, inr, refl, sym, ap, ◌∙◌, ℕ, zero, suc, ◌+◌, ◌-◌, ◌≤◌, List, [], ◌∷◌, ◌++◌, map, Bool, true, false, true≢false, if◌then◌else◌, Option, Some, None, nat_eq, arith}
 use Rattle.std.specs.Prelude.{slice_get, unwrap_or}
 use Rattle.px_bytes.specs.declared.addr.Side.TheVariants.{Client, Server}
 use Rattle.connection_model.specs.declared.note.Note.{Note}
 use Rattle.connection_model.specs.Gates.{untaken, taken_of}
-use Rattle.connection_model.specs.Heard.{Input, Bytes, Ends, Resets, Connects, Takes, Comes, SideHeard, fresh_side, Heard, taken_by, side_taken, servers_taken, has_made, hears_by, hears_more, at_last, answer, as_answer, Brought, brought_nothing, brings_in, marks, event_brings, event_marks, brought, hears}
+use Rattle.connection_model.specs.Heard.{Input, Bytes, Ends, Resets, Connects, Takes, Comes, SideHeard, Heard, taken_by, side_taken, servers_taken, has_made, hears_by, hears_more, at_last, answer, as_answer, Brought, brought_nothing, brings_in, marks, event_brings, event_marks, brought, hears}
 use Rattle.connection_model.specs.Further.{Coming}
-use Rattle.connection_model.specs.State.{Stream}
 use Rattle.proxy_core.specs.Scheduler.{last_took}
 use Rattle.proxy_core.specs.Servers.{made, took_behind, took_of, last_reset}
 

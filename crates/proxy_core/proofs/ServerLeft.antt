@@ -1,12 +1,11 @@
 -- What was told of a server connection agrees with what was sent to it: what it took, what is pending, and its reset.
-use Rattle.std.proofs.Common.{◌≡◌, refl, sym, ap, subst, ◌∙◌, ℕ, zero, suc, ◌+◌, ◌-◌, ◌≤◌, ◌<◌, List, [], ◌∷◌, length, map, Bool, true, false, true≢false, Option, Some, None, is_none, arith, zero-add}
-use Rattle.px_bytes.specs.declared.addr.Side.TheVariants.{Client, Server}
+use Rattle.std.proofs.Common.{◌≡◌, refl, sym, ap, subst, ◌∙◌, ℕ, zero, suc, ◌+◌, ◌-◌, ◌≤◌, ◌<◌, List, [], ◌∷◌, length, map, Bool, true, false, true≢false, Option, is_none, arith, zero-add}
+use Rattle.px_bytes.specs.declared.addr.Side.TheVariants.{Server}
 use Rattle.connection_model.specs.declared.note.CutReason.TheVariants.{ServerReset}
 use Rattle.connection_model.specs.Gates.{no_bytes, sent_from, to_take, taken_of, untaken}
 use Rattle.connection_model.specs.Heard.{Heard, taken, taken_by, servers_taken, as_answer, start_of}
 use Rattle.connection_model.specs.Item.{Item, server_output}
-use Rattle.connection_model.specs.Phases.{Orderly, OrderlyIn}
-use Rattle.connection_model.specs.Places.{is_up}
+use Rattle.connection_model.specs.Phases.{OrderlyIn}
 use Rattle.connection_model.specs.Setup.{Setup}
 use Rattle.connection_model.specs.State.{Phase, Answering, Link, Stream, TraceState, link_of}
 use Rattle.connection_model.specs.Trace.{next_item, Unfolds, GivesNoMore}

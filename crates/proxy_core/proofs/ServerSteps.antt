@@ -1,5 +1,5 @@
 -- What each item does to the server's side of a trace: who is asked for a connection, which answer is taken, and that all other items leave both.
-use Rattle.std.proofs.Common.{◌≡◌, refl, sym, ap, subst, ◌∙◌, ℕ, zero, suc, ◌+◌, List, [], ◌∷◌, length, nat_le, Bool, true, false, ◌||◌, not, true≢false, if◌then◌else◌, Option, Some, None, is_some}
+use Rattle.std.proofs.Common.{◌≡◌, refl, sym, ap, subst, ◌∙◌, ℕ, zero, suc, ◌+◌, List, [], ◌∷◌, Bool, true, false, ◌||◌, not, true≢false, if◌then◌else◌, Option, Some, None, is_some}
 use Rattle.std.specs.Prelude.{slice_get, take}
 use Rattle.px_bytes.specs.declared.addr.Addr.{Addr}
 use Rattle.px_bytes.specs.declared.addr.Side.{Side}
@@ -22,13 +22,12 @@ use Rattle.irule_net.specs.declared.state.Ending.TheVariants.{Rejects, Closes}
 use Rattle.irule_net.specs.declared.state.Selected.{Selected}
 use Rattle.irule_net.specs.declared.state.Target.{Target}
 use Rattle.irule_net.specs.declared.state.Target.TheVariants.{Default, PoolOf, MemberOf, NodeAt}
-use Rattle.connection_model.specs.declared.note.CutReason.{CutReason}
 use Rattle.connection_model.specs.Bodies.{run_body, act_item, ended_next, act_next, bodies_next}
 use Rattle.connection_model.specs.Gates.{Counts, TakenCounts, may_give}
 use Rattle.connection_model.specs.Host.{HostState, with_selected}
-use Rattle.connection_model.specs.Item.{Item, Reason, Closed, Rejected, Unselected, Tcl, CutBy, Choice, Resumed, Answered, Connected, Logged, Fired, Passed, Ran, Called, shown}
+use Rattle.connection_model.specs.Item.{Item, Reason, Closed, Rejected, Unselected, Tcl, CutBy, Choice, Answered, Connected}
 use Rattle.connection_model.specs.Phases.{Orderly, OrderlyIn}
-use Rattle.connection_model.specs.Places.{Place, at as put, place, is_up, is_closing, begun, bodies_left, closed_client, closed_server, closed, connecting, behind_accepted, behind_data, behind_connected, goes_on, unless_ended, after_event, entered, enter, next_body, after_body, after_fault, data_event}
+use Rattle.connection_model.specs.Places.{at as put, place, is_up, is_closing, begun, bodies_left, closed_client, closed, connecting, behind_accepted, behind_data, behind_connected, goes_on, unless_ended, after_event, entered, enter, next_body, after_body, data_event}
 use Rattle.connection_model.specs.Relay.{incoming, RelayAct, BothDone, Passing, Firing, Resting, relay_act, fired_host, collect_act, behind_fires}
 use Rattle.connection_model.specs.Selected.{addr_of}
 use Rattle.connection_model.specs.Setup.{Handler, Setup}

@@ -1,7 +1,6 @@
 -- What each kind of event owes: its own connection.
 use Rattle.std.proofs.Common.{◌≡◌, refl, sym, ap, subst, ◌∙◌, ℕ, zero, suc, ◌+◌, ◌≤◌, List, [], ◌∷◌, ◌++◌, length, map, Bool, true, false, ◌||◌, ◌&&◌, not, Option, Some, None, nat_eq, arith, append-nil, append_assoc, length-append, if◌then◌else◌, ◌-◌, ◌⊎◌, inl, inr, eqb-true}
 use Rattle.std.specs.Prelude.{is_some}
-use Rattle.std.specs.Bool.{MatchBool}
 use Rattle.std.specs.List.{IsDistinct, filter, list_any}
 use Rattle.std.proofs.lemmas.Grind.{flat_map-append}
 use Rattle.px_bytes.specs.declared.addr.Side.{Side}
@@ -16,7 +15,7 @@ use Rattle.connection_model.specs.Edges.{accepted_edges, edge_of, edges_noted}
 use Rattle.connection_model.specs.Further.{Further, Same, longer, first_cut, replies_only, choosing, CutMeets, nothing_further}
 use Rattle.connection_model.specs.Further as further
 use Rattle.connection_model.specs.Gates.{Counts, TakenCounts, no_bytes, sent_from, to_take, untaken, Met}
-use Rattle.connection_model.specs.Heard.{Input, EventKind, Accepts, Comes, Turns, Runs, Accepted, SideHeard, Heard, nothing_heard, taken, hears, start_of, further_of, edges_met}
+use Rattle.connection_model.specs.Heard.{Input, Accepts, Comes, Turns, Runs, Accepted, SideHeard, Heard, nothing_heard, taken, hears, start_of, further_of, edges_met}
 use Rattle.connection_model.specs.Host.{first_host}
 use Rattle.connection_model.specs.declared.edges.EdgeState.TheVariants as state
 use Rattle.event_order.specs.declared.event.EventName.TheVariants.{ClientAccepted}
@@ -27,7 +26,7 @@ use Rattle.connection_model.specs.Phases.{Orderly}
 use Rattle.connection_model.specs.Setup.{Setup}
 use Rattle.connection_model.specs.State.{Stream, Absent, Answers as Recorded, Cut, TraceState, ForReply, Next, Waits, Over}
 use Rattle.connection_model.specs.Tellings.{tells, notes_about, replies_told, choices_told, cut_told, finish_told, failure_told}
-use Rattle.connection_model.specs.Trace.{next_item, start, Unfolds, GivesNoMore}
+use Rattle.connection_model.specs.Trace.{next_item, start, Unfolds}
 use Rattle.connection_model.proofs.Given.{no_cut_behind, next_same_on_replies}
 use Rattle.connection_model.proofs.Hearing.{event_stands, finished_stands, run_stands}
 use Rattle.connection_model.proofs.Longer.{next_same}
@@ -51,17 +50,17 @@ use Rattle.proxy_core.specs.Scheduler.{State, entries, Seen, seen, seen_after, l
 use Rattle.proxy_core.specs.Servers.{took_of, Linked}
 use Rattle.proxy_core.specs.Setup.{begins_at, setup_in, setup_of, stand_of}
 use Rattle.proxy_core.specs.Shown.{shows, closes, ends_it, causes_told, causes_behind}
-use Rattle.proxy_core.specs.Sound.{unseen, is_closed, TookWithin, EndsClosed, EndsTold, Rested, Spot, CallsTold, ServedAt, Served, SoundAt}
+use Rattle.proxy_core.specs.Sound.{unseen, is_closed, TookWithin, EndsClosed, EndsTold, Spot, CallsTold, ServedAt, Served, SoundAt}
 use Rattle.proxy_core.specs.declared.config.Config.{Config}
 use Rattle.proxy_core.proofs.CameAt.{UncutOr, heard_uncut, stands_come, stands_uncut}
-use Rattle.proxy_core.proofs.Closings.{EndsBy, LastEnds, any_on, none_on, closing_ends, closing_gone, met_closed, none_ends, ends_behind, items_closed, items_go_on, items_open, settling_at_ends, settling_closed, settling_gone, settling_opens}
+use Rattle.proxy_core.proofs.Closings.{EndsBy, any_on, none_on, closing_ends, closing_gone, met_closed, none_ends, ends_behind, items_closed, items_go_on, items_open, settling_at_ends, settling_closed, settling_gone, settling_opens}
 use Rattle.proxy_core.proofs.EdgeNotes.{edges_come, edges_joined, edges_told}
 use Rattle.proxy_core.proofs.Ending.{over_has_finished}
 use Rattle.proxy_core.proofs.Entries.{entries_pushed_self, entries_without_self, rest_of, ready_of, woken_of, entries_ready_self, entries_woken_self, calls_front, calls_without_self}
 use Rattle.proxy_core.proofs.Finished.{heard_finish, trace_finished}
 use Rattle.proxy_core.proofs.Framing.{same_seen}
-use Rattle.proxy_core.proofs.GroupNotes.{About, AreDue, about_joined, of_items, about_items, tells_all, due_about, due_failure, due_finish, due_quiet, due_entries, failure_behind, ended_behind, settling_due, closing_due, ended_settling_at, ended_closing, entries_items, entries_on, called_on, quiet_finish, quiet_by}
-use Rattle.proxy_core.proofs.Hearing.{Told, come_told, come_takes, run_told, run_stays, run_further, turn_told, turn_stays, turn_further}
+use Rattle.proxy_core.proofs.GroupNotes.{About, AreDue, about_joined, of_items, about_items, tells_all, due_about, due_failure, due_finish, due_quiet, due_entries, failure_behind, ended_behind, settling_due, closing_due, ended_settling_at, ended_closing, entries_items, entries_on, called_on, quiet_finish}
+use Rattle.proxy_core.proofs.Hearing.{come_told, come_takes, run_told, run_stays, run_further, turn_told, turn_stays, turn_further}
 use Rattle.proxy_core.proofs.Meeting.{come_further, last_further}
 use Rattle.proxy_core.proofs.Members.{eq_self, in_pushed_self, not_in_without}
 use Rattle.proxy_core.proofs.Licensing.{come_licensed, cut_stays, run_licensed, stays_licensed}

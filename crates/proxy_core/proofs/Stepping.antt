@@ -8,7 +8,6 @@ use Rattle.connection_model.specs.declared.note.Note.{Note}
 use Rattle.connection_model.specs.Heard.{Bytes, Connects, Ends, Takes, EventKind, Resets}
 use Rattle.connection_model.specs.Tellings.{tells, finish_told}
 use Rattle.proxy_core.specs.Changes.{Changes}
-use Rattle.proxy_core.specs.History.{store_of}
 use Rattle.proxy_core.specs.Live.{pending_in, wanted_of}
 use Rattle.proxy_core.specs.Past.{Past, kind_of, Shared, shared}
 use Rattle.proxy_core.specs.Ready.{numbers}

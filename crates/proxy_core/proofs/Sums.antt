@@ -1,5 +1,5 @@
 -- What the notes of a connection tell in all: what they show, and why it finishes.
-use Rattle.std.proofs.Common.{◌≡◌, refl, sym, ap, ◌∙◌, ℕ, List, [], ◌∷◌, ◌++◌, append-nil, map, Bool, true, false, ◌||◌}
+use Rattle.std.proofs.Common.{◌≡◌, refl, sym, ap, ◌∙◌, ℕ, List, [], ◌∷◌, ◌++◌, append-nil, map, false}
 use Rattle.std.proofs.lemmas.List.{map-append}
 use Rattle.std.proofs.lemmas.List.Elements.{filter-append}
 use Rattle.std.proofs.lemmas.Grind.{flat_map-append}
@@ -10,7 +10,7 @@ use Rattle.connection_model.specs.declared.note.Note.TheVariants as note
 use Rattle.connection_model.specs.Further.{is_some_of}
 use Rattle.connection_model.specs.Item.{Item, Passed, Fired, Reused, Connected, Logged, Finished, shown, listed, cause_of, note_of, notes_of, reasons_in}
 use Rattle.connection_model.specs.Tellings.{tells, finish_told}
-use Rattle.proxy_core.specs.Shown.{shows, cause_told, causes_told, causes_behind}
+use Rattle.proxy_core.specs.Shown.{shows, cause_told, causes_told}
 use Rattle.proxy_core.proofs.GroupNotes.{AreDue, due_hidden, of_items, shown_all}
 
 pub causes_on : (some more : List Note) → causes_told (some ++ more) ≡ causes_told some ++ causes_told more

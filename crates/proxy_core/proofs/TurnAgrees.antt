@@ -1,5 +1,5 @@
 -- A Turn: from what changed in a core to what the core stands for.
-use Rattle.std.proofs.Common.{◌≡◌, ◌⊎◌, inl, inr, refl, sym, ap, subst, ◌∙◌, ℕ, List, [], ◌∷◌, Bool, true, false, Option, Some, None, nat_eq, set}
+use Rattle.std.proofs.Common.{◌≡◌, inl, inr, refl, sym, ap, subst, ◌∙◌, ℕ, List, [], ◌∷◌, Bool, true, false, Option, Some, None, nat_eq}
 use Rattle.std.specs.Prelude.{slice_get, option_and_then}
 use Rattle.px_bytes.specs.declared.fault.Reply.{Reply}
 use Rattle.connection_model.specs.declared.edges.Edges.{Edges}
@@ -13,10 +13,10 @@ use Rattle.shared_store.specs.Calls.{reply}
 use Rattle.proxy_core.specs.Calls.{asker, calls_of, is_any}
 use Rattle.proxy_core.specs.Changes as code
 use Rattle.proxy_core.specs.History.{store_of}
-use Rattle.proxy_core.specs.Live.{LiveAnswers, asks_in, edges_by_conn, edges_in}
+use Rattle.proxy_core.specs.Live.{LiveAnswers, asks_in, edges_in}
 use Rattle.proxy_core.specs.Moves.{MovesQueue, MovesTurn, MovesBy, TurnNotes}
 use Rattle.proxy_core.specs.Others.{about}
-use Rattle.proxy_core.specs.Past.{Past, heard, ended_in, without_all, shared}
+use Rattle.proxy_core.specs.Past.{Past, heard, without_all, shared}
 use Rattle.proxy_core.specs.Ready.{numbers, is_in, with_ready}
 use Rattle.proxy_core.specs.Refusals.{live_at}
 use Rattle.proxy_core.specs.Represents.{AgreesAt, ConnectionContinues, Continues, Represents}
@@ -35,7 +35,7 @@ use Rattle.proxy_core.proofs.Entries.{calls_front}
 use Rattle.proxy_core.proofs.Places.{number_at, live_there}
 use Rattle.proxy_core.proofs.Resting.{none_turns}
 use Rattle.proxy_core.proofs.Standing.{is_served}
-use Rattle.proxy_core.proofs.TurnOn.{Turned, by_answer}
+use Rattle.proxy_core.proofs.TurnOn.{by_answer}
 
 -- the front's call waits alone, on a live connection that found its memory
 record AtCall (failed live : Bool) (more : List (List (List ℕ))) : Type 0 where

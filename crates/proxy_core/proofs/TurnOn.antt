@@ -1,5 +1,5 @@
 -- A connection of the code whose shared call is answered: what it goes on with, for what was heard then.
-use Rattle.std.proofs.Common.{◌≡◌, ◌⊎◌, inl, inr, refl, sym, ap, subst, ◌∙◌, ℕ, List, [], ◌∷◌, ◌++◌, drop, map, append-nil, Bool, true, false, ◌||◌, Option, Some, None, if◌then◌else◌}
+use Rattle.std.proofs.Common.{◌≡◌, ◌⊎◌, inl, inr, refl, sym, ap, subst, ◌∙◌, ℕ, List, [], ◌∷◌, drop, map, append-nil, Bool, true, false, ◌||◌, Option, Some, None, if◌then◌else◌}
 use Rattle.px_bytes.specs.declared.fault.Reply.{Reply}
 use Rattle.connection_model.specs.declared.edges.Edges.{Edges}
 use Rattle.connection_model.specs.declared.note.Cause.TheVariants.{Memory}
@@ -20,7 +20,6 @@ use Rattle.conn.specs.Holds.{Around, Holds, HoldsEnds}
 use Rattle.conn.specs.Stages.{is_asking}
 use Rattle.conn.specs.declared.connection.Conn.{Conn}
 use Rattle.conn.specs.declared.ends.Ends.{Ends}
-use Rattle.conn.specs.declared.stage.Stage.TheVariants.{OutOfMemory}
 use Rattle.conn.proofs.Giving.{ends_kept}
 use Rattle.shared_store.specs.Calls.{reply}
 use Rattle.shared_store.specs.Store.{StoreState, at_moment}
@@ -28,7 +27,7 @@ use Rattle.proxy_core.specs.Live.{ConnFails, ConnReplies, LiveAnswers, LiveFails
 use Rattle.proxy_core.specs.Moves.{TurnNotes}
 use Rattle.proxy_core.specs.History.{store_after}
 use Rattle.proxy_core.specs.Past.{Past, ended_in, heard}
-use Rattle.proxy_core.specs.Represents.{ConnectionContinues, Continues, HoldsQueues, Lacks, around}
+use Rattle.proxy_core.specs.Represents.{ConnectionContinues, Continues, HoldsQueues, around}
 use Rattle.proxy_core.specs.Scheduler.{State, seen, seen_after}
 use Rattle.proxy_core.specs.Setup.{setup_of, stand_of}
 use Rattle.proxy_core.specs.declared.call.Asked.{Asked}

@@ -2,7 +2,7 @@
 use Rattle.std.proofs.Common.{◌≡◌, inl, inr, refl, sym, ap, ◌∙◌, ℕ, zero, suc, ◌+◌, List, [], ◌∷◌, length, drop, Bool, true, false, Option, Some, None, if◌then◌else◌, arith}
 use Rattle.px_bytes.specs.declared.addr.Side.{Side}
 use Rattle.px_bytes.specs.declared.addr.Side.TheVariants.{Client, Server}
-use Rattle.connection_model.specs.Gates.{Counts, no_bytes, sent_from, taken_of, to_take, untaken}
+use Rattle.connection_model.specs.Gates.{no_bytes, sent_from, taken_of, to_take, untaken}
 use Rattle.connection_model.specs.Heard.{Heard, taken, taken_by}
 use Rattle.connection_model.specs.Item.{Item, client_output, server_output}
 use Rattle.connection_model.proofs.Sending.{sent_to_server}

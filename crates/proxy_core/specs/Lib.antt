@@ -15,7 +15,6 @@ pub mod Queries
 pub mod Past
 pub mod History
 pub mod Scheduler
-pub mod Servers
 pub mod Shown
 pub mod Refusal
 pub mod Moves

@@ -3,7 +3,6 @@
 use Rattle.std.specs.Prelude.{ℕ, ◌+◌, ◌-◌, length, List, [], ◌∷◌, Bool, Option, Some, None, nat_eq, if◌then◌else◌}
 use Rattle.std.specs.List.{filter}
 use Rattle.px_bytes.specs.declared.addr.Side.{Side}
-use Rattle.px_bytes.specs.declared.addr.Side.TheVariants.{Client, Server}
 use Rattle.connection_model.specs.declared.note.Note.{Note}
 use Rattle.connection_model.specs.Gates.{no_bytes, sent_from, to_take}
 use Rattle.connection_model.specs.Heard.{EventKind, SideHeard, Heard, has_made, taken, hears}

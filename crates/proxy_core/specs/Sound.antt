@@ -1,6 +1,6 @@
 -- What holds of the states that a past leads to, without a word of the core.
 use Rattle.std.specs.Prelude.{◌≡◌, ℕ, ◌<◌, ◌≤◌, List, [], ◌∷◌, ◌++◌, length, map, Bool, true, false}
-use Rattle.std.specs.Prelude.{Option, Some, None, is_some, nat_eq}
+use Rattle.std.specs.Prelude.{Some, is_some, nat_eq}
 use Rattle.std.specs.Bool.{MatchBool}
 use Rattle.std.specs.List.{IsDistinct, filter, list_any}
 use Rattle.px_bytes.specs.declared.addr.Side.{Side}

@@ -1,4 +1,4 @@
-use Rattle.std.proofs.Common.{◌≡◌, ◌∙◌, ◌++◌, [], ap, arith, false, get_or, refl, set, sym, true}
+use Rattle.std.proofs.Common.{◌≡◌, ◌∙◌, ap, arith, false, get_or, refl, set, sym, true}
 use Rattle.proxy_core.specs.Calls.{kept_calls, without_calls, woken}
 use Rattle.proxy_core.specs.Live.{asks_in, input_of}
 use Rattle.proxy_core.specs.Ready.{without}
