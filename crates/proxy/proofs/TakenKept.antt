@@ -56,10 +56,12 @@ use Rattle.proxy_core.proofs.SoundPast.{none_holds, not_accepted, front_served, 
 use Rattle.connection_table.specs.Table.{Rises}
 use Rattle.connection_table.proofs.Numbers.{rises_push}
 use Rattle.proxy.specs.declared.taken.Taken.{Taken}
-use Rattle.proxy.specs.Replay.{accepted, makes, made, took_of as took_of_number, server_bytes, numbers_to, servers_bytes, taken_bytes, taken_by, taken_of}
+use Rattle.proxy_core.specs.Servers.{took_of as took_of_number}
+use Rattle.proxy.specs.Replay.{accepted, makes, servers_made, server_bytes, numbers_to, servers_bytes, taken_bytes, taken_by, taken_of}
 use Rattle.proxy.specs.ServerBytes.{on_last}
 use Rattle.proxy.specs.Taken.{AreRising, more_of, took_of, none_taken, begins_server, took_on, changed, with_took}
 use Rattle.proxy.proofs.MadeServers.{OneServer, none_made, other_makes, servers_are, servers_seen, unmade}
+use Rattle.proxy.proofs.OneServer.{one_server}
 
 -- accepted numbers rise
 pub record Rising (past : Past) : Type 0 where
@@ -105,7 +107,7 @@ pub are_rising : (C : Config) (past : Past) (s : State) (taken : List Taken) →
 are_rising C past s taken leads is = rw (is, conns_of past s (accepted past)) ((rising C past s leads).rises)
 
 -- what is kept of one connection, by how many servers of it were made and by what is seen of it
-abbrev kept_of : (c made : ℕ) → Seen → Taken
+abbrev kept_of : (c n : ℕ) → Seen → Taken
 kept_of c n z = record {
   conn = c;
   client = take z.heard.client.took (client_output z.place);
@@ -119,7 +121,7 @@ entry c n t u a b = record { conn = c; client = take t a; servers = servers_seen
 abbrev entry_seen : (c n : ℕ) → Seen → Taken
 entry_seen c n z = entry c n z.heard.client.took (last_took z.heard.connects) (client_output z.place) (server_output 1 z.place)
 
-entry_is : (past : Past) (s : State) (c : ℕ) → made c past ≤ 1 → taken_by past s c ≡ entry_seen c (made c past) (seen past s c)
+entry_is : (past : Past) (s : State) (c : ℕ) → servers_made c past ≤ 1 → taken_by past s c ≡ entry_seen c (servers_made c past) (seen past s c)
 entry_is past s c few =
     let put : List (List ℕ) → Taken = λ l. record { conn = c; client = taken_bytes past s c; servers = l } in
     ap put (servers_are past s c few)
@@ -129,9 +131,9 @@ other_stays : (C : Config) (past : Past) (s next : State) (e : Event) (group : L
     → taken_by (record { event = e; group = group } ∷ past) next q ≡ taken_by past s q
 other_stays C past s next e group m q f =
     let x : Happened = record { event = e; group = group } in
-    let none : made q (x ∷ past) ≡ made q past = let k = other_makes q (kind_of e) s f in omega (arith, k) in
+    let none : servers_made q (x ∷ past) ≡ servers_made q past = let k = other_makes q (kind_of e) s f in omega (arith, k) in
     ap (λ n. kept_of q n (seen (x ∷ past) next q)) none
-    ∙ ap (kept_of q (made q past)) ((only_changed past (kind_of e) group s next (touches C past (kind_of e) group s next m)).others q f)
+    ∙ ap (kept_of q (servers_made q past)) ((only_changed past (kind_of e) group s next (touches C past (kind_of e) group s next m)).others q f)
 
 -- the same for each of some numbers
 same_each : (past past' : Past) (s s' : State) (numbers : List ℕ) → ((q : ℕ) → taken_by past' s' q ≡ taken_by past s q) → taken_of past' s' numbers ≡ taken_of past s numbers
@@ -155,12 +157,12 @@ accept_kept C past s next c vs from group r h m =
     a : Accepted
     a = record { virtual = vs; from = from }
 
-    unmade_by : seen past s c ≡ unseen → made c past ≡ 0
+    unmade_by : seen past s c ≡ unseen → servers_made c past ≡ 0
     unmade_by u = none_made C past s c r.leads (ap (λ z. is_some z.heard.accepted) u)
 
     by_seen : (z : Seen) → seen (after ∷ past) next c ≡ z → kept_of c 0 z ≡ none_taken c → seen past s c ≡ unseen → taken_by (after ∷ past) next c ≡ none_taken c
     by_seen z e k u =
-        let none : made c (after ∷ past) ≡ 0 = let w = unmade_by u in omega (arith, w) in
+        let none : servers_made c (after ∷ past) ≡ 0 = let w = unmade_by u in omega (arith, w) in
         ap (λ n. kept_of c n (seen (after ∷ past) next c)) none ∙ ap (kept_of c 0) e ∙ k
 
     by_notes : seen past s c ≡ unseen → (group ≡ []) ⊎ (group ≡ Finish c Memory ∷ []) → taken_by (after ∷ past) next c ≡ none_taken c
@@ -241,18 +243,18 @@ counted c h i group there = by_finish (finish_told (notes_about c group)) refl
 -- the entry behind it, by the counts before and the numbers that it adds
 came_entry : (C : Config) (past : Past) (s next : State) (c : ℕ) (i : Input) (e : Event) (group : List Note) (t u : ℕ) → kind_of e ≡ Comes c i → OneServer (record { event = e; group = group } ∷ past) next c → Moves C past (record { event = e; group = group }) s next
     → (hears c (heard c past) (Comes c i) group).client.took ≡ t → last_took (hears c (heard c past) (Comes c i) group).connects ≡ u
-    → taken_by (record { event = e; group = group } ∷ past) next c ≡ entry c (made c past + makes c (Comes c i)) t u (client_output (s.places c)) (server_output 1 (s.places c))
+    → taken_by (record { event = e; group = group } ∷ past) next c ≡ entry c (servers_made c past + makes c (Comes c i)) t u (client_output (s.places c)) (server_output 1 (s.places c))
 came_entry C past s next c i e group t u is one m ct su =
     let x : Happened = record { event = e; group = group } in
     let K : EventKind → Type 0 = λ k. MovesBy C past k group s next in
     let places : next.places c ≡ s.places c = came_places C past s next c i group (subst K is m) c in
     let h' = heard c (x ∷ past) in
     entry_is (x ∷ past) next c one.once
-    ∙ ap (λ k. entry c (made c past + makes c k) h'.client.took (last_took h'.connects) (client_output (next.places c)) (server_output 1 (next.places c))) is
-    ∙ ap (λ k. entry c (made c past + makes c (Comes c i)) (hears c (heard c past) k group).client.took (last_took (hears c (heard c past) k group).connects) (client_output (next.places c)) (server_output 1 (next.places c))) is
-    ∙ ap (λ p. entry c (made c past + makes c (Comes c i)) (hears c (heard c past) (Comes c i) group).client.took (last_took (hears c (heard c past) (Comes c i) group).connects) (client_output p) (server_output 1 p)) places
-    ∙ ap (λ n. entry c (made c past + makes c (Comes c i)) n (last_took (hears c (heard c past) (Comes c i) group).connects) (client_output (s.places c)) (server_output 1 (s.places c))) ct
-    ∙ ap (λ n. entry c (made c past + makes c (Comes c i)) t n (client_output (s.places c)) (server_output 1 (s.places c))) su
+    ∙ ap (λ k. entry c (servers_made c past + makes c k) h'.client.took (last_took h'.connects) (client_output (next.places c)) (server_output 1 (next.places c))) is
+    ∙ ap (λ k. entry c (servers_made c past + makes c (Comes c i)) (hears c (heard c past) k group).client.took (last_took (hears c (heard c past) k group).connects) (client_output (next.places c)) (server_output 1 (next.places c))) is
+    ∙ ap (λ p. entry c (servers_made c past + makes c (Comes c i)) (hears c (heard c past) (Comes c i) group).client.took (last_took (hears c (heard c past) (Comes c i) group).connects) (client_output p) (server_output 1 p)) places
+    ∙ ap (λ n. entry c (servers_made c past + makes c (Comes c i)) n (last_took (hears c (heard c past) (Comes c i) group).connects) (client_output (s.places c)) (server_output 1 (s.places c))) ct
+    ∙ ap (λ n. entry c (servers_made c past + makes c (Comes c i)) t n (client_output (s.places c)) (server_output 1 (s.places c))) su
 
 -- those of all others stay with it
 came_others : (C : Config) (past : Past) (s next : State) (c : ℕ) (i : Input) (e : Event) (group : List Note) → kind_of e ≡ Comes c i → Moves C past (record { event = e; group = group }) s next
@@ -298,7 +300,7 @@ came_kept C past s next c i e group is none one one' m =
     let h = heard c past in
     let k = counted c h i group (none_there i h none) in
     let a = none_counted i k.finished (around h) none in
-    let more : made c past + makes c (Comes c i) ≡ made c past = let z = none_makes i c none in omega (arith, z) in
+    let more : servers_made c past + makes c (Comes c i) ≡ servers_made c past = let z = none_makes i c none in omega (arith, z) in
     let own : taken_by (x ∷ past) next c ≡ taken_by past s c =
     came_entry C past s next c i e group h.client.took (last_took h.connects) is one' m (ap (λ y. y.counted) k.around ∙ a.0) (ap (λ y. y.counted_server) k.around ∙ a.1)
     ∙ ap (λ n. entry_seen c n (seen past s c)) more ∙ sym (entry_is past s c one.once) in
@@ -324,12 +326,12 @@ connects_kept C past s next c group rises one one' m =
     let a = connected_counted k.finished (around h) in
     let new : makes c (Comes c (Connects true)) ≡ 1 = ap (λ b. if b then 1 else 0) (eq_self c) in
     let once = one'.once in
-    let none : made c past ≡ 0 = omega (arith, once, new) in
+    let none : servers_made c past ≡ 0 = omega (arith, once, new) in
     let took : last_took h.connects ≡ 0 = none_took h.connects (unmade c past none) in
     let nothing : (met_by (Connects true) k.finished (around h)).counted_server ≡ 0 = let le = a.1 in omega (arith, le, took) in
     let own : taken_by (x ∷ past) next c ≡ begins_server (taken_by past s c) =
     came_entry C past s next c (Connects true) (Connected c) group h.client.took 0 refl one' m (ap (λ y. y.counted) k.around ∙ a.0) (ap (λ y. y.counted_server) k.around ∙ nothing)
-    ∙ ap (λ n. entry c n h.client.took 0 (client_output (s.places c)) (server_output 1 (s.places c))) (let e : made c past + makes c (Comes c (Connects true)) ≡ 1 = omega (arith, none, new) in e)
+    ∙ ap (λ n. entry c n h.client.took 0 (client_output (s.places c)) (server_output 1 (s.places c))) (let e : servers_made c past + makes c (Comes c (Connects true)) ≡ 1 = omega (arith, none, new) in e)
     ∙ sym (ap begins_server (entry_is past s c one.once ∙ ap (λ n. entry_seen c n (seen past s c)) none)) in
     one_changed past (x ∷ past) s next c begins_server (accepted past) rises.distinct (came_others C past s next c (Connects true) (Connected c) group refl m) own
 
@@ -448,8 +450,8 @@ took_kept C past s next core c n side e group is r one one' h m =
     let own : taken_by (x ∷ past) next c ≡ took_on side bytes (taken_by past s c) =
     came_entry C past s next c (Takes side n) e group (z.heard.client.took + more_at Client side n) (last_took z.heard.connects + more_at Server side n) is one' m
     (ap (λ y. y.counted) k.around ∙ t.0) (ap (λ y. y.counted_server) k.around ∙ t.1)
-    ∙ ap (λ m. entry c m (z.heard.client.took + more_at Client side n) (last_took z.heard.connects + more_at Server side n) (client_output z.place) (server_output 1 z.place)) (let f : made c past + 0 ≡ made c past = omega arith in f)
-    ∙ entry_more side c n (made c past) z.heard.client.took (last_took z.heard.connects) (client_output z.place) (server_output 1 z.place) bytes one.once (by_side side bytes (queue_front C z f.0.conn side n a.continues f.2))
+    ∙ ap (λ m. entry c m (z.heard.client.took + more_at Client side n) (last_took z.heard.connects + more_at Server side n) (client_output z.place) (server_output 1 z.place)) (let f : servers_made c past + 0 ≡ servers_made c past = omega arith in f)
+    ∙ entry_more side c n (servers_made c past) z.heard.client.took (last_took z.heard.connects) (client_output z.place) (server_output 1 z.place) bytes one.once (by_side side bytes (queue_front C z f.0.conn side n a.continues f.2))
     ∙ ap (took_on side bytes) (sym (entry_is past s c one.once)) in
     ap (λ o. with_took (more_of c side o) (taken_of past s (accepted past))) front
     ∙ one_changed past (x ∷ past) s next c (took_on side bytes) (accepted past) (rising C past s r.sound.leads).distinct (came_others C past s next c (Takes side n) e group is m) own
@@ -466,7 +468,7 @@ grown_by : (f : Item → List ℕ) (t : ℕ) (p more : List Item) → t ≤ leng
 grown_by f t p more h = ap (take t) (flat_map-append f p more) ∙ take-append-le t (flat_map f p) (flat_map f more) h
 
 -- one whose sides took what they took before
-still_kept : (past past' : Past) (s s' : State) (c : ℕ) → OneServer past s c → OneServer past' s' c → made c past' ≡ made c past → (heard c past').client ≡ (heard c past).client → (heard c past').connects ≡ (heard c past).connects
+still_kept : (past past' : Past) (s s' : State) (c : ℕ) → OneServer past s c → OneServer past' s' c → servers_made c past' ≡ servers_made c past → (heard c past').client ≡ (heard c past).client → (heard c past').connects ≡ (heard c past).connects
     → take (heard c past).client.took (client_output (s'.places c)) ≡ take (heard c past).client.took (client_output (s.places c))
     → take (last_took (heard c past).connects) (server_output 1 (s'.places c)) ≡ take (last_took (heard c past).connects) (server_output 1 (s.places c))
     → taken_by past' s' c ≡ taken_by past s c
@@ -476,10 +478,10 @@ still_kept past past' s s' c one one' n client connects a b =
     let put : ℕ → List ℕ → List ℕ → Taken = λ n x y. record { conn = c; client = x; servers = servers_seen n y } in
     entry_is past' s' c one'.once
     ∙ ap (λ k. put k (take h'.client.took (client_output (s'.places c))) (take (last_took h'.connects) (server_output 1 (s'.places c)))) n
-    ∙ ap (λ y. put (made c past) (take y.took (client_output (s'.places c))) (take (last_took h'.connects) (server_output 1 (s'.places c)))) client
-    ∙ ap (λ y. put (made c past) (take h.client.took (client_output (s'.places c))) (take (last_took y) (server_output 1 (s'.places c)))) connects
-    ∙ ap (λ x. put (made c past) x (take (last_took h.connects) (server_output 1 (s'.places c)))) a
-    ∙ ap (put (made c past) (take h.client.took (client_output (s.places c)))) b
+    ∙ ap (λ y. put (servers_made c past) (take y.took (client_output (s'.places c))) (take (last_took h'.connects) (server_output 1 (s'.places c)))) client
+    ∙ ap (λ y. put (servers_made c past) (take h.client.took (client_output (s'.places c))) (take (last_took y) (server_output 1 (s'.places c)))) connects
+    ∙ ap (λ x. put (servers_made c past) x (take (last_took h.connects) (server_output 1 (s'.places c)))) a
+    ∙ ap (put (servers_made c past) (take h.client.took (client_output (s.places c)))) b
     ∙ sym (entry_is past s c one.once)
 
 -- the front ran
@@ -502,7 +504,7 @@ quiet_kept : (past : Past) (s next : State) (e : Event) (group : List Note) (q :
     → taken_by (record { event = e; group = group } ∷ past) next q ≡ taken_by past s q
 quiet_kept past s next e group q m same live none =
     let x : Happened = record { event = e; group = group } in
-    ap (λ n. kept_of q n (seen (x ∷ past) next q)) (let k : made q (x ∷ past) ≡ made q past = omega (arith, none) in k) ∙ ap (kept_of q (made q past)) (unchanged past (kind_of e) group s next q m same live)
+    ap (λ n. kept_of q n (seen (x ∷ past) next q)) (let k : servers_made q (x ∷ past) ≡ servers_made q past = omega (arith, none) in k) ∙ ap (kept_of q (servers_made q past)) (unchanged past (kind_of e) group s next q m same live)
 
 run_kept : (C : Config) (past : Past) (s next : State) (group : List Note) → Sound C past s → ((q : ℕ) → OneServer past s q) → ((q : ℕ) → OneServer (record { event = Run; group = group } ∷ past) next q) → Moves C past (record { event = Run; group = group }) s next
     → (ring : List ℕ) → s.ring ≡ ring → MovesRing C past ring group s next → (q : ℕ) → taken_by (record { event = Run; group = group } ∷ past) next q ≡ taken_by past s q
@@ -541,9 +543,6 @@ turn_kept C past s next group one one' m (a ∷ rest) e k q = by_number (nat_eq 
 rests_kept : (past : Past) (s next : State) (e : Event) (group : List Note) → Rests group s next → with_accepted (kind_of e) (shared past).live ≡ (shared past).live → ((q : ℕ) (h : Heard) → hears q h (kind_of e) [] ≡ h) → ((q : ℕ) → makes q (kind_of e) ≡ 0)
     → taken_of past s (accepted past) ≡ taken_of (record { event = e; group = group } ∷ past) next (accepted past)
 rests_kept past s next e group m live same none = sym (same_each past (record { event = e; group = group } ∷ past) s next (accepted past) (λ q. quiet_kept past s next e group q m (same q) live (none q)))
-
-one_server : (C : Config) (past : Past) (s : State) → Leads C past s → (c : ℕ) → OneServer past s c
-one_server C past s leads c = ?
 
 -- what the sides of connections took is kept over each event
 pub taken_kept : (C : Config) (past : Past) (s next : State) (core : Core) (e : Event) (group : List Note) → Represents C past s core → refused C past s (kind_of e) ≡ None → refusal core e ≡ None → Moves C past (record { event = e; group = group }) s next

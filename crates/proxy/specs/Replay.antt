@@ -1,14 +1,15 @@
 -- The report of a past, in this project's own format.
-use Rattle.std.specs.Prelude.{ℕ, zero, suc, ◌+◌, nat_eq, List, [], ◌∷◌, ◌++◌, take, map, slice_get}
+use Rattle.std.specs.Prelude.{ℕ, zero, suc, ◌+◌, nat_eq, List, [], ◌∷◌, ◌++◌, take, map}
 use Rattle.std.specs.Prelude.{true, Option, Some, None, if◌then◌else◌}
 use Rattle.px_bytes.specs.declared.addr.Side.TheVariants.{Client, Server}
-use Rattle.connection_model.specs.Heard.{Connects, EventKind, Comes, SideHeard}
+use Rattle.connection_model.specs.Heard.{Connects, EventKind, Comes}
 use Rattle.connection_model.specs.Item.{client_output, server_output}
 use Rattle.proxy_core.specs.Past.{Past, kind_of, heard, with_accepted, shared}
 use Rattle.proxy_core.specs.Queries.{pending_on}
 use Rattle.proxy_core.specs.Ready.{is_in}
 use Rattle.proxy_core.specs.Refusals.{live_at}
 use Rattle.proxy_core.specs.Scheduler.{State, pending}
+use Rattle.proxy_core.specs.Servers.{took_of}
 use Rattle.proxy_core.specs.Setup.{init_notes}
 use Rattle.proxy_core.specs.declared.config.Config.{Config}
 use Rattle.proxy_core.specs.declared.core_state.Core.{Core}
@@ -41,27 +42,12 @@ makes c (Comes d (Connects true)) = if nat_eq d c then 1 else 0
 makes c other = 0
 
 -- how many server connections of c were made
-abbrev pub made : ℕ → Past → ℕ
-made c [] = 0
-made c (x ∷ past) = made c past + makes c (kind_of x.event)
+abbrev pub servers_made : ℕ → Past → ℕ
+servers_made c [] = 0
+servers_made c (x ∷ past) = servers_made c past + makes c (kind_of x.event)
 
--- those of them that were heard, in their order
-abbrev pub made_in : List (Option SideHeard) → List SideHeard
-made_in [] = []
-made_in (None ∷ more) = made_in more
-made_in (Some s ∷ more) = s ∷ made_in more
-
-abbrev pub took_in : Option SideHeard → ℕ
-took_in None = 0
-took_in (Some s) = s.took
-
--- how much the server connection of this number, the first being 1, took; nothing where it wasn't
--- heard, since it was made behind the finish
-abbrev pub took_of : List (Option SideHeard) → ℕ → ℕ
-took_of connects zero = 0
-took_of connects (suc k) = took_in (slice_get (made_in connects) k)
-
--- the bytes that it took: so many as it took, of those that were sent to it
+-- The bytes that the server connection of this number took, the first being 1: so many as it took, of
+-- those that were sent to it. To one that was made behind the finish nothing was sent.
 abbrev pub server_bytes : Past → State → ℕ → (number : ℕ) → List ℕ
 server_bytes past s c k = take (took_of (heard c past).connects k) (server_output k (s.places c))
 
@@ -72,7 +58,7 @@ numbers_to (suc n) = numbers_to n ++ suc n ∷ []
 
 -- those of each server connection of c, in their order
 abbrev pub servers_bytes : Past → State → ℕ → List (List ℕ)
-servers_bytes past s c = map (server_bytes past s c) (numbers_to (made c past))
+servers_bytes past s c = map (server_bytes past s c) (numbers_to (servers_made c past))
 
 -- their lines, the first by this number
 abbrev pub servers_text : ℕ → (number : ℕ) → List (List ℕ) → List ℕ
