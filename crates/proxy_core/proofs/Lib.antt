@@ -24,6 +24,8 @@ pub mod Ending
 pub mod Overs
 pub mod Drains
 pub mod Finished
+pub mod ServerGone
+pub mod ServerPhases
 pub mod ServerSteps
 pub mod ServerLaws
 pub mod ServerCounts
@@ -35,6 +37,7 @@ pub mod SoundEvents
 pub mod SoundPast
 pub mod Others
 pub mod Answering
+pub mod DueFits
 pub mod Fitting
 pub mod Promises
 pub mod Order

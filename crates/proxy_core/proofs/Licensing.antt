@@ -1,5 +1,5 @@
 -- A cut that was heard was allowed: behind each event what was told still allows it.
-use Rattle.std.proofs.Common.{◌≡◌, inl, inr, refl, sym, ap, ◌∙◌, ℕ, ◌+◌, List, [], ◌∷◌, ◌++◌, append-nil, Bool, true, false, ◌||◌, true≢false, if◌then◌else◌, Option, Some, None, is_none, zero-add}
+use Rattle.std.proofs.Common.{◌≡◌, inl, inr, refl, sym, ap, ◌∙◌, ℕ, ◌+◌, List, [], ◌∷◌, ◌++◌, append-nil, Bool, true, false, ◌||◌, if◌then◌else◌, Option, Some, None, is_none, zero-add}
 use Rattle.px_bytes.specs.declared.addr.Side.TheVariants.{Client, Server}
 use Rattle.connection_model.specs.declared.edges.Edges.{Edges}
 use Rattle.connection_model.specs.declared.note.CutReason.{CutReason}
@@ -22,14 +22,13 @@ use Rattle.proxy_core.specs.Servers.{made, last_reset, licenses, awaits, Linked}
 use Rattle.proxy_core.proofs.CameAt.{UncutOr}
 use Rattle.proxy_core.proofs.Hearing.{SidesStay, run_stays}
 use Rattle.proxy_core.proofs.Linking.{longer_linked, none_waits, run_linked}
+use Rattle.proxy_core.proofs.Meeting.{made_last}
 use Rattle.proxy_core.proofs.Members.{eq_self}
 use Rattle.proxy_core.proofs.ServerCounts.{taken_last}
 use Rattle.proxy_core.proofs.ServerLaws.{made_along, unserved, unserved_longer}
 use Rattle.proxy_core.proofs.ServerLeft.{all_made, unserved_at}
+use Rattle.proxy_core.proofs.ServerGone.{never}
 use Rattle.proxy_core.proofs.ServerSteps.{rest_side}
-
-never : {A : Type 0} → false ≡ true → A
-never e = absurd (true≢false (sym e))
 
 abbrev pub Licensed : Heard → Type 0
 Licensed h = (cut : Cut) → h.cut ≡ Some cut → licenses h cut.reason ≡ true
@@ -67,11 +66,6 @@ marks_cut (Takes Client n) h = refl
 marks_cut (Takes Server n) h = refl
 
 -- ---- something comes
-
-made_last : (f : SideHeard → SideHeard) (cs : List (Option SideHeard)) → has_made (at_last f cs) ≡ has_made cs
-made_last f [] = refl
-made_last f (None ∷ more) = made_last f more
-made_last f (Some s ∷ more) = refl
 
 reset_last : (f : SideHeard → SideHeard) → ((s : SideHeard) → s.reset ≡ true → (f s).reset ≡ true) → (cs : List (Option SideHeard)) → last_reset cs ≡ true → last_reset (at_last f cs) ≡ true
 reset_last f keeps [] e = e

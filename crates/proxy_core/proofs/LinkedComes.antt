@@ -19,9 +19,6 @@ use Rattle.proxy_core.proofs.Closings.{any_on}
 use Rattle.proxy_core.proofs.GroupNotes.{AreDue}
 use Rattle.proxy_core.proofs.Linking.{answered_linked, is_asked, linked_now, linked_over, longer_linked}
 
-never : {A : Type 0} → false ≡ true → A
-never e = absurd (true≢false (sym e))
-
 was_true : (b : Bool) → not b ≡ false → b ≡ true
 was_true true e = refl
 was_true false e = absurd (true≢false e)

@@ -20,10 +20,9 @@ use Rattle.proxy_core.specs.Fitting.{Fit}
 use Rattle.proxy_core.specs.Servers.{is_free, awaits, AskedAt, LinkedAt, Linked}
 use Rattle.proxy_core.proofs.EdgeNotes.{edges_joined}
 use Rattle.proxy_core.proofs.ServerLaws.{Unserved, unserved_step, went_on}
-use Rattle.proxy_core.proofs.ServerSteps.{unlinked, Quiet, Taking, link_by, SideBy, item_side}
-
-never : {A : Type 0} → false ≡ true → A
-never e = absurd (true≢false (sym e))
+use Rattle.proxy_core.proofs.ServerGone.{never, unlinked}
+use Rattle.proxy_core.proofs.ServerPhases.{Quiet, Taking, link_by, SideBy}
+use Rattle.proxy_core.proofs.ServerSteps.{item_side}
 
 -- by a test whose result is known
 as_true : (A B : Type 0) (b : Bool) → b ≡ true → MatchBool b A B → A

@@ -53,7 +53,7 @@ module _ (f : SideHeard → SideHeard) (g : Option ℕ → Option ℕ) (last : L
           let n = none_made more e in
           ap (λ x. side_taken (f s) ∷ x) (h ∙ ap last n ∙ at_none) ∙ ap (λ t. t ∷ []) (same s) ∙ sym (ap (λ x. last (side_taken s ∷ x)) n ∙ at_one (side_taken s))
 
-made_last : (f : SideHeard → SideHeard) (cs : List (Option SideHeard)) → has_made (at_last f cs) ≡ has_made cs
+pub made_last : (f : SideHeard → SideHeard) (cs : List (Option SideHeard)) → has_made (at_last f cs) ≡ has_made cs
 made_last f [] = refl
 made_last f (None ∷ more) = made_last f more
 made_last f (Some s ∷ more) = refl

@@ -240,6 +240,7 @@ module _ (C : Config) (past : Past) (s : State) (c : ℕ) (rest : List ℕ) wher
           setup = λ x. absurd (over_stays t w.over x);
           goes_on = λ x. absurd (over_stays t w.over x);
         }
+
     pub front_runs : (group : List Note) (t : ConnTurn) (S : given.Setup) (edges : Edges) (o o' : Option Conn) → ConnectionContinues C (seen past s c) o → h.edges ≡ edges_by_conn o edges → calls_of c s.queue ≡ [] → asks_in o ≡ is_any (calls_of c s.queue)
         → conn.Serves S (setup_of C h) → LiveRuns S c edges o o' group t → RanConn C past s c rest group t o'
     front_runs group t S edges None o' z e none asks serves r =

@@ -8,9 +8,7 @@ use Rattle.connection_model.specs.Heard.{Input, Bytes, Ends, Resets, Connects, T
 use Rattle.connection_model.specs.Further.{Coming}
 use Rattle.proxy_core.specs.Scheduler.{last_took}
 use Rattle.proxy_core.specs.Servers.{made, took_behind, took_of, last_reset}
-
-never : {A : Type 0} → false ≡ true → A
-never e = absurd (true≢false (sym e))
+use Rattle.proxy_core.proofs.ServerGone.{never}
 
 -- ---- the last that was made
 

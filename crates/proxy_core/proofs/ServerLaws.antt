@@ -15,10 +15,9 @@ use Rattle.connection_model.proofs.Stepping.{start_orderly, steps}
 use Rattle.connection_model.proofs.Streams.{link_same}
 use Rattle.proxy_core.specs.Servers.{awaits, made}
 use Rattle.proxy_core.proofs.Drains.{longer_orderly}
-use Rattle.proxy_core.proofs.ServerSteps.{unlinked, NotUp, SideBy, item_side}
-
-never : {A : Type 0} → false ≡ true → A
-never e = absurd (true≢false (sym e))
+use Rattle.proxy_core.proofs.ServerGone.{never, unlinked, NotUp}
+use Rattle.proxy_core.proofs.ServerPhases.{SideBy}
+use Rattle.proxy_core.proofs.ServerSteps.{item_side}
 
 or_right : (a b : Bool) → (a || b) ≡ false → b ≡ false
 or_right true b e = absurd (true≢false e)

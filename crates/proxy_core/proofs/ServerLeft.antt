@@ -1,5 +1,5 @@
 -- What was told of a server connection agrees with what was sent to it: what it took, what is pending, and its reset.
-use Rattle.std.proofs.Common.{◌≡◌, refl, sym, ap, subst, ◌∙◌, ℕ, zero, suc, ◌+◌, ◌-◌, ◌≤◌, ◌<◌, List, [], ◌∷◌, length, map, Bool, true, false, true≢false, Option, is_none, arith, zero-add}
+use Rattle.std.proofs.Common.{◌≡◌, refl, sym, ap, subst, ◌∙◌, ℕ, zero, suc, ◌+◌, ◌-◌, ◌≤◌, ◌<◌, List, [], ◌∷◌, length, map, Bool, true, false, Option, is_none, arith, zero-add}
 use Rattle.px_bytes.specs.declared.addr.Side.TheVariants.{Server}
 use Rattle.connection_model.specs.declared.note.CutReason.TheVariants.{ServerReset}
 use Rattle.connection_model.specs.Gates.{no_bytes, sent_from, to_take, taken_of, untaken}
@@ -17,11 +17,9 @@ use Rattle.proxy_core.specs.Sound.{ServedAt}
 use Rattle.proxy_core.proofs.Linking.{must_wait}
 use Rattle.proxy_core.proofs.ServerCounts.{made_as, most_untaken, taken_last, took_last}
 use Rattle.proxy_core.proofs.ServerLaws.{Unserved, start_unserved, unserved, made_along, awaits_taken, none_sent}
-use Rattle.proxy_core.proofs.ServerSteps.{unlinked, rest_side}
+use Rattle.proxy_core.proofs.ServerGone.{never, unlinked}
+use Rattle.proxy_core.proofs.ServerSteps.{rest_side}
 use Rattle.proxy_core.proofs.Standing.{sent_at}
-
-never : {A : Type 0} → false ≡ true → A
-never e = absurd (true≢false (sym e))
 
 pub unserved_at : (g : Setup) (h : Heard) (place : List Item) (at : TraceState) → Unfolds g (start_of g h) place at → Unserved at
 unserved_at g h place at u = let s = start_of g h in unserved g s at place (start_unserved g s.client s.answers) u

@@ -68,7 +68,7 @@ use Rattle.proxy_core.proofs.LinkedComes.{come_linked}
 use Rattle.proxy_core.proofs.Linking.{linked_now, linked_over, longer_linked, run_linked, settled}
 use Rattle.proxy_core.proofs.ServerLaws.{unserved_longer}
 use Rattle.proxy_core.proofs.ServerLeft.{unserved_at}
-use Rattle.proxy_core.proofs.ServerSteps.{enter_waits}
+use Rattle.proxy_core.proofs.ServerGone.{enter_waits}
 use Rattle.proxy_core.proofs.Overs.{over_at, over_done, over_stays, still_over}
 use Rattle.proxy_core.proofs.Drains.{drained_items, longer_orderly}
 use Rattle.std.proofs.lemmas.List.{map-append}
@@ -806,7 +806,7 @@ run_served C past c rest after ready queue called asked old more at behind fails
     (b.closed (sym failed ∙ found) side (let Q : Edges → Type 0 = λ x. is_closed (edge_of side x).state ≡ true in subst Q edges q))
     (λ o y. record { next = over_at (next_item g at) o; finished = over_done g at new_done.orderly (over_at (next_item g at) o); none = ap (λ x. to_take (sent_from no_bytes (z.place ++ more)) x side) s.taken ∙ ap (λ x. to_take x (taken h) side) (sym sent) ∙ eqb-true (to_take at.sent (taken h) side) 0 y })
     (λ w. (let v = items_closed c notes h.edges side items w in let o = k.closed_over not_failed side v in let still = still_over g l at (taken h) more o.1 o.0 p.passed in
-        record { next = still.next; finished = still.finished; none = ap (λ x. to_take (sent_from no_bytes (z.place ++ more)) x side) s.taken ∙ ap (λ ms. to_take (sent_from no_bytes (z.place ++ ms)) (taken h) side) still.none ∙ ap (λ ms. to_take (sent_from no_bytes ms) (taken h) side) (append-nil z.place) ∙ took_each c z k.ends not_failed side v })) in
+    record { next = still.next; finished = still.finished; none = ap (λ x. to_take (sent_from no_bytes (z.place ++ more)) x side) s.taken ∙ ap (λ ms. to_take (sent_from no_bytes (z.place ++ ms)) (taken h) side) still.none ∙ ap (λ ms. to_take (sent_from no_bytes ms) (taken h) side) (append-nil z.place) ∙ took_each c z k.ends not_failed side v })) in
     let f' = taken_by_items (taken h) more in
     let state = h.edges.server.state in
     let was_linked : Linked l.finished l state = linked_now h.finished l.finished l state state (λ x. sym same ∙ x) (λ x. refl) k.linked in

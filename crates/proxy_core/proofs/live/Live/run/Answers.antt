@@ -10,8 +10,7 @@ returns-in-Some-clause-runs g c =
     let r = c.run.ensures.ran in
     let self = c.args.self.now in
     let new = c.run.new.self in
-    let P : Option Conn → Type 0 = λ o. LiveRuns c.args.setup.now self.number self.edges o (Some new) r.0 c.run.result in
-    (
+    let P : Option Conn → Type 0 = λ o. LiveRuns c.args.setup.now self.number self.edges o (Some new) r.0 c.run.result in (
       r.0,
       r.1,
       subst P (sym c.in-Some.is) (conn_runs c.args.setup.now self.number c.in-Some.conn new c.args.notes.now.items r.0 c.run.new.notes.items c.run.result r.1 r.2 r.3 c.run.ensures.failed),
