@@ -107,7 +107,7 @@ queue_same C c z Server (Some conn) v k =
     let h = ends_of C z conn k in
     let number : number_by conn.ends.link ≡ (sent_from no_bytes z.place).number = sym h.number ∙ ap (λ s. s.number) (sent_is C c z v) in
     let all : at.sent.server ≡ length (server_output (number_by conn.ends.link) z.place) =
-        sent_to_server (setup_of C z.heard) (begins_at C z.heard).client (begins_at C z.heard).answers at z.place v.stands ∙ ap (λ m. length (server_output m z.place)) h.number in
+    sent_to_server (setup_of C z.heard) (begins_at C z.heard).client (begins_at C z.heard).answers at z.place v.stands ∙ ap (λ m. length (server_output m z.place)) h.number in
     link_left conn.ends.link e.reset n at.sent.server e.queued z.place h.server_untaken h.unsent (queues_of C z conn k).server all
     ∙ ap (λ s. left_of (taken_of s (number_by conn.ends.link)) (server_output (number_by conn.ends.link) z.place)) (sym h.servers_took)
     ∙ ap (λ m. left_of (taken_of (taken z.heard).servers m) (server_output m z.place)) number

@@ -7,8 +7,8 @@ use Rattle.px_bytes.specs.declared.addr.Side.{Side}
 use Rattle.px_bytes.specs.declared.addr.Side.TheVariants.{Client, Server}
 use Rattle.connection_model.specs.declared.edges.Edge.{Edge}
 use Rattle.connection_model.specs.declared.edges.Edges.{Edges}
-use Rattle.connection_model.specs.Edges.{edge_of, is_connecting, is_open, may_send, may_take}
-use Rattle.connection_model.specs.Heard.{Input, Bytes, Ends, Resets, Takes, Connects, Accepts, Comes, Ticks}
+use Rattle.connection_model.specs.Edges.{edge_of, is_open, may_send, may_take}
+use Rattle.connection_model.specs.Heard.{Input, Bytes, Ends, Resets, Takes, Accepts, Comes, Ticks}
 use Rattle.proxy_core.specs.Asked.{edges_of, live_of, wants_of, pending_of}
 use Rattle.proxy_core.specs.Past.{Past, heard, shared}
 use Rattle.proxy_core.specs.Ready.{is_in}
@@ -27,7 +27,7 @@ use Rattle.proxy_core.specs.declared.event.Event.TheVariants as event
 use Rattle.proxy_core.specs.declared.live.Live.{Live}
 use Rattle.proxy_core.proofs.Asked.{pending_told}
 use Rattle.journal_text.specs.declared.event.Event.TheVariants as told
-use Rattle.serve_loop.specs.Face.{MayAnswer, MayCome, MayTake}
+use Rattle.serve_loop.specs.Face.{MayCome, MayTake}
 use Rattle.std.specs.List.{slice_get, position_from}
 use Rattle.std.specs.Str.{bytes_eq}
 use Rattle.served_core.specs.Asked.{name_at, on_edge}
@@ -171,20 +171,6 @@ may_take_of core c Client edges n told takes pending = record {
 may_take_of core c Server edges n told takes pending = record {
   took = λ k le e is C past s r. by_event C past s e (event.ServerTook c k) is (took_taken C past s c Server edges n k (told C past s r) takes (pending C past s r) le);
   broken = λ e is C past s r. by_event C past s e (event.ServerReset c) is (resets_taken C past s c Server edges (told C past s r) takes);
-}
-
-answers_taken : (C : Config) (past : Past) (s : State) (c : ℕ) (made : Bool) (edges : Edges) → Some edges ≡ edges_of past c
-    → is_connecting edges.server.state ≡ true → refused C past s (Comes c (Connects made)) ≡ None
-answers_taken C past s c made edges told asked =
-    comes_taken C past s c (Connects made) (is_live past c edges told) refl
-    (late_by past c edges Server (λ x. is_connecting x.state) told asked) refl refl
-
--- the answer of a server that was asked for may come
-pub may_answer_of : (core : Core) (c : ℕ) (edges : Edges) → Always core (λ C past s. Some edges ≡ edges_of past c)
-    → is_connecting edges.server.state ≡ true → MayAnswer (TakesEvent core) c
-may_answer_of core c edges told asked = record {
-  made = λ e is C past s r. by_event C past s e (event.Connected c) is (answers_taken C past s c true edges (told C past s r) asked);
-  refused = λ e is C past s r. by_event C past s e (event.Refused c) is (answers_taken C past s c false edges (told C past s r) asked);
 }
 
 some_list : (x y : List ℕ) → Some x ≡ Some y → x ≡ y
