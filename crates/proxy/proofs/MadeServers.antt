@@ -1,5 +1,5 @@
 -- The server connections of a connection: how many were made, and what the first of them took.
-use Rattle.std.proofs.Common.{◌≡◌, ◌⊎◌, inl, inr, refl, sym, ap, subst, ◌∙◌, ℕ, zero, suc, ◌+◌, ◌≤◌, List, [], ◌∷◌, take, map, Bool, true, false, Option, Some, None, nat_eq, arith, if◌then◌else◌}
+use Rattle.std.proofs.Common.{◌≡◌, ◌⊎◌, inl, inr, refl, sym, ap, subst, ◌∙◌, ℕ, zero, suc, ◌≤◌, List, [], ◌∷◌, take, map, Bool, true, false, Option, Some, None, nat_eq, arith, if◌then◌else◌}
 use Rattle.std.specs.Prelude.{is_some}
 use Rattle.px_bytes.specs.declared.addr.Side.TheVariants.{Client, Server}
 use Rattle.connection_model.specs.declared.note.Note.{Note}
@@ -7,7 +7,7 @@ use Rattle.connection_model.specs.Heard.{Input, Bytes, Ends, Resets, Connects, T
 use Rattle.connection_model.specs.Item.{server_output}
 use Rattle.proxy_core.specs.Moves.{Leads}
 use Rattle.proxy_core.specs.Others.{about}
-use Rattle.proxy_core.specs.Past.{Happened, Past, kind_of, heard}
+use Rattle.proxy_core.specs.Past.{Past, kind_of, heard}
 use Rattle.proxy_core.specs.Refusal.{refused}
 use Rattle.proxy_core.specs.Scheduler.{State, Seen, last_took, seen}
 use Rattle.proxy_core.specs.Servers.{made, makes, servers_made, took_of}

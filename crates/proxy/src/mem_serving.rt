@@ -112,7 +112,12 @@ fn taken(alloc: Global, net: &MemNet, link: u32) -> M<Text> {
 }
 
 // Serves these links, where these calls fail.
-pub(crate) fn serve(alloc: Global, given: &[&str], links: Vec<MemLink>, fails: Fails<'_>) -> M<Served> {
+pub(crate) fn serve(
+    alloc: Global,
+    given: &[&str],
+    links: Vec<MemLink>,
+    fails: Fails<'_>,
+) -> M<Served> {
     let words = words_of(alloc, given)?;
     let mut files = files(alloc, b"bad.toml", b"x")?;
     let none = Counts::new(alloc);

@@ -4,7 +4,9 @@ use crate::end::Status;
 use crate::mem_serving::{NONE, client, files, serve, words_of};
 use crate::offline::offline;
 use px_bytes::{Addr, M, Text};
-use px_outside::{ConnectAnswer, Counts, MemLink, MemRead, MemReads, MemScript, MemSink, MemWrites};
+use px_outside::{
+    ConnectAnswer, Counts, MemLink, MemRead, MemReads, MemScript, MemSink, MemWrites,
+};
 use std::alloc::Global;
 use std::test::Fail;
 
@@ -54,7 +56,12 @@ fn bytes_are_passed_on_both_ways(rt: HostRuntime) -> Result<(), Fail> {
     let replayed = words_of(alloc, &["replay", "pool.toml", "journal"])?;
     assert_eq!(rt; offline(alloc, &replayed, &mut files, &mut out), Status(0));
     assert!(rt; has_line(out.written().as_bytes(), b"> finish 1 closed\n"));
-    assert!(rt; has_line(out.written().as_bytes(), b"> client 1 6f6b\n> server 1 1 47\n> end "));
+    assert!(rt;
+        has_line(
+            out.written().as_bytes(),
+            b"> client 1 6f6b\n> server 1 1 47\n> end "
+        )
+    );
     Ok(())
 }
 
