@@ -11,7 +11,7 @@ use Rattle.event_order.specs.declared.event.EventName.{EventName}
 use Rattle.rule_model.specs.Evaluator.{evaluate}
 use Rattle.rule_model.specs.Outcome.{Outcome, state}
 use Rattle.rule_model.specs.Setting as given
-use Rattle.irule_net.specs.State.{collected, other, side_of}
+use Rattle.irule_net.specs.State.{collected}
 use Rattle.irule_net.specs.declared.state.Asks.{Asks}
 use Rattle.irule_net.specs.declared.state.Asks.TheVariants.{NotAsked, Stated}
 use Rattle.irule_net.specs.declared.state.Ending.{Ending}
@@ -231,7 +231,7 @@ module _ (g : Setup) (l : TraceState) where
           acts = [];
           cost = 0;
           phase = refl;
-          kept = ap (λ h. collected (other (side_of e)) h.net) k.host;
+          kept = λ side free. ap (λ h. collected side h.net) k.host;
           same = λ more.
               ap (λ rs. evaluate S b.body l.vars (seen_host mid.host) (rs ++ more) g.budget) f.replies
               ∙ ap (λ v. evaluate S b.body v (seen_host mid.host) more g.budget) (f.vars ∙ sym k.vars)

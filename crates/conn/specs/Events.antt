@@ -33,10 +33,13 @@ is_data at.ClientData = true
 is_data at.ServerData = true
 is_data other = false
 
--- an event at which bytes of this side are collected
+-- bytes of this side are collected in an event, or its bodies may ask for them
+abbrev pub collects_in : Side → EventName → Bool
+collects_in Client event.ClientAccepted = true
+collects_in Client event.ClientData = true
+collects_in Server event.ServerConnected = true
+collects_in Server event.ServerData = true
+collects_in side other = false
+
 abbrev pub is_event_of : Side → At → Bool
-is_event_of Client at.Accepted = true
-is_event_of Client at.ClientData = true
-is_event_of Server at.Connected = true
-is_event_of Server at.ServerData = true
-is_event_of side other = false
+is_event_of side at = collects_in side (event_of at)

@@ -2,9 +2,10 @@
 use Rattle.std.specs.Prelude.{◌≡◌, ℕ, ◌+◌, List, [], ◌∷◌, ◌++◌, length, drop, true, false}
 use Rattle.std.specs.Prelude.{Option, None}
 use Rattle.px_bytes.specs.declared.addr.Addr.{Addr}
+use Rattle.px_bytes.specs.declared.addr.Side.{Side}
 use Rattle.px_bytes.specs.declared.fault.Reply.{Reply}
 use Rattle.event_order.specs.declared.event.EventName.{EventName}
-use Rattle.irule_net.specs.State.{collected, other, side_of}
+use Rattle.irule_net.specs.State.{collected}
 use Rattle.irule_net.specs.declared.state.NetState.{NetState}
 use Rattle.irule_net.specs.declared.state.Target.{Target}
 use Rattle.irule_net.specs.declared.state.Target.TheVariants.{Default, PoolOf, MemberOf, NodeAt}
@@ -26,7 +27,7 @@ use Rattle.conn.specs.declared.stage.Stage.{Stage}
 use Rattle.conn.specs.declared.stage.Stage.TheVariants as stage
 use Rattle.conn.specs.Ends.{arrived, connects_by, fresh_end, has_stream, is_up, number_by}
 use Rattle.conn.specs.Ends.{server_by, servers_by}
-use Rattle.conn.specs.Events.{event_of}
+use Rattle.conn.specs.Events.{collects_in, event_of}
 use Rattle.conn.specs.Hosts.{Told, seen_host}
 use Rattle.conn.specs.Stages.{InEvent as HostIn, fits, has_finished, reason_for, selects}
 
@@ -48,13 +49,14 @@ pub record Between (l : TraceState) (c : Conn) : Type 0 where
 
 -- A body runs whose frames the connection has: whatever replies follow, the body that is evaluated
 -- from its beginning comes to what the frames come to. So many of its acts were given, and `waiting`
--- more where it waits for a reply. It leaves the collect of the other side as it was.
+-- more where it waits for a reply. Collects but that of its own side are as they were.
 pub record BodyGoesOn (g : Setup) (e : EventName) (b : Handler) (bs : List Handler) (waiting : ℕ)
     (l : TraceState) (c : Conn) : Type 0 where
   pub acts : List Act
   pub cost : ℕ
   pub phase : l.phase ≡ InEvent e (Running b bs (length acts + waiting))
-  pub kept : collected (other (side_of e)) c.host.net ≡ collected (other (side_of e)) l.host.net
+  pub kept : (side : Side) → collects_in side e ≡ false
+      → collected side c.host.net ≡ collected side l.host.net
   pub same : (more : List Reply)
       → evaluate (body_setting g b.procedures) b.body l.vars l.host (l.answers.replies ++ more)
       g.budget

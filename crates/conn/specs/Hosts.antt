@@ -1,10 +1,10 @@
 -- The host of a connection's rules: what its commands see of it, and what is done of what they made.
-use Rattle.std.specs.Prelude.{◌≡◌, ℕ, List, [], ◌∷◌, ◌++◌, Bool, true, Option}
+use Rattle.std.specs.Prelude.{◌≡◌, ℕ, List, [], ◌∷◌, ◌++◌, Bool, true, false, Option}
 use Rattle.px_bytes.specs.Host.{Effect, Logged, Sent}
 use Rattle.px_bytes.specs.declared.addr.Side.{Side}
 use Rattle.px_bytes.specs.declared.addr.Side.TheVariants.{Client, Server}
 use Rattle.event_order.specs.declared.event.EventName.{EventName}
-use Rattle.irule_net.specs.State.{begun, collected, other, with_collected}
+use Rattle.irule_net.specs.State.{begun, collected, with_collected}
 use Rattle.irule_net.specs.declared.state.Asks.TheVariants.{NotAsked}
 use Rattle.irule_net.specs.declared.state.NetState.{NetState}
 use Rattle.irule_net.specs.declared.state.Selected.{Selected}
@@ -17,7 +17,7 @@ use Rattle.conn.specs.declared.events.At.{At}
 use Rattle.conn.specs.declared.events.At.TheVariants.{Accepted}
 use Rattle.conn.specs.declared.host.RuleHost.{RuleHost}
 use Rattle.conn.specs.Ends.{is_up}
-use Rattle.conn.specs.Events.{event_of}
+use Rattle.conn.specs.Events.{collects_in, event_of}
 
 abbrev pub seen_net : EventName → NetState → HostState
 seen_net e net = record { event = e; net = net }
@@ -86,12 +86,12 @@ OneAtMost (e ∷ (f ∷ es)) = ⊥
 abbrev pub Made : RuleHost → List Effect → RuleHost → Type 0
 Made a es b = b.made ≡ a.made ++ es
 
--- What the bodies of an event of this side leave as it was: the client's address, whether there is a
--- server connection, and the collect of the other side.
-pub record KeepsOther (side : Side) (s t : NetState) : Type 0 where
+-- What the bodies of an event leave as it was: the client's address, whether there is a server
+-- connection, and each collect but that of the event's own side.
+pub record KeepsCollects (e : EventName) (s t : NetState) : Type 0 where
   pub from : t.from ≡ s.from
   pub relays : t.relays ≡ s.relays
-  pub kept : collected (other side) t ≡ collected (other side) s
+  pub kept : (side : Side) → collects_in side e ≡ false → collected side t ≡ collected side s
 
 -- What its rules are told of a connection: the client's address, and that there is a server connection
 -- only where one is.

@@ -1,5 +1,5 @@
 -- How many bytes of its sides a connection of the code takes is what its trace wants.
-use Rattle.std.proofs.Common.{◌≡◌, inl, inr, refl, sym, ap, subst, ◌∙◌, ℕ, ◌-◌, ◌≤◌, List, [], ◌∷◌, length, map, Bool, true, false, ◌||◌, not, Option, Some, None, arith, if◌then◌else◌}
+use Rattle.std.proofs.Common.{◌≡◌, inl, inr, refl, sym, ap, subst, ◌∙◌, ℕ, ◌-◌, ◌≤◌, List, [], ◌∷◌, length, map, Bool, true, false, ◌||◌, not, Option, Some, None, if◌then◌else◌, arith}
 use Rattle.std.specs.Bool.{MatchBool}
 use Rattle.px_bytes.specs.declared.addr.Side.{Side}
 use Rattle.px_bytes.specs.declared.addr.Side.TheVariants.{Client, Server}
@@ -31,9 +31,6 @@ use Rattle.proxy_core.specs.Sound.{Served, is_closed}
 use Rattle.proxy_core.specs.declared.config.Config.{Config}
 use Rattle.proxy_core.proofs.Finished.{stands_orderly, trace_finished}
 
-none_but : (n : ℕ) → 0 - n ≡ 0
-none_but n = omega arith
-
 -- where the server's end says that none is there, bytes of one can't come
 no_stream : (l : TraceState) (e : Ends) (edge : EdgeState) → edge ≡ state.Absent → l.server ≡ server_by e.link e.server → l.answers.connects ≡ connects_by e.link e.server → Linked false l edge → has_stream e.link ≡ false
 no_stream l e edge absent server connects k = by_link e.link (awaits l.phase) server connects k.waits (k.edge refl)
@@ -62,7 +59,7 @@ module _ (C : Config) (c : ℕ) (z : Seen) (v : Served C c z) (told : z.heard.fi
   -- where there is no server, it is the most
   fresh_wants : (finished : Bool) (e : End) (held : ℕ) → e ≡ fresh_end → (if finished then unread_limit else unread_limit - (length e.unread - held)) ≡ unread_limit
   fresh_wants true e held is = refl
-  fresh_wants false e held is = ap (λ x. unread_limit - (length x.unread - held)) is ∙ ap (λ n. unread_limit - n) (none_but held)
+  fresh_wants false e held is = ap (λ x. unread_limit - (length x.unread - held)) is ∙ omega arith
 
   closed_wants : (conn : Conn) (s : EdgeState) → z.heard.edges.server.state ≡ s → is_open s ≡ false → z.heard.edges ≡ conn.ends.edges → z.heard.finished ≡ false → Continues C z conn → wanted_in Server conn ≡ unread_limit
   closed_wants conn state.Absent is e same going k =
