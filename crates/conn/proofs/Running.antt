@@ -169,7 +169,7 @@ runs_rests s c old mid new last before notes after told t r acted rested = by_tu
         let p = r.along g a l serves h awake in
         let q = k.along g a p.at serves p.gave.holds p.awake in
         gives g a l q.at c old new (noted_in (rest_notes c new) new) (r.group ++ k.group) (rest_notes c new) t (subst (Gave g a l q.at c old new (r.group ++ k.group)) (sym none) (gave_more g a l p.at q.at c old mid new r.group k.group h.no_cut p.gave q.gave))
-        (rests_with c new g a q.at q.gave.holds ∙ sym (ap (λ f. f g a.took q.at c new.ends.edges (queued_in new.ends)) is)) (stops q.at q.stops q.gave.holds) (told_holds g a q.at c new q.gave.holds) refl refl (rests_asking s c mid new notes after acted ∙ p.awake ∙ sym quiet)
+        (rests_with c new g a q.at q.gave.holds q.stops.1.1 ∙ sym (ap (λ f. f g a.took q.at c new.ends.edges (queued_in new.ends)) is)) (stops q.at (q.stops.0, q.stops.1.0) q.gave.holds) (told_holds g a q.at c new q.gave.holds) refl refl (rests_asking s c mid new notes after acted ∙ p.awake ∙ sym quiet)
 
     by_turn : (t : ConnTurn) → Rested c new last after told t → RunsBy s c old last before told t
     by_turn turn.More x = absurd x
