@@ -276,14 +276,74 @@ acted_well s c old new before after did k = by_stage old.stage refl k
     by_stage stage.OutOfMemory is (rests, same, quiet) = record { group = []; notes = none quiet; tells = ap (λ x. x.ends.edges) same; along = λ g a l serves h awake. absurd (here stage.OutOfMemory is g a l h) }
     by_stage (stage.Dropped n) is (rests, same, quiet) = record { group = []; notes = none quiet; tells = ap (λ x. x.ends.edges) same; along = λ g a l serves h awake. absurd (here (stage.Dropped n) is g a l h) }
 
--- a body's step doesn't rest
+-- where it rests nothing is noted
+rest_quiet : (s : code_setup.Setup) (c : ℕ) (old new : Conn) (before after : List Note) (o : Option CutReason) → RestsBy o s c old new before after done.Rests → after ≡ before
+rest_quiet s c old new before after None k = k.2
+rest_quiet s c old new before after (Some reason) k = absurd (let e = k.0 in cc)
+
+answer_quiet : (s : code_setup.Setup) (c : ℕ) (k : Link) (old new : Conn) (before after : List Note) → AnswersBy k s c old new before after done.Rests → after ≡ before
+answer_quiet s c link.Made old new before after k = k.2
+answer_quiet s c link.Refused old new before after k = k.2
+answer_quiet s c link.Absent old new before after k = rest_quiet s c old new before after (cut_of old) k
+answer_quiet s c link.Asked old new before after k = rest_quiet s c old new before after (cut_of old) k
+answer_quiet s c link.Up old new before after k = rest_quiet s c old new before after (cut_of old) k
+
+relay_quiet : (s : code_setup.Setup) (c : ℕ) (p : Relay) (old new : Conn) (before after : List Note) → RelaysBy p s c old new before after done.Rests → after ≡ before
+relay_quiet s c relay.Done old new before after k = absurd (let e = k.0 in cc)
+relay_quiet s c (relay.Pass side n) old new before after k = absurd (let e = k.0 in cc)
+relay_quiet s c (relay.Fire side n) old new before after k = absurd (let e = k.0 in cc)
+relay_quiet s c relay.Rest old new before after k = rest_quiet s c (round_begun old) new before after (cut_of (round_begun old)) k
+
+collect_quiet : (s : code_setup.Setup) (c : ℕ) (o : Option ℕ) (old new : Conn) (before after : List Note) → CollectsBy o s c old new before after done.Rests → after ≡ before
+collect_quiet s c None old new before after k = rest_quiet s c old new before after (cut_of old) k
+collect_quiet s c (Some n) old new before after k = absurd (let e = k.0 in cc)
+
+release_quiet : (s : code_setup.Setup) (c : ℕ) (old new : Conn) (before after : List Note) → PassesReleased s c old new before after done.Rests → after ≡ before
+release_quiet s c old new before after k = by_test (server_room old) k
+  where
+    by_test : (b : Bool) → MatchBool b ((done.Rests ≡ done.Goes) × Releases old new × (after ≡ before)) (Rests s c old new before after done.Rests) → after ≡ before
+    by_test true k = k.2
+    by_test false k = rest_quiet s c old new before after (cut_of old) k
+
+gate_quiet : (s : code_setup.Setup) (c : ℕ) (at : At) (old new : Conn) (before after : List Note) → PassesGate s c at old new before after done.Rests → after ≡ before
+gate_quiet s c at old new before after k = by_test (has_room old) k
+  where
+    by_test : (b : Bool) → MatchBool b ((done.Rests ≡ done.Goes) × StartsBody s at 0 old new × (after ≡ before)) (Rests s c old new before after done.Rests) → after ≡ before
+    by_test true k = k.2
+    by_test false k = rest_quiet s c old new before after (cut_of old) k
+
 said_quiet : (s : code_setup.Setup) (at : At) (n : ℕ) (x : Said) (mid new : Conn) → GoesOn s at n x mid new done.Rests → ⊥
 said_quiet s at n said.More mid new k = let e = k.0 in cc
 said_quiet s at n (said.Asks call) mid new k = let e = k.0 in cc
 said_quiet s at n said.Over mid new k = let e = k.0 in cc
 said_quiet s at n (said.Fails kind line) mid new k = let e = k.0 in cc
 
--- where it rests nothing changes
+pub rests_quiet : (s : code_setup.Setup) (c : ℕ) (old new : Conn) (before after : List Note) → Acted s c old new before after done.Rests → after ≡ before
+rests_quiet s c old new before after k = by_stage old.stage k
+  where
+    by_handler : (at : At) (n : ℕ) (v : Option Handler) → BodyMovedBy s v c at n old new before after done.Rests → after ≡ before
+    by_handler at n None m = m.2
+    by_handler at n (Some b) m = absurd (said_quiet s at n (said_of b at m.turned) m.mid new m.goes_on)
+
+    by_stage : (st : Stage) → ActedAt st s c old new before after done.Rests → after ≡ before
+    by_stage (stage.Gated at) k = gate_quiet s c at old new before after k
+    by_stage (stage.Running at n) k = by_handler at n (body_at s at n) k
+    by_stage (stage.Asking at n) k = k.2
+    by_stage stage.Selecting k = k.2
+    by_stage (stage.Failing at n kind line) k = absurd (let e = k.0 in cc)
+    by_stage stage.Choosing k = k.1
+    by_stage (stage.Chosen addr) k = k.2
+    by_stage (stage.Connecting to) k = absurd (let e = k.0 in cc)
+    by_stage (stage.Answering to) k = answer_quiet s c old.ends.link old new before after k
+    by_stage stage.Collecting k = collect_quiet s c (meets old.host.net.client.asks old.ends.client.unread) old new before after k
+    by_stage stage.Releasing k = release_quiet s c old new before after k
+    by_stage (stage.Relaying first) k = relay_quiet s c (relay_plan first old.host.net old.ends) old new before after k
+    by_stage (stage.Finishing f) k = absurd (let e = k.0 in cc)
+    by_stage stage.Draining k = k.2
+    by_stage stage.OutOfMemory k = k.2
+    by_stage (stage.Dropped n) k = k.2
+
+-- and nothing changes
 rest_same : (s : code_setup.Setup) (c : ℕ) (old new : Conn) (before after : List Note) (o : Option CutReason) → RestsBy o s c old new before after done.Rests → new ≡ old
 rest_same s c old new before after None k = k.1
 rest_same s c old new before after (Some reason) k = absurd (let e = k.0 in cc)
