@@ -10,7 +10,8 @@ use Rattle.serve_loop.specs.Server.{Running, OneTurn, Turns, Done, Walked, IsOve
 use Rattle.serve_loop.specs.Turn.{CanAccept}
 use Rattle.serve_loop.specs.Walk.{Around, Step, Walks, calls_in, text_in}
 use Rattle.serve_loop.proofs.Chains.{chain_append}
-use Rattle.serve_loop.proofs.Compose.{calls_append, text_append, walks_append}
+use Rattle.serve_loop.proofs.Compose.{calls_append, text_append, walks_append, once_steps}
+use Rattle.serve_loop.proofs.Fresh.{once_none, owners_same, owners_then}
 use Rattle.serve_loop.proofs.Walking.{rounds_walk}
 
 told_nothing : (o : Option (List ℕ)) → o ≡ told_more o []
@@ -26,7 +27,7 @@ pub turns_walk : {C S T : Type 0} (face : Face C) (did : S → Call → S → Ty
     (n : ℕ) (old new : Running C S T) → Turns face did gave ticked n old new → Walked face did gave old new
 turns_walk {C} {S} {T} face did gave ticked zero old new same ready none =
     subst (λ (x : Running C S T). Done face did gave (Walks face old.server.serving.conns) old.server.serving x.server.serving old.net x.net old.written x.written) (sym same)
-    (record { steps = []; chain = refl; leads = refl; ready = ready; told = told_nothing old.written; no_line_waits = none; conns = refl })
+    (record { steps = []; chain = refl; leads = refl; ready = ready; told = told_nothing old.written; once = once_none (λ l there. there); owners = owners_same _ old.server.serving.links; no_line_waits = none; conns = refl })
 turns_walk {C} {S} {T} face did gave ticked (suc n) old new turns ready none =
     let mid = turns.0 in
     let turn = turns.3.2 in
@@ -42,6 +43,8 @@ turns_walk {C} {S} {T} face did gave ticked (suc n) old new turns ready none =
       ready = two.ready;
       told = two.told ∙ ap (λ (o : Option (List ℕ)). told_more o (text_in two.steps)) one.told ∙ told_then old.written (text_in one.steps) (text_in two.steps)
           ∙ ap (λ (text : List ℕ). told_more old.written text) (sym (text_append one.steps two.steps));
+      once = once_steps (gave old.net) (gave mid.net) (gave new.net) one.steps two.steps one.once two.once;
+      owners = owners_then (gave old.net) (gave mid.net) old.server.serving.links mid.server.serving.links new.server.serving.links one.once.lasts one.owners two.owners;
       no_line_waits = two.no_line_waits;
       conns = two.conns ∙ one.conns;
     }

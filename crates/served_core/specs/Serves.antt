@@ -1,10 +1,11 @@
 -- A configuration is served.
-use Rattle.std.specs.Prelude.{◌≡◌, ℕ, List, [], ◌∷◌, Option, Some, None}
+use Rattle.std.specs.Prelude.{◌≡◌, ℕ, List, [], ◌∷◌, take, Option, Some, None}
 use Rattle.px_outside.specs.Net.{Call, Chain}
 use Rattle.px_outside.specs.Outside.{told_more}
+use Rattle.connection_model.specs.Item.{client_output}
 use Rattle.journal_text.specs.Notes.{note_lines}
 use Rattle.proxy_core.specs.Headline.{OutputMatchesEvaluator}
-use Rattle.proxy_core.specs.Past.{Happened, Past}
+use Rattle.proxy_core.specs.Past.{Happened, Past, heard}
 use Rattle.proxy_core.specs.Represents.{Represents}
 use Rattle.proxy_core.specs.Scheduler.{State, no_connections}
 use Rattle.proxy_core.specs.Setup.{init_notes}
@@ -15,6 +16,7 @@ use Rattle.serve_loop.specs.Walk.{Given, Step, Own, Asked, Walks, calls_in, text
 use Rattle.serve_loop.specs.Server.{Begins, Served as IsServed}
 use Rattle.serve_loop.specs.declared.fault.ServeEnd.{ServeEnd}
 use Rattle.serve_loop.specs.declared.server.Server.{Server}
+use Rattle.served_core.specs.Pieces.{pieces_of}
 use Rattle.served_core.specs.Served.{served_face}
 use Rattle.served_core.specs.Told.{meaning}
 use Rattle.served_core.specs.declared.served.Served.{Served}
@@ -33,7 +35,8 @@ past_after (Asked call (Some g) ∷ steps) past = past_after steps (happened g �
 -- All that was done, step by step: the calls on the net are exactly those of the steps, in order; each step is
 -- what the loop may do there, and no event is refused; the journal grew by exactly the lines of the events and
 -- their notes. The core stands for the past of exactly these events, and the promise holds of it: what each client
--- took is a front of what the evaluator gives, and all that `OutputMatchesEvaluator` says.
+-- took is a front of what the evaluator gives, and all that `OutputMatchesEvaluator` says. The pieces that its link took,
+-- in order, are that front.
 pub record ServedEvents {S : Type 0} (did : S → Call → S → Type 0) (C : Config) (conns : ℕ)
     (first last : Server Served) (begun net : S) (before after : Option (List ℕ)) : Type 0 where
   pub steps : List Step
@@ -42,6 +45,8 @@ pub record ServedEvents {S : Type 0} (did : S → Call → S → Type 0) (C : Co
   pub written : after ≡ told_more before (text_in steps)
   pub state : State
   pub represents : Represents C (past_after steps []) state last.serving.core.core
+  pub took : (c : ℕ) → pieces_of c steps
+      ≡ take (heard c (past_after steps [])).client.took (client_output (state.places c))
   pub matches : OutputMatchesEvaluator C (past_after steps []) state
 
 -- A core that stands for no event begins to be served, behind the notes of its start, and is served turn by turn.

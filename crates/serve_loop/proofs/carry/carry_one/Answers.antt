@@ -8,7 +8,7 @@ pub returns-in_ok-open-in-Connects-clause-carries : goal.returns-in_ok-open-in-C
 returns-in_ok-open-in-Connects-clause-carries g c =
     subst (λ (x : Action). Carried g.N.Net.did g.N.Net.gave (CarriesOne x) c.args.links.now c.open.new.self c.args.net.now c.connect.new.self) (sym c.in-Connects.is)
     (carried_connect c.args.links.now c.open.new.self c.args.net.now c.connect.new.self c.in-Connects.conn c.in_ok-link-in-Connects.link c.in-Connects.to
-    c.in_ok-link-in-Connects.ensures.did c.connect.ensures.lasts.given c.in_ok-link-in-Connects.ensures.is_new.now c.in_ok-open-in-Connects.ensures.opens)
+    c.in_ok-link-in-Connects.ensures.did c.connect.ensures.lasts.given c.in_ok-link-in-Connects.ensures.is_new c.in_ok-open-in-Connects.ensures.opens)
 
 pub returns-in-Some-clause-carries : goal.returns-in-Some-clause-carries
 returns-in-Some-clause-carries g c =
