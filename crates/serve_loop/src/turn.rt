@@ -6,6 +6,7 @@ ghost use Rattle.serve_loop.specs.Server.{OneTurn, Turned};
 
 use crate::due::{due_links, due_slots};
 use crate::server::Server;
+use crate::work::Work;
 use crate::{Core, ServeFault};
 use px_bytes::Seq;
 use px_outside::{Clock, Net, Sink};
@@ -52,12 +53,14 @@ impl<C: Core + Drop> Server<C> {
         let links = due_links(alloc, self.links.as_slice(), self.listed.as_slice())?;
         self.slots.clear();
         self.links.clear();
-        self.serving.ask_listeners(net, &slots, &mut self.slots)?;
         self.serving
-            .ask_links(net, &links, &mut self.room, &mut self.links)?;
+            .each(net, Work::Listener, &slots, &mut self.room, &mut self.slots)?;
+        self.serving
+            .each(net, Work::Link, &links, &mut self.room, &mut self.links)?;
         self.serving.run_pairs(net, &mut self.writers)?;
         let mut later = Seq::new(alloc);
-        self.serving.write_all(net, &self.writers, &mut later)?;
+        self.serving
+            .each(net, Work::Writer, &self.writers, &mut self.room, &mut later)?;
         self.writers.clear();
         self.writers.add_all(later.as_slice())?;
         Ok(())
