@@ -162,6 +162,25 @@ pub record Served {C S T : Type 0} (face : Face C) (did : S → Call → S → T
   pub walked : Walked face did gave old new
   pub ends : EndsAs face turns made new.server.serving end
 
+-- A turn that met a fault: a moment was asked for, and what was written of the journal grew.
+pub record Fell {T : Type 0} (ticked : T → ℕ → T → Type 0) (clock clock' : T) (before after : Option (List ℕ)) : Type 0 where
+  pub now : ℕ
+  pub asked : ticked clock now clock'
+  pub more : List ℕ
+  pub grew : after ≡ told_more before more
+
+-- Fewer turns than all were made, behind each of which it went on, and the next one met a fault. What those did is exact,
+-- and their lines stand in the journal.
+pub record Stopped {C S T : Type 0} (face : Face C) (did : S → Call → S → Type 0) (gave : S → ℕ → Type 0)
+    (ticked : T → ℕ → T → Type 0) (turns : ℕ) (old : Running C S T) (clock : T) (after : Option (List ℕ)) : Type 0 where
+  pub made : ℕ
+  pub fewer : made < turns
+  pub mid : Running C S T
+  pub turned : Turns face did gave ticked made old mid
+  pub behind : Behind face made mid.server.serving
+  pub walked : Walked face did gave old mid
+  pub fell : Fell ticked mid.clock clock mid.written after
+
 -- a listener for each virtual server that has an address
 abbrev pub listen_calls : ℕ → Option Addr → List Call
 listen_calls slot None = []

@@ -1,8 +1,8 @@
 // One turn, and turns.
 
-ghost use Rattle.std.specs.Prelude.{◌≡◌, ◌≤◌, ℕ, IfErr, OnOk};
+ghost use Rattle.std.specs.Prelude.{◌≡◌, ◌≤◌, ℕ, IfErr, OnErr, OnOk};
 ghost use Rattle.serve_loop.specs.Faults.{FromNet, FromNetOrSink};
-ghost use Rattle.serve_loop.specs.Server.{OneTurn, Turned};
+ghost use Rattle.serve_loop.specs.Server.{Fell, OneTurn, Turned};
 
 use crate::due::{due_links, due_slots};
 use crate::server::Server;
@@ -25,6 +25,8 @@ impl<C: Core + Drop> Server<C> {
             (K.written journal.old) (K.written journal.new)) }
         ensures fails { IfErr result (FromNetOrSink (N.faults net.old) (N.faults net.new)
             (K.faults journal.old) (K.faults journal.new)) }
+        ensures fell { OnErr result
+            (Fell T.gave clock.old clock.new (K.written journal.old) (K.written journal.new)) }
         ensures net_faults_never_fall { N.faults net.old ≤ N.faults net.new }
         ensures journal_faults_never_fall { K.faults journal.old ≤ K.faults journal.new }
         ensures clock_faults_never_fall { T.faults clock.old ≤ T.faults clock.new }
