@@ -1,6 +1,6 @@
 -- Calls, and what became of their answers.
 use Rattle.std.proofs.Common.{◌≡◌, ℕ, ◌<◌, ◌≤◌, List, [], ◌∷◌, ◌++◌, length, take, Bool, true, false, Option, Some, None, refl, sym, subst, inl, inr, arith}
-use Rattle.std.specs.Prelude.{if◌then◌else◌, ◌==◌}
+use Rattle.std.specs.Prelude.{if◌then◌else◌, ◌==◌, Ok}
 use Rattle.std.proofs.lemmas.List.{append-nil}
 use Rattle.std.proofs.lemmas.Grind.{common_steps}
 use Rattle.px_bytes.specs.declared.addr.Side.{Side}
@@ -9,7 +9,7 @@ use Rattle.px_outside.specs.declared.answers.ReadAnswer.{ReadAnswer}
 use Rattle.px_outside.specs.declared.answers.ReadAnswer.TheVariants as read
 use Rattle.px_outside.specs.declared.answers.WriteAnswer.{WriteAnswer}
 use Rattle.px_outside.specs.declared.answers.WriteAnswer.TheVariants as write
-use Rattle.px_outside.specs.Net.{Call, Chain, Write, got, ReadsWithin, WritesWithin}
+use Rattle.px_outside.specs.Net.{Call, Chain, Wait, Write, got, ReadsWithin, WritesWithin}
 use Rattle.journal_text.specs.declared.event.Event.{Event}
 use Rattle.served_links.specs.declared.links.Links.{Links}
 use Rattle.served_links.specs.Links.{link_in}
@@ -23,8 +23,9 @@ use Rattle.serve_loop.specs.Part.{stand, Part, IsGiven}
 use Rattle.serve_loop.specs.Asking.{IsOn, takes_back, OneCall, IsUnknown, AskedOnce}
 use Rattle.serve_loop.specs.Writing.{NothingToWrite, WroteOnce, asked_of}
 use Rattle.serve_loop.specs.Running.{OwnStep}
+use Rattle.serve_loop.specs.Turn.{Waits}
 use Rattle.serve_loop.proofs.Chains.{chain_append}
-use Rattle.serve_loop.proofs.Fresh.{once_then, owners_same, owners_then}
+use Rattle.serve_loop.proofs.Fresh.{once_none, once_then, owners_same, owners_then}
 use Rattle.serve_loop.specs.Fresh.{GivesOnce, OwnersStay, links_given}
 use Rattle.serve_loop.proofs.Compose.{part_less, part_at, part_nothing, tells_nothing}
 
@@ -203,6 +204,22 @@ pub takes_write : {takes : Event → Type 0} (c : ℕ) (side : Side) (len : ℕ)
 takes_write {takes} c side len (write.Took k) e may within is = subst takes (some_same _ e is) (may.took k within.1)
 takes_write {takes} c side len write.NotYet e may within is = cc
 takes_write {takes} c side len write.Reset e may within is = subst takes (some_same _ e is) may.broken
+
+-- a wait that answered
+pub part_waits : {C S : Type 0} {face : Face C} {did : S → Call → S → Type 0} {gave : S → ℕ → Type 0} (until : ℕ) (listed : List ReadyAt)
+    (x : Serving C) (n m : S) → did n (Wait until listed (Ok tt)) m → ((l : ℕ) → gave n l → gave m l) → Part face did gave (Waits until listed) x x n m
+part_waits until listed x n m d lasts = record {
+  from = λ s. record {
+    steps = Asks (Wait until listed (Ok tt)) None ∷ [];
+    chain = (m, d, refl);
+    leads = record { waits = refl; same = refl };
+    ready = record { stands = s.stands; known = λ l r e. lasts l (s.known l r e) };
+    told = tells_nothing x.journal;
+    once = once_none lasts;
+    owners = owners_same _ x.links;
+    conns = refl;
+  };
+}
 
 -- an event of the loop's own
 pub part_own : {C S : Type 0} {face : Face C} {did : S → Call → S → Type 0} {gave : S → ℕ → Type 0} (e : Event) {x y : Serving C} {n m : S}

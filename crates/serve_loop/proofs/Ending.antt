@@ -1,6 +1,7 @@
 -- Turns are a walk, and where they end.
 use Rattle.std.proofs.Common.{◌≡◌, ◌⊎◌, ℕ, zero, suc, ◌+◌, ◌<◌, List, [], ◌∷◌, ◌++◌, Bool, true, false, not, Option, Some, None, inl, inr, refl, sym, ap, subst, ◌∙◌, append_assoc, add-one}
 use Rattle.std.proofs.lemmas.List.{append-nil}
+use Rattle.std.specs.Prelude.{Result, Ok, Err, OnErr}
 use Rattle.px_outside.specs.Net.{Call, Chain}
 use Rattle.px_outside.specs.Outside.{told_more}
 use Rattle.serve_loop.specs.declared.serving.Serving.{Serving}
@@ -62,3 +63,7 @@ ends_over face s b is it = subst (IsOverOr face s) is it
 
 pub behind_next : {C : Type 0} (face : Face C) (n : ℕ) (s : Serving C) → GoesOn face s → Behind face (n + 1) s
 behind_next face n s goes = subst (λ (k : ℕ). Behind face k s) (sym (add-one n)) goes
+
+pub on_err : {A E : Type 0} {X : Type 0} (r : Result A E) → X → OnErr r X
+on_err (Ok a) x = tt
+on_err (Err e) x = x

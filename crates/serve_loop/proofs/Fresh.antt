@@ -3,6 +3,7 @@ use Rattle.std.proofs.Common.{◌≡◌, ◌⊎◌, ℕ, List, [], ◌∷◌, �
 use Rattle.std.specs.Prelude.{nat_eq, if◌then◌else◌, Ok}
 use Rattle.std.specs.List.{AllByRecursion, IsDistinct}
 use Rattle.std.proofs.lemmas.Bool.{ne_eqb}
+use Rattle.std.proofs.lemmas.Map.Keys.{IsDistinct-cons, IsDistinct-head, IsDistinct-tail}
 use Rattle.px_bytes.specs.declared.addr.Side.{Side}
 use Rattle.px_outside.specs.Net.{Call, IsNew}
 use Rattle.served_links.specs.declared.links.Links.{Links}
@@ -32,16 +33,21 @@ distinct_append : (P : ℕ → Type 0) (xs ys : List ℕ) → AllByRecursion P x
     → IsDistinct nat_eq xs → IsDistinct nat_eq ys → IsDistinct nat_eq (xs ++ ys)
 distinct_append P [] ys all none x y = y
 distinct_append P (l ∷ xs) ys all none x y =
-    (all_append (λ k. nat_eq l k ≡ false) xs ys x.0 (all_less (λ k. P k → ⊥) (λ k. nat_eq l k ≡ false) (apart P l all.0) ys none),
-      distinct_append P xs ys all.1 none x.1 y)
+    IsDistinct-cons nat_eq l (xs ++ ys)
+    (all_append (λ k. nat_eq l k ≡ false) xs ys (IsDistinct-head nat_eq l xs x) (all_less (λ k. P k → ⊥) (λ k. nat_eq l k ≡ false) (apart P l all.0) ys none))
+    (distinct_append P xs ys all.1 none (IsDistinct-tail nat_eq l xs x) y)
+
+distinct_none : IsDistinct nat_eq []
+unfolding IsDistinct
+distinct_none = tt
 
 pub once_none : {gave gave' : ℕ → Type 0} → ((l : ℕ) → gave l → gave' l) → GivesOnce gave gave' []
-once_none lasts = record { none_before = tt; all_now = tt; once = tt; lasts = lasts }
+once_none lasts = record { none_before = tt; all_now = tt; once = distinct_none; lasts = lasts }
 
 pub once_one : {gave gave' : ℕ → Type 0} (link : ℕ) → IsNew gave gave' link → ((l : ℕ) → gave l → gave' l)
     → GivesOnce gave gave' (link ∷ [])
 once_one link new lasts =
-    record { none_before = (new.before, tt); all_now = (new.now, tt); once = (tt, tt); lasts = lasts }
+    record { none_before = (new.before, tt); all_now = (new.now, tt); once = IsDistinct-cons nat_eq link [] tt distinct_none; lasts = lasts }
 
 once_append : (gave mid gave' : ℕ → Type 0) (xs ys : List ℕ) → GivesOnce gave mid xs → GivesOnce mid gave' ys
     → GivesOnce gave gave' (xs ++ ys)

@@ -17,7 +17,7 @@ use Rattle.proxy_core.proofs.Promises.{every_past_matches}
 use Rattle.served_links.specs.declared.links.Links.{Links}
 use Rattle.served_links.specs.declared.row.Row.{Row}
 use Rattle.serve_loop.specs.Part.{stand}
-use Rattle.serve_loop.specs.Server.{Begins, Running, Served as IsServed}
+use Rattle.serve_loop.specs.Server.{Begins, Running, Walked}
 use Rattle.serve_loop.specs.Walk.{Around, Given, Step, Own, Asked, Gives, Becomes, IsOwn, MayCall, Walks}
 use Rattle.serve_loop.specs.Faults.{FromNetOrSink}
 use Rattle.serve_loop.specs.declared.fault.ServeEnd.{ServeEnd}
@@ -97,15 +97,15 @@ walks_past C conns (Asked call (Some g) ∷ steps) past took a b it p =
 none_is_some : (r : Row) → None ≡ Some r → ⊥
 none_is_some r e = cc
 
-pub kept : {S T : Type 0} {did : S → Call → S → Type 0} {gave : S → ℕ → Type 0} {ticked : T → ℕ → T → Type 0} (C : Config) (core : Core)
-    {conns turns : ℕ} {net begun : S} {old new : Running Served S T} {end : ServeEnd}
+pub kept : {S T : Type 0} {did : S → Call → S → Type 0} {gave : S → ℕ → Type 0} (C : Config) (core : Core)
+    {conns : ℕ} {net begun : S} {old new : Running Served S T}
     → Represents C [] no_connections core → Begins served_face did (record { core = core }) conns net begun old.server
-    → IsServed served_face did gave ticked turns old new end
+    → Walked served_face did gave old new
     → ServedEvents did C conns old.server new.server old.net new.net old.written new.written
-kept C core {conns = conns} {old = old} {new = new} stands begins served =
+kept C core {conns = conns} {old = old} {new = new} stands begins walked =
     let same : old.server.serving.core.core ≡ core = ap (λ (x : Served). x.core) begins.core_is in
     let here : Represents C [] no_connections old.server.serving.core.core = subst (λ (x : Core). Represents C [] no_connections x) (sym same) stands in
-    let done = served.walked (record {
+    let done = walked (record {
       stands = record { config = C; past = []; state = no_connections; represents = here };
       known = λ l r e. absurd (none_is_some r (sym (begins.no_link.owner l) ∙ e));
     }) begins.no_line_waits in

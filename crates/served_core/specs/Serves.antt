@@ -1,5 +1,5 @@
 -- A configuration is served.
-use Rattle.std.specs.Prelude.{◌≡◌, ℕ, List, [], ◌∷◌, take, Option, Some, None}
+use Rattle.std.specs.Prelude.{◌≡◌, ◌⊎◌, ℕ, List, [], ◌∷◌, take, Option, Some, None}
 use Rattle.px_outside.specs.Net.{Call, Chain}
 use Rattle.px_outside.specs.Outside.{told_more}
 use Rattle.connection_model.specs.Item.{client_output}
@@ -13,7 +13,7 @@ use Rattle.proxy_core.specs.declared.config.Config.{Config}
 use Rattle.proxy_core.specs.declared.core_state.Core.{Core}
 use Rattle.serve_loop.specs.Part.{stand}
 use Rattle.serve_loop.specs.Walk.{Given, Step, Own, Asked, Walks, calls_in, text_in}
-use Rattle.serve_loop.specs.Server.{Begins, Served as IsServed}
+use Rattle.serve_loop.specs.Server.{Begins, Served as IsServed, Stopped}
 use Rattle.serve_loop.specs.declared.fault.ServeEnd.{ServeEnd}
 use Rattle.serve_loop.specs.declared.server.Server.{Server}
 use Rattle.served_core.specs.Pieces.{pieces_of}
@@ -48,6 +48,37 @@ pub record ServedEvents {S : Type 0} (did : S → Call → S → Type 0) (C : Co
   pub took : (c : ℕ) → pieces_of c steps
       ≡ take (heard c (past_after steps [])).client.took (client_output (state.places c))
   pub matches : OutputMatchesEvaluator C (past_after steps []) state
+
+-- so much of a text was written
+pub record WroteSome (text : List ℕ) (before after : Option (List ℕ)) : Type 0 where
+  pub count : ℕ
+  pub written : after ≡ told_more before (take count text)
+
+-- It stopped before the first turn: no moment was asked for, and a front of the notes of its start was written.
+pub record NeverServed {T : Type 0} (C : Config) (clock clock' : T) (before after : Option (List ℕ)) : Type 0 where
+  pub no_moment : clock' ≡ clock
+  pub wrote : WroteSome (note_lines (init_notes C)) before after
+
+-- It was served for fewer turns than all, and the next one met a fault: what those did is exact, and stands in the journal.
+pub record ServedSome {S T : Type 0} (did : S → Call → S → Type 0) (gave : S → ℕ → Type 0)
+    (ticked : T → ℕ → T → Type 0) (C : Config) (conns turns : ℕ) (net : S) (clock clock' : T)
+    (before after : Option (List ℕ)) : Type 0 where
+  pub core : Core
+  pub stands : Represents C [] no_connections core
+  pub first : Server Served
+  pub begun : S
+  pub begins : Begins served_face did (record { core = core }) conns net begun first
+  pub stopped : Stopped served_face did gave ticked turns
+      (record { server = first; net = begun; clock = clock; written = told_more before (note_lines (init_notes C)) })
+      clock' after
+  pub events : ServedEvents did C conns first stopped.mid.server begun stopped.mid.net
+      (told_more before (note_lines (init_notes C))) stopped.mid.written
+
+-- what was done before a fault
+abbrev pub StopsConfig : {S T : Type 0} → (S → Call → S → Type 0) → (S → ℕ → Type 0) → (T → ℕ → T → Type 0)
+    → Config → (conns turns : ℕ) → S → (clock clock' : T) → (before after : Option (List ℕ)) → Type 0
+StopsConfig did gave ticked C conns turns net clock clock' before after =
+    NeverServed C clock clock' before after ⊎ ServedSome did gave ticked C conns turns net clock clock' before after
 
 -- A core that stands for no event begins to be served, behind the notes of its start, and is served turn by turn.
 pub record ServesConfig {S T : Type 0} (did : S → Call → S → Type 0) (gave : S → ℕ → Type 0)

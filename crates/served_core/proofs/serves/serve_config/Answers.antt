@@ -29,7 +29,7 @@ returns-clause-serves g c =
           (record { server = c.serve.new.server; net = c.serve.new.net; clock = c.serve.new.clock; written = g.K.Sink.written c.serve.new.journal }) end)
           written it;
       events = subst (λ (w : Option (List ℕ)). ServedEvents g.N.Net.did c.args.config c.args.conns c.in_ok-server.server c.serve.new.server c.new-2.new.net c.serve.new.net w (g.K.Sink.written c.serve.new.journal))
-          written (kept c.args.config c.in_ok-core.core c.in_ok-core.ensures.stands c.in_ok-server.ensures.begins it);
+          written (kept c.args.config c.in_ok-core.core c.in_ok-core.ensures.stands c.in_ok-server.ensures.begins it.walked);
     }) c.serve.ensures.served
 
 pub returns-clause-fails : goal.returns-clause-fails
