@@ -1,33 +1,57 @@
 -- What an action gives, by what it comes to.
-use Rattle.std.proofs.Common.{◌≡◌, sym, ap, ◌∙◌, ℕ, ◌+◌, List, [], ◌∷◌, ◌++◌, length, map, true, false, arith, length-append}
+use Rattle.std.proofs.Common.{◌≡◌, refl, sym, ap, subst, ◌∙◌, ℕ, ◌+◌, List, [], ◌∷◌, ◌++◌, append-nil, length, map, Bool, true, false, true≢false, Option, Some, None, if◌then◌else◌, arith, length-append}
+use Rattle.px_bytes.specs.declared.addr.Side.TheVariants.{Client, Server}
+use Rattle.px_bytes.specs.Host.{Effect, Logged, Sent}
 use Rattle.rule_model.specs.Outcome.{Act}
-use Rattle.connection_model.specs.Heard.{taken_by}
-use Rattle.connection_model.specs.declared.note.Note.{Note}
 use Rattle.connection_model.specs.Bodies.{act_item}
+use Rattle.connection_model.specs.Edges.{edges_noted}
+use Rattle.connection_model.specs.declared.edges.Edges.{Edges}
+use Rattle.connection_model.specs.Further.{choosing, longer}
 use Rattle.connection_model.specs.Gates.{sent_from}
-use Rattle.connection_model.specs.Item.{Item, client_output}
+use Rattle.connection_model.specs.Item.{CutBy, Finished, Item, Reason, cause_of}
+use Rattle.connection_model.specs.Places.{Place, at as put, closed}
+use Rattle.connection_model.specs.Queries.{is_reset}
 use Rattle.connection_model.specs.Setup.{Setup}
-use Rattle.connection_model.specs.State.{TraceState, ForReply, Waits}
-use Rattle.connection_model.specs.Trace.{next_item, Unfolds, GivesNoMore}
-use Rattle.connection_model.proofs.Given.{sent_counted, sent_output}
+use Rattle.connection_model.specs.State.{ForReply, TraceState, Does, Over, Waits}
+use Rattle.connection_model.specs.Trace.{finish, next_item, Unfolds, GivesNoMore}
+use Rattle.connection_model.specs.declared.note.CutReason.{CutReason}
+use Rattle.connection_model.specs.declared.note.CutReason.TheVariants.{ClientReset, ServerReset, Idle}
+use Rattle.connection_model.specs.declared.note.Note.{Note}
+use Rattle.connection_model.specs.declared.note.Note.TheVariants as note
+use Rattle.connection_model.proofs.Given.{sent_counted}
 use Rattle.frame_machine.specs.Went.{effects_in}
-use Rattle.conn.specs.Arrivals.{arrived}
-use Rattle.conn.specs.Holds.{Around, Stands, Holds}
-use Rattle.conn.specs.Hosts.{AsksNothing, ToClientAlone, client_bytes, logs_of}
-use Rattle.conn.specs.Stages.{is_asking, is_draining}
+use Rattle.conn.specs.Acts.{Rests, RestsBy, cut_of}
+use Rattle.conn.specs.Changes.{Closes}
+use Rattle.conn.specs.Ends.{connects_by, has_stream, is_up, link_by, number_by, server_by}
+use Rattle.conn.specs.Holds.{Around, Between, Holds, HoldsEnds, Stands}
+use Rattle.conn.specs.Hosts.{CollectsNothing, SendsToFirst, client_bytes, logs_of, seen_host, server_bytes}
+use Rattle.conn.specs.RunsItems.{is_cut, licenses}
+use Rattle.conn.specs.Setups.{Serves}
+use Rattle.conn.specs.Stages.{InEvent as HostIn, cause_for, fits, has_finished, is_asking, reason_for}
+use Rattle.conn.specs.Relaying.{queue_end}
+use Rattle.conn.specs.Steps.{queue_both}
 use Rattle.conn.specs.declared.connection.Conn.{Conn}
-use Rattle.conn.specs.declared.host.RuleHost.{RuleHost}
+use Rattle.conn.specs.declared.ends.End.{End}
+use Rattle.conn.specs.declared.ends.Ends.{Ends}
+use Rattle.conn.specs.declared.ends.Link.{Link}
+use Rattle.conn.specs.declared.ends.Link.TheVariants as link
+use Rattle.conn.specs.declared.setup.Setup as code_setup
+use Rattle.conn.specs.declared.stage.Finish.{Finish}
+use Rattle.conn.specs.declared.stage.Finish.TheVariants as finish
 use Rattle.conn.specs.declared.turn.Act as code
 use Rattle.conn.specs.declared.turn.Act.TheVariants as done
-use Rattle.conn.proofs.ActItems.{Silent, calls_made, acts_calls, acts_met, acts_output, acts_noted, acts_choices, acts_no_connect, acts_uncut, acts_server, acts_number}
-use Rattle.conn.proofs.Giving.{Gave}
+use Rattle.conn.proofs.ActItems.{Silent, acts_calls, acts_client, acts_met, acts_noted, acts_number, acts_sent_client, acts_sent_server, acts_server, acts_take, calls_made, sends_none}
+use Rattle.conn.proofs.CutItems.{cut_by, finish_is, rest_cut}
+use Rattle.conn.proofs.Giving.{Gave, Plain, ends_kept, gave_none, gave_one}
+use Rattle.conn.proofs.Joining.{longer_nothing, none_needed}
+use Rattle.conn.proofs.Pending.{client_reset, server_reset}
+use Rattle.conn.proofs.Places.{GoneTo, closes_gone, link_is}
 
 -- where it stands behind what an action gave
 abbrev pub ActStops : Setup → Around → TraceState → Conn → code.Act → Type 0
 ActStops g a at new done.Goes = is_asking new.stage ≡ false
-ActStops g a at new (done.Asks call) = (next_item g at ≡ Waits (ForReply call)) × (is_asking new.stage ≡ true)
-ActStops g a at new done.Rests =
-    GivesNoMore false at.sent a.took (next_item g at) × (is_draining new.stage ≡ false → new.client.reset ≡ false) × (is_asking new.stage ≡ false)
+ActStops g a at new (done.Asks call) = next_item g at ≡ Waits (ForReply call)
+ActStops g a at new done.Rests = GivesNoMore false at.sent a.took (next_item g at) × (is_cut a.took at ≡ false)
 
 -- the call that it made
 abbrev pub asked_by : code.Act → List (List (List ℕ))
@@ -39,43 +63,260 @@ pub record ActGave (g : Setup) (a : Around) (l : TraceState) (c : ℕ) (old new 
   pub gave : Gave g a l at c old new group (asked_by did)
   pub stops : ActStops g a at new did
 
+-- where it went it holds what its trace says
+pub gone_holds : (g : Setup) (a : Around) (fin : Bool) (p : Place) (l : TraceState) (ends : Ends) (new : Conn) → GoneTo g fin p l ends new → l.finished ≡ fin → HoldsEnds a (put p l) ends → l.answers.choices ≡ [] → l.answers.cut ≡ None → Holds g a (put p l) new
+gone_holds g a fin p l ends new k is h no_choice no_cut = record {
+  stage = k.stands;
+  finished = is ∙ k.finished;
+  fits = k.fits;
+  event = k.event;
+  no_collect = k.collects;
+  ends = subst (λ e. HoldsEnds a (put p l) e) (sym k.ends) h;
+  no_choice = no_choice;
+  no_cut = no_cut;
+}
+
+-- nothing is given
+pub stays : (g : Setup) (a : Around) (l : TraceState) (c : ℕ) (old new : Conn) (did : code.Act) → Holds g a l old → did ≡ done.Rests → new ≡ old → GivesNoMore false l.sent a.took (next_item g l) → is_cut a.took l ≡ false → ActGave g a l c old new [] did
+stays g a l c old new did h rests same stops kept =
+    subst (λ x. ActGave g a l c old x [] did) (sym same) (subst (λ x. ActGave g a l c old old [] x) (sym rests) (record { at = l; gave = gave_none g a l c old h; stops = (stops, kept) }))
+
+-- a reason that isn't a cut
+abbrev pub IsPlain : Finish → Type 0
+IsPlain (finish.Cut reason) = ⊥
+IsPlain other = Unit {0}
+
+pub cause_is : (f : Finish) → cause_of (reason_for f) ≡ cause_for f
+cause_is finish.Closed = refl
+cause_is finish.Rejected = refl
+cause_is finish.Unselected = refl
+cause_is (finish.Fault kind) = refl
+cause_is (finish.Cut reason) = refl
+
+plain_finish : (f : Finish) → IsPlain f → Plain (Finished (reason_for f)) []
+plain_finish finish.Closed p = record { calls = refl; client = refl; server = refl; takes = (refl, λ t. refl) }
+plain_finish finish.Rejected p = record { calls = refl; client = refl; server = refl; takes = (refl, λ t. refl) }
+plain_finish finish.Unselected p = record { calls = refl; client = refl; server = refl; takes = (refl, λ t. refl) }
+plain_finish (finish.Fault kind) p = record { calls = refl; client = refl; server = refl; takes = (refl, λ t. refl) }
+plain_finish (finish.Cut reason) p = absurd p
+
+-- the notes at a rest
+abbrev pub rest_group : ℕ → Option CutReason → List Note
+rest_group c None = []
+rest_group c (Some reason) = note.Finish c (cause_for (finish.Cut reason)) ∷ []
+
+pub rest_noted : (s : code_setup.Setup) (c : ℕ) (old new : Conn) (before after : List Note) (did : code.Act) (o : Option CutReason) → RestsBy o s c old new before after did → after ≡ before ++ rest_group c o
+rest_noted s c old new before after did None (rests, same, none) = none ∙ sym (append-nil before)
+rest_noted s c old new before after did (Some reason) (goes, k) = k.1
+
+-- by whether it has finished, and which side was reset: the cut that is due
+abbrev cut_due : (finished client server : Bool) → Bool
+cut_due finished client server = if finished then false else (if client then true else server)
+
+abbrev cut_flags : (finished client server : Bool) → Option CutReason
+cut_flags finished client server = if finished then None else (if client then Some ClientReset else (if server then Some ServerReset else None))
+
+abbrev WasReset : CutReason → (client server : Bool) → Type 0
+WasReset ClientReset client server = client ≡ true
+WasReset ServerReset client server = server ≡ true
+WasReset Idle client server = ⊥
+
+none_due : (f c s : Bool) → cut_flags f c s ≡ None → cut_due f c s ≡ false
+none_due true c s is = refl
+none_due false true s is = absurd (cc)
+none_due false false true is = absurd (cc)
+none_due false false false is = refl
+
+some_due : (f c s : Bool) (reason : CutReason) → cut_flags f c s ≡ Some reason → (f ≡ false) × WasReset reason c s
+some_due true c s reason is = absurd (cc)
+some_due false true s reason is = let same : ClientReset ≡ reason = cc in (refl, subst (λ r. WasReset r true s) same refl)
+some_due false false true reason is = let same : ServerReset ≡ reason = cc in (refl, subst (λ r. WasReset r false true) same refl)
+some_due false false false reason is = absurd (cc)
+
+module _ (s : code_setup.Setup) (g : Setup) (serves : Serves s g) (a : Around) (l : TraceState) (c : ℕ) (old new : Conn) (h : Holds g a l old) (b : Between l old) where
+  -- where it stands once it has finished
+  abbrev closed_at : TraceState
+  closed_at = put (closed g (link_by old.ends.link) (seen_host old.host)) (record l { finished = true })
+
+  closing : Closes s old new → GoneTo g true (closed g (link_by old.ends.link) (seen_host old.host)) (record l { finished = true }) old.ends new
+  closing k = closes_gone g (record l { finished = true }) s serves old new k (record { vars = b.vars; replies = b.replies; collects = h.no_collect })
+
+  closed_holds : Closes s old new → Holds g a closed_at new
+  closed_holds k =
+      gone_holds g a true (closed g (link_by old.ends.link) (seen_host old.host)) (record l { finished = true }) old.ends new (closing k) refl
+      (ends_kept a l closed_at old.ends old.ends h.ends refl refl refl refl refl) h.no_choice h.no_cut
+
+  finish_at : (reason : Reason) → finish g reason l ≡ Does (Finished reason) closed_at
+  finish_at reason = finish_is g reason (seen_host old.host) (link_by old.ends.link) l b.host (link_is a l old.ends h.ends)
+
+  -- it finishes, for a reason that isn't a cut
+  pub finishes_gave : (f : Finish) → IsPlain f → Closes s old new → next_item g l ≡ finish g (reason_for f) l → ActGave g a l c old new (note.Finish c (cause_for f) ∷ []) done.Goes
+  finishes_gave f plain k step =
+      let gone = closing k in
+      let i = Finished (reason_for f) in
+      let gave = gave_one g a l closed_at c old new i h.no_cut (plain_finish f plain) (step ∙ finish_at (reason_for f)) refl (closed_holds k) (ap (λ e. e.client.queued) gone.ends) (ap (λ e. e.server.queued) gone.ends) (ap (λ e. e.edges) gone.ends) (λ e. refl) in
+      record { at = closed_at; gave = subst (λ x. Gave g a l closed_at c old new (note.Finish c x ∷ []) []) (cause_is f) gave; stops = gone.awake }
+
+  -- a cut at a rest finishes it
+  cut_gave : (reason : CutReason) → Closes s old new → l.finished ≡ false → GivesNoMore false l.sent a.took (next_item g l) → (next_item g l ≡ Over → ⊥) → licenses reason l.sent a.took ≡ true → ActGave g a l c old new (note.Finish c (cause_for (finish.Cut reason)) ∷ []) done.Goes
+  cut_gave reason k going rest not_over licensed =
+      let gone = closing k in
+      let i = Finished (CutBy reason) in
+      let step : next_item g (longer (choosing [] (Some (cut_by reason a.took))) l) ≡ Does i closed_at = rest_cut g l reason a.took serves.http h.no_cut going rest not_over ∙ finish_at (CutBy reason) in
+      record {
+        at = closed_at;
+        gave = record {
+          more = i ∷ [];
+          passes = record {
+            passed = (closed_at, step, refl);
+            met = (refl, tt);
+            cut = λ r is. (let same : reason ≡ r = by_cut r is in
+                record {
+                  first = [];
+                  behind = [];
+                  mid = l;
+                  split = ap (λ x. Finished (CutBy x) ∷ []) same;
+                  passed = longer_nothing l h.no_cut;
+                  rests = rest;
+                  licensed = ap (λ x. licenses x l.sent a.took) (sym same) ∙ licensed;
+                });
+          };
+          holds = closed_holds k;
+          client_queue = ap (λ e. e.client.queued) gone.ends ∙ sym (append-nil old.ends.client.queued);
+          server_queue = ap (λ e. e.server.queued) gone.ends ∙ sym (append-nil old.ends.server.queued);
+          edges = ap (λ e. e.edges) gone.ends;
+          noted = refl;
+          calls = refl;
+          still = λ e. absurd (true≢false (sym e ∙ going));
+          uncut = λ e. absurd (true≢false e);
+          stays = λ e. refl;
+        };
+        stops = gone.awake;
+      }
+    where
+      by_cut : (r : CutReason) → Some (cut_by reason a.took) ≡ Some (cut_by r a.took) → reason ≡ r
+      by_cut r is = let same : cut_by reason a.took ≡ cut_by r a.took = cc in ap (λ x. x.reason) same
+
+  -- what was told of resets is what the trace says
+  resets_are : (old.ends.link ≡ link.Made → ⊥) → is_cut a.took l ≡ cut_due (has_finished old.stage) old.ends.client.reset old.ends.server.reset
+  resets_are taken_up =
+      ap (λ f. cut_due f (is_reset l.sent a.took Client) (is_reset l.sent a.took Server)) h.finished
+      ∙ ap (λ x. cut_due (has_finished old.stage) x (is_reset l.sent a.took Server)) (client_reset a l old.ends h.ends)
+      ∙ ap (λ x. cut_due (has_finished old.stage) old.ends.client.reset x) (server_reset a l old.ends h.ends taken_up)
+
+  licensed_by : (old.ends.link ≡ link.Made → ⊥) → (reason : CutReason) → WasReset reason old.ends.client.reset old.ends.server.reset → licenses reason l.sent a.took ≡ true
+  licensed_by taken_up ClientReset r = client_reset a l old.ends h.ends ∙ r
+  licensed_by taken_up ServerReset r = server_reset a l old.ends h.ends taken_up ∙ r
+  licensed_by taken_up Idle r = absurd r
+
+  -- where nothing may be given a reset that was told cuts it, or it rests
+  pub rests_gave : (before after : List Note) (did : code.Act) → (old.ends.link ≡ link.Made → ⊥) → GivesNoMore false l.sent a.took (next_item g l) → (next_item g l ≡ Over → ⊥) → Rests s c old new before after did → ActGave g a l c old new (rest_group c (cut_of old)) did
+  rests_gave before after did taken_up rest not_over k = by_cut (cut_of old) refl k
+    where
+      by_cut : (o : Option CutReason) → cut_of old ≡ o → RestsBy o s c old new before after did → ActGave g a l c old new (rest_group c o) did
+      by_cut None is (rests, same, none) = stays g a l c old new did h rests same rest (resets_are taken_up ∙ none_due (has_finished old.stage) old.ends.client.reset old.ends.server.reset is)
+      by_cut (Some reason) is (goes, k) =
+          let due = some_due (has_finished old.stage) old.ends.client.reset old.ends.server.reset reason is in
+          subst (λ d. ActGave g a l c old new (rest_group c (Some reason)) d) (sym goes) (cut_gave reason k.0 (h.finished ∙ due.0) rest not_over (licensed_by taken_up reason due.1))
+
 -- what the acts of a body made was done, and these are the calls among them
-pub record DoesActs (xs : List Act) (old new : RuleHost) (called : List (List (List ℕ))) : Type 0 where
-  pub alone : ToClientAlone (effects_in xs)
-  pub queue : new.to_client ≡ old.to_client ++ client_bytes (effects_in xs)
-  pub unasked : AsksNothing new.net
+pub record DoesActs (g : Setup) (number : ℕ) (xs : List Act) (old new : Conn) (called : List (List (List ℕ))) : Type 0 where
   pub calls : calls_made xs ≡ called
+  pub first : SendsToFirst number (effects_in xs)
+  pub ends : new.ends ≡ queue_both (client_bytes (effects_in xs)) (server_bytes (effects_in xs)) old.ends
+  pub collects : CollectsNothing g new.host.net
+
+-- logged lines tell nothing of the ends
+pub logs_keep : (c : ℕ) (es : List Effect) (e : Edges) → edges_noted (logs_of c es) e ≡ e
+logs_keep c [] e = refl
+logs_keep c (Logged text ∷ es) e = logs_keep c es e
+logs_keep c (Sent side bytes ∷ es) e = logs_keep c es e
+
+-- the streams, the answers and whether it has finished are the same
+pub record SameBeside (l at : TraceState) : Type 0 where
+  pub finished : at.finished ≡ l.finished
+  pub client : at.client ≡ l.client
+  pub server : at.server ≡ l.server
+  pub connects : at.answers.connects ≡ l.answers.connects
+  pub choices : at.answers.choices ≡ l.answers.choices
+  pub cut : at.answers.cut ≡ l.answers.cut
+
+queued_side : (k : Link) (e : End) (bytes : List ℕ) → server_by k (queue_end bytes e) ≡ server_by k e
+queued_side link.Absent e bytes = refl
+queued_side link.Asked e bytes = refl
+queued_side link.Refused e bytes = refl
+queued_side link.Made e bytes = refl
+queued_side link.Up e bytes = refl
+
+queued_answer : (k : Link) (e : End) (bytes : List ℕ) → connects_by k (queue_end bytes e) ≡ connects_by k e
+queued_answer link.Absent e bytes = refl
+queued_answer link.Asked e bytes = refl
+queued_answer link.Refused e bytes = refl
+queued_answer link.Made e bytes = refl
+queued_answer link.Up e bytes = refl
+
+not_first : (k : Link) → is_up k ≡ false → number_by k ≡ 1 → ⊥
+not_first link.Absent down is = cc
+not_first link.Asked down is = cc
+not_first link.Refused down is = cc
+not_first link.Made down is = cc
+not_first link.Up down is = true≢false down
+
+not_there : (k : Link) → has_stream k ≡ false → is_up k ≡ false
+not_there link.Absent none = refl
+not_there link.Asked none = refl
+not_there link.Refused none = refl
+not_there link.Made none = refl
+not_there link.Up none = none
+
+-- what is queued to both ends was sent to them
+pub queued_ends : (a : Around) (l at : TraceState) (e : Ends) (es : List Effect) → HoldsEnds a l e → SendsToFirst l.sent.number es → at.client ≡ l.client → at.server ≡ l.server → at.answers.connects ≡ l.answers.connects
+    → at.sent.client ≡ l.sent.client + length (client_bytes es) → at.sent.server ≡ l.sent.server + length (server_bytes es) → at.sent.number ≡ l.sent.number → HoldsEnds a at (queue_both (client_bytes es) (server_bytes es) e)
+queued_ends a l at e es h first client server connects to_client to_server number = record {
+  client = client ∙ h.client;
+  client_took = h.client_took;
+  client_untaken = (let k = h.client_untaken in let n = length-append e.client.queued (client_bytes es) in omega (arith, to_client, k, n));
+  server = server ∙ h.server ∙ sym (queued_side e.link e.server (server_bytes es));
+  connects = connects ∙ h.connects ∙ sym (queued_answer e.link e.server (server_bytes es));
+  number = number ∙ h.number;
+  servers_took = h.servers_took;
+  server_untaken = (let k = h.server_untaken in let n = length-append e.server.queued (server_bytes es) in omega (arith, to_server, k, n));
+  unsent = λ down. (let k = h.unsent down in let n = ap length (none down) in omega (arith, to_server, k, n));
+  nothing_came = λ away. ap (λ b. queue_end b e.server) (none (not_there e.link away)) ∙ ap (λ q. record e.server { queued = q }) (append-nil e.server.queued) ∙ h.nothing_came away;
+  connecting = h.connecting;
+}
+  where
+    none : is_up e.link ≡ false → server_bytes es ≡ []
+    none down = sends_none l.sent.number es first (λ one. not_first e.link down (sym h.number ∙ one))
 
 -- acts of a body, and what stands behind them
-pub acts_gave : (g : Setup) (a : Around) (l at : TraceState) (c : ℕ) (old new : Conn) (xs : List Act) (tail : List Item) {called : List (List (List ℕ))} → Silent c a.took tail → Holds g a l old → DoesActs xs old.host new.host called
-    → Unfolds g l (map (act_item 0) xs ++ tail) at → Stands g new.stage at new → at.server ≡ l.server → at.answers.cut ≡ l.answers.cut → at.client ≡ l.client → new.client ≡ old.client → Gave g a l at c old new (logs_of c (effects_in xs)) called
-acts_gave g a l at c old new xs tail t h made u stands server cut client kept =
-    let items = map (act_item 0) xs ++ tail in
+pub acts_gave : (g : Setup) (a : Around) (l at : TraceState) (c : ℕ) (old new : Conn) (xs : List Act) (tail : List Item) {called : List (List (List ℕ))} → Silent c a.took tail → Holds g a l old → DoesActs g l.sent.number xs old new called
+    → Unfolds g l (map (act_item l.sent.number) xs ++ tail) at → Stands g new.stage at new → l.finished ≡ has_finished new.stage → fits new.stage new.ends.link ≡ true → HostIn new.stage new.host.event → SameBeside l at → Gave g a l at c old new (logs_of c (effects_in xs)) called
+acts_gave g a l at c old new xs tail t h made u stands finished fit ev same =
+    let number = l.sent.number in
+    let items = map (act_item number) xs ++ tail in
     let sent : at.sent ≡ sent_from l.sent items = sent_counted g l at items u in
-    let output = acts_output c 0 a.took tail t xs made.alone in
-    let queue : new.host.to_client ≡ old.host.to_client ++ client_output items = made.queue ∙ ap (λ x. old.host.to_client ++ x) (sym output) in
+    let takes = acts_take c number a.took tail t xs in
     record {
       more = items;
-      passed = u;
-      met = acts_met c 0 a.took tail t xs l.sent;
+      passes = record { passed = none_needed g a.took l at items items h.no_cut takes u; met = acts_met c number a.took tail t xs l.sent; cut = λ reason is. absurd (let e = sym (takes.1 a.took) ∙ is in cc) };
       holds = record {
         stage = stands;
-        unasked = made.unasked;
-        counts = h.counts ∙ ap (λ x. taken_by x.reset a.counted) (sym kept);
-        untaken =
-            (let s : at.sent.client ≡ l.sent.client + length (client_output items) = ap (λ x. x.client) sent ∙ sent_output l.sent items in
-            let q : length new.host.to_client ≡ length old.host.to_client + length (client_output items) = ap length queue ∙ length-append old.host.to_client (client_output items) in
-            let k = h.untaken in omega (arith, s, q, k));
-        client = client ∙ h.client ∙ ap arrived (sym kept);
-        no_server = server ∙ h.no_server;
-        none_sent = ap (λ x. x.server) sent ∙ acts_server c 0 a.took tail t xs made.alone l.sent ∙ h.none_sent;
-        no_number = ap (λ x. x.number) sent ∙ acts_number c 0 a.took tail t xs made.alone l.sent ∙ h.no_number;
-        no_cut = cut ∙ h.no_cut;
+        finished = same.finished ∙ finished;
+        fits = fit;
+        event = ev;
+        no_collect = made.collects;
+        ends = subst (HoldsEnds a at) (sym made.ends) (queued_ends a l at old.ends (effects_in xs) h.ends made.first same.client same.server same.connects
+            (ap (λ x. x.client) sent ∙ acts_sent_client c number a.took tail t xs l.sent) (ap (λ x. x.server) sent ∙ acts_sent_server c number a.took tail t xs l.sent) (ap (λ x. x.number) sent ∙ acts_number c number a.took tail t xs l.sent));
+        no_choice = same.choices ∙ h.no_choice;
+        no_cut = same.cut ∙ h.no_cut;
       };
-      queue = queue;
-      noted = sym (acts_noted c 0 a.took tail t xs);
-      choices = acts_choices c 0 a.took tail t xs;
-      calls = acts_calls c 0 a.took tail t xs ∙ made.calls;
-      no_connect = acts_no_connect c 0 a.took tail t xs;
-      uncut = acts_uncut c 0 a.took tail t xs;
+      client_queue = ap (λ e. e.client.queued) made.ends ∙ ap (λ x. old.ends.client.queued ++ x) (sym (acts_client c number a.took tail t xs));
+      server_queue = ap (λ e. e.server.queued) made.ends ∙ ap (λ x. old.ends.server.queued ++ x) (sym (acts_server c number a.took tail t xs made.first));
+      edges = ap (λ e. e.edges) made.ends ∙ sym (logs_keep c (effects_in xs) old.ends.edges);
+      noted = sym (acts_noted c number a.took tail t xs);
+      calls = acts_calls c number a.took tail t xs ∙ made.calls;
+      still = λ e. takes;
+      uncut = λ e. takes.1;
+      stays = λ e. same.finished ∙ e;
     }

@@ -1,264 +1,407 @@
 -- An action is the next items of each state that the connection may stand for.
-use Rattle.std.proofs.Common.{◌≡◌, refl, sym, ap, subst, ◌∙◌, ℕ, List, [], ◌∷◌, ◌++◌, append-nil, drop, length, Bool, true, false, Option, Some, None, nat_lt, if◌then◌else◌}
+use Rattle.std.proofs.Common.{◌≡◌, refl, sym, ap, subst, ◌∙◌, ℕ, ◌+◌, List, [], ◌∷◌, ◌++◌, append-nil, drop, length, Bool, true, false, Option, Some, None, nat_lt}
 use Rattle.std.specs.Bool.{MatchBool}
+use Rattle.px_bytes.specs.declared.addr.Addr.{Addr}
+use Rattle.px_bytes.specs.declared.addr.Side.{Side}
+use Rattle.px_bytes.specs.declared.addr.Side.TheVariants.{Client, Server}
 use Rattle.px_bytes.specs.declared.fault.FaultKind.{FaultKind}
-use Rattle.event_order.specs.declared.event.EventName.TheVariants.{LbFailed, ClientClosed}
+use Rattle.connection_model.specs.Edges.{edges_noted}
+use Rattle.connection_model.specs.Setup.{Handler, Setup}
+use Rattle.connection_model.specs.State.{TraceState}
+use Rattle.connection_model.specs.declared.note.CutReason.{CutReason}
 use Rattle.connection_model.specs.declared.note.Note.{Note}
 use Rattle.connection_model.specs.declared.note.Note.TheVariants as note
-use Rattle.connection_model.specs.Gates.{TakenCounts, room_limit}
-use Rattle.connection_model.specs.Host.{HostState}
-use Rattle.connection_model.specs.HeardLaws.{cut_for}
-use Rattle.connection_model.specs.Item.{Item, BeforeBodies, Opened, Resumed, Logged, Finished, cause_of, note_of}
-use Rattle.connection_model.specs.Places.{at as put, after_fault, closed, enter, entered, next_body}
-use Rattle.connection_model.specs.Setup.{Handler, Setup}
-use Rattle.connection_model.specs.State.{Cut, Gated, Running, Failing, InEvent, Finishing, Absent, link_of, TraceState, Next, Does}
-use Rattle.connection_model.specs.Trace.{next_item, GivesNoMore}
-use Rattle.conn.specs.Acts.{PassesGate, Chooses, Closes, BehindFault, ActedAt, Acted}
-use Rattle.conn.specs.Changes.{StartsBody}
-use Rattle.conn.specs.Steps.{BodyMovedBy}
-use Rattle.conn.specs.Events.{event_of}
-use Rattle.conn.specs.Holds.{Around, Between, BodyGoesOn, GatedBefore, RunsFirst, Stands, Holds}
-use Rattle.conn.specs.Hosts.{AsksNothing, seen_host, unselected_host}
+use Rattle.conn.specs.Acts.{ActedAt, Acted, AnswersBy, BehindFault, PassesGate, RelaysBy, Rests, RestsBy, cut_of, has_room}
+use Rattle.conn.specs.Changes.{Closes, ClosesClient, ClosesServer, GoesTo, Leaves, NextBody, StartsBody}
+use Rattle.conn.specs.Choosing.{ChoosesBy, TakesChosen, plan_of}
+use Rattle.conn.specs.Ends.{is_sought}
+use Rattle.conn.specs.Events.{event_of, is_closed}
+use Rattle.conn.specs.Holds.{Around, Holds, RunsFirst, Stands}
+use Rattle.conn.specs.Hosts.{client_bytes, server_bytes}
+use Rattle.conn.specs.Relaying.{moved, relay_plan}
 use Rattle.conn.specs.Setups.{body_at, places_at, Serves}
-use Rattle.conn.specs.Queues.{queue_in}
-use Rattle.conn.specs.Stages.{reason_for, cause_for, entered_by, is_asking, is_draining}
+use Rattle.conn.specs.Stages.{cause_for, is_asking}
+use Rattle.conn.specs.Steps.{BodyMovedBy, BodySteps, GoesOn, one_of, queue_both, said_of}
+use Rattle.conn.specs.declared.body_step.Said.{Said}
+use Rattle.conn.specs.declared.body_step.Said.TheVariants as said
 use Rattle.conn.specs.declared.connection.Conn.{Conn}
+use Rattle.conn.specs.declared.ends.Ends.{Ends}
+use Rattle.conn.specs.declared.ends.Link.{Link}
+use Rattle.conn.specs.declared.ends.Link.TheVariants as link
 use Rattle.conn.specs.declared.events.At.{At}
-use Rattle.conn.specs.declared.events.At.TheVariants.{Accepted, Failed, Closed}
-use Rattle.conn.specs.declared.setup.Place.{Place}
+use Rattle.conn.specs.declared.events.At.TheVariants as event
+use Rattle.conn.specs.declared.relay.Relay.{Relay}
+use Rattle.conn.specs.declared.relay.Relay.TheVariants as relay
+use Rattle.conn.specs.declared.select.Plan.{Plan}
+use Rattle.conn.specs.declared.select.Plan.TheVariants as plan
+use Rattle.conn.specs.Choosing.{ChoosesBy, plan_of}
+use Rattle.conn.specs.declared.select.Plan.{Plan}
+use Rattle.conn.specs.declared.select.Plan.TheVariants as plan
 use Rattle.conn.specs.declared.setup.Setup as code_setup
-use Rattle.conn.specs.declared.stage.Finish.{Finish}
 use Rattle.conn.specs.declared.stage.Finish.TheVariants as finish
 use Rattle.conn.specs.declared.stage.Stage.{Stage}
 use Rattle.conn.specs.declared.stage.Stage.TheVariants as stage
 use Rattle.conn.specs.declared.turn.Act as step_act
 use Rattle.conn.specs.declared.turn.Act.TheVariants as done
-use Rattle.conn.proofs.Acting.{ActGave}
-use Rattle.conn.proofs.BodyMoves.{next_awake, next_host, next_client, body_gives, step_notes}
-use Rattle.conn.proofs.Doing.{begun_unasked, same_unasked, unselected_unasked}
-use Rattle.conn.proofs.Giving.{gave_none, OneItem, gave_one}
-use Rattle.conn.proofs.Places.{none_here, body_begins, next_stands, entered_stands}
-use Rattle.conn.proofs.Resting.{next_at, gate_is, choosing_item, over_next}
+use Rattle.conn.proofs.Acting.{ActGave, logs_keep, rest_group}
+use Rattle.conn.proofs.BodyMoves.{body_gives, step_notes}
+use Rattle.conn.proofs.Choosing.{chooses, chosen}
+use Rattle.conn.proofs.Gating.{drains, finishing, gate, gate_group, gate_noted, logs}
+use Rattle.conn.proofs.Linking.{answer_group, answer_noted, answers, connects}
+use Rattle.conn.proofs.Passing.{relay_group, relay_noted, relays}
+use Rattle.conn.proofs.Places.{none_here}
 
--- one item, and then it goes on
-goes : (g : Setup) (a : Around) (l : TraceState) (c : ℕ) (old new : Conn) (i : Item) → Holds g a l old → OneItem g a l old new i → is_asking new.stage ≡ false → ActGave g a l c old new (note_of c i) done.Goes
-goes g a l c old new i h o awake = record { at = o.at; gave = gave_one g a l c old new i h o; stops = awake }
+-- what an action tells the outside of the ends
+abbrev pub Tells : List Note → Conn → Conn → Type 0
+Tells group old new = new.ends.edges ≡ edges_noted group old.ends.edges
 
--- nothing is given
-stays : (g : Setup) (a : Around) (l : TraceState) (c : ℕ) (old new : Conn) (a' : step_act.Act) → Holds g a l old → is_asking old.stage ≡ false → a' ≡ done.Rests → new ≡ old → GivesNoMore false l.sent a.took (next_item g l) → (is_draining old.stage ≡ false → old.client.reset ≡ false) → ActGave g a l c old new [] a'
-stays g a l c old new a' h awake rests same stops kept =
-    let P : Conn → Type 0 = λ x. ActGave g a l c old x [] a' in
-    let Q : step_act.Act → Type 0 = λ x. ActGave g a l c old old [] x in
-    subst P (sym same) (subst Q (sym rests) (record { at = l; gave = gave_none g a l c old h; stops = (stops, kept, awake) }))
+-- the same ends
+ends_tell : (old new : Conn) → new.ends ≡ old.ends → Tells [] old new
+ends_tell old new is = ap (λ e. e.edges) is
 
--- the notes of a body that moved
-abbrev moved_notes : (s : code_setup.Setup) (c : ℕ) (at : At) (number : ℕ) (old new : Conn) (before after : List Note) (did : step_act.Act) (v : Option Handler) → BodyMovedBy s v c at number old new before after did → List Note
-moved_notes s c at number old new before after did None k = []
-moved_notes s c at number old new before after did (Some b) k = step_notes k
+client_ends : (s : code_setup.Setup) (old new : Conn) → ClosesClient s old new → new.ends ≡ old.ends
+client_ends s old new k = by_test (nat_lt 0 (length (places_at s event.Closed))) k.goes ∙ k.begins.ends
+  where
+    by_test : (b : Bool) → MatchBool b (StartsBody s event.Closed 0 k.mid new) (GoesTo stage.Draining k.mid new) → new.ends ≡ k.mid.ends
+    by_test true c = c.ends
+    by_test false c = c.ends
 
--- where an event is entered no call is open
-pub entered_awake : (at : At) (ps : List Place) → is_asking (entered_by at ps) ≡ false
-entered_awake Accepted [] = refl
-entered_awake Failed [] = refl
-entered_awake Closed [] = refl
-entered_awake at (p ∷ ps) = refl
+leaves_ends : (s : code_setup.Setup) (at : At) (old new : Conn) → Leaves s at old new → new.ends ≡ old.ends
+leaves_ends s event.Accepted old new k = k.ends
+leaves_ends s event.Selected old new k = k.ends
+leaves_ends s event.Failed old new k = k.ends
+leaves_ends s event.Connected old new k = k.ends
+leaves_ends s event.ServerClosed old new k = client_ends s old new k
+leaves_ends s event.Closed old new k = k.ends
 
--- where there is no room it wasn't reset
-full_kept : (b : Bool) (q : List ℕ) → nat_lt (length (if b then [] else q)) room_limit ≡ false → b ≡ false
-full_kept true q e = cc
-full_kept false q e = refl
+next_ends : (s : code_setup.Setup) (at : At) (n : ℕ) (old new : Conn) → NextBody s at n old new → new.ends ≡ old.ends
+next_ends s at n old new k = by_test (nat_lt n (length (places_at s at))) k
+  where
+    by_test : (b : Bool) → MatchBool b (StartsBody s at n old new) (Leaves s at old new) → new.ends ≡ old.ends
+    by_test true c = c.ends
+    by_test false c = leaves_ends s at old new c
 
-module _ (s : code_setup.Setup) (g : Setup) (serves : Serves s g) (a : Around) (l : TraceState) (c : ℕ) (old new : Conn) (h : Holds g a l old) where
-  gate_opens : (at : At) (hs : List Handler) → g.handlers (event_of at) ≡ hs → GatedBefore (event_of at) hs l.phase → Between l old → StartsBody s at 0 old new → nat_lt (length (queue_in old)) room_limit ≡ true → ActGave g a l c old new [] done.Goes
-  gate_opens at [] e k b starts room = absurd k
-  gate_opens at (x ∷ xs) e k b starts room =
-      let ev = event_of at in
-      let after : TraceState = record l { phase = InEvent ev (Running x xs 0) } in
-      let P : HostState → Type 0 = λ host. BodyGoesOn g ev x xs 0 (record l { phase = InEvent ev (Running x xs 0); host = host }) new in
-      let body : BodyGoesOn g ev x xs 0 after new = subst P (sym b.host) (body_begins s g serves ev x xs old new at 0 starts l b.vars b.replies h.unasked.collect) in
-      let R : List Handler → Type 0 = λ hs. RunsFirst g ev (drop 0 hs) 0 after new in
-      let S : Stage → Type 0 = λ st. Stands g st after new in
-      goes g a l c old new (Opened BeforeBodies) h (record {
-        at = after;
-        step = next_at g l (InEvent ev (Gated x xs)) h.no_cut k;
-        open_now = gate_is g a l old h ∙ room;
-        silent = refl;
-        choice = refl;
-        call = refl;
-        no_connect = refl;
-        uncut = λ t later. refl;
-        stands = subst S (sym starts.there) (subst R (sym e) body, starts.fresh.runs);
-        sent = refl;
-        server = refl;
-        cut = refl;
-        queue = ap (λ x. x.to_client) starts.host;
-        unasked = same_unasked old.host new.host starts.host h.unasked;
-        client = refl;
-        kept = starts.client;
-      }) (ap is_asking starts.there)
+closes_ends : (s : code_setup.Setup) (old new : Conn) → Closes s old new → new.ends ≡ old.ends
+closes_ends s old new k = by_test (is_sought old.ends.link) k
+  where
+    by_test : (b : Bool) → MatchBool b (ClosesServer s old new) (ClosesClient s old new) → new.ends ≡ old.ends
+    by_test true c = next_ends s event.ServerClosed 0 c.mid new c.goes ∙ c.begins.ends
+    by_test false c = client_ends s old new c
 
-  gate_shut : (at : At) (hs : List Handler) → GatedBefore (event_of at) hs l.phase → nat_lt (length (queue_in old)) room_limit ≡ false → GivesNoMore false l.sent a.took (next_item g l)
-  gate_shut at [] k room = absurd k
-  gate_shut at (x ∷ xs) k room =
-      let P : Next → Type 0 = λ o. GivesNoMore false l.sent a.took o in
-      subst P (sym (next_at g l (InEvent (event_of at) (Gated x xs)) h.no_cut k)) (gate_is g a l old h ∙ room)
+fault_ends : (s : code_setup.Setup) (at : At) (n : ℕ) (kind : FaultKind) (old new : Conn) → BehindFault s at n kind old new → new.ends ≡ old.ends
+fault_ends s at n kind old new k = by_test (is_closed at) k
+  where
+    by_test : (b : Bool) → MatchBool b (NextBody s at n old new) (GoesTo (stage.Finishing (finish.Fault kind)) old new) → new.ends ≡ old.ends
+    by_test true c = next_ends s at n old new c
+    by_test false c = c.ends
 
-  gate : (at : At) (did : step_act.Act) → Stands g (stage.Gated at) l old → is_asking old.stage ≡ false → PassesGate s at old new did → ActGave g a l c old new [] did
-  gate at did st awake k = by_test (nat_lt (length (queue_in old)) room_limit) refl k
-    where
-      by_test : (b : Bool) → nat_lt (length (queue_in old)) room_limit ≡ b → MatchBool b ((did ≡ done.Goes) × StartsBody s at 0 old new) ((did ≡ done.Rests) × (new ≡ old)) → ActGave g a l c old new [] did
-      by_test true e (goes_on, starts) =
-          let P : step_act.Act → Type 0 = λ x. ActGave g a l c old new [] x in
-          subst P (sym goes_on) (gate_opens at (g.handlers (event_of at)) refl st.0 st.1 starts e)
-      by_test false e (rests, same) = stays g a l c old new did h awake rests same (gate_shut at (g.handlers (event_of at)) st.0 e) (λ f. full_kept old.client.reset old.host.to_client e)
+rest_tells : (s : code_setup.Setup) (c : ℕ) (old new : Conn) (before after : List Note) (did : step_act.Act) (o : Option CutReason) → RestsBy o s c old new before after did → Tells (rest_group c o) old new
+rest_tells s c old new before after did None k = ap (λ x. x.ends.edges) k.1
+rest_tells s c old new before after did (Some reason) k = ends_tell old new (closes_ends s old new k.1.0)
 
-  runs : (at : At) (number : ℕ) (before after : List Note) (did : step_act.Act) (v : Option Handler) → body_at s at number ≡ v → old.stage ≡ stage.Running at number → Stands g (stage.Running at number) l old
-      → (k : BodyMovedBy s v c at number old new before after did) → ActGave g a l c old new (moved_notes s c at number old new before after did v k) did
-  runs at number before after did None e is st k =
-      let R : List Handler → Type 0 = λ hs. RunsFirst g (event_of at) hs 0 l old in
-      let none : drop number (g.handlers (event_of at)) ≡ [] = none_here (g.handlers (event_of at)) number (serves.each (event_of at) number ∙ e) in
-      absurd (subst R none st.0)
-  runs at number before after did (Some b) e is st k = body_gives s g serves a l c old new at number b before after did e k is h
+gate_tells : (s : code_setup.Setup) (c : ℕ) (at : At) (old new : Conn) (before after : List Note) (did : step_act.Act) → PassesGate s c at old new before after did → Tells (gate_group (has_room old) c (cut_of old)) old new
+gate_tells s c at old new before after did k = by_test (has_room old) k
+  where
+    by_test : (b : Bool) → MatchBool b ((did ≡ done.Goes) × StartsBody s at 0 old new × (after ≡ before)) (Rests s c old new before after did) → Tells (gate_group b c (cut_of old)) old new
+    by_test true k = ends_tell old new k.1.ends
+    by_test false k = rest_tells s c old new before after did (cut_of old) k
 
-  -- behind a fault
-  fault_stands : (at : At) (n : ℕ) (kind : FaultKind) → Between l old → BehindFault s at n kind old new
-      → Stands g new.stage (put (after_fault g (event_of at) l.finished Absent kind (drop n (g.handlers (event_of at))) (seen_host old.host)) l) new × (is_asking new.stage ≡ false) × (new.host ≡ old.host)
-  fault_stands Accepted n kind b k =
-      let P : Stage → Type 0 = λ st. Stands g st (record l { phase = Finishing (reason_for (finish.Fault kind)); host = seen_host old.host }) new in
-      (subst P (sym k.there) (refl, record { vars = b.vars ∙ sym k.vars; host = ap seen_host (sym k.host); replies = b.replies }), ap is_asking k.there, k.host)
-  fault_stands Failed n kind b k =
-      let P : Stage → Type 0 = λ st. Stands g st (record l { phase = Finishing (reason_for (finish.Fault kind)); host = seen_host old.host }) new in
-      (subst P (sym k.there) (refl, record { vars = b.vars ∙ sym k.vars; host = ap seen_host (sym k.host); replies = b.replies }), ap is_asking k.there, k.host)
-  fault_stands Closed n kind b k = (next_stands s g serves Closed n old new k l b.vars b.replies h.unasked l.finished, next_awake s Closed n old new k, next_host s Closed n old new k)
+answer_tells : (s : code_setup.Setup) (c : ℕ) (k : Link) (old new : Conn) (before after : List Note) (did : step_act.Act) → AnswersBy k s c old new before after did → Tells (answer_group k c (cut_of old)) old new
+answer_tells s c link.Made old new before after did k = ap (λ e. e.edges) k.1.ends
+answer_tells s c link.Refused old new before after did k = ap (λ e. e.edges) k.1.ends
+answer_tells s c link.Absent old new before after did k = rest_tells s c old new before after did (cut_of old) k
+answer_tells s c link.Asked old new before after did k = rest_tells s c old new before after did (cut_of old) k
+answer_tells s c link.Up old new before after did k = rest_tells s c old new before after did (cut_of old) k
 
-  fault_client : (at : At) (n : ℕ) (kind : FaultKind) → BehindFault s at n kind old new → new.client ≡ old.client
-  fault_client Accepted n kind k = k.client
-  fault_client Failed n kind k = k.client
-  fault_client Closed n kind k = next_client s Closed n old new k
+moved_edges : (side : Side) (n : ℕ) (e : Ends) → (moved side n e).edges ≡ e.edges
+moved_edges Client n e = refl
+moved_edges Server n e = refl
 
-  logs : (at : At) (n : ℕ) (kind : FaultKind) (line : List ℕ) → Stands g (stage.Failing at n kind line) l old → BehindFault s at n kind old new → ActGave g a l c old new (note.Log c line ∷ []) done.Goes
-  logs at n kind line st k =
-      let ev = event_of at in
-      let bs = drop n (g.handlers ev) in
-      let f = fault_stands at n kind st.1 k in
-      goes g a l c old new (Logged line) h (record {
-        at = put (after_fault g ev l.finished Absent kind bs (seen_host old.host)) l;
-        step = next_at g l (InEvent ev (Failing kind line bs)) h.no_cut st.0
-            ∙ ap (λ host. Does (Logged line) (put (after_fault g ev l.finished (link_of l.server) kind bs host) l)) st.1.host
-            ∙ ap (λ k'. Does (Logged line) (put (after_fault g ev l.finished (link_of k') kind bs (seen_host old.host)) l)) h.no_server;
-        open_now = refl;
-        silent = refl;
-        choice = refl;
-        call = refl;
-        no_connect = refl;
-        uncut = λ t later. refl;
-        stands = f.0;
-        sent = refl;
-        server = refl;
-        cut = refl;
-        queue = ap (λ x. x.to_client) f.2;
-        unasked = same_unasked old.host new.host f.2 h.unasked;
-        client = refl;
-        kept = fault_client at n kind k;
-      }) f.1
+relay_tells : (s : code_setup.Setup) (c : ℕ) (p : Relay) (old new : Conn) (before after : List Note) (did : step_act.Act) → RelaysBy p s c old new before after did → Tells (relay_group p c (cut_of old)) old new
+relay_tells s c relay.Done old new before after did k = ends_tell old new (closes_ends s old new k.1.0)
+relay_tells s c (relay.Pass side n) old new before after did k = ap (λ e. e.edges) k.1.ends ∙ moved_edges side n old.ends
+relay_tells s c relay.Rest old new before after did k = rest_tells s c old new before after did (cut_of old) k
 
-  chooses : Stands g stage.Choosing l old → Chooses s old new → ActGave g a l c old new [] done.Goes
-  chooses st k =
-      let P : HostState → Type 0 = λ host. Stands g new.stage (put (entered g LbFailed Absent (g.handlers LbFailed) host) l) new in
-      let unasked : AsksNothing new.host.net = begun_unasked Failed (unselected_host old.host) new.host k.host (unselected_unasked old.host h.unasked) in
-      goes g a l c old new Resumed h (record {
-        at = put (enter g LbFailed Absent (seen_host (unselected_host old.host))) l;
-        step = choosing_item g l old st.1 h.unasked h.no_cut h.no_server st.0;
-        open_now = refl;
-        silent = refl;
-        choice = refl;
-        call = refl;
-        no_connect = refl;
-        uncut = λ t later. refl;
-        stands = subst P (ap seen_host k.host) (entered_stands s g serves Failed new k.there l (st.1.vars ∙ sym k.vars) st.1.replies unasked);
-        sent = refl;
-        server = refl;
-        cut = refl;
-        queue = ap (λ x. x.to_client) k.host;
-        unasked = unasked;
-        client = refl;
-        kept = k.client;
-      }) (ap is_asking k.there ∙ entered_awake Failed (places_at s Failed))
+chooses_tells : (s : code_setup.Setup) (p : Plan) (old new : Conn) (did : step_act.Act) → ChoosesBy p s old new did → Tells [] old new
+chooses_tells s plan.Nothing old new did k = ends_tell old new k.1.ends
+chooses_tells s (plan.Node addr) old new did k = ends_tell old new k.1.ends
+chooses_tells s (plan.Member pool only) old new did k = ends_tell old new k.ends
 
-  cause_is : (f : Finish) → cause_of (reason_for f) ≡ cause_for f
-  cause_is finish.Unselected = refl
-  cause_is (finish.Fault kind) = refl
+chosen_tells : (s : code_setup.Setup) (addr : Option Addr) (old new : Conn) → TakesChosen s addr old new → Tells [] old new
+chosen_tells s None old new k = ends_tell old new k.ends
+chosen_tells s (Some addr) old new k = ends_tell old new k.ends
 
-  uncut_by : (f : Finish) (t : TakenCounts) (later : Option Cut) → cut_for (Some (reason_for f)) t later ≡ later
-  uncut_by finish.Unselected t later = refl
-  uncut_by (finish.Fault kind) t later = refl
+went_on : (s : code_setup.Setup) (at : At) (n : ℕ) (x : Said) (mid new : Conn) (did : step_act.Act) → GoesOn s at n x mid new did → new.ends ≡ mid.ends
+went_on s at n said.More mid new did k = ap (λ x. x.ends) k.1
+went_on s at n (said.Asks call) mid new did k = ap (λ x. x.ends) k.1
+went_on s at n said.Over mid new did k = next_ends s at (n + 1) mid new k.1
+went_on s at n (said.Fails kind line) mid new did k = k.1.ends
 
-  finishes : (f : Finish) → Stands g (stage.Finishing f) l old → Closes s old new → ActGave g a l c old new (note.Finish c (cause_for f) ∷ []) done.Goes
-  finishes f st k =
-      let b = st.1 in
-      let l' : TraceState = record l { finished = true } in
-      let P : HostState → Type 0 = λ host. Stands g new.stage (put (next_body g ClientClosed true Absent (g.handlers ClientClosed) host) l') new in
-      let N : List Note → Type 0 = λ x. ActGave g a l c old new x done.Goes in
-      let unasked : AsksNothing k.mid.host.net = begun_unasked Closed old.host k.mid.host k.host h.unasked in
-      subst N (ap (λ x. note.Finish c x ∷ []) (cause_is f)) (goes g a l c old new (Finished (reason_for f)) h (record {
-        at = put (closed g Absent (seen_host old.host)) l';
-        step = next_at g l (Finishing (reason_for f)) h.no_cut st.0
-            ∙ ap (λ host. Does (Finished (reason_for f)) (put (closed g (link_of l.server) host) l')) b.host
-            ∙ ap (λ k'. Does (Finished (reason_for f)) (put (closed g (link_of k') (seen_host old.host)) l')) h.no_server;
-        open_now = refl;
-        silent = refl;
-        choice = refl;
-        call = refl;
-        no_connect = refl;
-        uncut = λ t later. uncut_by f t later;
-        stands = subst P (ap seen_host k.host) (next_stands s g serves Closed 0 k.mid new k.begins l' (b.vars ∙ sym k.vars) b.replies unasked true);
-        sent = refl;
-        server = refl;
-        cut = refl;
-        queue = ap (λ x. x.to_client) (next_host s Closed 0 k.mid new k.begins ∙ k.host);
-        unasked = same_unasked k.mid.host new.host (next_host s Closed 0 k.mid new k.begins) unasked;
-        client = refl;
-        kept = next_client s Closed 0 k.mid new k.begins ∙ k.client;
-      }) (next_awake s Closed 0 k.mid new k.begins))
-
-  drains : (did : step_act.Act) → old.stage ≡ stage.Draining → is_asking old.stage ≡ false → Stands g stage.Draining l old → did ≡ done.Rests → new ≡ old → ActGave g a l c old new [] did
-  drains did is awake st rests same =
-      let P : Next → Type 0 = λ o. GivesNoMore false l.sent a.took o in
-      stays g a l c old new did h awake rests same (subst P (sym (over_next g a l old h st.0)) tt) (λ f. let t : true ≡ false = sym (ap is_draining is) ∙ f in cc)
+steps_tell : (s : code_setup.Setup) (h : Handler) (c : ℕ) (at : At) (n : ℕ) (old new : Conn) (before after : List Note) (did : step_act.Act) (k : BodySteps s h c at n old new before after did) → Tells (step_notes k) old new
+steps_tell s h c at n old new before after did k =
+    let es = one_of k.stepped.host.made in
+    ap (λ e. e.edges) (went_on s at n (said_of h at k.turned) k.mid new did k.goes_on ∙ k.does.ends ∙ ap (queue_both (client_bytes es) (server_bytes es)) k.ends)
+    ∙ sym (logs_keep c es old.ends.edges)
 
 -- what one action gave, with its notes
 pub record ActedWell (s : code_setup.Setup) (c : ℕ) (old new : Conn) (before after : List Note) (did : step_act.Act) : Type 0 where
   pub group : List Note
   pub notes : after ≡ before ++ group
+  pub tells : Tells group old new
   pub along : (g : Setup) (a : Around) (l : TraceState) → Serves s g → Holds g a l old → is_asking old.stage ≡ false → ActGave g a l c old new group did
 
 pub acted_well : (s : code_setup.Setup) (c : ℕ) (old new : Conn) (before after : List Note) (did : step_act.Act) → Acted s c old new before after did → ActedWell s c old new before after did
 acted_well s c old new before after did k = by_stage old.stage refl k
   where
     here : (st : Stage) → old.stage ≡ st → (g : Setup) (a : Around) (l : TraceState) → Holds g a l old → Stands g st l old
-    here st is g a l h = let P : Stage → Type 0 = λ x. Stands g x l old in subst P is h.stage
+    here st is g a l h = subst (λ x. Stands g x l old) is h.stage
 
     none : after ≡ before → after ≡ before ++ []
     none e = e ∙ sym (append-nil before)
 
     as_goes : did ≡ done.Goes → (g : Setup) (a : Around) (l : TraceState) (group : List Note) → ActGave g a l c old new group done.Goes → ActGave g a l c old new group did
-    as_goes e g a l group x = let P : step_act.Act → Type 0 = λ d. ActGave g a l c old new group d in subst P (sym e) x
+    as_goes e g a l group x = subst (λ d. ActGave g a l c old new group d) (sym e) x
+
+    asleep : (st : Stage) → old.stage ≡ st → is_asking st ≡ true → new ≡ old → after ≡ before → ActedWell s c old new before after did
+    asleep st is asks same quiet = record { group = []; notes = none quiet; tells = ap (λ x. x.ends.edges) same; along = λ g a l serves h awake. absurd (let e = sym awake ∙ ap is_asking is ∙ asks in cc) }
 
     by_stage : (st : Stage) → old.stage ≡ st → ActedAt st s c old new before after did → ActedWell s c old new before after did
-    by_stage (stage.Gated at) is (k, notes) = record { group = []; notes = none notes; along = λ g a l serves h awake. gate s g serves a l c old new h at did (here (stage.Gated at) is g a l h) awake k }
+    by_stage (stage.Gated at) is k = record {
+      group = gate_group (has_room old) c (cut_of old);
+      notes = gate_noted s c at old new before after did k;
+      tells = gate_tells s c at old new before after did k;
+      along = λ g a l serves h awake. gate s g serves a l c old new h at before after did is (here (stage.Gated at) is g a l h) k;
+    }
     by_stage (stage.Running at n) is k = by_handler (body_at s at n) refl k
       where
         by_handler : (v : Option Handler) → body_at s at n ≡ v → BodyMovedBy s v c at n old new before after did → ActedWell s c old new before after did
-        by_handler None e m = record { group = []; notes = none m; along = λ g a l serves h awake. runs s g serves a l c old new h at n before after did None e is (here (stage.Running at n) is g a l h) m }
+        by_handler None e m = record {
+          group = [];
+          notes = none m.2;
+          tells = ap (λ x. x.ends.edges) m.1;
+          along = λ g a l serves h awake.
+              (let none_left : drop n (g.handlers (event_of at)) ≡ [] = none_here (g.handlers (event_of at)) n (serves.each (event_of at) n ∙ e) in
+              let st = here (stage.Running at n) is g a l h in
+              absurd (subst (λ hs. RunsFirst g (event_of at) hs 0 l old) none_left st.0));
+        }
         by_handler (Some b) e m = record {
           group = step_notes m;
           notes = m.does.noted;
-          along = λ g a l serves h awake. runs s g serves a l c old new h at n before after did (Some b) e is (here (stage.Running at n) is g a l h) m;
+          tells = steps_tell s b c at n old new before after did m;
+          along = λ g a l serves h awake. body_gives s g serves a l c old new at n b before after did e m is h;
         }
-    by_stage (stage.Asking at n) is (rests, same, notes) = record { group = []; notes = none notes; along = λ g a l serves h awake. absurd (let e = sym awake ∙ ap is_asking is in cc) }
-    by_stage (stage.Failing at n kind line) is (e, k, notes) = record { group = note.Log c line ∷ []; notes = notes; along = λ g a l serves h awake. as_goes e g a l (note.Log c line ∷ []) (logs s g serves a l c old new h at n kind line (here (stage.Failing at n kind line) is g a l h) k) }
-    by_stage stage.Choosing is (e, k, notes) = record { group = []; notes = none notes; along = λ g a l serves h awake. as_goes e g a l [] (chooses s g serves a l c old new h (here stage.Choosing is g a l h) k) }
-    by_stage (stage.Finishing f) is (e, k, notes) = record { group = note.Finish c (cause_for f) ∷ []; notes = notes; along = λ g a l serves h awake. as_goes e g a l (note.Finish c (cause_for f) ∷ []) (finishes s g serves a l c old new h f (here (stage.Finishing f) is g a l h) k) }
-    by_stage stage.Draining is (rests, same, notes) = record { group = []; notes = none notes; along = λ g a l serves h awake. drains s g serves a l c old new h did is awake (here stage.Draining is g a l h) rests same }
-    by_stage stage.OutOfMemory is (rests, same, notes) = record { group = []; notes = none notes; along = λ g a l serves h awake. absurd (here stage.OutOfMemory is g a l h) }
-    by_stage (stage.Dropped n) is (rests, same, notes) = record { group = []; notes = none notes; along = λ g a l serves h awake. absurd (here (stage.Dropped n) is g a l h) }
+    by_stage (stage.Asking at n) is (rests, same, quiet) = asleep (stage.Asking at n) is refl same quiet
+    by_stage stage.Selecting is (rests, same, quiet) = asleep stage.Selecting is refl same quiet
+    by_stage (stage.Failing at n kind line) is (e, k, notes) = record {
+      group = note.Log c line ∷ [];
+      notes = notes;
+      tells = ends_tell old new (fault_ends s at n kind old new k);
+      along = λ g a l serves h awake. as_goes e g a l (note.Log c line ∷ []) (logs s g serves a l c old new h at n kind line is (here (stage.Failing at n kind line) is g a l h) k);
+    }
+    by_stage stage.Choosing is (k, quiet) = record {
+      group = [];
+      notes = none quiet;
+      tells = chooses_tells s (plan_of old.host.net) old new did k;
+      along = λ g a l serves h awake. chooses s g serves a l c old new h did is (here stage.Choosing is g a l h) k;
+    }
+    by_stage (stage.Chosen addr) is (e, k, quiet) = record {
+      group = [];
+      notes = none quiet;
+      tells = chosen_tells s addr old new k;
+      along = λ g a l serves h awake. as_goes e g a l [] (chosen s g serves a l c old new h addr is (here (stage.Chosen addr) is g a l h) k);
+    }
+    by_stage (stage.Connecting to) is (e, k) = record {
+      group = note.Connect c to ∷ [];
+      notes = k.noted;
+      tells = ap (λ x. x.edges) k.ends;
+      along = λ g a l serves h awake. as_goes e g a l (note.Connect c to ∷ []) (connects s g serves a l c old new h to before after is (here (stage.Connecting to) is g a l h) k);
+    }
+    by_stage (stage.Answering to) is k = record {
+      group = answer_group old.ends.link c (cut_of old);
+      notes = answer_noted s c old.ends.link old new before after did k;
+      tells = answer_tells s c old.ends.link old new before after did k;
+      along = λ g a l serves h awake. answers s g serves a l c old new h to before after did is (here (stage.Answering to) is g a l h) k;
+    }
+    by_stage stage.Relaying is k = record {
+      group = relay_group (relay_plan old.ends) c (cut_of old);
+      notes = relay_noted s c (relay_plan old.ends) old new before after did k;
+      tells = relay_tells s c (relay_plan old.ends) old new before after did k;
+      along = λ g a l serves h awake. relays s g serves a l c old new h is (here stage.Relaying is g a l h) before after did k;
+    }
+    by_stage (stage.Finishing f) is (e, k) = record {
+      group = note.Finish c (cause_for f) ∷ [];
+      notes = k.1;
+      tells = ends_tell old new (closes_ends s old new k.0);
+      along = λ g a l serves h awake. as_goes e g a l (note.Finish c (cause_for f) ∷ []) (finishing s g serves a l c old new h f before after is (here (stage.Finishing f) is g a l h) k);
+    }
+    by_stage stage.Draining is (rests, same, quiet) = record {
+      group = [];
+      notes = none quiet;
+      tells = ap (λ x. x.ends.edges) same;
+      along = λ g a l serves h awake. drains s g serves a l c old new h did is (here stage.Draining is g a l h) rests same;
+    }
+    by_stage stage.OutOfMemory is (rests, same, quiet) = record { group = []; notes = none quiet; tells = ap (λ x. x.ends.edges) same; along = λ g a l serves h awake. absurd (here stage.OutOfMemory is g a l h) }
+    by_stage (stage.Dropped n) is (rests, same, quiet) = record { group = []; notes = none quiet; tells = ap (λ x. x.ends.edges) same; along = λ g a l serves h awake. absurd (here (stage.Dropped n) is g a l h) }
+
+-- where it rests nothing is noted
+rest_quiet : (s : code_setup.Setup) (c : ℕ) (old new : Conn) (before after : List Note) (o : Option CutReason) → RestsBy o s c old new before after done.Rests → after ≡ before
+rest_quiet s c old new before after None k = k.2
+rest_quiet s c old new before after (Some reason) k = absurd (let e = k.0 in cc)
+
+answer_quiet : (s : code_setup.Setup) (c : ℕ) (k : Link) (old new : Conn) (before after : List Note) → AnswersBy k s c old new before after done.Rests → after ≡ before
+answer_quiet s c link.Made old new before after k = k.2
+answer_quiet s c link.Refused old new before after k = k.2
+answer_quiet s c link.Absent old new before after k = rest_quiet s c old new before after (cut_of old) k
+answer_quiet s c link.Asked old new before after k = rest_quiet s c old new before after (cut_of old) k
+answer_quiet s c link.Up old new before after k = rest_quiet s c old new before after (cut_of old) k
+
+relay_quiet : (s : code_setup.Setup) (c : ℕ) (p : Relay) (old new : Conn) (before after : List Note) → RelaysBy p s c old new before after done.Rests → after ≡ before
+relay_quiet s c relay.Done old new before after k = absurd (let e = k.0 in cc)
+relay_quiet s c (relay.Pass side n) old new before after k = absurd (let e = k.0 in cc)
+relay_quiet s c relay.Rest old new before after k = rest_quiet s c old new before after (cut_of old) k
+
+gate_quiet : (s : code_setup.Setup) (c : ℕ) (at : At) (old new : Conn) (before after : List Note) → PassesGate s c at old new before after done.Rests → after ≡ before
+gate_quiet s c at old new before after k = by_test (has_room old) k
+  where
+    by_test : (b : Bool) → MatchBool b ((done.Rests ≡ done.Goes) × StartsBody s at 0 old new × (after ≡ before)) (Rests s c old new before after done.Rests) → after ≡ before
+    by_test true k = k.2
+    by_test false k = rest_quiet s c old new before after (cut_of old) k
+
+said_quiet : (s : code_setup.Setup) (at : At) (n : ℕ) (x : Said) (mid new : Conn) → GoesOn s at n x mid new done.Rests → ⊥
+said_quiet s at n said.More mid new k = let e = k.0 in cc
+said_quiet s at n (said.Asks call) mid new k = let e = k.0 in cc
+said_quiet s at n said.Over mid new k = let e = k.0 in cc
+said_quiet s at n (said.Fails kind line) mid new k = let e = k.0 in cc
+
+pub rests_quiet : (s : code_setup.Setup) (c : ℕ) (old new : Conn) (before after : List Note) → Acted s c old new before after done.Rests → after ≡ before
+rests_quiet s c old new before after k = by_stage old.stage k
+  where
+    by_handler : (at : At) (n : ℕ) (v : Option Handler) → BodyMovedBy s v c at n old new before after done.Rests → after ≡ before
+    by_handler at n None m = m.2
+    by_handler at n (Some b) m = absurd (said_quiet s at n (said_of b at m.turned) m.mid new m.goes_on)
+
+    by_stage : (st : Stage) → ActedAt st s c old new before after done.Rests → after ≡ before
+    by_stage (stage.Gated at) k = gate_quiet s c at old new before after k
+    by_stage (stage.Running at n) k = by_handler at n (body_at s at n) k
+    by_stage (stage.Asking at n) k = k.2
+    by_stage stage.Selecting k = k.2
+    by_stage (stage.Failing at n kind line) k = absurd (let e = k.0 in cc)
+    by_stage stage.Choosing k = k.1
+    by_stage (stage.Chosen addr) k = k.2
+    by_stage (stage.Connecting to) k = absurd (let e = k.0 in cc)
+    by_stage (stage.Answering to) k = answer_quiet s c old.ends.link old new before after k
+    by_stage stage.Relaying k = relay_quiet s c (relay_plan old.ends) old new before after k
+    by_stage (stage.Finishing f) k = absurd (let e = k.0 in cc)
+    by_stage stage.Draining k = k.2
+    by_stage stage.OutOfMemory k = k.2
+    by_stage (stage.Dropped n) k = k.2
+
+-- and changes nothing
+rest_same : (s : code_setup.Setup) (c : ℕ) (old new : Conn) (before after : List Note) (o : Option CutReason) → RestsBy o s c old new before after done.Rests → new ≡ old
+rest_same s c old new before after None k = k.1
+rest_same s c old new before after (Some reason) k = absurd (let e = k.0 in cc)
+
+answer_same : (s : code_setup.Setup) (c : ℕ) (k : Link) (old new : Conn) (before after : List Note) → AnswersBy k s c old new before after done.Rests → new ≡ old
+answer_same s c link.Made old new before after k = absurd (let e = k.0 in cc)
+answer_same s c link.Refused old new before after k = absurd (let e = k.0 in cc)
+answer_same s c link.Absent old new before after k = rest_same s c old new before after (cut_of old) k
+answer_same s c link.Asked old new before after k = rest_same s c old new before after (cut_of old) k
+answer_same s c link.Up old new before after k = rest_same s c old new before after (cut_of old) k
+
+relay_same : (s : code_setup.Setup) (c : ℕ) (p : Relay) (old new : Conn) (before after : List Note) → RelaysBy p s c old new before after done.Rests → new ≡ old
+relay_same s c relay.Done old new before after k = absurd (let e = k.0 in cc)
+relay_same s c (relay.Pass side n) old new before after k = absurd (let e = k.0 in cc)
+relay_same s c relay.Rest old new before after k = rest_same s c old new before after (cut_of old) k
+
+gate_same : (s : code_setup.Setup) (c : ℕ) (at : At) (old new : Conn) (before after : List Note) → PassesGate s c at old new before after done.Rests → new ≡ old
+gate_same s c at old new before after k = by_test (has_room old) k
+  where
+    by_test : (b : Bool) → MatchBool b ((done.Rests ≡ done.Goes) × StartsBody s at 0 old new × (after ≡ before)) (Rests s c old new before after done.Rests) → new ≡ old
+    by_test true k = absurd (let e = k.0 in cc)
+    by_test false k = rest_same s c old new before after (cut_of old) k
+
+pub rests_same : (s : code_setup.Setup) (c : ℕ) (old new : Conn) (before after : List Note) → Acted s c old new before after done.Rests → new ≡ old
+rests_same s c old new before after k = by_stage old.stage k
+  where
+    choose_goes : (p : Plan) → ChoosesBy p s old new done.Rests → ⊥
+    choose_goes plan.Nothing k = let e = k.0 in cc
+    choose_goes (plan.Node addr) k = let e = k.0 in cc
+    choose_goes (plan.Member pool only) k = let e = k.asks in cc
+
+    by_handler : (at : At) (n : ℕ) (v : Option Handler) → BodyMovedBy s v c at n old new before after done.Rests → new ≡ old
+    by_handler at n None m = m.1
+    by_handler at n (Some b) m = absurd (said_quiet s at n (said_of b at m.turned) m.mid new m.goes_on)
+
+    by_stage : (st : Stage) → ActedAt st s c old new before after done.Rests → new ≡ old
+    by_stage (stage.Gated at) k = gate_same s c at old new before after k
+    by_stage (stage.Running at n) k = by_handler at n (body_at s at n) k
+    by_stage (stage.Asking at n) k = k.1
+    by_stage stage.Selecting k = k.1
+    by_stage (stage.Failing at n kind line) k = absurd (let e = k.0 in cc)
+    by_stage stage.Choosing k = absurd (choose_goes (plan_of old.host.net) k.0)
+    by_stage (stage.Chosen addr) k = absurd (let e = k.0 in cc)
+    by_stage (stage.Connecting to) k = absurd (let e = k.0 in cc)
+    by_stage (stage.Answering to) k = answer_same s c old.ends.link old new before after k
+    by_stage stage.Relaying k = relay_same s c (relay_plan old.ends) old new before after k
+    by_stage (stage.Finishing f) k = absurd (let e = k.0 in cc)
+    by_stage stage.Draining k = k.1
+    by_stage stage.OutOfMemory k = k.1
+    by_stage (stage.Dropped n) k = k.1
+
+-- an action that makes a call waits for its reply
+rest_asks_not : (s : code_setup.Setup) (c : ℕ) (old new : Conn) (before after : List Note) (call : List (List ℕ)) (o : Option CutReason) → RestsBy o s c old new before after (done.Asks call) → ⊥
+rest_asks_not s c old new before after call None k = let e = k.0 in cc
+rest_asks_not s c old new before after call (Some reason) k = let e = k.0 in cc
+
+answer_asks_not : (s : code_setup.Setup) (c : ℕ) (k : Link) (old new : Conn) (before after : List Note) (call : List (List ℕ)) → AnswersBy k s c old new before after (done.Asks call) → ⊥
+answer_asks_not s c link.Made old new before after call k = let e = k.0 in cc
+answer_asks_not s c link.Refused old new before after call k = let e = k.0 in cc
+answer_asks_not s c link.Absent old new before after call k = rest_asks_not s c old new before after call (cut_of old) k
+answer_asks_not s c link.Asked old new before after call k = rest_asks_not s c old new before after call (cut_of old) k
+answer_asks_not s c link.Up old new before after call k = rest_asks_not s c old new before after call (cut_of old) k
+
+relay_asks_not : (s : code_setup.Setup) (c : ℕ) (p : Relay) (old new : Conn) (before after : List Note) (call : List (List ℕ)) → RelaysBy p s c old new before after (done.Asks call) → ⊥
+relay_asks_not s c relay.Done old new before after call k = let e = k.0 in cc
+relay_asks_not s c (relay.Pass side n) old new before after call k = let e = k.0 in cc
+relay_asks_not s c relay.Rest old new before after call k = rest_asks_not s c old new before after call (cut_of old) k
+
+gate_asks_not : (s : code_setup.Setup) (c : ℕ) (at : At) (old new : Conn) (before after : List Note) (call : List (List ℕ)) → PassesGate s c at old new before after (done.Asks call) → ⊥
+gate_asks_not s c at old new before after call k = by_test (has_room old) k
+  where
+    by_test : (b : Bool) → MatchBool b ((done.Asks call ≡ done.Goes) × StartsBody s at 0 old new × (after ≡ before)) (Rests s c old new before after (done.Asks call)) → ⊥
+    by_test true k = let e = k.0 in cc
+    by_test false k = rest_asks_not s c old new before after call (cut_of old) k
+
+said_asks : (s : code_setup.Setup) (at : At) (n : ℕ) (x : Said) (mid new : Conn) (call : List (List ℕ)) → GoesOn s at n x mid new (done.Asks call) → is_asking new.stage ≡ true
+said_asks s at n said.More mid new call k = absurd (let e = k.0 in cc)
+said_asks s at n (said.Asks other) mid new call k = ap (λ x. is_asking x.stage) k.1
+said_asks s at n said.Over mid new call k = absurd (let e = k.0 in cc)
+said_asks s at n (said.Fails kind line) mid new call k = absurd (let e = k.0 in cc)
+
+pub asks_there : (s : code_setup.Setup) (c : ℕ) (old new : Conn) (before after : List Note) (call : List (List ℕ)) → Acted s c old new before after (done.Asks call) → is_asking new.stage ≡ true
+asks_there s c old new before after call k = by_stage old.stage k
+  where
+    by_plan : (p : Plan) → ChoosesBy p s old new (done.Asks call) → is_asking new.stage ≡ true
+    by_plan plan.Nothing k = absurd (let e = k.0 in cc)
+    by_plan (plan.Node addr) k = absurd (let e = k.0 in cc)
+    by_plan (plan.Member pool only) k = ap is_asking k.there
+
+    by_handler : (at : At) (n : ℕ) (v : Option Handler) → BodyMovedBy s v c at n old new before after (done.Asks call) → is_asking new.stage ≡ true
+    by_handler at n None m = absurd (let e = m.0 in cc)
+    by_handler at n (Some b) m = said_asks s at n (said_of b at m.turned) m.mid new call m.goes_on
+
+    by_stage : (st : Stage) → ActedAt st s c old new before after (done.Asks call) → is_asking new.stage ≡ true
+    by_stage (stage.Gated at) k = absurd (gate_asks_not s c at old new before after call k)
+    by_stage (stage.Running at n) k = by_handler at n (body_at s at n) k
+    by_stage (stage.Asking at n) k = absurd (let e = k.0 in cc)
+    by_stage stage.Selecting k = absurd (let e = k.0 in cc)
+    by_stage (stage.Failing at n kind line) k = absurd (let e = k.0 in cc)
+    by_stage stage.Choosing k = by_plan (plan_of old.host.net) k.0
+    by_stage (stage.Chosen addr) k = absurd (let e = k.0 in cc)
+    by_stage (stage.Connecting to) k = absurd (let e = k.0 in cc)
+    by_stage (stage.Answering to) k = absurd (answer_asks_not s c old.ends.link old new before after call k)
+    by_stage stage.Relaying k = absurd (relay_asks_not s c (relay_plan old.ends) old new before after call k)
+    by_stage (stage.Finishing f) k = absurd (let e = k.0 in cc)
+    by_stage stage.Draining k = absurd (let e = k.0 in cc)
+    by_stage stage.OutOfMemory k = absurd (let e = k.0 in cc)
+    by_stage (stage.Dropped n) k = absurd (let e = k.0 in cc)

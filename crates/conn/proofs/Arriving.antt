@@ -1,119 +1,327 @@
--- What comes of a client is the next of each state that the connection may stand for.
-use Rattle.std.proofs.Common.{◌≡◌, refl, sym, ap, subst, ◌∙◌, ℕ, List, [], ◌∷◌, ◌++◌, append-nil, drop, Bool, true, false, None}
+-- What comes of a side, its end and its reset are the next of each state that the connection may stand for.
+use Rattle.std.proofs.Common.{◌≡◌, refl, sym, ap, subst, ◌∙◌, ℕ, ◌+◌, List, [], ◌∷◌, ◌++◌, append-nil, drop, length, Bool, true, false, Option, Some, None, if◌then◌else◌}
+use Rattle.px_bytes.specs.declared.addr.Side.{Side}
+use Rattle.px_bytes.specs.declared.addr.Side.TheVariants.{Client, Server}
+use Rattle.px_bytes.specs.declared.fault.Reply.{Reply}
 use Rattle.event_order.specs.declared.event.EventName.{EventName}
-use Rattle.connection_model.specs.Further.{Coming, nothing_further, longer_by, longer_stream, longer}
+use Rattle.connection_model.specs.Edges.{edge_ends, is_connecting}
+use Rattle.connection_model.specs.declared.edges.Edges.{Edges}
+use Rattle.connection_model.specs.Further.{Coming, nothing_further, nothing_comes, longer_by, longer_stream, longer_server, left_for, on_last, first_cut, longer}
 use Rattle.connection_model.specs.Heard.{taken_by}
+use Rattle.connection_model.specs.Item.{Choice}
 use Rattle.connection_model.specs.Setup.{Handler, Setup}
-use Rattle.connection_model.specs.State.{Stream, TraceState}
-use Rattle.conn.specs.Arrivals.{arrived}
-use Rattle.conn.specs.Calls.{Hears, Resets, unless_finished}
+use Rattle.connection_model.specs.State.{Cut, ServerSide, Stream, There, TraceState}
+use Rattle.connection_model.proofs.Streams.{nothing_stream, nothing_server, nothing_on_last}
+use Rattle.conn.specs.Calls.{Hears, Resets, coming_of, ended_ends, heard_ends, none_at_last, reset_end, reset_ends, reset_in, unless_finished}
+use Rattle.conn.specs.Ends.{arrived, connects_by, fresh_end, has_stream, heard_by, heard_end, hears_at, server_by, servers_by}
 use Rattle.conn.specs.Events.{event_of}
-use Rattle.conn.specs.Holds.{Around, Between, RunsFirst, Stands, Holds}
-use Rattle.conn.specs.Stages.{has_finished}
-use Rattle.conn.specs.declared.arrived.Arrived.{Arrived}
+use Rattle.conn.specs.Holds.{Around, Between, Holds, HoldsEnds, RunsFirst, Stands}
+use Rattle.conn.specs.Stages.{fits, has_finished}
 use Rattle.conn.specs.declared.connection.Conn.{Conn}
+use Rattle.conn.specs.declared.ends.End.{End}
+use Rattle.conn.specs.declared.ends.Ends.{Ends}
+use Rattle.conn.specs.declared.ends.Link.{Link}
+use Rattle.conn.specs.declared.ends.Link.TheVariants as link
 use Rattle.conn.specs.declared.stage.Stage.{Stage}
 use Rattle.conn.specs.declared.stage.Stage.TheVariants as stage
-use Rattle.conn.proofs.Finishing.{finished_at}
-use Rattle.conn.proofs.Giving.{longer_nothing}
+use Rattle.conn.proofs.Joining.{longer_nothing}
+
+-- the same state with these streams, the same connection with these ends
+abbrev pub changed : Stream → ServerSide → List (Option Stream) → TraceState → TraceState
+changed client server connects l = record l { client = client; server = server; answers = record l.answers { connects = connects } }
+
+abbrev pub with_ends : Ends → Conn → Conn
+with_ends e c = record c { ends = e }
+
+-- where it stands reads nothing of them
+first_stands : (g : Setup) (e : EventName) (hs : List Handler) (n : ℕ) (l : TraceState) (s : Stream) (v : ServerSide) (k : List (Option Stream)) (c : Conn) (x : Ends) → RunsFirst g e hs n l c → RunsFirst g e hs n (changed s v k l) (with_ends x c)
+first_stands g e [] n l s v k c x r = r
+first_stands g e (b ∷ bs) n l s v k c x r = record { acts = r.acts; cost = r.cost; phase = r.phase; no_collect = r.no_collect; same = r.same }
+
+between : (l : TraceState) (s : Stream) (v : ServerSide) (k : List (Option Stream)) (c : Conn) (x : Ends) → Between l c → Between (changed s v k l) (with_ends x c)
+between l s v k c x b = record { vars = b.vars; host = b.host; replies = b.replies }
+
+stands : (g : Setup) (st : Stage) (l : TraceState) (s : Stream) (v : ServerSide) (k : List (Option Stream)) (c : Conn) (x : Ends) → Stands g st l c → Stands g st (changed s v k l) (with_ends x c)
+stands g (stage.Gated at) l s v k c x r = (r.0, between l s v k c x r.1)
+stands g (stage.Running at n) l s v k c x r = (first_stands g (event_of at) (drop n (g.handlers (event_of at))) 0 l s v k c x r.0, r.1)
+stands g (stage.Asking at n) l s v k c x r = (first_stands g (event_of at) (drop n (g.handlers (event_of at))) 1 l s v k c x r.0, r.1)
+stands g (stage.Failing at n kind line) l s v k c x r = (r.0, between l s v k c x r.1)
+stands g stage.Choosing l s v k c x r = (r.0, between l s v k c x r.1)
+stands g stage.Selecting l s v k c x r = (r.0, between l s v k c x r.1)
+stands g (stage.Chosen addr) l s v k c x r = (r.0, record { vars = r.1.vars; host = r.1.host; reply = r.1.reply; replies = r.1.replies; selects = r.1.selects })
+stands g (stage.Connecting to) l s v k c x r = (r.0, between l s v k c x r.1)
+stands g (stage.Answering to) l s v k c x r = (r.0, between l s v k c x r.1)
+stands g stage.Relaying l s v k c x r = (r.0, between l s v k c x r.1)
+stands g (stage.Finishing f) l s v k c x r = (r.0, between l s v k c x r.1)
+stands g stage.Draining l s v k c x r = (r.0, between l s v k c x r.1)
+stands g stage.OutOfMemory l s v k c x r = r
+stands g (stage.Dropped n) l s v k c x r = r
+
+pub holds : (g : Setup) (a b : Around) (l : TraceState) (s : Stream) (v : ServerSide) (k : List (Option Stream)) (c : Conn) (x : Ends) → Holds g a l c → HoldsEnds b (changed s v k l) x → fits c.stage x.link ≡ true → Holds g b (changed s v k l) (with_ends x c)
+holds g a b l s v k c x h e f = record {
+  stage = stands g c.stage l s v k c x h.stage;
+  finished = h.finished;
+  fits = f;
+  event = h.event;
+  no_collect = h.no_collect;
+  ends = e;
+  no_choice = h.no_choice;
+  no_cut = h.no_cut;
+}
+
+-- streams and connects lengthen them alone
+pub longer_is : (c d : Coming) (k : List (Option Stream)) (l : TraceState) → l.answers.cut ≡ None
+    → longer (record nothing_further { client = c; server = d; connects = k }) l ≡ changed (longer_stream c l.client) (longer_server (left_for d l.answers.connects) l.server) (on_last d l.answers.connects ++ k) l
+longer_is c d k l none =
+    ap (λ x. parts x (l.answers.choices ++ []) (first_cut l.answers.cut None)) (append-nil l.answers.replies)
+    ∙ ap (λ x. parts l.answers.replies x (first_cut l.answers.cut None)) (append-nil l.answers.choices)
+    ∙ ap (λ x. parts l.answers.replies l.answers.choices x) (ap (λ x. first_cut x None) none ∙ sym none)
+  where
+    parts : List Reply → List Choice → Option Cut → TraceState
+    parts replies choices cut = record l {
+      client = longer_stream c l.client;
+      server = longer_server (left_for d l.answers.connects) l.server;
+      answers = record { replies = replies; connects = on_last d l.answers.connects ++ k; choices = choices; cut = cut };
+    }
 
 -- behind the end nothing comes
-pub absorbed : (a : Arrived) (c : Coming) → a.ended ≡ true → arrived a ≡ longer_stream c (arrived a)
-absorbed a c e = ap (λ b. longer_by b c (arrived a)) (sym e)
+by_end : (b : Bool) (c : Coming) (e : End) → longer_by b c (arrived e) ≡ arrived (heard_by b c e)
+by_end true c e = refl
+by_end false c e = refl
 
-pub grown : (a b : Arrived) (bytes : List ℕ) → a.ended ≡ false → b ≡ record a { unread = a.unread ++ bytes } → arrived b ≡ longer_stream (record { bytes = bytes; ended = false }) (arrived a)
-grown a b bytes e is = ap arrived is ∙ ap (λ x. with_end x) e ∙ ap (λ x. longer_by x (record { bytes = bytes; ended = false }) (arrived a)) (sym e)
+pub heard_arrived : (c : Coming) (e : End) → longer_stream c (arrived e) ≡ arrived (heard_end c e)
+heard_arrived c e = by_end e.ended c e
+
+heard_reset : (b : Bool) (c : Coming) (e : End) → (heard_by b c e).reset ≡ e.reset
+heard_reset true c e = refl
+heard_reset false c e = refl
+
+heard_queued : (b : Bool) (c : Coming) (e : End) → (heard_by b c e).queued ≡ e.queued
+heard_queued true c e = refl
+heard_queued false c e = refl
+
+-- other ends
+module _ (a : Around) (l : TraceState) (e : Ends) (h : HoldsEnds a l e) where
+  pub with_client : (s : Stream) (v : ServerSide) (k : List (Option Stream)) (x : End) → s ≡ arrived x → v ≡ l.server → k ≡ l.answers.connects → x.reset ≡ e.client.reset → x.queued ≡ e.client.queued → HoldsEnds a (changed s v k l) (record e { client = x })
+  with_client s v k x is same_server same_connects reset queued = record {
+    client = is;
+    client_took = h.client_took ∙ ap (λ b. taken_by b a.counted) (sym reset);
+    client_untaken = ap (λ q. length q + a.counted) queued ∙ h.client_untaken;
+    server = same_server ∙ h.server;
+    connects = same_connects ∙ h.connects;
+    number = h.number;
+    servers_took = h.servers_took;
+    server_untaken = h.server_untaken;
+    unsent = h.unsent;
+    nothing_came = h.nothing_came;
+    connecting = h.connecting;
+  }
+
+  pub with_server : (s : Stream) (v : ServerSide) (k : List (Option Stream)) (x : End) → s ≡ l.client → v ≡ server_by e.link x → k ≡ connects_by e.link x → x.reset ≡ e.server.reset → x.queued ≡ e.server.queued → (has_stream e.link ≡ false → x ≡ fresh_end) → HoldsEnds a (changed s v k l) (record e { server = x })
+  with_server s v k x same_client is_server is_connects reset queued came = record {
+    client = same_client ∙ h.client;
+    client_took = h.client_took;
+    client_untaken = h.client_untaken;
+    server = is_server;
+    connects = is_connects;
+    number = h.number;
+    servers_took = h.servers_took ∙ ap (λ b. servers_by e.link b a.counted_server) (sym reset);
+    server_untaken = ap (λ q. length q + a.counted_server) queued ∙ h.server_untaken;
+    unsent = h.unsent;
+    nothing_came = came;
+    connecting = h.connecting;
+  }
+
+  -- the outside was told of them
+  pub with_edges : (f : Edges) → (is_connecting f.server.state ≡ true → is_connecting e.edges.server.state ≡ true) → HoldsEnds a l (record e { edges = f })
+  with_edges f same = record {
+    client = h.client;
+    client_took = h.client_took;
+    client_untaken = h.client_untaken;
+    server = h.server;
+    connects = h.connects;
+    number = h.number;
+    servers_took = h.servers_took;
+    server_untaken = h.server_untaken;
+    unsent = h.unsent;
+    nothing_came = h.nothing_came;
+    connecting = λ is. h.connecting (same is);
+  }
+
+-- what comes of a server is put where its link says
+server_grows : (c : Coming) (k : Link) (s : End) → longer_server (left_for c (connects_by k s)) (server_by k s) ≡ server_by k (if has_stream k then heard_end c s else s)
+server_grows c link.Absent s = refl
+server_grows c link.Asked s = refl
+server_grows c link.Refused s = refl
+server_grows c link.Made s = refl
+server_grows c link.Up s = ap There (heard_arrived c s)
+
+connects_grow : (c : Coming) (k : Link) (s : End) → on_last c (connects_by k s) ++ [] ≡ connects_by k (if has_stream k then heard_end c s else s)
+connects_grow c link.Absent s = refl
+connects_grow c link.Asked s = refl
+connects_grow c link.Refused s = refl
+connects_grow c link.Made s = ap (λ x. Some x ∷ []) (heard_arrived c s)
+connects_grow c link.Up s = refl
+
+-- by whether bytes of a server may come
+abbrev heard_where : (b : Bool) (c : Coming) (s : End) → End
+heard_where b c s = if b then heard_end c s else s
+
+where_reset : (b : Bool) (c : Coming) (s : End) → (heard_where b c s).reset ≡ s.reset
+where_reset true c s = heard_reset s.ended c s
+where_reset false c s = refl
+
+where_queued : (b : Bool) (c : Coming) (s : End) → (heard_where b c s).queued ≡ s.queued
+where_queued true c s = heard_queued s.ended c s
+where_queued false c s = refl
+
+where_fresh : (b : Bool) (c : Coming) (s : End) → (b ≡ false → s ≡ fresh_end) → b ≡ false → heard_where b c s ≡ fresh_end
+where_fresh true c s k e = absurd (cc)
+where_fresh false c s k e = k e
+
+where_ends : (b : Bool) (c : Coming) (e : Ends) → record e { server = heard_where b c e.server } ≡ (if b then record e { server = heard_end c e.server } else e)
+where_ends true c e = refl
+where_ends false c e = refl
+
+-- more comes of a side
+hears_ends : (a : Around) (l : TraceState) (side : Side) (c : Coming) (e : Ends) → HoldsEnds a l e → l.answers.cut ≡ None → HoldsEnds a (longer (coming_of side c) l) (hears_at side c e)
+hears_ends a l Client c e h none =
+    let P : TraceState → Type 0 = λ m. HoldsEnds a m (hears_at Client c e) in
+    subst P (sym (longer_is c nothing_comes [] l none)) (with_client a l e h (longer_stream c l.client) (longer_server (left_for nothing_comes l.answers.connects) l.server) (on_last nothing_comes l.answers.connects ++ []) (heard_end c e.client)
+    (ap (longer_stream c) h.client ∙ heard_arrived c e.client)
+    (nothing_server nothing_comes l.answers.connects l.server refl)
+    (append-nil _ ∙ nothing_on_last nothing_comes l.answers.connects refl)
+    (heard_reset e.client.ended c e.client) (heard_queued e.client.ended c e.client))
+hears_ends a l Server c e h none =
+    let P : TraceState → Type 0 = λ m. HoldsEnds a m (hears_at Server c e) in
+    let Q : Ends → Type 0 = λ x. HoldsEnds a (changed (longer_stream nothing_comes l.client) (longer_server (left_for c l.answers.connects) l.server) (on_last c l.answers.connects ++ []) l) x in
+    subst P (sym (longer_is nothing_comes c [] l none)) (subst Q (where_ends (has_stream e.link) c e) (with_server a l e h (longer_stream nothing_comes l.client) (longer_server (left_for c l.answers.connects) l.server) (on_last c l.answers.connects ++ []) (heard_where (has_stream e.link) c e.server)
+    (nothing_stream nothing_comes l.client refl)
+    (ap (λ k. longer_server (left_for c k) l.server) h.connects ∙ ap (longer_server (left_for c (connects_by e.link e.server))) h.server ∙ server_grows c e.link e.server)
+    (ap (λ k. on_last c k ++ []) h.connects ∙ connects_grow c e.link e.server)
+    (where_reset (has_stream e.link) c e.server) (where_queued (has_stream e.link) c e.server) (where_fresh (has_stream e.link) c e.server h.nothing_came)))
+
+-- the same link
+same_link : (b : Bool) (side : Side) (c : Coming) (e : Ends) → (heard_ends b side c e).link ≡ e.link
+same_link true side c e = refl
+same_link false Client c e = refl
+same_link false Server c e = by_stream (has_stream e.link)
   where
-    with_end : Bool → Stream
-    with_end x = record { unread = a.unread ++ bytes; ended = x }
+    by_stream : (s : Bool) → (if s then record e { server = heard_end c e.server } else e).link ≡ e.link
+    by_stream true = refl
+    by_stream false = refl
 
-pub ended : (a b : Arrived) → b ≡ record a { ended = true } → arrived b ≡ longer_stream (record { bytes = []; ended = true }) (arrived a)
-ended a b is = ap arrived is ∙ by_end a.ended refl
+same_edges : (b : Bool) (side : Side) (c : Coming) (e : Ends) → (heard_ends b side c e).edges ≡ e.edges
+same_edges true side c e = refl
+same_edges false Client c e = refl
+same_edges false Server c e = by_stream (has_stream e.link)
   where
-    with_bytes : List ℕ → Stream
-    with_bytes u = record { unread = u; ended = true }
+    by_stream : (s : Bool) → (if s then record e { server = heard_end c e.server } else e).edges ≡ e.edges
+    by_stream true = refl
+    by_stream false = refl
 
-    by_end : (x : Bool) → a.ended ≡ x → with_bytes a.unread ≡ longer_by x (record { bytes = []; ended = true }) (record { unread = a.unread; ended = x })
-    by_end true e = refl
-    by_end false e = ap with_bytes (sym (append-nil a.unread))
-
--- where it stands reads nothing of it
-abbrev pub with_client : Arrived → Conn → Conn
-with_client x c = record c { client = x }
-
-first_stands : (g : Setup) (e : EventName) (hs : List Handler) (n : ℕ) (l : TraceState) (s : Stream) (c : Conn) (x : Arrived) → RunsFirst g e hs n l c → RunsFirst g e hs n (record l { client = s }) (with_client x c)
-first_stands g e [] n l s c x k = k
-first_stands g e (b ∷ bs) n l s c x k = record { acts = k.acts; cost = k.cost; phase = k.phase; no_collect = k.no_collect; same = k.same }
-
-between : (l : TraceState) (s : Stream) (c : Conn) (x : Arrived) → Between l c → Between (record l { client = s }) (with_client x c)
-between l s c x b = record { vars = b.vars; host = b.host; replies = b.replies }
-
-stands : (g : Setup) (st : Stage) (l : TraceState) (s : Stream) (c : Conn) (x : Arrived) → Stands g st l c → Stands g st (record l { client = s }) (with_client x c)
-stands g (stage.Gated at) l s c x k = (k.0, between l s c x k.1)
-stands g (stage.Running at n) l s c x k = (first_stands g (event_of at) (drop n (g.handlers (event_of at))) 0 l s c x k.0, k.1)
-stands g (stage.Asking at n) l s c x k = (first_stands g (event_of at) (drop n (g.handlers (event_of at))) 1 l s c x k.0, k.1)
-stands g (stage.Failing at n kind line) l s c x k = (k.0, between l s c x k.1)
-stands g stage.Choosing l s c x k = (k.0, between l s c x k.1)
-stands g (stage.Finishing f) l s c x k = (k.0, between l s c x k.1)
-stands g stage.Draining l s c x k = (k.0, between l s c x k.1)
-stands g stage.OutOfMemory l s c x k = k
-stands g (stage.Dropped n) l s c x k = k
-
-holds : (g : Setup) (a : Around) (l : TraceState) (s : Stream) (c : Conn) (x : Arrived) → Holds g a l c → s ≡ arrived x → x.reset ≡ c.client.reset → Holds g a (record l { client = s }) (with_client x c)
-holds g a l s c x h is same = record {
-  stage = stands g c.stage l s c x h.stage;
-  unasked = h.unasked;
-  counts = h.counts ∙ ap (λ b. taken_by b a.counted) (sym same);
-  untaken = h.untaken;
-  client = is;
-  no_server = h.no_server;
-  none_sent = h.none_sent;
-  no_number = h.no_number;
-  no_cut = h.no_cut;
-}
-
-longer_client : (c : Coming) (l : TraceState) → l.answers.cut ≡ None → longer (record nothing_further { client = c }) l ≡ record l { client = longer_stream c l.client }
-longer_client c l none = ap with_longer (longer_nothing l none)
+-- whatever ends were heard so, told of or not, it stands for the longer state
+hears_with : (side : Side) (c : Coming) (old : Conn) (f : Edges) → (is_connecting f.server.state ≡ true → is_connecting old.ends.edges.server.state ≡ true) → Hears side c old (with_ends (record (heard_ends (has_finished old.stage) side c old.ends) { edges = f }) old)
+hears_with side c old f same g a l h order = by_finish (has_finished old.stage) h.finished
   where
-    with_longer : TraceState → TraceState
-    with_longer m = record m { client = longer_stream c l.client }
+    told : (m : TraceState) (x : Ends) → HoldsEnds a m x → x.edges ≡ old.ends.edges → HoldsEnds a m (record x { edges = f })
+    told m x k is = with_edges a m x k f (λ e. (let t = same e in ap (λ y. is_connecting y.server.state) is ∙ t))
 
--- once it has finished nothing is heard
-abbrev pub heard_by : Bool → Coming → Stream → Stream
-heard_by true coming s = s
-heard_by false coming s = longer_stream coming s
+    grown : (b : Bool) → HoldsEnds a (longer (unless_finished b (coming_of side c)) l) (heard_ends b side c old.ends)
+    grown true = let P : TraceState → Type 0 = λ m. HoldsEnds a m old.ends in subst P (sym (longer_nothing l h.no_cut)) h.ends
+    grown false = hears_ends a l side c old.ends h.ends h.no_cut
 
-pub hears : (coming : Coming) (old : Conn) (x : Arrived) → arrived x ≡ heard_by (has_finished old.stage) coming (arrived old.client) → x.reset ≡ old.client.reset → Hears coming old (with_client x old)
-hears coming old x is same g a l h order =
-    let f = finished_at g l old order old.stage h.stage in
-    let P : Bool → Type 0 = λ b. Holds g a (longer (unless_finished b coming) l) (with_client x old) in
-    subst P (sym f) (by_end (has_finished old.stage) is)
-  where
-    by_end : (b : Bool) → arrived x ≡ heard_by b coming (arrived old.client) → Holds g a (longer (unless_finished b coming) l) (with_client x old)
-    by_end true e =
-        let Q : TraceState → Type 0 = λ m. Holds g a m (with_client x old) in
-        subst Q (sym (longer_nothing l h.no_cut)) (holds g a l l.client old x h (h.client ∙ sym e) same)
-    by_end false e =
-        let Q : TraceState → Type 0 = λ m. Holds g a m (with_client x old) in
-        subst Q (sym (longer_client coming l h.no_cut)) (holds g a l (longer_stream coming l.client) old x h (ap (longer_stream coming) h.client ∙ sym e) same)
+    is_changed : (b : Bool) → longer (unless_finished b (coming_of side c)) l ≡ changed (longer (unless_finished b (coming_of side c)) l).client (longer (unless_finished b (coming_of side c)) l).server (longer (unless_finished b (coming_of side c)) l).answers.connects l
+    is_changed true = longer_is nothing_comes nothing_comes [] l h.no_cut
+    is_changed false = by_side side
+      where
+        by_side : (s : Side) → longer (coming_of s c) l ≡ changed (longer (coming_of s c) l).client (longer (coming_of s c) l).server (longer (coming_of s c) l).answers.connects l
+        by_side Client = longer_is c nothing_comes [] l h.no_cut
+        by_side Server = longer_is nothing_comes c [] l h.no_cut
 
--- by where it stands
-pub hears_finished : (coming : Coming) (old : Conn) → has_finished old.stage ≡ true → Hears coming old old
-hears_finished coming old e = hears coming old old.client (ap (λ b. heard_by b coming (arrived old.client)) (sym e)) refl
+    by_finish : (b : Bool) → l.finished ≡ b → Holds g a (longer (unless_finished l.finished (coming_of side c)) l) (with_ends (record (heard_ends b side c old.ends) { edges = f }) old)
+    by_finish b e =
+        let x = record (heard_ends b side c old.ends) { edges = f } in
+        let m = longer (unless_finished b (coming_of side c)) l in
+        let P : Bool → Type 0 = λ y. Holds g a (longer (unless_finished y (coming_of side c)) l) (with_ends x old) in
+        let Q : TraceState → Type 0 = λ y. Holds g a y (with_ends x old) in
+        let R : TraceState → Type 0 = λ y. HoldsEnds a y x in
+        subst P (sym e) (subst Q (sym (is_changed b)) (holds g a a l m.client m.server m.answers.connects old x h (subst R (is_changed b) (told m (heard_ends b side c old.ends) (grown b) (same_edges b side c old.ends))) (ap (fits old.stage) (same_link b side c old.ends) ∙ h.fits)))
 
-pub hears_more : (coming : Coming) (old : Conn) (x : Arrived) → has_finished old.stage ≡ false → arrived x ≡ longer_stream coming (arrived old.client) → x.reset ≡ old.client.reset → Hears coming old (with_client x old)
-hears_more coming old x e is same = hears coming old x (is ∙ ap (λ b. heard_by b coming (arrived old.client)) (sym e)) same
+pub hears : (side : Side) (c : Coming) (old : Conn) → Hears side c old (with_ends (heard_ends (has_finished old.stage) side c old.ends) old)
+hears side c old =
+    let P : Edges → Type 0 = λ f. Hears side c old (with_ends (record (heard_ends (has_finished old.stage) side c old.ends) { edges = f }) old) in
+    let same = same_edges (has_finished old.stage) side c old.ends in
+    subst P (sym same) (hears_with side c old old.ends.edges (λ e. e))
 
--- once its client was reset it counts as having taken all
-pub resets : (old : Conn) → Resets old (with_client (record old.client { reset = true }) old)
-resets old g a l h = record {
-  stage = stands g old.stage l l.client old (record old.client { reset = true }) h.stage;
-  unasked = h.unasked;
-  counts = refl;
-  untaken = h.untaken;
+ends_connecting : (side : Side) (e : Edges) → is_connecting (edge_ends side e).server.state ≡ is_connecting e.server.state
+ends_connecting Client e = refl
+ends_connecting Server e = refl
+
+pub hears_end : (side : Side) (old : Conn) → Hears side (record { bytes = []; ended = true }) old (with_ends (ended_ends (has_finished old.stage) side old.ends) old)
+hears_end side old = hears_with side (record { bytes = []; ended = true }) old (edge_ends side old.ends.edges) (λ e. sym (ends_connecting side old.ends.edges) ∙ e)
+
+-- a side that was reset counts as having taken all
+none_taken_by : (k : Link) (b : Bool) (n : ℕ) → none_at_last (servers_by k b n) ≡ servers_by k (if has_stream k then true else b) n
+none_taken_by link.Absent b n = refl
+none_taken_by link.Asked b n = refl
+none_taken_by link.Refused b n = refl
+none_taken_by link.Made b n = refl
+none_taken_by link.Up b n = refl
+
+-- by whether bytes of a server may come
+abbrev reset_where : Bool → End → End
+reset_where b s = if b then reset_end s else s
+
+reset_fresh : (b : Bool) (s : End) → (b ≡ false → s ≡ fresh_end) → b ≡ false → reset_where b s ≡ fresh_end
+reset_fresh true s k e = absurd (cc)
+reset_fresh false s k e = k e
+
+reset_flag : (b : Bool) (s : End) → (reset_where b s).reset ≡ (if b then true else s.reset)
+reset_flag true s = refl
+reset_flag false s = refl
+
+reset_same : (b : Bool) (k : Link) (s : End) → (server_by k (reset_where b s) ≡ server_by k s) × (connects_by k (reset_where b s) ≡ connects_by k s) × ((reset_where b s).queued ≡ s.queued)
+reset_same true link.Absent s = (refl, refl, refl)
+reset_same true link.Asked s = (refl, refl, refl)
+reset_same true link.Refused s = (refl, refl, refl)
+reset_same true link.Made s = (refl, refl, refl)
+reset_same true link.Up s = (refl, refl, refl)
+reset_same false k s = (refl, refl, refl)
+
+pub resets_ends : (a : Around) (l : TraceState) (side : Side) (e : Ends) → HoldsEnds a l e → HoldsEnds (reset_in side a) l (reset_ends side e)
+resets_ends a l Client e h = record {
   client = h.client;
-  no_server = h.no_server;
-  none_sent = h.none_sent;
-  no_number = h.no_number;
-  no_cut = h.no_cut;
+  client_took = refl;
+  client_untaken = h.client_untaken;
+  server = h.server;
+  connects = h.connects;
+  number = h.number;
+  servers_took = h.servers_took;
+  server_untaken = h.server_untaken;
+  unsent = h.unsent;
+  nothing_came = h.nothing_came;
+  connecting = h.connecting;
 }
+resets_ends a l Server e h =
+    let same = reset_same (has_stream e.link) e.link e.server in
+    record {
+      client = h.client;
+      client_took = h.client_took;
+      client_untaken = h.client_untaken;
+      server = h.server ∙ sym same.0;
+      connects = h.connects ∙ sym same.1;
+      number = h.number;
+      servers_took = ap none_at_last h.servers_took ∙ none_taken_by e.link e.server.reset a.counted_server ∙ ap (λ b. servers_by e.link b a.counted_server) (sym (reset_flag (has_stream e.link) e.server));
+      server_untaken = ap (λ q. length q + a.counted_server) same.2 ∙ h.server_untaken;
+      unsent = h.unsent;
+      nothing_came = reset_fresh (has_stream e.link) e.server h.nothing_came;
+      connecting = h.connecting;
+    }
+
+reset_link : (side : Side) (e : Ends) → (reset_ends side e).link ≡ e.link
+reset_link Client e = refl
+reset_link Server e = refl
+
+pub resets : (side : Side) (old : Conn) → Resets side old (with_ends (reset_ends side old.ends) old)
+resets side old g a l h = holds g a (reset_in side a) l l.client l.server l.answers.connects old (reset_ends side old.ends) h (resets_ends a l side old.ends h.ends) (ap (fits old.stage) (reset_link side old.ends) ∙ h.fits)

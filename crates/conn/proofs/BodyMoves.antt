@@ -1,11 +1,11 @@
 -- A body's step, and what it led to, are the next items of each state that the connection may stand
 -- for.
-use Rattle.std.proofs.Common.{◌≡◌, refl, sym, ap, subst, ◌∙◌, ℕ, ◌+◌, List, [], ◌∷◌, ◌++◌, None, Some, Option, true, false, length, map, drop, append_assoc, append-nil, arith, length-append}
-use Rattle.std.specs.Bool.{MatchBool}
-use Rattle.std.specs.Prelude.{nat_lt}
+use Rattle.std.proofs.Common.{◌≡◌, refl, sym, ap, subst, ◌∙◌, ℕ, ◌+◌, List, [], ◌∷◌, ◌++◌, None, Some, Option, true, length, map, drop, append_assoc, append-nil, arith, length-append}
 use Rattle.px_bytes.specs.declared.fault.Reply.{Reply}
 use Rattle.px_bytes.specs.declared.fault.TclFault.{TclFault}
+use Rattle.px_bytes.specs.declared.addr.Side.TheVariants.{Server}
 use Rattle.tcl_vars.specs.Scopes.{Level}
+use Rattle.irule_net.specs.State.{side_of}
 use Rattle.irule_net.specs.declared.groups.Groups.{Groups}
 use Rattle.rule_model.specs.Evaluator.{evaluate}
 use Rattle.rule_model.specs.Host.{Effect}
@@ -19,9 +19,9 @@ use Rattle.connection_model.specs.Bodies.{run_body, act_item}
 use Rattle.connection_model.specs.Gates.{Counts, sent_from}
 use Rattle.connection_model.specs.Host.{HostState, body_setting, commands}
 use Rattle.connection_model.specs.Item.{Ran}
-use Rattle.connection_model.specs.Places.{at as put, after_body, next_body}
+use Rattle.connection_model.specs.Places.{Place, at as put, after_body, next_body, place as place_at}
 use Rattle.connection_model.specs.Setup.{Handler, Setup, uncaught_line}
-use Rattle.connection_model.specs.State.{Absent, Failing, InEvent, TraceState, link_of, Link, with_replies}
+use Rattle.connection_model.specs.State.{Failing, InEvent, TraceState, link_of, with_replies}
 use Rattle.connection_model.specs.Trace.{next_item, Unfolds}
 use Rattle.connection_model.proofs.BodyItems.{running, ended, body_waits}
 use Rattle.connection_model.proofs.Unfolding.{unfolds_on, unfolds_one}
@@ -31,63 +31,47 @@ use Rattle.frame_machine.specs.Given.{setting}
 use Rattle.frame_machine.specs.Went.{Went, place, comes_by, effects_in, TurnIs}
 use Rattle.frame_machine.specs.declared.turn.Turn.{Turn}
 use Rattle.frame_machine.specs.declared.turn.Turn.TheVariants as turn
-use Rattle.conn.specs.Changes.{GoesTo, StartsBody, NextBody}
+use Rattle.conn.specs.Ends.{link_by, number_by}
 use Rattle.conn.specs.Steps.{BodySteps, GoesOn, ended_of, one_of, said_of}
 use Rattle.conn.specs.Bodies.{SaidIs}
-use Rattle.conn.specs.Events.{event_of}
+use Rattle.conn.specs.Events.{event_of, is_closed}
 use Rattle.conn.specs.Holds.{Around, BodyGoesOn, RunsFirst, Stands, Holds}
-use Rattle.conn.specs.Hosts.{Made, cleared_host, logs_of, seen_host}
-use Rattle.conn.specs.Setups.{body_at, places_at, Serves}
-use Rattle.conn.specs.Stages.{after_stage, is_asking}
+use Rattle.conn.specs.Hosts.{CollectsNothing, Made, cleared_host, logs_of, seen_host}
+use Rattle.conn.specs.Setups.{body_at, Serves}
+use Rattle.conn.specs.Stages.{InEvent as HostIn, at_fits, fits, has_finished, is_asking}
 use Rattle.conn.specs.declared.connection.Conn.{Conn}
 use Rattle.conn.specs.declared.events.At.{At}
-use Rattle.conn.specs.declared.events.At.TheVariants.{Accepted, Failed, Closed}
+use Rattle.conn.specs.declared.events.At.TheVariants as event
+use Rattle.conn.specs.declared.ends.Link as code
 use Rattle.conn.specs.declared.setup.Setup as code_setup
 use Rattle.conn.specs.declared.stage.Stage.{Stage}
 use Rattle.conn.specs.declared.stage.Stage.TheVariants as stage
 use Rattle.conn.specs.declared.turn.Act as step_act
 use Rattle.conn.specs.declared.turn.Act.TheVariants as done
-use Rattle.conn.proofs.Acting.{ActGave, DoesActs, acts_gave}
+use Rattle.conn.proofs.Acting.{ActGave, DoesActs, SameBeside, acts_gave}
 use Rattle.conn.proofs.Doing.{acts_done, calls_too, made_done, said_same, went_same}
 use Rattle.conn.proofs.Giving.{Gave}
 use Rattle.conn.proofs.ActItems.{no_tail, end_tail, called_is_none}
 use Rattle.conn.proofs.Asking.{asking_waits}
 use Rattle.conn.proofs.BodyActs.{acts_come, end_comes}
 use Rattle.conn.proofs.FramesKeep.{acts_stay}
-use Rattle.conn.proofs.Places.{first_left, next_stands}
+use Rattle.conn.proofs.Passing.{up_is}
+use Rattle.conn.proofs.Places.{GoneTo, first_left, link_is, next_gone}
 
--- no call is open behind a body
-pub next_awake : (s : code_setup.Setup) (at : At) (n : ℕ) (mid new : Conn) → NextBody s at n mid new → is_asking new.stage ≡ false
-next_awake s at n mid new k = by_test (nat_lt n (length (places_at s at))) k
-  where
-    by_test : (b : _) → MatchBool b (StartsBody s at n mid new) (GoesTo (after_stage at) mid new) → is_asking new.stage ≡ false
-    by_test true c = ap is_asking c.there
-    by_test false c = ap is_asking c.there ∙ after_awake at
-      where
-        after_awake : (at : At) → is_asking (after_stage at) ≡ false
-        after_awake Accepted = refl
-        after_awake Failed = refl
-        after_awake Closed = refl
-
-pub next_host : (s : code_setup.Setup) (at : At) (n : ℕ) (mid new : Conn) → NextBody s at n mid new → new.host ≡ mid.host
-next_host s at n mid new k = by_test (nat_lt n (length (places_at s at))) k
-  where
-    by_test : (b : _) → MatchBool b (StartsBody s at n mid new) (GoesTo (after_stage at) mid new) → new.host ≡ mid.host
-    by_test true c = c.host
-    by_test false c = c.host
-
-pub next_client : (s : code_setup.Setup) (at : At) (n : ℕ) (mid new : Conn) → NextBody s at n mid new → new.client ≡ mid.client
-next_client s at n mid new k = by_test (nat_lt n (length (places_at s at))) k
-  where
-    by_test : (b : _) → MatchBool b (StartsBody s at n mid new) (GoesTo (after_stage at) mid new) → new.client ≡ mid.client
-    by_test true c = c.client
-    by_test false c = c.client
+-- bytes go to a server only in the event of the first connection
+first_by : (at : At) (k : code.Link) → at_fits at k ≡ true → side_of (event_of at) ≡ Server → number_by k ≡ 1
+first_by event.Accepted k fit to = absurd (cc)
+first_by event.Selected k fit to = absurd (cc)
+first_by event.Failed k fit to = absurd (cc)
+first_by event.Connected k fit to = ap number_by (up_is k fit)
+first_by event.ServerClosed k fit to = absurd (cc)
+first_by event.Closed k fit to = absurd (cc)
 
 -- a step of the body of which the state of the trace tells
 module _ (s : code_setup.Setup) (g : Setup) (serves : Serves s g) (a : Around) (l : TraceState) (c : ℕ) (old mid : Conn) (at : At) (number : ℕ) (h : Handler) (bs : List Handler)
     (holds : Holds g a l old) (k : BodyGoesOn g (event_of at) h bs 0 l old) (said : Turn) (ticks : ℕ) (made : List Effect → Type 0)
     (w : Went (body_setting g h.procedures) h.body (place old.body.machine.at old.vars (seen_host old.host)) (place mid.body.machine.at mid.vars (seen_host mid.host)) said made ticks)
-    (done_acts : DoesActs w.acts old.host mid.host []) (same_client : mid.client ≡ old.client) where
+    (is_here : old.stage ≡ stage.Running at number) (done_acts : DoesActs g l.sent.number w.acts old mid []) (same_event : event_of mid.host.event ≡ event_of old.host.event) where
   abbrev group : List Note
   group = logs_of c (effects_in w.acts)
 
@@ -113,17 +97,30 @@ module _ (s : code_setup.Setup) (g : Setup) (serves : Serves s g) (a : Around) (
   here = ap (λ p. record l { phase = p; sent = l.sent }) k.phase
 
   abbrev sent_by : List Act → Counts
-  sent_by xs = sent_from l.sent (map (act_item 0) xs)
+  sent_by xs = sent_from l.sent (map (act_item l.sent.number) xs)
 
   -- some of its acts come
   come : (o : Outcome HostState) (xs rest : List Act) (m : ℕ) → run_body g b l ≡ o → (state_after o).acts ≡ k.acts ++ (xs ++ rest) → m ≡ length k.acts + length xs
-      → Unfolds g l (map (act_item 0) xs) (running e b bs m (sent_by xs) l)
+      → Unfolds g l (map (act_item l.sent.number) xs) (running e b bs m (sent_by xs) l)
   come o xs rest m is all last =
-      let P : TraceState → Type 0 = λ x. Unfolds g x (map (act_item 0) xs) (running e b bs m (sent_by xs) l) in
-      subst P (sym here) (acts_come g e b bs l o holds.no_cut is k.acts xs rest (length k.acts + 0) m 0 l.sent holds.no_number all (omega arith) (omega (arith, last)))
+      let P : TraceState → Type 0 = λ x. Unfolds g x (map (act_item l.sent.number) xs) (running e b bs m (sent_by xs) l) in
+      subst P (sym here) (acts_come g e b bs l o holds.no_cut is k.acts xs rest (length k.acts + 0) m l.sent.number l.sent refl all (omega arith) (omega (arith, last)))
 
-  with_tail : (xs : List Act) (at : TraceState) → Unfolds g l (map (act_item 0) xs) at → Unfolds g l (map (act_item 0) xs ++ []) at
-  with_tail xs at u = subst (λ x. Unfolds g l x at) (sym (append-nil (map (act_item 0) xs))) u
+  with_tail : (xs : List Act) (at : TraceState) → Unfolds g l (map (act_item l.sent.number) xs) at → Unfolds g l (map (act_item l.sent.number) xs ++ []) at
+  with_tail xs at u = subst (λ x. Unfolds g l x at) (sym (append-nil (map (act_item l.sent.number) xs))) u
+
+  -- where it stood still holds of where it is
+  fit : at_fits at mid.ends.link ≡ true
+  fit = ap (λ e. at_fits at e.link) done_acts.ends ∙ sym (ap (λ x. fits x old.ends.link) is_here) ∙ holds.fits
+
+  fin : l.finished ≡ is_closed at
+  fin = holds.finished ∙ ap has_finished is_here
+
+  ev : event_of mid.host.event ≡ event_of at
+  ev = same_event ∙ subst (λ x. HostIn x old.host.event) is_here holds.event
+
+  same_beside : (m : ℕ) (xs : List Act) → SameBeside l (running e b bs m (sent_by xs) l)
+  same_beside m xs = record { finished = refl; client = refl; server = refl; connects = refl; choices = refl; cut = refl }
 
   goes_on : said ≡ turn.More → mid.body.runs ≡ true → drop number (g.handlers e) ≡ b ∷ bs → mid.stage ≡ stage.Running at number → ActGave g a l c old mid group done.Goes
   goes_on more runs left there =
@@ -139,7 +136,7 @@ module _ (s : code_setup.Setup) (g : Setup) (serves : Serves s g) (a : Around) (
       let R : Stage → Type 0 = λ st. Stands g st at' mid in
       record {
         at = at';
-        gave = acts_gave g a l at' c old mid w.acts [] (no_tail c a.took) holds done_acts (with_tail w.acts at' u) (subst R (sym there) (subst P (sym left) now, runs)) refl refl refl same_client;
+        gave = acts_gave g a l at' c old mid w.acts [] (no_tail c a.took) holds done_acts (with_tail w.acts at' u) (subst R (sym there) (subst P (sym left) now, runs)) (fin ∙ ap has_finished (sym there)) (ap (λ x. fits x mid.ends.link) there ∙ fit) (subst (λ x. HostIn x mid.host.event) (sym there) ev) (same_beside (length acts + 0) w.acts);
         stops = ap is_asking there;
       }
 
@@ -165,35 +162,35 @@ module _ (s : code_setup.Setup) (g : Setup) (serves : Serves s g) (a : Around) (
       let G : List Effect → Type 0 = λ es. Gave g a l at' c old asked (logs_of c es) (call ∷ []) in
       record {
         at = at';
-        gave = subst G (called_is_none w.acts path call) (acts_gave g a l at' c old asked xs [] (no_tail c a.took) holds (calls_too w.acts path call old.host mid.host done_acts) (with_tail xs at' u) (subst R (sym left) now, waits) refl refl refl same_client);
-        stops = (
-          ap (λ n. next_item g (running e b bs n (sent_by xs) l)) (sym (length-append acts calls))
-              ∙ body_waits g e b bs l path call (state mid.vars (seen_host mid.host) [] m.budget (k.cost + w.spent) (acts ++ calls)) (sent_by xs) holds.no_cut is,
-          refl,
-        );
+        gave = subst G (called_is_none w.acts path call) (acts_gave g a l at' c old asked xs [] (no_tail c a.took) holds (calls_too g l.sent.number w.acts path call old asked (record { calls = done_acts.calls; first = done_acts.first; ends = done_acts.ends; collects = done_acts.collects })) (with_tail xs at' u) (subst R (sym left) now, waits) fin fit ev (same_beside (length acts + 1) xs));
+        stops = ap (λ n. next_item g (running e b bs n (sent_by xs) l)) (sym (length-append acts calls))
+            ∙ body_waits g e b bs l path call (state mid.vars (seen_host mid.host) [] m.budget (k.cost + w.spent) (acts ++ calls)) (sent_by xs) holds.no_cut is;
       }
 
   -- where a body that ended leaves it
-  ended_stands : (L : TraceState) → L.vars ≡ mid.vars → L.answers.replies ≡ [] → drop (number + 1) (g.handlers e) ≡ bs → (new : Conn) (f : Option TclFault) (did : step_act.Act) → GoesOn s at number (ended_of h at f) mid new did
-      → Stands g new.stage (put (after_body g e l.finished Absent b bs f (seen_host mid.host)) L) new × (is_asking new.stage ≡ false)
-  ended_stands L vars none behind new None did (goes, n) =
-      let P : List Handler → Type 0 = λ hs. Stands g new.stage (put (next_body g e l.finished Absent hs (seen_host mid.host)) L) new in
-      (subst P behind (next_stands s g serves at (number + 1) mid new n L vars none done_acts.unasked l.finished), next_awake s at (number + 1) mid new n)
-  ended_stands L vars none behind new (Some fault) did (goes, n) =
+  ended_gone : (L : TraceState) → L.vars ≡ mid.vars → L.answers.replies ≡ [] → drop (number + 1) (g.handlers e) ≡ bs → (new : Conn) (f : Option TclFault) (did : step_act.Act) → GoesOn s at number (ended_of h at f) mid new did
+      → GoneTo g l.finished (after_body g e l.finished (link_by mid.ends.link) b bs f (seen_host mid.host)) L mid.ends new × (did ≡ done.Goes)
+  ended_gone L vars none behind new None did (goes, n) = (
+    subst (λ hs. GoneTo g l.finished (next_body g e l.finished (link_by mid.ends.link) hs (seen_host mid.host)) L mid.ends new) behind
+        (next_gone g L s serves at (number + 1) l.finished mid new n (record { vars = vars; replies = none; collects = done_acts.collects }) ev fit fin),
+    goes,
+  )
+  ended_gone L vars none behind new (Some fault) did (goes, n) =
       let line = uncaught_line h.rule e fault.text in
-      let L' = record L { phase = InEvent e (Failing fault.kind line bs); host = seen_host mid.host } in
-      let P : Stage → Type 0 = λ st. Stands g st L' new in
-      let there : Stands g (stage.Failing at (number + 1) fault.kind line) L' new =
-      (ap (λ hs. InEvent e (Failing fault.kind line hs)) (sym behind), record { vars = vars ∙ sym n.vars; host = ap seen_host (sym n.host); replies = none }) in
-      (subst P (sym n.there) there, ap is_asking n.there)
-
-  ended_host : (new : Conn) (f : Option TclFault) (did : step_act.Act) → GoesOn s at number (ended_of h at f) mid new did → (new.host ≡ mid.host) × (did ≡ done.Goes)
-  ended_host new None did (goes, n) = (next_host s at (number + 1) mid new n, goes)
-  ended_host new (Some fault) did (goes, n) = (n.host, goes)
-
-  ended_client : (new : Conn) (f : Option TclFault) (did : step_act.Act) → GoesOn s at number (ended_of h at f) mid new did → new.client ≡ mid.client
-  ended_client new None did (goes, n) = next_client s at (number + 1) mid new n
-  ended_client new (Some fault) did (goes, n) = n.client
+      let p : Place = place_at (InEvent e (Failing fault.kind line bs)) (seen_host mid.host) in
+      let there : Stands g (stage.Failing at (number + 1) fault.kind line) (put p L) new =
+      (ap (λ hs. InEvent e (Failing fault.kind line hs)) (sym behind), record { vars = vars ∙ sym n.vars; host = ap seen_host (sym n.host); replies = none }) in (
+        record {
+          stands = subst (λ st. Stands g st (put p L) new) (sym n.there) there;
+          finished = fin ∙ ap has_finished (sym n.there);
+          fits = ap (λ st. fits st new.ends.link) n.there ∙ ap (λ x. at_fits at x.link) n.ends ∙ fit;
+          collects = subst (λ x. CollectsNothing g x.net) (sym n.host) done_acts.collects;
+          ends = n.ends;
+          awake = ap is_asking n.there;
+          event = subst (λ st. HostIn st new.host.event) (sym n.there) (ap (λ x. event_of x.event) n.host ∙ ev);
+        },
+        goes,
+      )
 
   over : (code : Code) → said ≡ turn.Done code → (new : Conn) (did : step_act.Act) → GoesOn s at number (ended_of h at (uncaught_of code)) mid new did → drop (number + 1) (g.handlers e) ≡ bs → ActGave g a l c old new group did
   over code is_done new did n behind =
@@ -207,33 +204,33 @@ module _ (s : code_setup.Setup) (g : Setup) (serves : Serves s g) (a : Around) (
       let u = come o w.acts [] (length acts) is (ap (λ x. k.acts ++ x) (sym (append-nil w.acts))) (length-append k.acts w.acts) in
       let last = end_comes g e b bs l code st (length acts) (sent_by w.acts) holds.no_cut is refl in
       let L = with_replies [] (record l { vars = mid.vars; sent = sent_by w.acts }) in
-      let ends = ended_stands L refl refl behind new (uncaught_of code) did n in
-      let host = ended_host new (uncaught_of code) did n in
-      let D : step_act.Act → Type 0 = λ d. ActGave g a l c old new group d in
-      let P : Link → Type 0 = λ k'. Stands g new.stage (put (after_body g e l.finished k' b bs (uncaught_of code) (seen_host mid.host)) L) new in
-      subst D (sym host.1) (record {
+      let gone = ended_gone L refl refl behind new (uncaught_of code) did n in
+      let same_link : link_by mid.ends.link ≡ link_of l.server = ap (λ x. link_by x.link) done_acts.ends ∙ sym (link_is a l old.ends holds.ends) in
+      let stands : Stands g new.stage at2 new = subst (λ k'. Stands g new.stage (put (after_body g e l.finished k' b bs (uncaught_of code) (seen_host mid.host)) L) new) same_link gone.0.stands in
+      let made : DoesActs g l.sent.number w.acts old new [] = record { calls = done_acts.calls; first = done_acts.first; ends = gone.0.ends ∙ done_acts.ends; collects = gone.0.collects } in
+      subst (λ d. ActGave g a l c old new group d) (sym gone.1) (record {
         at = at2;
-        gave = acts_gave g a l at2 c old new w.acts (Ran e st.cost ∷ []) (end_tail c a.took e st.cost) holds (subst (λ x. DoesActs w.acts old.host x []) (sym host.0) done_acts)
-            (unfolds_on g l at1 at2 (map (act_item 0) w.acts) (Ran e st.cost ∷ []) u (unfolds_one g at1 at2 (Ran e st.cost) last))
-            (subst P (sym (ap link_of holds.no_server)) ends.0) refl refl refl (ended_client new (uncaught_of code) did n ∙ same_client);
-        stops = ends.1;
+        gave = acts_gave g a l at2 c old new w.acts (Ran e st.cost ∷ []) (end_tail c a.took e st.cost) holds made
+            (unfolds_on g l at1 at2 (map (act_item l.sent.number) w.acts) (Ran e st.cost ∷ []) u (unfolds_one g at1 at2 (Ran e st.cost) last))
+            stands gone.0.finished gone.0.fits gone.0.event (record { finished = refl; client = refl; server = refl; connects = refl; choices = refl; cut = refl });
+        stops = gone.0.awake;
       })
 
 -- what the step said decides
 module _ (s : code_setup.Setup) (g : Setup) (serves : Serves s g) (a : Around) (l : TraceState) (c : ℕ) (old mid new : Conn) (at : At) (number : ℕ) (h : Handler) (bs : List Handler)
     (holds : Holds g a l old) (k : BodyGoesOn g (event_of at) h bs 0 l old) (left : drop number (g.handlers (event_of at)) ≡ h ∷ bs) (behind : drop (number + 1) (g.handlers (event_of at)) ≡ bs)
-    (there : mid.stage ≡ stage.Running at number) (ticks : ℕ) (made : List Effect → Type 0) where
+    (is_here : old.stage ≡ stage.Running at number) (there : mid.stage ≡ stage.Running at number) (ticks : ℕ) (made : List Effect → Type 0) where
   said_gives : (said : Turn) (w : Went (body_setting g h.procedures) h.body (place old.body.machine.at old.vars (seen_host old.host)) (place mid.body.machine.at mid.vars (seen_host mid.host)) said made ticks)
-      → DoesActs w.acts old.host mid.host [] → mid.client ≡ old.client → SaidIs said mid.body → (did : step_act.Act) → GoesOn s at number (said_of h at said) mid new did → ActGave g a l c old new (logs_of c (effects_in w.acts)) did
-  said_gives turn.More w d kept is did t =
+      → DoesActs g l.sent.number w.acts old mid [] → event_of mid.host.event ≡ event_of old.host.event → SaidIs said mid.body → (did : step_act.Act) → GoesOn s at number (said_of h at said) mid new did → ActGave g a l c old new (logs_of c (effects_in w.acts)) did
+  said_gives turn.More w d ev is did t =
       let P : Conn → Type 0 = λ x. ActGave g a l c old x (logs_of c (effects_in w.acts)) did in
       let Q : step_act.Act → Type 0 = λ x. ActGave g a l c old mid (logs_of c (effects_in w.acts)) x in
-      subst P (sym t.1) (subst Q (sym t.0) (goes_on s g serves a l c old mid at number h bs holds k turn.More ticks made w d kept refl is left there))
-  said_gives (turn.Asks call) w d kept is did t =
+      subst P (sym t.1) (subst Q (sym t.0) (goes_on s g serves a l c old mid at number h bs holds k turn.More ticks made w is_here d ev refl is left there))
+  said_gives (turn.Asks call) w d ev is did t =
       let P : Conn → Type 0 = λ x. ActGave g a l c old x (logs_of c (effects_in w.acts)) did in
       let Q : step_act.Act → Type 0 = λ x. ActGave g a l c old (record mid { stage = stage.Asking at number }) (logs_of c (effects_in w.acts)) x in
-      subst P (sym t.1) (subst Q (sym t.0) (asks s g serves a l c old mid at number h bs holds k (turn.Asks call) ticks made w d kept call refl is left))
-  said_gives (turn.Done code) w d kept is did t = over s g serves a l c old mid at number h bs holds k (turn.Done code) ticks made w d kept code refl new did t behind
+      subst P (sym t.1) (subst Q (sym t.0) (asks s g serves a l c old mid at number h bs holds k (turn.Asks call) ticks made w is_here d ev call refl is left))
+  said_gives (turn.Done code) w d ev is did t = over s g serves a l c old mid at number h bs holds k (turn.Done code) ticks made w is_here d ev code refl new did t behind
 
 -- the notes of a body's step
 abbrev pub step_notes : {s : code_setup.Setup} {h : Handler} {c : ℕ} {at : At} {number : ℕ} {old new : Conn} {before after : List Note} {did : step_act.Act} → BodySteps s h c at number old new before after did → List Note
@@ -257,6 +254,8 @@ body_gives s g serves a l c old new at number h before after did got k is holds 
     let w0 : W (body_setting g h.procedures) k.stepped = subst (λ x. W x k.stepped) same (k.went here.1) in
     let moved = made_done c k.stepped k.mid before after k.does in
     let w : W (body_setting g h.procedures) k.mid = went_same (body_setting g h.procedures) h.body (place old.body.machine.at old.vars (seen_host old.host)) k.stepped k.mid k.turned made k.ticks moved w0 in
-    let acted = acts_done g.groups (body_setting g h.procedures) refl c old k.stepped k.mid before after k.does holds.unasked w.acts w.called w.once w.by in
+    let to_server : side_of (event_of old.host.event) ≡ Server → l.sent.number ≡ 1 =
+    λ to. holds.ends.number ∙ first_by at old.ends.link (sym (ap (λ x. fits x old.ends.link) is) ∙ holds.fits) (sym (ap side_of (subst (λ x. HostIn x old.host.event) is holds.event)) ∙ to) in
+    let acted = acts_done g l.sent.number (body_setting g h.procedures) refl c old k.stepped k.mid before after k.does k.ends holds.no_collect to_server w.acts w.called w.once w.by in
     let N : List Effect → Type 0 = λ es. ActGave g a l c old new (logs_of c es) did in
-    subst N acted.taken (said_gives s g serves a l c old k.mid new at number h bs holds goes left behind (k.does.there ∙ k.there ∙ is) k.ticks made k.turned w acted.acts (k.does.client ∙ k.client) (said_same k.turned k.stepped.body k.mid.body (sym k.does.body) (k.said_is here.1)) did k.goes_on)
+    subst N acted.taken (said_gives s g serves a l c old k.mid new at number h bs holds goes left behind is (k.does.there ∙ k.there ∙ is) k.ticks made k.turned w acted.acts acted.event (said_same k.turned k.stepped.body k.mid.body (sym k.does.body) (k.said_is here.1)) did k.goes_on)

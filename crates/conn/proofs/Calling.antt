@@ -13,8 +13,7 @@ use Rattle.irule_net.specs.Commands.{net_step}
 use Rattle.irule_net.specs.declared.groups.Groups.{Groups}
 use Rattle.irule_net.specs.declared.state.NetState.{NetState}
 use Rattle.connection_model.specs.Host.{HostState, commands, first_word, host_step, names_one}
-use Rattle.conn.specs.Hosts.{Made, seen_host, seen_net}
-use Rattle.conn.specs.declared.host.RuleHost.{RuleHost}
+use Rattle.conn.specs.Hosts.{seen_net}
 
 -- what was made stands behind what was made before
 abbrev Behind : List Effect → List Effect → List Effect → Type 0
@@ -68,18 +67,3 @@ module _ (groups : Groups) (e : EventName) (net : NetState) (words : List (List 
       by_test : (b : Bool) → b ≡ true → DidStep (if b then host_step h (net_step groups e net words) else none) r (seen_net e left) (Behind before after)
       by_test true there = kept left after (net_step groups e net words) r d
       by_test false there = absurd (cc)
-
--- the same of a connection's host
-pub host_did : (step : HostStep HostState) (r : HostAnswer) (a b : RuleHost) → b.to_client ≡ a.to_client → DidStep step r (seen_host b) (Behind a.made b.made) → DidStep step r (seen_host b) (λ es. Made a es b)
-host_did (Gives v s es) (answer.Value w) a b same d = (d.0, d.1, record { effects = d.2; queue = same })
-host_did (Gives v s es) (answer.Fault f) a b same d = d
-host_did (Gives v s es) (answer.Ask call) a b same d = d
-host_did (Gives v s es) answer.Memory a b same d = tt
-host_did (Faults f s es) (answer.Value w) a b same d = d
-host_did (Faults f s es) (answer.Fault g) a b same d = (d.0, d.1, record { effects = d.2; queue = same })
-host_did (Faults f s es) (answer.Ask call) a b same d = d
-host_did (Faults f s es) answer.Memory a b same d = tt
-host_did (Asks call s) (answer.Value w) a b same d = d
-host_did (Asks call s) (answer.Fault f) a b same d = d
-host_did (Asks call s) (answer.Ask asked) a b same d = (d.0, d.1, record { effects = d.2; queue = same })
-host_did (Asks call s) answer.Memory a b same d = tt

@@ -1,24 +1,28 @@
 -- Each call keeps that the trace goes on by the connection's own fields.
-use Rattle.std.proofs.Common.{◌≡◌, refl, sym, subst, ℕ, ◌+◌, List, [], ◌∷◌, ◌++◌, Option, Some, None, option_map, arith}
-use Rattle.connection_model.specs.Further.{longer, CutMeets}
+use Rattle.std.proofs.Common.{◌≡◌, refl, subst, ℕ, zero, suc, ◌+◌, List, [], ◌∷◌, ◌++◌, Option, Some, None, option_map, unwrap_or, arith}
+use Rattle.std.specs.Prelude.{slice_get}
+use Rattle.px_bytes.specs.declared.addr.Side.{Side}
+use Rattle.px_bytes.specs.declared.addr.Side.TheVariants.{Client, Server}
+use Rattle.connection_model.specs.Further.{longer}
 use Rattle.connection_model.specs.Gates.{Counts, taken_of, Met}
 use Rattle.connection_model.specs.HeardLaws.{taken_by_items}
 use Rattle.connection_model.specs.Item.{Item}
 use Rattle.connection_model.specs.Laws.{AtLeast, TakesMore}
 use Rattle.connection_model.specs.Setup.{Setup}
-use Rattle.connection_model.specs.State.{Cut, TraceState}
+use Rattle.connection_model.specs.State.{TraceState}
 use Rattle.connection_model.specs.declared.note.Note.{Note}
 use Rattle.connection_model.proofs.Furthering.{further_keeps, replies_keep}
 use Rattle.connection_model.proofs.Given.{sent_counted}
 use Rattle.connection_model.proofs.Querying.{met_joins}
 use Rattle.connection_model.proofs.Taking.{met_more}
 use Rattle.connection_model.proofs.Unfolding.{unfolds_on}
-use Rattle.conn.specs.Calls.{took_more, Takes}
+use Rattle.conn.specs.Calls.{more_at_last, took_more, Takes}
 use Rattle.conn.specs.Continues.{Continues, CallsContinue}
 use Rattle.conn.specs.Holds.{Around}
 use Rattle.conn.specs.Runs.{GoesOnWith}
 use Rattle.conn.specs.declared.connection.Conn.{Conn}
 use Rattle.conn.specs.declared.turn.ConnTurn.{ConnTurn}
+use Rattle.conn.proofs.Joining.{cut_meets}
 
 more_client : (n : ℕ) (taken : Option ℕ) → AtLeast taken (option_map (λ k. k + n) taken)
 more_client n None = tt
@@ -28,13 +32,25 @@ same_taken : (taken : Option ℕ) → AtLeast taken taken
 same_taken None = tt
 same_taken (Some k) = omega arith
 
-takes_more : (n : ℕ) (a : Around) → TakesMore a.took (took_more n a).took
-takes_more n a = record { client = more_client n a.took.client; servers = λ k. same_taken (taken_of a.took.servers k) }
+more_servers : (n : ℕ) (ts : List (Option ℕ)) (k : ℕ) → AtLeast (unwrap_or (slice_get ts k) (Some 0)) (unwrap_or (slice_get (more_at_last n ts) k) (Some 0))
+more_servers n [] k = same_taken (unwrap_or (slice_get [] k) (Some 0))
+more_servers n (t ∷ []) zero = more_client n t
+more_servers n (t ∷ []) (suc k) = same_taken (unwrap_or (slice_get [] k) (Some 0))
+more_servers n (t ∷ (u ∷ more)) zero = same_taken t
+more_servers n (t ∷ (u ∷ more)) (suc k) = more_servers n (u ∷ more) k
 
-takes_on : (g : Setup) (a : Around) (l : TraceState) (given : List Item) (at : TraceState) (n : ℕ) (old new : Conn) → Takes n old new → Continues g a l given at old → Continues g (took_more n a) l given at new
-takes_on g a l given at n old new takes k = record {
+more_taken : (n : ℕ) (ts : List (Option ℕ)) (k : ℕ) → AtLeast (taken_of ts k) (taken_of (more_at_last n ts) k)
+more_taken n ts zero = same_taken (Some 0)
+more_taken n ts (suc k) = more_servers n ts k
+
+takes_more : (side : Side) (n : ℕ) (a : Around) → TakesMore a.took (took_more side n a).took
+takes_more Client n a = record { client = more_client n a.took.client; servers = λ k. same_taken (taken_of a.took.servers k) }
+takes_more Server n a = record { client = same_taken a.took.client; servers = more_taken n a.took.servers }
+
+takes_on : (g : Setup) (a : Around) (l : TraceState) (given : List Item) (at : TraceState) (side : Side) (n : ℕ) (old new : Conn) → Takes side n old new → Continues g a l given at old → Continues g (took_more side n a) l given at new
+takes_on g a l given at side n old new takes k = record {
   passed = k.passed;
-  met = met_more l.sent a.took (took_more n a).took given (takes_more n a) k.met;
+  met = met_more l.sent a.took (took_more side n a).took given (takes_more side n a) k.met;
   holds = takes g a at k.holds;
 }
 
@@ -44,10 +60,9 @@ runs_on : (g : Setup) (a : Around) (l : TraceState) (given : List Item) (at : Tr
 runs_on g a l given at c old new group t none r k =
     let p = r.items.passes in
     let f = taken_by_items a.took r.more in
-    let C : Option Cut → Type 0 = λ x. CutMeets x l.sent given in
     let M : Counts → Type 0 = λ s. Met s a.took r.more in
     record {
-      passed = unfolds_on g (longer f l) (longer f at) r.at given r.more (further_keeps g l at f given none (subst C (sym (p.uncut a.took)) tt) k.passed) p.passed;
+      passed = unfolds_on g (longer f l) (longer f at) r.at given r.more (further_keeps g l at f given none (cut_meets a.took l.sent given r.more k.met) k.passed) p.passed;
       met = met_joins l.sent a.took given r.more k.met (subst M (sent_counted g l at given k.passed) p.met);
       holds = r.holds;
     }

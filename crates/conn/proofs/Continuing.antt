@@ -1,8 +1,10 @@
 -- Whatever may still come, the trace is what was given, and then what follows by the connection's own fields.
-use Rattle.std.proofs.Common.{◌≡◌, refl, sym, ap, subst, ◌∙◌, ℕ, zero, suc, ◌+◌, ◌≤◌, List, [], ◌∷◌, ◌++◌, append-nil, append_assoc, map, take, drop, length, length-append, Bool, true, false, Option, Some, None, unwrap_or, arith}
+use Rattle.std.proofs.Common.{◌≡◌, refl, sym, ap, subst, ◌∙◌, ℕ, zero, suc, ◌+◌, ◌≤◌, List, [], ◌∷◌, ◌++◌, append-nil, append_assoc, map, take, drop, length, length-append, Bool, true, false, Option, Some, None, arith}
 use Rattle.std.specs.Prelude.{slice_get, if◌then◌else◌}
 use Rattle.std.proofs.lemmas.Option.{slice_get_past}
+use Rattle.px_bytes.specs.declared.addr.Addr.{Addr}
 use Rattle.px_bytes.specs.declared.fault.Reply.{Reply}
+use Rattle.px_bytes.specs.declared.fault.Reply.TheVariants as reply
 use Rattle.tcl_compile.specs.Tree.{Tree}
 use Rattle.tcl_vars.specs.Scopes.{Scopes}
 use Rattle.event_order.specs.declared.event.EventName.{EventName}
@@ -13,36 +15,31 @@ use Rattle.connection_model.specs.Bodies.{run_body, act_item, act_next, ended_ne
 use Rattle.connection_model.specs.Further.{Further, longer, CutMeets}
 use Rattle.connection_model.specs.Gates.{Counts, TakenCounts, Met, sent_from}
 use Rattle.connection_model.specs.Host.{HostState, body_setting}
-use Rattle.connection_model.specs.Item.{Item}
-use Rattle.connection_model.specs.Phases.{RunsIn, OrderlyIn, Orderly}
+use Rattle.connection_model.specs.Item.{Item, Choice}
 use Rattle.connection_model.specs.Setup.{Handler, Setup}
-use Rattle.connection_model.specs.State.{Gated, Running, Failing, Phase, InEvent, NoServer, ServerSide, Stream, link_of, Cut, Answers, TraceState, ForReply, Next, Does, Waits, Over}
-use Rattle.connection_model.specs.State as phase
-use Rattle.connection_model.specs.Trace.{counted, cut_next, next_item, Unfolds, trace_from, trace, start}
+use Rattle.connection_model.specs.State.{Running, Phase, InEvent, Selecting, ServerSide, Stream, Cut, TraceState, ForReply, Next, Does, Waits, Over}
+use Rattle.connection_model.specs.Trace.{counted, cut_next, next_item, phase_next, selected_next, selecting_next, Unfolds, trace_from, trace, start}
 use Rattle.connection_model.proofs.BodyItems.{running, acts_unfold}
 use Rattle.connection_model.proofs.Furthering.{further_keeps}
 use Rattle.connection_model.proofs.Given.{cut_keeps}
-use Rattle.connection_model.proofs.Stepping.{finishes_once}
 use Rattle.connection_model.proofs.Taking.{met_more}
 use Rattle.connection_model.proofs.Unfolding.{trace_unfolds}
 use Rattle.frame_machine.specs.Frames.{comes_to, path_of}
 use Rattle.frame_machine.specs.declared.frame.Mode.TheVariants as mode
 use Rattle.frame_machine.specs.declared.frame.Standing.{Standing}
-use Rattle.conn.specs.Continues.{Unread, unread_in, gated_phase, phase_at, sent_by, own_state, items_of, first_ahead, ahead_at, MayCome, ConnectionContinues}
+use Rattle.conn.specs.Continues.{gated_phase, phase_at, sent_by, own_state, items_of, first_ahead, ahead_at, MayCome, ConnectionContinues}
 use Rattle.conn.specs.Events.{event_of}
-use Rattle.conn.specs.Holds.{Around, Between, BodyGoesOn, GatedBefore, RunsFirst, Stands, Holds}
+use Rattle.conn.specs.Holds.{Around, Between, BodyGoesOn, GatedBefore, HoldsEnds, RunsFirst, Stands, Holds, call_of}
 use Rattle.conn.specs.Hosts.{seen_host}
 use Rattle.conn.specs.Modes.{is_asked}
-use Rattle.conn.specs.Stages.{has_finished, reason_for}
+use Rattle.conn.specs.Stages.{has_finished, selects}
+use Rattle.conn.specs.declared.ends.Ends.{Ends as BothEnds}
 use Rattle.conn.specs.declared.connection.Conn.{Conn}
-use Rattle.conn.specs.declared.events.At.{At}
-use Rattle.conn.specs.declared.events.At.TheVariants.{Accepted, Failed, Closed}
 use Rattle.conn.specs.declared.stage.Stage.{Stage}
 use Rattle.conn.specs.declared.stage.Stage.TheVariants as stage
-use Rattle.conn.specs.Arrivals.{arrived}
+use Rattle.conn.specs.Ends.{arrived, connects_by, number_by, server_by}
 use Rattle.conn.proofs.ActItems.{no_tail, acts_met}
 use Rattle.conn.proofs.Asking.{asking_waits}
-use Rattle.conn.proofs.Finishing.{finished_at}
 use Rattle.conn.proofs.FramesKeep.{all_behind, frames_keep, acts_behind, acts_stay}
 use Rattle.conn.proofs.Replying.{asked_mode, goes_on}
 
@@ -62,35 +59,44 @@ trace_front (suc n) k g l m (i ∷ items) within (mid, step, more) =
     ap (trace_from (suc n) g) step ∙ ap (λ r. i ∷ r) (trace_front n k g mid m items (omega (arith, within)) more)
 
 -- the connection's own fields, but for these
-abbrev own_at : Around → Unread → Conn → Phase → Scopes → HostState → List Reply → TraceState
-own_at a u c p v h replies = record {
+abbrev own_at : Around → Conn → Phase → Scopes → HostState → List Reply → TraceState
+own_at a c p v h replies = record {
   phase = p;
   vars = v;
   host = h;
   finished = has_finished c.stage;
-  client = arrived c.client;
-  server = NoServer;
-  sent = sent_by a c;
-  answers = record { replies = replies; connects = u.connects; choices = u.choices; cut = None };
+  client = arrived c.ends.client;
+  server = server_by c.ends.link c.ends.server;
+  sent = sent_by a c.ends;
+  answers = record { replies = replies; connects = connects_by c.ends.link c.ends.server; choices = []; cut = None };
 }
 
 abbrev counts : ℕ → ℕ → ℕ → Counts
 counts client server number = record { client = client; server = server; number = number }
 
-sent_is : (g : Setup) (a : Around) (l : TraceState) (c : Conn) → Holds g a l c → l.sent ≡ sent_by a c
-sent_is g a l c h =
-    ap (λ x. counts x l.sent.server l.sent.number) (sym h.untaken)
-    ∙ ap (λ x. counts (sent_by a c).client x l.sent.number) h.none_sent
-    ∙ ap (λ x. counts (sent_by a c).client 0 x) h.no_number
+sent_is : (a : Around) (l : TraceState) (e : BothEnds) → HoldsEnds a l e → l.sent ≡ sent_by a e
+sent_is a l e h =
+    ap (λ x. counts x l.sent.server l.sent.number) (sym h.client_untaken)
+    ∙ ap (λ x. counts (sent_by a e).client x l.sent.number) (sym h.server_untaken)
+    ∙ ap (λ x. counts (sent_by a e).client (sent_by a e).server x) h.number
 
-is_own : (g : Setup) (a : Around) (l : TraceState) (c : Conn) → Holds g a l c → l.finished ≡ has_finished c.stage → l ≡ own_at a (unread_in l) c l.phase l.vars l.host l.answers.replies
-is_own g a l c h finished =
-    let own : Bool → Stream → ServerSide → Counts → Option Cut → TraceState = λ f t s n k. record l { finished = f; client = t; server = s; sent = n; answers = record l.answers { cut = k } } in
-    ap (λ f. own f l.client l.server l.sent l.answers.cut) finished
-    ∙ ap (λ t. own (has_finished c.stage) t l.server l.sent l.answers.cut) h.client
-    ∙ ap (λ s. own (has_finished c.stage) (arrived c.client) s l.sent l.answers.cut) h.no_server
-    ∙ ap (λ n. own (has_finished c.stage) (arrived c.client) NoServer n l.answers.cut) (sent_is g a l c h)
-    ∙ ap (λ k. own (has_finished c.stage) (arrived c.client) NoServer (sent_by a c) k) h.no_cut
+abbrev own_parts : TraceState → Bool → Stream → ServerSide → Counts → List (Option Stream) → List Choice → Option Cut → TraceState
+own_parts l f t s n k ch cut = record l { finished = f; client = t; server = s; sent = n; answers = record l.answers { connects = k; choices = ch; cut = cut } }
+
+is_own : (g : Setup) (a : Around) (l : TraceState) (c : Conn) → Holds g a l c → l ≡ own_at a c l.phase l.vars l.host l.answers.replies
+is_own g a l c h =
+    let f = has_finished c.stage in
+    let t = arrived c.ends.client in
+    let s = server_by c.ends.link c.ends.server in
+    let n = sent_by a c.ends in
+    let k = connects_by c.ends.link c.ends.server in
+    ap (λ x. own_parts l x l.client l.server l.sent l.answers.connects l.answers.choices l.answers.cut) h.finished
+    ∙ ap (λ x. own_parts l f x l.server l.sent l.answers.connects l.answers.choices l.answers.cut) h.ends.client
+    ∙ ap (λ x. own_parts l f t x l.sent l.answers.connects l.answers.choices l.answers.cut) h.ends.server
+    ∙ ap (λ x. own_parts l f t s x l.answers.connects l.answers.choices l.answers.cut) (sent_is a l c.ends h.ends)
+    ∙ ap (λ x. own_parts l f t s n x l.answers.choices l.answers.cut) h.ends.connects
+    ∙ ap (λ x. own_parts l f t s n k x l.answers.cut) h.no_choice
+    ∙ ap (λ x. own_parts l f t s n k [] x) h.no_cut
 
 -- acts of the frames that were given at an open call
 record FirstGiven (w : ℕ) (o : Outcome HostState) : Type 0 where
@@ -136,26 +142,23 @@ cut_passes g (Some k) r e b bs (Stops path call st) = if_same r.finished (Waits 
 abbrev cutting : Option Cut → TraceState → TraceState
 cutting cut l = record l { answers = record l.answers { cut = cut } }
 
-cut_front : (g : Setup) (l m : TraceState) (acts : List Act) (cut : Option Cut) → l.answers.cut ≡ None → m.answers.cut ≡ None → Unfolds g l (map (act_item 0) acts) m → Unfolds g (cutting cut l) (map (act_item 0) acts) (cutting cut m)
-cut_front g l m acts None none later is =
-    let items = map (act_item 0) acts in
+cut_front : (g : Setup) (number : ℕ) (l m : TraceState) (acts : List Act) (cut : Option Cut) → l.answers.cut ≡ None → m.answers.cut ≡ None → Unfolds g l (map (act_item number) acts) m → Unfolds g (cutting cut l) (map (act_item number) acts) (cutting cut m)
+cut_front g number l m acts None none later is =
+    let items = map (act_item number) acts in
     let P : Option Cut → Type 0 = λ k. Unfolds g (cutting k l) items m in
     let Q : Option Cut → Type 0 = λ k. Unfolds g (cutting None l) items (cutting k m) in
     subst Q later (subst P none is)
-cut_front g l m acts (Some k) none later is =
-    let items = map (act_item 0) acts in
+cut_front g number l m acts (Some k) none later is =
+    let items = map (act_item number) acts in
     let M : List Item → Type 0 = λ xs. Met l.sent k.took xs in
-    cut_keeps g l m k items none (subst M (append-nil items) (acts_met 0 0 k.took [] (no_tail 0 k.took) acts l.sent)) is
+    cut_keeps g l m k items none (subst M (append-nil items) (acts_met 0 number k.took [] (no_tail 0 k.took) acts l.sent)) is
 
-module _ (g : Setup) (a : Around) (l : TraceState) (c : Conn) (h : Holds g a l c) (finished : l.finished ≡ has_finished c.stage) where
-  abbrev u : Unread
-  u = unread_in l
-
+module _ (g : Setup) (a : Around) (l : TraceState) (c : Conn) (h : Holds g a l c) where
   abbrev own : TraceState
-  own = own_state g a u c
+  own = own_state g a c
 
   same_end : (f : Further) (e : EventName) (b : Handler) (bs : List Handler) (p : Phase) (v : Scopes) (hs : HostState) (rs : List Reply) (m : ℕ) (sent : Counts) (acts : List Act) (o : Outcome HostState)
-      → counted sent (ended_next g e b bs (running e b bs m sent (longer f (own_at a u c p v hs rs))) (all_behind acts o)) ≡ ended_next g e b bs (record (longer f own) { sent = sent }) o
+      → counted sent (ended_next g e b bs (running e b bs m sent (longer f (own_at a c p v hs rs))) (all_behind acts o)) ≡ ended_next g e b bs (record (longer f own) { sent = sent }) o
   same_end f e b bs p v hs rs m sent acts (Ends code st) = refl
   same_end f e b bs p v hs rs m sent acts (Stops path call st) = refl
 
@@ -173,23 +176,24 @@ module _ (g : Setup) (a : Around) (l : TraceState) (c : Conn) (h : Holds g a l c
       let given = length k.acts + w in
       let all_given = given + length todo in
       let now : Phase = InEvent e (Running b bs given) in
-      let at : TraceState = own_at a u c now l.vars l.host l.answers.replies in
+      let at : TraceState = own_at a c now l.vars l.host l.answers.replies in
       let plain : TraceState = longer (record f { cut = None }) at in
-      let items = map (act_item 0) todo in
-      let sent = sent_from (sent_by a c) items in
+      let number = number_by c.ends.link in
+      let items = map (act_item number) todo in
+      let sent = sent_from (sent_by a c.ends) items in
       let is : run_body g b (longer f at) ≡ all_behind k.acts o = k.same f.replies ∙ frames_keep S b.body m c.vars (seen_host c.host) f.replies k.cost k.acts in
       let acts : (state_after (all_behind k.acts o)).acts ≡ done ++ todo = acts_behind k.acts o ∙ ap (λ x. k.acts ++ x) p.split ∙ sym (append_assoc k.acts p.first todo) in
       let here : given ≡ length done = omega (arith, p.count, length-append k.acts p.first) in
       let past : length (state_after (all_behind k.acts o)).acts ≤ all_given = omega (arith, here, ap length acts, length-append done todo) in
-      let same : l ≡ at = is_own g a l c h finished ∙ ap (λ x. own_at a u c x l.vars l.host l.answers.replies) k.phase in
-      let front : Unfolds g plain items (running e b bs all_given sent plain) = acts_unfold g e b bs plain (all_behind k.acts o) refl is done todo given all_given 0 (sent_by a c) refl acts here refl in
+      let same : l ≡ at = is_own g a l c h ∙ ap (λ x. own_at a c x l.vars l.host l.answers.replies) k.phase in
+      let front : Unfolds g plain items (running e b bs all_given sent plain) = acts_unfold g e b bs plain (all_behind k.acts o) refl is done todo given all_given number (sent_by a c.ends) refl acts here refl in
       let stood : TraceState = running e b bs all_given sent (longer f at) in
       let next : next_item g stood ≡ ended_next g e b bs (record (longer f own) { sent = sent }) o =
       ends_next g e b bs (longer f at) all_given sent (all_behind k.acts o) is (slice_get_past (state_after (all_behind k.acts o)).acts all_given past)
       ∙ ap (counted sent) (cut_passes g f.cut stood e b bs (all_behind k.acts o))
       ∙ same_end f e b bs now l.vars l.host l.answers.replies all_given sent k.acts o in
       ap (λ x. trace n g (longer f x)) same
-      ∙ trace_front n n g (longer f at) stood items (omega arith) (cut_front g plain (running e b bs all_given sent plain) todo f.cut refl refl front)
+      ∙ trace_front n n g (longer f at) stood items (omega arith) (cut_front g number plain (running e b bs all_given sent plain) todo f.cut refl refl front)
       ∙ ap (λ x. take n (items ++ trace_from n g x)) next
 
   running_follows : (e : EventName) (hs : List Handler) → RunsFirst g e hs 0 l c → (cost : ℕ) × ((f : Further) (n : ℕ) → trace n g (longer f l) ≡ items_of n g (first_ahead g c e hs 0 cost (longer f own)))
@@ -203,27 +207,69 @@ module _ (g : Setup) (a : Around) (l : TraceState) (c : Conn) (h : Holds g a l c
       (k.cost, body_follows e b bs 1 k (λ rs. call_given (body_setting g b.procedures) b.body c.body.machine.at c.vars (seen_host c.host) is.0 rs k.cost is.1))
 
   -- between bodies it goes on as its own fields say
-  between_follows : l.phase ≡ phase_at g c.stage → Between l c → (f : Further) (n : ℕ) → trace n g (longer f l) ≡ take n (trace n g (longer f own))
+  between_follows : l.phase ≡ phase_at g c.host.net c.stage → Between l c → (f : Further) (n : ℕ) → trace n g (longer f l) ≡ take n (trace n g (longer f own))
   between_follows here b f n =
-      let same : l ≡ own = is_own g a l c h finished
-      ∙ ap (λ x. own_at a u c x l.vars l.host l.answers.replies) here
-      ∙ ap (λ x. own_at a u c (phase_at g c.stage) x l.host l.answers.replies) b.vars
-      ∙ ap (λ x. own_at a u c (phase_at g c.stage) c.vars x l.answers.replies) b.host
-      ∙ ap (λ x. own_at a u c (phase_at g c.stage) c.vars (seen_host c.host) x) b.replies in
+      let same : l ≡ own = is_own g a l c h
+      ∙ ap (λ x. own_at a c x l.vars l.host l.answers.replies) here
+      ∙ ap (λ x. own_at a c (phase_at g c.host.net c.stage) x l.host l.answers.replies) b.vars
+      ∙ ap (λ x. own_at a c (phase_at g c.host.net c.stage) c.vars x l.answers.replies) b.host
+      ∙ ap (λ x. own_at a c (phase_at g c.host.net c.stage) c.vars (seen_host c.host) x) b.replies in
       ap (λ x. trace n g (longer f x)) same ∙ sym (take_more n n g (next_item g (longer f own)) (omega arith))
+
+  -- the reply that came selects this address or none
+  chosen_next : (f : Further) (k : TraceState) (call : List (List ℕ)) (r : Reply) (addr : Option Addr) → k.phase ≡ Selecting call → k.answers.replies ≡ r ∷ f.replies → addr ≡ selects r → next_item g k ≡ counted k.sent (selected_next g k f.replies addr)
+  unfolding next_item
+  chosen_next f k call r addr here came is =
+      ap (λ p. counted k.sent (cut_next g k.answers.cut k (phase_next g p k))) here
+      ∙ ap (λ rs. counted k.sent (cut_next g k.answers.cut k (selecting_next g call k rs))) came
+      ∙ ap (λ o. counted k.sent (cut_next g k.answers.cut k o)) (by_reply r)
+      ∙ ap (counted k.sent) (cut_passes_on k.answers.cut (selects r))
+      ∙ ap (λ o. counted k.sent (selected_next g k f.replies o)) (sym is)
+    where
+      by_reply : (r : Reply) → selecting_next g call k (r ∷ f.replies) ≡ selected_next g k f.replies (selects r)
+      by_reply (reply.Ok v) = refl
+      by_reply (reply.Fault e) = refl
+
+      cut_passes_on : (cut : Option Cut) (o : Option Addr) → cut_next g cut k (selected_next g k f.replies o) ≡ selected_next g k f.replies o
+      cut_passes_on None o = refl
+      cut_passes_on (Some x) None = if_same k.finished (selected_next g k f.replies None)
+      cut_passes_on (Some x) (Some a) = if_same k.finished (selected_next g k f.replies (Some a))
+
+  chosen_same : (f : Further) (r : Reply) (addr : Option Addr) → counted (sent_by a c.ends) (selected_next g (longer f (own_at a c (phase_at g c.host.net c.stage) c.vars (seen_host c.host) (r ∷ []))) f.replies addr) ≡ counted (sent_by a c.ends) (selected_next g (longer f own) f.replies addr)
+  chosen_same f r None = refl
+  chosen_same f r (Some x) = refl
+
+  chosen_follows : (addr : Option Addr) → c.stage ≡ stage.Chosen addr → Stands g (stage.Chosen addr) l c → (f : Further) (n : ℕ) → trace n g (longer f l) ≡ items_of n g (ahead_at (stage.Chosen addr) g c 0 (longer f own))
+  chosen_follows addr is k f n =
+      let b = k.1 in
+      let here : l.phase ≡ phase_at g c.host.net c.stage = k.0 ∙ sym (ap (phase_at g c.host.net) is) in
+      let at = own_at a c (phase_at g c.host.net c.stage) c.vars (seen_host c.host) (b.reply ∷ []) in
+      let same : l ≡ at = is_own g a l c h
+      ∙ ap (λ x. own_at a c x l.vars l.host l.answers.replies) here
+      ∙ ap (λ x. own_at a c (phase_at g c.host.net c.stage) x l.host l.answers.replies) b.vars
+      ∙ ap (λ x. own_at a c (phase_at g c.host.net c.stage) c.vars x l.answers.replies) b.host
+      ∙ ap (λ x. own_at a c (phase_at g c.host.net c.stage) c.vars (seen_host c.host) x) b.replies in
+      ap (λ x. trace n g (longer f x)) same
+      ∙ ap (trace_from n g) (chosen_next f (longer f at) (call_of g c.host.net) b.reply addr (ap (phase_at g c.host.net) is) refl b.selects ∙ chosen_same f b.reply addr)
+      ∙ sym (take_more n n g _ (omega arith))
 
   gated_is : (e : EventName) (hs : List Handler) → GatedBefore e hs l.phase → l.phase ≡ gated_phase e hs
   gated_is e [] k = absurd k
   gated_is e (b ∷ bs) k = k
 
   follows_at : (st : Stage) → c.stage ≡ st → Stands g st l c → (cost : ℕ) × ((f : Further) (n : ℕ) → trace n g (longer f l) ≡ items_of n g (ahead_at st g c cost (longer f own)))
-  follows_at (stage.Gated at) is k = (0, between_follows (gated_is (event_of at) (g.handlers (event_of at)) k.0 ∙ sym (ap (phase_at g) is)) k.1)
+  follows_at (stage.Gated at) is k = (0, between_follows (gated_is (event_of at) (g.handlers (event_of at)) k.0 ∙ sym (ap (phase_at g c.host.net) is)) k.1)
   follows_at (stage.Running at n) is k = running_follows (event_of at) (drop n (g.handlers (event_of at))) k.0
   follows_at (stage.Asking at n) is k = asking_follows (event_of at) (drop n (g.handlers (event_of at))) k.0 (c.body.asking k.1)
-  follows_at (stage.Failing at n kind line) is k = (0, between_follows (k.0 ∙ sym (ap (phase_at g) is)) k.1)
-  follows_at stage.Choosing is k = (0, between_follows (k.0 ∙ sym (ap (phase_at g) is)) k.1)
-  follows_at (stage.Finishing f) is k = (0, between_follows (k.0 ∙ sym (ap (phase_at g) is)) k.1)
-  follows_at stage.Draining is k = (0, between_follows (k.0 ∙ sym (ap (phase_at g) is)) k.1)
+  follows_at (stage.Failing at n kind line) is k = (0, between_follows (k.0 ∙ sym (ap (phase_at g c.host.net) is)) k.1)
+  follows_at stage.Choosing is k = (0, between_follows (k.0 ∙ sym (ap (phase_at g c.host.net) is)) k.1)
+  follows_at stage.Selecting is k = (0, between_follows (k.0 ∙ sym (ap (phase_at g c.host.net) is)) k.1)
+  follows_at (stage.Connecting to) is k = (0, between_follows (k.0 ∙ sym (ap (phase_at g c.host.net) is)) k.1)
+  follows_at (stage.Answering to) is k = (0, between_follows (k.0 ∙ sym (ap (phase_at g c.host.net) is)) k.1)
+  follows_at stage.Relaying is k = (0, between_follows (k.0 ∙ sym (ap (phase_at g c.host.net) is)) k.1)
+  follows_at (stage.Chosen addr) is k = (0, chosen_follows addr is k)
+  follows_at (stage.Finishing f) is k = (0, between_follows (k.0 ∙ sym (ap (phase_at g c.host.net) is)) k.1)
+  follows_at stage.Draining is k = (0, between_follows (k.0 ∙ sym (ap (phase_at g c.host.net) is)) k.1)
   follows_at stage.OutOfMemory is k = absurd k
   follows_at (stage.Dropped n) is k = absurd k
 
@@ -235,8 +281,7 @@ cut_meets sent took given (Some k) met may = met_more sent took k.took given may
 pub continues : ConnectionContinues
 continues g a client answers given at c none k =
     let first = start g client answers in
-    let order = (finishes_once g client answers at given k.passed).orderly in
-    let more = follows_at g a at c k.holds (finished_at g at c order c.stage k.holds.stage) c.stage refl k.holds.stage in (
+    let more = follows_at g a at c k.holds c.stage refl k.holds.stage in (
       more.0,
       λ f n may.
           trace_unfolds n g (longer f first) (longer f at) given (further_keeps g first at f given none (cut_meets first.sent a.took given f.cut k.met may) k.passed)

@@ -1,5 +1,5 @@
 -- Where a connection goes stands for where its trace goes.
-use Rattle.std.proofs.Common.{◌≡◌, refl, sym, ap, subst, ◌∙◌, ℕ, zero, suc, ◌+◌, ◌<◌, List, [], ◌∷◌, ◌++◌, drop, length, Bool, true, false, nat_lt, arith, ◌≤◌, Option, Some, None, if◌then◌else◌}
+use Rattle.std.proofs.Common.{◌≡◌, refl, sym, ap, subst, ◌∙◌, ℕ, zero, suc, ◌+◌, ◌<◌, List, [], ◌∷◌, ◌++◌, drop, length, Bool, true, false, not, ◌&&◌, nat_lt, arith, ◌≤◌, Option, Some, None, if◌then◌else◌}
 use Rattle.std.specs.Bool.{MatchBool}
 use Rattle.std.specs.Prelude.{option_and_then, slice_get}
 use Rattle.std.proofs.lemmas.Bool.Decides.{nat_tests}
@@ -10,30 +10,42 @@ use Rattle.event_order.specs.declared.event.EventName.{EventName}
 use Rattle.rule_model.specs.Evaluator.{evaluate}
 use Rattle.rule_model.specs.Outcome.{Outcome, state}
 use Rattle.rule_model.specs.Setting as given
-use Rattle.irule_net.specs.declared.state.Asks.TheVariants.{NotAsked}
-use Rattle.connection_model.specs.Host.{HostState, body_setting}
+use Rattle.irule_net.specs.declared.state.Ending.{Ending}
+use Rattle.irule_net.specs.declared.state.Ending.TheVariants.{Rejects, Closes}
+use Rattle.irule_net.specs.declared.state.NetState.{NetState}
+use Rattle.irule_net.specs.declared.state.Selected.{Selected}
+use Rattle.connection_model.specs.Host.{body_setting}
 use Rattle.connection_model.specs.Item.{Unselected}
-use Rattle.connection_model.specs.Places.{at as put, after_event, behind_accepted, next_body, entered, unless_ended}
+use Rattle.connection_model.specs.Places as model
+use Rattle.connection_model.specs.Places.{Place, place, at as put, after_event, begun, behind_accepted, behind_connected, bodies_left, closed, closed_client, closed_server, connecting, enter, entered, next_body}
 use Rattle.connection_model.specs.Setup.{Handler, Setup}
-use Rattle.connection_model.specs.State.{Absent, Choosing, Finishing, Gated, Running, InEvent, TraceState}
+use Rattle.connection_model.specs.State.{Choosing, Finishing, Gated, Running, InEvent, Phase, Stream, TraceState, link_of}
+use Rattle.connection_model.specs.State as state
 use Rattle.frame_machine.specs.Frames.{full_room, meaning, comes_to}
 use Rattle.frame_machine.specs.declared.frame.Frame.{Frame}
 use Rattle.frame_machine.specs.declared.frame.Mode.{Mode}
 use Rattle.frame_machine.specs.declared.frame.Mode.TheVariants as mode
 use Rattle.frame_machine.specs.declared.frame.Standing.{Standing}
-use Rattle.conn.specs.Changes.{GoesTo, StartsBody, NextBody}
-use Rattle.conn.specs.Events.{event_of}
-use Rattle.conn.specs.Holds.{BodyGoesOn, GatedBefore, RunsFirst, Stands}
-use Rattle.conn.specs.Hosts.{AsksNothing, seen_host}
+use Rattle.conn.specs.Changes.{ClosesClient, ClosesServer, Closes as ClosesAll, Enters, GoesTo, Leaves, NextBody, StartsBody}
+use Rattle.conn.specs.Ends.{is_sought, is_up, link_by, server_by}
+use Rattle.conn.specs.Events.{event_of, is_closed}
+use Rattle.conn.specs.Holds.{Around, Between, BodyGoesOn, GatedBefore, HoldsEnds, RunsFirst, Stands}
+use Rattle.conn.specs.Hosts.{CollectsNothing, begun_host, seen_host}
 use Rattle.conn.specs.Setups.{body_at, body_in, places_at, Serves}
-use Rattle.conn.specs.Stages.{after_stage, entered_by, entered_stage}
+use Rattle.conn.specs.Stages.{InEvent as HostIn, after_stage, at_fits, connecting_stage, entered_by, fits, has_finished, is_asking, unless_ended}
 use Rattle.conn.specs.declared.connection.Conn.{Conn}
+use Rattle.conn.specs.declared.ends.End.{End}
+use Rattle.conn.specs.declared.ends.Ends.{Ends}
+use Rattle.conn.specs.declared.ends.Link.{Link}
+use Rattle.conn.specs.declared.ends.Link.TheVariants as link
 use Rattle.conn.specs.declared.events.At.{At}
-use Rattle.conn.specs.declared.events.At.TheVariants.{Accepted, Failed, Closed}
+use Rattle.conn.specs.declared.events.At.TheVariants as event
 use Rattle.conn.specs.declared.host.RuleHost.{RuleHost}
-use Rattle.conn.specs.declared.setup.Place.{Place}
+use Rattle.conn.specs.declared.setup.Place.{Place as Body}
 use Rattle.conn.specs.declared.setup.Setup as code_setup
+use Rattle.conn.specs.declared.stage.Finish.TheVariants as finish
 use Rattle.conn.specs.declared.stage.Stage.{Stage}
+use Rattle.conn.specs.declared.stage.Stage.TheVariants as stage
 
 -- an item that is found stands within a list
 some_within : {A : Type 0} (xs : List A) (n : ℕ) (x : A) → slice_get xs n ≡ Some x → n < length xs
@@ -46,7 +58,7 @@ some_within (y ∷ xs) (suc n) x e = let k = some_within xs n x e in omega (arit
 pub within : (s : code_setup.Setup) (at : At) (n : ℕ) (h : Handler) → body_at s at n ≡ Some h → n < length (places_at s at)
 within s at n h e = by_place (slice_get (places_at s at) n) refl e
   where
-    by_place : (p : Option Place) → slice_get (places_at s at) n ≡ p → option_and_then (body_in s.rules.now (event_of at)) p ≡ Some h → n < length (places_at s at)
+    by_place : (p : Option Body) → slice_get (places_at s at) n ≡ p → option_and_then (body_in s.rules.now (event_of at)) p ≡ Some h → n < length (places_at s at)
     by_place None got e = absurd (cc)
     by_place (Some p) got e = some_within (places_at s at) n p got
 
@@ -84,65 +96,287 @@ begins_same {H = H} g tree budget vars host more m frames begins units =
     let F : List Frame → Mode → ℕ → Outcome H = λ fs md b. meaning g full_room tree fs md [] (state vars host more b 0 []) in
     sym (ap (λ fs. F fs m.mode m.budget) frames ∙ ap (λ md. F [] md m.budget) begins ∙ ap (λ b. F [] mode.Begin b) units)
 
-pub body_begins : (s : code_setup.Setup) (g : Setup) → Serves s g → (e : EventName) (b : Handler) (bs : List Handler) (mid new : Conn) (at : At) (n : ℕ) → StartsBody s at n mid new
-    → (l : TraceState) → l.vars ≡ mid.vars → l.answers.replies ≡ [] → mid.host.net.client.asks ≡ NotAsked → BodyGoesOn g e b bs 0 (record l { phase = InEvent e (Running b bs 0); host = seen_host mid.host }) new
-body_begins s g serves e b bs mid new at n k l vars none no_collect =
-    let S = body_setting g b.procedures in
-    let m = new.body.machine.at in
-    record {
-      acts = [];
-      cost = 0;
-      phase = refl;
-      no_collect = no_collect;
-      same = λ more.
-          ap (λ rs. evaluate S b.body l.vars (seen_host mid.host) (rs ++ more) g.budget) none
-          ∙ ap (λ v. evaluate S b.body v (seen_host mid.host) more g.budget) (vars ∙ sym k.vars)
-          ∙ ap (λ h. evaluate S b.body new.vars (seen_host h) more g.budget) (sym k.host)
-          ∙ begins_same S b.body g.budget new.vars (seen_host new.host) more m k.fresh.frames k.fresh.mode (k.fresh.units ∙ sym serves.budget);
-    }
+-- what it goes from: the variables of the trace, no reply that wasn't taken, and nothing collected
+pub record From (g : Setup) (l : TraceState) (mid : Conn) : Type 0 where
+  pub vars : l.vars ≡ mid.vars
+  pub replies : l.answers.replies ≡ []
+  pub collects : CollectsNothing g mid.host.net
 
--- behind an event
-after_stands : (g : Setup) (at : At) (fin : Bool) (new : Conn) (l : TraceState) → l.vars ≡ new.vars → l.answers.replies ≡ [] → AsksNothing new.host.net
-    → Stands g (after_stage at) (put (after_event g (event_of at) fin Absent (seen_host new.host)) l) new
-after_stands g Accepted fin new l vars none q =
-    (ap (λ x. unless_ended x (behind_accepted new.host.net.client.asks)) q.ends ∙ ap behind_accepted q.collect, record { vars = vars; host = refl; replies = none })
-after_stands g Failed fin new l vars none q =
-    let w = new.host.net.wishes in
-    (ap (λ x. unless_ended x (if w.reselects then Choosing else Finishing Unselected)) q.ends ∙ ap (λ b. if b then Choosing else Finishing Unselected) q.again, record { vars = vars; host = refl; replies = none })
-after_stands g Closed fin new l vars none q = (refl, record { vars = vars; host = refl; replies = none })
+-- It went to a place of its trace, with these ends; nothing is collected, and no call is open.
+pub record GoneTo (g : Setup) (fin : Bool) (p : Place) (l : TraceState) (e : Ends) (new : Conn) : Type 0 where
+  pub stands : Stands g new.stage (put p l) new
+  pub finished : fin ≡ has_finished new.stage
+  pub fits : fits new.stage new.ends.link ≡ true
+  pub collects : CollectsNothing g new.host.net
+  pub ends : new.ends ≡ e
+  pub awake : is_asking new.stage ≡ false
+  pub event : HostIn new.stage new.host.event
 
--- behind a body
-pub next_stands : (s : code_setup.Setup) (g : Setup) → Serves s g → (at : At) (n : ℕ) (mid new : Conn) → NextBody s at n mid new → (l : TraceState) → l.vars ≡ mid.vars → l.answers.replies ≡ [] → AsksNothing mid.host.net → (fin : Bool)
-    → Stands g new.stage (put (next_body g (event_of at) fin Absent (drop n (g.handlers (event_of at))) (seen_host mid.host)) l) new
-next_stands s g serves at n mid new k l vars none q fin = by_test (nat_lt n (length (places_at s at))) refl k
+-- the same host collects nothing too
+pub same_collects : (g : Setup) (old new : RuleHost) → new ≡ old → CollectsNothing g old.net → CollectsNothing g new.net
+same_collects g old new is k = subst (λ h. CollectsNothing g h.net) (sym is) k
+
+pub begun_collects : (g : Setup) (at : At) (up : Bool) (old new : RuleHost) → new ≡ begun_host at up old → CollectsNothing g old.net → CollectsNothing g new.net
+begun_collects g at up old new is k = subst (λ h. CollectsNothing g h.net) (sym is) (record { from = k.from; client = k.client; server = k.server; loose = k.loose })
+
+up_is : (k : Link) → model.is_up (link_by k) ≡ is_up k
+up_is link.Absent = refl
+up_is link.Asked = refl
+up_is link.Refused = refl
+up_is link.Made = refl
+up_is link.Up = refl
+
+link_side : (k : Link) (e : End) → link_of (server_by k e) ≡ link_by k
+link_side link.Absent e = refl
+link_side link.Asked e = refl
+link_side link.Refused e = refl
+link_side link.Made e = refl
+link_side link.Up e = refl
+
+-- the link is that of the trace
+pub link_is : (a : Around) (l : TraceState) (e : Ends) → HoldsEnds a l e → link_of l.server ≡ link_by e.link
+link_is a l e h = ap link_of h.server ∙ link_side e.link e.server
+
+-- an event begins alike
+pub begun_is : (at : At) (k : Link) (old new : RuleHost) → new ≡ begun_host at (is_up k) old → seen_host new ≡ begun (event_of at) (link_by k) (seen_host old)
+begun_is at k old new is = ap seen_host is ∙ ap (λ up. seen_host (begun_host at up old)) (sym (up_is k))
+
+after_fits : (at : At) (net : NetState) (k : Link) → at_fits at k ≡ true → fits (after_stage at net) k ≡ true
+after_fits event.Accepted net k fit = by_end net.wishes.ends
   where
-    by_test : (b : Bool) → nat_lt n (length (places_at s at)) ≡ b → MatchBool b (StartsBody s at n mid new) (GoesTo (after_stage at) mid new) → Stands g new.stage (put (next_body g (event_of at) fin Absent (drop n (g.handlers (event_of at))) (seen_host mid.host)) l) new
-    by_test true e c =
-        let below : n < length (places_at s at) = grind (arith, nat_tests, e) in
-        let some = some_left (g.handlers (event_of at)) n (omega (arith, below, serves.count (event_of at))) in
-        let is : drop n (g.handlers (event_of at)) ≡ some.0 ∷ some.1 = some.2 in
-        let P : List Handler → Type 0 = λ hs. RunsFirst g (event_of at) hs 0 (put (next_body g (event_of at) fin Absent hs (seen_host mid.host)) l) new in
-        let Q : Stage → Type 0 = λ st. Stands g st (put (next_body g (event_of at) fin Absent (drop n (g.handlers (event_of at))) (seen_host mid.host)) l) new in
-        subst Q (sym c.there) (subst P (sym is) (body_begins s g serves (event_of at) some.0 some.1 mid new at n c l vars none q.collect), c.fresh.runs)
-    by_test false e c =
-        let past : length (places_at s at) ≤ n = grind (arith, nat_tests, e) in
-        let is : drop n (g.handlers (event_of at)) ≡ [] = none_left (g.handlers (event_of at)) n (omega (arith, past, serves.count (event_of at))) in
-        let P : List Handler → Type 0 = λ hs. Stands g (after_stage at) (put (next_body g (event_of at) fin Absent hs (seen_host mid.host)) l) new in
-        let Q : Stage → Type 0 = λ st. Stands g st (put (next_body g (event_of at) fin Absent (drop n (g.handlers (event_of at))) (seen_host mid.host)) l) new in
-        let H : HostState → Type 0 = λ h. Stands g (after_stage at) (put (after_event g (event_of at) fin Absent h) l) new in
-        subst Q (sym c.there) (subst P (sym is) (subst H (ap seen_host c.host) (after_stands g at fin new l (vars ∙ sym c.vars) none (let A : RuleHost → Type 0 = λ h. AsksNothing h.net in subst A (sym c.host) q))))
-
--- where an event is entered
-pub entered_stands : (s : code_setup.Setup) (g : Setup) → Serves s g → (at : At) (new : Conn) → new.stage ≡ entered_stage s at → (l : TraceState) → l.vars ≡ new.vars → l.answers.replies ≡ [] → AsksNothing new.host.net
-    → Stands g new.stage (put (entered g (event_of at) Absent (g.handlers (event_of at)) (seen_host new.host)) l) new
-entered_stands s g serves at new there l vars none q =
-    let Q : Stage → Type 0 = λ st. Stands g st (put (entered g (event_of at) Absent (g.handlers (event_of at)) (seen_host new.host)) l) new in
-    subst Q (sym there) (by_bodies (g.handlers (event_of at)) (places_at s at) refl (serves.count (event_of at)))
+    by_end : (o : Option Ending) → fits (unless_ended o stage.Choosing) k ≡ true
+    by_end None = fit
+    by_end (Some Rejects) = refl
+    by_end (Some Closes) = refl
+after_fits event.Selected net k fit = by_end net.wishes.ends
   where
-    by_bodies : (hs : List Handler) (ps : List Place) → g.handlers (event_of at) ≡ hs → length hs ≡ length ps → Stands g (entered_by at ps) (put (entered g (event_of at) Absent hs (seen_host new.host)) l) new
-    by_bodies [] [] e n = after_stands g at false new l vars none q
-    by_bodies [] (p ∷ ps) e n = absurd (omega (arith, n))
-    by_bodies (h ∷ hs) [] e n = absurd (omega (arith, n))
-    by_bodies (h ∷ hs) (p ∷ ps) e n =
-        let P : List Handler → Type 0 = λ ms. GatedBefore (event_of at) ms (InEvent (event_of at) (Gated h hs)) in
-        (subst P (sym e) refl, record { vars = vars; host = refl; replies = none })
+    by_server : (o : Option Selected) → fits (connecting_stage o) k ≡ true
+    by_server None = refl
+    by_server (Some s) = fit
+
+    by_end : (o : Option Ending) → fits (unless_ended o (connecting_stage net.selected)) k ≡ true
+    by_end None = by_server net.selected
+    by_end (Some Rejects) = refl
+    by_end (Some Closes) = refl
+after_fits event.Failed net k fit = by_end net.wishes.ends
+  where
+    by_test : (b : Bool) → fits (if b then stage.Choosing else stage.Finishing finish.Unselected) k ≡ true
+    by_test true = fit
+    by_test false = refl
+
+    by_end : (o : Option Ending) → fits (unless_ended o (if net.wishes.reselects then stage.Choosing else stage.Finishing finish.Unselected)) k ≡ true
+    by_end None = by_test net.wishes.reselects
+    by_end (Some Rejects) = refl
+    by_end (Some Closes) = refl
+after_fits event.Connected net k fit = by_end net.wishes.ends
+  where
+    by_end : (o : Option Ending) → fits (unless_ended o stage.Relaying) k ≡ true
+    by_end None = fit
+    by_end (Some Rejects) = refl
+    by_end (Some Closes) = refl
+after_fits event.ServerClosed net k fit = refl
+after_fits event.Closed net k fit = refl
+
+-- a stage behind the bodies of an event: it has finished where the event is a closing one, and asks nothing
+record Plain (closed : Bool) (st : Stage) : Type 0 where
+  finished : closed ≡ has_finished st
+  awake : is_asking st ≡ false
+  event : (e : At) → HostIn st e
+
+plain_end : (o : Option Ending) (st : Stage) → Plain false st → Plain false (unless_ended o st)
+plain_end None st k = k
+plain_end (Some Rejects) st k = record { finished = refl; awake = refl; event = λ e. tt }
+plain_end (Some Closes) st k = record { finished = refl; awake = refl; event = λ e. tt }
+
+after_plain : (at : At) (net : NetState) → Plain (is_closed at) (after_stage at net)
+after_plain event.Accepted net = plain_end net.wishes.ends stage.Choosing (record { finished = refl; awake = refl; event = λ e. tt })
+after_plain event.Selected net = plain_end net.wishes.ends (connecting_stage net.selected) (by_server net.selected)
+  where
+    by_server : (o : Option Selected) → Plain false (connecting_stage o)
+    by_server None = record { finished = refl; awake = refl; event = λ e. tt }
+    by_server (Some s) = record { finished = refl; awake = refl; event = λ e. tt }
+after_plain event.Failed net = plain_end net.wishes.ends _ (by_test net.wishes.reselects)
+  where
+    by_test : (b : Bool) → Plain false (if b then stage.Choosing else stage.Finishing finish.Unselected)
+    by_test true = record { finished = refl; awake = refl; event = λ e. tt }
+    by_test false = record { finished = refl; awake = refl; event = λ e. tt }
+after_plain event.Connected net = plain_end net.wishes.ends stage.Relaying (record { finished = refl; awake = refl; event = λ e. tt })
+after_plain event.ServerClosed net = record { finished = refl; awake = refl; event = λ e. tt }
+after_plain event.Closed net = record { finished = refl; awake = refl; event = λ e. tt }
+
+module _ (g : Setup) (l : TraceState) where
+  -- behind an event that is entered again by no other
+  after_stands : (at : At) (fin : Bool) (k : state.Link) (new : Conn) → (at ≡ event.ServerClosed → ⊥) → From g l new → Stands g (after_stage at new.host.net) (put (after_event g (event_of at) fin k (seen_host new.host)) l) new
+  after_stands at fin k new plain f = by_event at plain
+    where
+      here : Phase → TraceState
+      here p = record l { phase = p; host = seen_host new.host }
+
+      between : (p : Phase) → Between (here p) new
+      between p = record { vars = f.vars; host = refl; replies = f.replies }
+
+      by_end : (o : Option Ending) (st : Stage) (p : Phase) → Stands g st (here p) new → Stands g (unless_ended o st) (here (model.unless_ended o p)) new
+      by_end None st p k = k
+      by_end (Some Rejects) st p k = (refl, between _)
+      by_end (Some Closes) st p k = (refl, between _)
+
+      by_server : (o : Option Selected) → Stands g (connecting_stage o) (here (connecting o)) new
+      by_server None = (refl, between _)
+      by_server (Some s) = (refl, between _)
+
+      by_test : (b : Bool) → Stands g (if b then stage.Choosing else stage.Finishing finish.Unselected) (here (if b then Choosing else Finishing Unselected)) new
+      by_test true = (refl, between _)
+      by_test false = (refl, between _)
+
+      by_event : (at : At) → (at ≡ event.ServerClosed → ⊥) → Stands g (after_stage at new.host.net) (put (after_event g (event_of at) fin k (seen_host new.host)) l) new
+      by_event event.Accepted p = by_end new.host.net.wishes.ends stage.Choosing (behind_accepted new.host.net.client.asks) (ap (λ c. behind_accepted c.asks) f.collects.client, between _)
+      by_event event.Selected p = by_end new.host.net.wishes.ends (connecting_stage new.host.net.selected) (connecting new.host.net.selected) (by_server new.host.net.selected)
+      by_event event.Failed p = by_end new.host.net.wishes.ends _ _ (by_test new.host.net.wishes.reselects)
+      by_event event.Connected p = by_end new.host.net.wishes.ends stage.Relaying (behind_connected new.host.net.loose) (ap behind_connected f.collects.loose, between _)
+      by_event event.ServerClosed p = absurd (p refl)
+      by_event event.Closed p = (refl, between _)
+
+  goes_gone : (at : At) (fin : Bool) (k : state.Link) (mid new : Conn) → (at ≡ event.ServerClosed → ⊥) → GoesTo (after_stage at mid.host.net) mid new → From g l mid → at_fits at mid.ends.link ≡ true → fin ≡ is_closed at
+      → GoneTo g fin (after_event g (event_of at) fin k (seen_host mid.host)) l mid.ends new
+  goes_gone at fin k mid new plain c f fit is =
+      let p = after_plain at mid.host.net in
+      let f' : From g l new = record { vars = f.vars ∙ sym c.vars; replies = f.replies; collects = same_collects g mid.host new.host c.host f.collects } in
+      let S : Stage → RuleHost → Type 0 = λ st h. Stands g st (put (after_event g (event_of at) fin k (seen_host h)) l) new in
+      record {
+        stands = subst (λ st. S st mid.host) (sym c.there) (subst (λ h. S (after_stage at h.net) h) c.host (after_stands at fin k new plain f'));
+        finished = is ∙ p.finished ∙ ap has_finished (sym c.there);
+        fits = ap (λ st. fits st new.ends.link) c.there ∙ ap (λ e. fits (after_stage at mid.host.net) e.link) c.ends ∙ after_fits at mid.host.net mid.ends.link fit;
+        collects = f'.collects;
+        ends = c.ends;
+        awake = ap is_asking c.there ∙ p.awake;
+        event = subst (λ st. HostIn st new.host.event) (sym c.there) (p.event new.host.event);
+      }
+
+  module _ (s : code_setup.Setup) (serves : Serves s g) where
+    -- a body that begins comes to what its evaluation does
+    pub body_begins : (e : EventName) (b : Handler) (bs : List Handler) (mid new : Conn) (at : At) (n : ℕ) → StartsBody s at n mid new → From g l mid
+        → BodyGoesOn g e b bs 0 (record l { phase = InEvent e (Running b bs 0); host = seen_host mid.host }) new
+    body_begins e b bs mid new at n k f =
+        let S = body_setting g b.procedures in
+        let m = new.body.machine.at in
+        record {
+          acts = [];
+          cost = 0;
+          phase = refl;
+          no_collect = f.collects;
+          same = λ more.
+              ap (λ rs. evaluate S b.body l.vars (seen_host mid.host) (rs ++ more) g.budget) f.replies
+              ∙ ap (λ v. evaluate S b.body v (seen_host mid.host) more g.budget) (f.vars ∙ sym k.vars)
+              ∙ ap (λ h. evaluate S b.body new.vars (seen_host h) more g.budget) (sym k.host)
+              ∙ ap (λ u. evaluate S b.body new.vars (seen_host new.host) more u) serves.budget
+              ∙ begins_same S b.body s.budget new.vars (seen_host new.host) more m k.fresh.frames k.fresh.mode k.fresh.units;
+        }
+
+    -- the body of this number begins
+    pub starts_gone : (at : At) (n : ℕ) (fin : Bool) (b : Handler) (bs : List Handler) (mid new : Conn) → drop n (g.handlers (event_of at)) ≡ b ∷ bs → StartsBody s at n mid new → From g l mid → event_of mid.host.event ≡ event_of at → at_fits at mid.ends.link ≡ true → fin ≡ is_closed at
+        → GoneTo g fin (place (InEvent (event_of at) (Running b bs 0)) (seen_host mid.host)) l mid.ends new
+    starts_gone at n fin b bs mid new left c f ev fit is =
+        let l' : TraceState = record l { phase = InEvent (event_of at) (Running b bs 0); host = seen_host mid.host } in
+        let body : RunsFirst g (event_of at) (drop n (g.handlers (event_of at))) 0 l' new = subst (λ hs. RunsFirst g (event_of at) hs 0 l' new) (sym left) (body_begins (event_of at) b bs mid new at n c f) in
+        record {
+          stands = subst (λ st. Stands g st l' new) (sym c.there) (body, c.fresh.runs);
+          finished = is ∙ ap has_finished (sym c.there);
+          fits = ap (λ st. fits st new.ends.link) c.there ∙ ap (λ e. at_fits at e.link) c.ends ∙ fit;
+          collects = same_collects g mid.host new.host c.host f.collects;
+          ends = c.ends;
+          awake = ap is_asking c.there;
+          event = subst (λ st. HostIn st new.host.event) (sym c.there) (ap (λ h. event_of h.event) c.host ∙ ev);
+        }
+
+    -- it begins where there is one, and else this comes
+    bodies_gone : (at : At) (n : ℕ) (fin : Bool) (after : Place) (mid new : Conn) (Left : Type 0) → MatchBool (nat_lt n (length (places_at s at))) (StartsBody s at n mid new) Left → From g l mid → event_of mid.host.event ≡ event_of at → at_fits at mid.ends.link ≡ true → fin ≡ is_closed at
+        → (Left → GoneTo g fin after l mid.ends new) → GoneTo g fin (bodies_left (event_of at) (drop n (g.handlers (event_of at))) (seen_host mid.host) after) l mid.ends new
+    bodies_gone at n fin after mid new Left k f ev fit is left = by_test (nat_lt n (length (places_at s at))) refl k
+      where
+        G : List Handler → Type 0
+        G hs = GoneTo g fin (bodies_left (event_of at) hs (seen_host mid.host) after) l mid.ends new
+
+        by_test : (b : Bool) → nat_lt n (length (places_at s at)) ≡ b → MatchBool b (StartsBody s at n mid new) Left → G (drop n (g.handlers (event_of at)))
+        by_test true e c =
+            let below : n < length (places_at s at) = grind (arith, nat_tests, e) in
+            let some = some_left (g.handlers (event_of at)) n (omega (arith, below, serves.count (event_of at))) in
+            subst G (sym some.2) (starts_gone at n fin some.0 some.1 mid new some.2 c f ev fit is)
+        by_test false e c =
+            let past : length (places_at s at) ≤ n = grind (arith, nat_tests, e) in
+            subst G (sym (none_left (g.handlers (event_of at)) n (omega (arith, past, serves.count (event_of at))))) (left c)
+
+    -- CLIENT_CLOSED comes
+    pub client_gone : (old new : Conn) → ClosesClient s old new → From g l old → GoneTo g true (closed_client g (link_by old.ends.link) (seen_host old.host)) l old.ends new
+    client_gone old new k f =
+        let mid = k.mid in
+        let f' : From g l mid = record { vars = f.vars ∙ sym k.begins.vars; replies = f.replies; collects = begun_collects g event.Closed (is_up old.ends.link) old.host mid.host k.begins.host f.collects } in
+        let gone = bodies_gone event.Closed 0 true (place state.Draining (seen_host mid.host)) mid new (GoesTo stage.Draining mid new) k.goes f' (ap (λ h. event_of h.event) k.begins.host) refl refl (λ c. goes_gone event.Closed true state.Absent mid new (λ e. cc) c f' refl refl) in
+        subst (λ e. GoneTo g true (closed_client g (link_by old.ends.link) (seen_host old.host)) l e new) k.begins.ends
+        (subst (λ h. GoneTo g true (bodies_left (event_of event.Closed) (g.handlers (event_of event.Closed)) h (place state.Draining h)) l mid.ends new) (begun_is event.Closed old.ends.link old.host mid.host k.begins.host) gone)
+
+    -- all bodies of an event have ended
+    leaves_gone : (at : At) (fin : Bool) (mid new : Conn) → Leaves s at mid new → From g l mid → at_fits at mid.ends.link ≡ true → fin ≡ is_closed at → GoneTo g fin (after_event g (event_of at) fin (link_by mid.ends.link) (seen_host mid.host)) l mid.ends new
+    leaves_gone event.Accepted fin mid new k f fit is = goes_gone event.Accepted fin (link_by mid.ends.link) mid new (λ e. cc) k f fit is
+    leaves_gone event.Selected fin mid new k f fit is = goes_gone event.Selected fin (link_by mid.ends.link) mid new (λ e. cc) k f fit is
+    leaves_gone event.Failed fin mid new k f fit is = goes_gone event.Failed fin (link_by mid.ends.link) mid new (λ e. cc) k f fit is
+    leaves_gone event.Connected fin mid new k f fit is = goes_gone event.Connected fin (link_by mid.ends.link) mid new (λ e. cc) k f fit is
+    leaves_gone event.ServerClosed fin mid new k f fit is = subst (λ b. GoneTo g b (after_event g (event_of event.ServerClosed) b (link_by mid.ends.link) (seen_host mid.host)) l mid.ends new) (sym is) (client_gone mid new k f)
+    leaves_gone event.Closed fin mid new k f fit is = goes_gone event.Closed fin (link_by mid.ends.link) mid new (λ e. cc) k f fit is
+
+    -- behind a body
+    pub next_gone : (at : At) (n : ℕ) (fin : Bool) (mid new : Conn) → NextBody s at n mid new → From g l mid → event_of mid.host.event ≡ event_of at → at_fits at mid.ends.link ≡ true → fin ≡ is_closed at
+        → GoneTo g fin (next_body g (event_of at) fin (link_by mid.ends.link) (drop n (g.handlers (event_of at))) (seen_host mid.host)) l mid.ends new
+    next_gone at n fin mid new k f ev fit is =
+        bodies_gone at n fin (after_event g (event_of at) fin (link_by mid.ends.link) (seen_host mid.host)) mid new (Leaves s at mid new) k f ev fit is (λ c. leaves_gone at fin mid new c f fit is)
+
+    -- SERVER_CLOSED comes
+    server_gone : (old new : Conn) → ClosesServer s old new → From g l old → GoneTo g true (closed_server g (link_by old.ends.link) (seen_host old.host)) l old.ends new
+    server_gone old new k f =
+        let mid = k.mid in
+        let f' : From g l mid = record { vars = f.vars ∙ sym k.begins.vars; replies = f.replies; collects = begun_collects g event.ServerClosed (is_up old.ends.link) old.host mid.host k.begins.host f.collects } in
+        let gone = next_gone event.ServerClosed 0 true mid new k.goes f' (ap (λ h. event_of h.event) k.begins.host) refl refl in
+        let on : GoneTo g true (next_body g (event_of event.ServerClosed) true (link_by old.ends.link) (g.handlers (event_of event.ServerClosed)) (seen_host mid.host)) l old.ends new = subst (λ e. GoneTo g true (next_body g (event_of event.ServerClosed) true (link_by e.link) (g.handlers (event_of event.ServerClosed)) (seen_host mid.host)) l e new) k.begins.ends gone in
+        subst (λ h. GoneTo g true (next_body g (event_of event.ServerClosed) true (link_by old.ends.link) (g.handlers (event_of event.ServerClosed)) h) l old.ends new) (begun_is event.ServerClosed old.ends.link old.host mid.host k.begins.host) on
+
+    -- the closing events come
+    pub closes_gone : (old new : Conn) → ClosesAll s old new → From g l old → GoneTo g true (closed g (link_by old.ends.link) (seen_host old.host)) l old.ends new
+    closes_gone old new k f = by_link old.ends.link refl k
+      where
+        by_link : (x : Link) → old.ends.link ≡ x → MatchBool (is_sought x) (ClosesServer s old new) (ClosesClient s old new) → GoneTo g true (closed g (link_by x) (seen_host old.host)) l old.ends new
+        by_link link.Absent is c = subst (λ x. GoneTo g true (closed_client g (link_by x) (seen_host old.host)) l old.ends new) is (client_gone old new c f)
+        by_link link.Asked is c = subst (λ x. GoneTo g true (closed_server g (link_by x) (seen_host old.host)) l old.ends new) is (server_gone old new c f)
+        by_link link.Refused is c = subst (λ x. GoneTo g true (closed_server g (link_by x) (seen_host old.host)) l old.ends new) is (server_gone old new c f)
+        by_link link.Made is c = subst (λ x. GoneTo g true (closed_server g (link_by x) (seen_host old.host)) l old.ends new) is (server_gone old new c f)
+        by_link link.Up is c = subst (λ x. GoneTo g true (closed_server g (link_by x) (seen_host old.host)) l old.ends new) is (server_gone old new c f)
+
+    -- an event is entered
+    pub enters_gone : (at : At) (host : RuleHost) (ends : Ends) (old new : Conn) → Enters s at host ends old new → l.vars ≡ old.vars → l.answers.replies ≡ [] → CollectsNothing g host.net → at_fits at ends.link ≡ true → is_closed at ≡ false → (at ≡ event.ServerClosed → ⊥)
+        → GoneTo g false (enter g (event_of at) (link_by ends.link) (seen_host host)) l ends new
+    enters_gone at host ends old new k vars replies collects fit not_closing plain =
+        let e = event_of at in
+        let f : From g l new = record { vars = vars ∙ sym k.vars; replies = replies; collects = begun_collects g at (is_up ends.link) host new.host k.host collects } in
+        subst (λ h. GoneTo g false (entered g e (link_by ends.link) (g.handlers e) h) l ends new) (begun_is at ends.link host new.host k.host) (by_bodies f (g.handlers e) (places_at s at) refl refl (serves.count e))
+      where
+        here : (f : From g l new) (hs : List Handler) → Type 0
+        here f hs = GoneTo g false (entered g (event_of at) (link_by ends.link) hs (seen_host new.host)) l ends new
+
+        by_bodies : (f : From g l new) (hs : List Handler) (ps : List Body) → g.handlers (event_of at) ≡ hs → places_at s at ≡ ps → length hs ≡ length ps → here f hs
+        by_bodies f [] [] e p n =
+            let there : new.stage ≡ after_stage at new.host.net = k.there ∙ ap (entered_by at new.host.net) p in
+            subst (λ x. GoneTo g false (after_event g (event_of at) false (link_by ends.link) (seen_host new.host)) l x new) k.ends
+            (goes_gone at false (link_by ends.link) new new plain (record { there = there; vars = refl; host = refl; ends = refl }) f (ap (λ x. at_fits at x.link) k.ends ∙ fit) (sym not_closing))
+        by_bodies f [] (p ∷ ps) e q n = absurd (omega (arith, n))
+        by_bodies f (h ∷ hs) [] e q n = absurd (omega (arith, n))
+        by_bodies f (h ∷ hs) (p ∷ ps) e q n =
+            let there : new.stage ≡ stage.Gated at = k.there ∙ ap (entered_by at new.host.net) q in
+            let l' : TraceState = record l { phase = InEvent (event_of at) (Gated h hs); host = seen_host new.host } in
+            let gate : GatedBefore (event_of at) (g.handlers (event_of at)) (InEvent (event_of at) (Gated h hs)) = subst (λ ms. GatedBefore (event_of at) ms (InEvent (event_of at) (Gated h hs))) (sym e) refl in
+            record {
+              stands = subst (λ st. Stands g st l' new) (sym there) (gate, record { vars = f.vars; host = refl; replies = f.replies });
+              finished = ap has_finished (sym there);
+              fits = ap (λ st. fits st new.ends.link) there ∙ ap (λ b. not b && at_fits at new.ends.link) not_closing ∙ ap (λ x. at_fits at x.link) k.ends ∙ fit;
+              collects = f.collects;
+              ends = k.ends;
+              awake = ap is_asking there;
+              event = subst (λ st. HostIn st new.host.event) (sym there) (ap (λ h. event_of h.event) k.host);
+            }

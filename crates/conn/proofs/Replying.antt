@@ -1,5 +1,8 @@
 -- A reply is the next of each state that the connection may stand for.
-use Rattle.std.proofs.Common.{◌≡◌, refl, sym, ap, subst, ◌∙◌, ℕ, ◌+◌, List, [], ◌∷◌, ◌++◌, append_assoc, length, length-append, drop, true, arith}
+use Rattle.std.proofs.Common.{◌≡◌, refl, sym, ap, subst, ◌∙◌, ℕ, ◌+◌, List, [], ◌∷◌, ◌++◌, append_assoc, append-nil, length, length-append, drop, true, Option, Some, None, ◌<◌, ◌^◌, arith}
+use Rattle.std.specs.Prelude.{IfNone, IfSome}
+use Rattle.px_bytes.specs.Address.{IsAddr, addr_text}
+use Rattle.px_bytes.specs.declared.addr.Addr.{Addr}
 use Rattle.px_bytes.specs.declared.fault.Reply.{Reply}
 use Rattle.tcl_compile.specs.Tree.{Tree}
 use Rattle.tcl_vars.specs.Scopes.{Scopes}
@@ -7,28 +10,32 @@ use Rattle.event_order.specs.declared.event.EventName.{EventName}
 use Rattle.rule_model.specs.Evaluator.{evaluate}
 use Rattle.rule_model.specs.Outcome.{Act, Called, reply_code}
 use Rattle.rule_model.specs.Setting as given
-use Rattle.connection_model.specs.Heard.{taken_by}
-use Rattle.connection_model.specs.Further.{longer, longer_server, left_for, first_cut, nothing_comes, replies_only}
+use Rattle.connection_model.specs.Further.{longer, first_cut, nothing_comes, replies_only}
 use Rattle.connection_model.specs.Host.{body_setting}
 use Rattle.connection_model.specs.Setup.{Handler, Setup}
-use Rattle.connection_model.specs.State.{Running, InEvent, TraceState}
+use Rattle.connection_model.specs.State.{Running, TraceState}
 use Rattle.frame_machine.specs.Frames.{comes_to, path_of}
 use Rattle.frame_machine.specs.declared.frame.Mode.{Mode}
 use Rattle.frame_machine.specs.declared.frame.Mode.TheVariants as mode
 use Rattle.frame_machine.specs.declared.frame.Standing.{Standing}
-use Rattle.connection_model.proofs.Streams.{nothing_stream}
-use Rattle.conn.specs.Arrivals.{arrived}
+use Rattle.connection_model.specs.State as phase
+use Rattle.connection_model.specs.Selected.{addr_of}
+use Rattle.connection_model.proofs.Spelling.{spelled, written_is_selected}
+use Rattle.connection_model.proofs.Streams.{nothing_stream, nothing_server, nothing_on_last}
 use Rattle.conn.specs.Bodies.{Heard}
 use Rattle.conn.specs.Calls.{Replies}
 use Rattle.conn.specs.Events.{event_of}
-use Rattle.conn.specs.Holds.{BodyGoesOn, RunsFirst, Stands}
-use Rattle.conn.specs.Hosts.{AsksNothing, seen_host}
+use Rattle.conn.specs.Holds.{Around, BodyGoesOn, Holds, HoldsEnds, ReplyCame, RunsFirst, Stands, call_of}
+use Rattle.conn.specs.Hosts.{CollectsNothing, seen_host}
 use Rattle.conn.specs.Modes.{is_asked}
+use Rattle.conn.specs.Stages.{InEvent, fits, has_finished, selects}
+use Rattle.conn.specs.declared.ends.Ends.{Ends}
 use Rattle.conn.specs.declared.connection.Conn.{Conn}
 use Rattle.conn.specs.declared.events.At.{At}
 use Rattle.conn.specs.declared.host.RuleHost.{RuleHost}
 use Rattle.conn.specs.declared.stage.Stage.{Stage}
 use Rattle.conn.specs.declared.stage.Stage.TheVariants as stage
+use Rattle.conn.proofs.Giving.{ends_kept}
 
 pub asked_mode : (m : Mode) → is_asked m ≡ true → (call : List (List ℕ)) × (m ≡ mode.Asked call)
 asked_mode mode.Begin e = cc
@@ -52,7 +59,7 @@ body_hears g e b bs l old new reply k asked heard vars host =
     record {
       acts = acts;
       cost = k.cost;
-      phase = k.phase ∙ ap (λ n. InEvent e (Running b bs n)) count;
+      phase = k.phase ∙ ap (λ n. phase.InEvent e (Running b bs n)) count;
       no_collect = k.no_collect;
       same = λ more.
           ap (λ rs. evaluate S b.body l.vars l.host rs g.budget) (append_assoc l.answers.replies (reply ∷ []) more)
@@ -68,22 +75,61 @@ first_hears : (g : Setup) (e : EventName) (hs : List Handler) (l : TraceState) (
 first_hears g e [] l old new reply k asked heard vars host = k
 first_hears g e (b ∷ bs) l old new reply k asked heard vars host = body_hears g e b bs l old new reply k asked heard vars host
 
-pub replies : (reply : Reply) (old new : Conn) (at : At) (n : ℕ) → old.stage ≡ stage.Asking at n → new.stage ≡ stage.Running at n → (old.body.asks ≡ true → Heard reply old.body new.body) → new.vars ≡ old.vars → new.host ≡ old.host → new.client ≡ old.client → Replies reply old new
-replies reply old new at n was is hears vars host client g a l h =
+-- the ends stay as they are
+pub same_ends : (a : Around) (l : TraceState) (e f : Ends) (reply : Reply) → HoldsEnds a l e → f ≡ e → HoldsEnds a (longer (replies_only (reply ∷ [])) l) f
+same_ends a l e f reply h same =
+    ends_kept a l (longer (replies_only (reply ∷ [])) l) e f h (nothing_stream nothing_comes l.client refl) (nothing_server nothing_comes l.answers.connects l.server refl) (append-nil _ ∙ nothing_on_last nothing_comes l.answers.connects refl) refl same
+
+-- the reply comes, whatever it makes of where the connection stands
+holds_longer : (g : Setup) (a : Around) (l : TraceState) (old new : Conn) (reply : Reply) → Holds g a l old → Stands g new.stage (longer (replies_only (reply ∷ [])) l) new → has_finished new.stage ≡ has_finished old.stage → fits new.stage old.ends.link ≡ fits old.stage old.ends.link → InEvent new.stage old.host.event
+    → new.host ≡ old.host → new.ends ≡ old.ends → Holds g a (longer (replies_only (reply ∷ [])) l) new
+holds_longer g a l old new reply h stands finished fit event host ends =
+    let f = replies_only (reply ∷ []) in
+    let P : RuleHost → Type 0 = λ x. CollectsNothing g x.net in
+    record {
+      stage = stands;
+      finished = h.finished ∙ sym finished;
+      fits = ap (λ e. fits new.stage e.link) ends ∙ fit ∙ h.fits;
+      event = subst (λ x. InEvent new.stage x.event) (sym host) event;
+      no_collect = subst P (sym host) h.no_collect;
+      ends = same_ends a l old.ends new.ends reply h.ends ends;
+      no_choice = append-nil l.answers.choices ∙ h.no_choice;
+      no_cut = ap (λ c. first_cut c f.cut) h.no_cut;
+    }
+
+pub replies : (reply : Reply) (old new : Conn) (at : At) (n : ℕ) → old.stage ≡ stage.Asking at n → new.stage ≡ stage.Running at n → (old.body.asks ≡ true → Heard reply old.body new.body) → new.vars ≡ old.vars → new.host ≡ old.host → new.ends ≡ old.ends → Replies reply old new
+replies reply old new at n was is hears vars host ends g a l h =
     let f = replies_only (reply ∷ []) in
     let e = event_of at in
     let P : Stage → Type 0 = λ st. Stands g st l old in
     let Q : Stage → Type 0 = λ st. Stands g st (longer f l) new in
     let here = subst P was h.stage in
     let heard = hears here.1 in
-    record {
-      unasked = (let P' : RuleHost → Type 0 = λ x. AsksNothing x.net in subst P' (sym host) h.unasked);
-      stage = subst Q (sym is) (first_hears g e (drop n (g.handlers e)) l old new reply here.0 (old.body.asking here.1) heard vars host, heard.runs);
-      counts = h.counts ∙ ap (λ x. taken_by x.reset a.counted) (sym client);
-      untaken = ap (λ x. length x.to_client + a.counted) host ∙ h.untaken;
-      client = nothing_stream nothing_comes l.client refl ∙ h.client ∙ ap arrived (sym client);
-      no_server = ap (longer_server (left_for nothing_comes l.answers.connects)) h.no_server;
-      none_sent = h.none_sent;
-      no_number = h.no_number;
-      no_cut = ap (λ c. first_cut c f.cut) h.no_cut;
-    }
+    holds_longer g a l old new reply h (subst Q (sym is) (first_hears g e (drop n (g.handlers e)) l old new reply here.0 (old.body.asking here.1) heard vars host, heard.runs))
+    (ap has_finished is ∙ sym (ap has_finished was)) (ap (λ st. fits st old.ends.link) is ∙ sym (ap (λ st. fits st old.ends.link) was)) (subst (λ st. InEvent st old.host.event) (sym is) (subst (λ st. InEvent st old.host.event) was h.event)) host ends
+
+-- the reply that selects a server is kept as the address that it spells
+pub replies_selects : (reply : Reply) (old new : Conn) → old.stage ≡ stage.Selecting → new.stage ≡ stage.Chosen (selects reply) → new.vars ≡ old.vars → new.host ≡ old.host → new.ends ≡ old.ends → Replies reply old new
+replies_selects reply old new was is vars host ends g a l h =
+    let f = replies_only (reply ∷ []) in
+    let P : Stage → Type 0 = λ st. Stands g st l old in
+    let Q : Stage → Type 0 = λ st. Stands g st (longer f l) new in
+    let here = subst P was h.stage in
+    let came : ReplyCame (longer f l) new (selects reply) = record {
+      vars = here.1.vars ∙ sym vars;
+      host = here.1.host ∙ sym (ap seen_host host);
+      reply = reply;
+      replies = ap (λ rs. rs ++ reply ∷ []) here.1.replies;
+      selects = refl;
+    } in
+    holds_longer g a l old new reply h (subst Q (sym is) (here.0 ∙ sym (ap (λ x. phase.Selecting (call_of g x.net)) host), came))
+    (ap has_finished is ∙ sym (ap has_finished was)) (ap (λ st. fits st old.ends.link) is ∙ sym (ap (λ st. fits st old.ends.link) was)) (subst (λ st. InEvent st old.host.event) (sym is) tt) host ends
+
+-- the code reads the address as its definition does
+pub address_is : (text : List ℕ) (o : Option Addr) → IfSome o (λ addr. (text ≡ addr_text addr) × (0 < addr.port)) → IfSome o (λ addr. (addr.ip < 2 ^ 32) × (addr.port < 2 ^ 16)) → IfNone o ((addr : Addr) → IsAddr addr → ¬ (text ≡ addr_text addr)) → o ≡ addr_of text
+address_is text (Some addr) found range none = sym (ap addr_of found.0 ∙ written_is_selected addr (record { ip = range.0; some = found.1; port = range.1 }))
+address_is text None found range none = by_answer (addr_of text) refl
+  where
+    by_answer : (o : Option Addr) → addr_of text ≡ o → None ≡ addr_of text
+    by_answer None e = sym e
+    by_answer (Some addr) e = let k = spelled text addr e in absurd (none addr k.address k.text_of_it)

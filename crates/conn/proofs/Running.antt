@@ -1,29 +1,38 @@
 -- A Run, action by action.
-use Rattle.std.proofs.Common.{None, ◌≡◌, ◌≤◌, inl, inr, refl, sym, ap, subst, ◌∙◌, ℕ, ◌+◌, List, [], ◌∷◌, ◌++◌, append-nil, append_assoc, length, length-append, Bool, true, false, is_none, ◌&&◌, if◌then◌else◌}
+use Rattle.std.proofs.Common.{◌≡◌, ◌≤◌, inl, inr, refl, sym, ap, subst, ◌∙◌, ℕ, ◌+◌, List, [], ◌∷◌, ◌++◌, append-nil, append_assoc, length, length-append, Bool, true, false, true≢false, ◌&&◌, if◌then◌else◌, arith}
+use Rattle.std.proofs.lemmas.Bool.{and_parts}
+use Rattle.px_bytes.specs.declared.addr.Side.{Side}
+use Rattle.px_bytes.specs.declared.addr.Side.TheVariants.{Client, Server}
+use Rattle.seg_buffer.specs.Bytes.{is_empty}
+use Rattle.connection_model.specs.Edges.{edges_noted, is_connecting}
+use Rattle.connection_model.specs.Item.{client_output, notes_of, server_output}
+use Rattle.connection_model.specs.Setup.{Setup}
+use Rattle.connection_model.specs.State.{TraceState}
+use Rattle.connection_model.specs.Trace.{GivesNoMore, next_item}
+use Rattle.connection_model.specs.declared.edges.Edges.{Edges}
 use Rattle.connection_model.specs.declared.note.Note.{Note}
 use Rattle.connection_model.specs.declared.note.Note.TheVariants as note
 use Rattle.connection_model.specs.declared.note.Cause.TheVariants.{Memory}
-use Rattle.connection_model.specs.HeardLaws.{cut_in}
-use Rattle.connection_model.specs.Item.{client_output, notes_of}
-use Rattle.connection_model.specs.Setup.{Setup}
-use Rattle.connection_model.specs.State.{TraceState}
 use Rattle.conn.specs.Acts.{Acted}
+use Rattle.conn.specs.Ends.{lost_at, queued_in}
 use Rattle.conn.specs.Holds.{Around, Holds}
-use Rattle.conn.specs.Runs.{DropsQueued, IsBounded, IsWhole, GoesOnWith, Runs, Rested, TellsDropped}
-use Rattle.conn.specs.RunsItems.{asked_at, asks, closing, closing_if, ends, Passes, StopsAt}
+use Rattle.conn.specs.Queues.{dropped_at, dropped_by, queue_in}
+use Rattle.conn.specs.Runs.{DropsQueued, IsBounded, IsWhole, GoesOnWith, Runs, Rested, RestsThere, TellsDropped}
+use Rattle.conn.specs.RunsItems.{StopsAt, asked_at, asks, is_cut, told_behind}
+use Rattle.conn.specs.Settling.{close_notes, closing, half_due, half_notes, is_there, note_if, noted_in, over_in, rest_notes, settle_notes, settling}
 use Rattle.conn.specs.Setups.{Serves}
-use Rattle.conn.specs.Calls.{over_in}
-use Rattle.conn.specs.Queues.{dropped_at}
 use Rattle.conn.specs.Stages.{is_asking, is_draining}
-use Rattle.connection_model.specs.Heard.{taken_by}
-use Rattle.seg_buffer.specs.Bytes.{is_empty}
 use Rattle.conn.specs.declared.connection.Conn.{Conn}
 use Rattle.conn.specs.declared.setup.Setup as code
+use Rattle.conn.specs.declared.stage.Stage.{Stage}
+use Rattle.conn.specs.declared.stage.Stage.TheVariants as stage
 use Rattle.conn.specs.declared.turn.Act.TheVariants as done
 use Rattle.conn.specs.declared.turn.ConnTurn.{ConnTurn}
 use Rattle.conn.specs.declared.turn.ConnTurn.TheVariants as turn
-use Rattle.conn.proofs.Advancing.{ActedWell, acted_well}
-use Rattle.conn.proofs.Giving.{Gave, as_taken, gave_none, gave_more}
+use Rattle.conn.proofs.Advancing.{ActedWell, Tells, acted_well, asks_there, rests_same}
+use Rattle.conn.proofs.Arriving.{holds, with_edges}
+use Rattle.conn.proofs.Giving.{Gave, edges_on, gave_none, gave_more}
+use Rattle.conn.proofs.Settling.{rests_with, settles}
 
 -- what was given so far, and no call is open
 pub record Given (g : Setup) (a : Around) (l : TraceState) (c : ℕ) (old mid : Conn) (group : List Note) : Type 0 where
@@ -34,14 +43,22 @@ pub record Given (g : Setup) (a : Around) (l : TraceState) (c : ℕ) (old mid : 
 pub record RunsOn (s : code.Setup) (c : ℕ) (old mid : Conn) (before after : List Note) : Type 0 where
   pub group : List Note
   pub notes : after ≡ before ++ group
+  pub tells : Tells group old mid
   pub along : (g : Setup) (a : Around) (l : TraceState) → Serves s g → Holds g a l old → is_asking old.stage ≡ false → Given g a l c old mid group
 
 -- some notes were added, as a Run adds them
 abbrev pub RunsBy : code.Setup → ℕ → Conn → Conn → List Note → List Note → ConnTurn → Type 0
-RunsBy s c old new before after t = (group : List Note) × (after ≡ before ++ group) × Runs s c old new group t
+RunsBy s c old new before after t = (group : List Note) × (after ≡ before ++ group) × Tells group old new × Runs s c old new group t
+
+-- notes that are told one after another
+tells_on : (old mid new : Conn) (first second : List Note) → Tells first old mid → Tells second mid new → Tells (first ++ second) old new
+tells_on old mid new first second p q = q ∙ ap (edges_noted second) p ∙ sym (edges_on first second old.ends.edges)
+
+tells_same : (old new : Conn) (group : List Note) → Tells group old new → Tells (group ++ []) old new
+tells_same old new group p = p ∙ ap (λ x. edges_noted x old.ends.edges) (sym (append-nil group))
 
 pub at_first : (s : code.Setup) (c : ℕ) (old : Conn) (before : List Note) → RunsOn s c old old before before
-at_first s c old before = record { group = []; notes = sym (append-nil before); along = λ g a l serves h awake. record { at = l; gave = gave_none g a l c old h; awake = awake } }
+at_first s c old before = record { group = []; notes = sym (append-nil before); tells = refl; along = λ g a l serves h awake. record { at = l; gave = gave_none g a l c old h; awake = awake } }
 
 pub one_more : (s : code.Setup) (c : ℕ) (old mid new : Conn) (before notes after : List Note) → RunsOn s c old mid before notes → Acted s c mid new notes after done.Goes → RunsOn s c old new before after
 one_more s c old mid new before notes after r acted =
@@ -49,30 +66,28 @@ one_more s c old mid new before notes after r acted =
     record {
       group = r.group ++ k.group;
       notes = k.notes ∙ ap (λ x. x ++ k.group) r.notes ∙ append_assoc before r.group k.group;
+      tells = tells_on old mid new r.group k.group r.tells k.tells;
       along = λ g a l serves h awake.
           (let p = r.along g a l serves h awake in
           let q = k.along g a p.at serves p.gave.holds p.awake in
-          record { at = q.at; gave = gave_more g a l p.at q.at c old mid new r.group k.group p.gave q.gave; awake = q.stops });
+          record { at = q.at; gave = gave_more g a l p.at q.at c old mid new r.group k.group h.no_cut p.gave q.gave; awake = q.stops });
     }
 
--- its items were let through
-passes_of : (g : Setup) (a : Around) (l at : TraceState) {called : List (List (List ℕ))} (c : ℕ) (old new : Conn) (group : List Note) → l.answers.cut ≡ None → (p : Gave g a l at c old new group called) → Passes g a.took l p.more at
-passes_of g a l at c old new group none p = record {
-  passed = as_taken g a l at c old new group none p;
-  met = p.met;
-  uncut = λ t. ap (cut_in t) (sym (append-nil p.more)) ∙ p.uncut t [];
-  no_connect = p.no_connect;
-  no_server = p.holds.none_sent;
-}
-
--- a Run that gave these items
-gives : (g : Setup) (a : Around) (l at : TraceState) (c : ℕ) (old new : Conn) (group last : List Note) (t : ConnTurn) → l.answers.cut ≡ None → Gave g a l at c old new group (asked_at t) → last ≡ closing_if (ends t) c (length new.host.to_client) → StopsAt g a.took at t → is_asking new.stage ≡ asks t → GoesOnWith g a l c old new (group ++ last) t
-gives g a l at c old new group last t none p is stops awake = record {
+-- a Run that gave these items, and told this behind them
+gives : (g : Setup) (a : Around) (l at : TraceState) (c : ℕ) (old mid new : Conn) (group last : List Note) (t : ConnTurn) → Gave g a l at c old mid group (asked_at t) → last ≡ told_behind t g a.took at c mid.ends.edges (queued_in new.ends) → StopsAt g a.took at t → Holds g a at new
+    → new.ends.client.queued ≡ mid.ends.client.queued → new.ends.server.queued ≡ mid.ends.server.queued → is_asking new.stage ≡ asks t → GoesOnWith g a l c old new (group ++ last) t
+gives g a l at c old mid new group last t p is stops now client server awake = record {
   more = p.more;
   at = at;
-  items = record { passes = passes_of g a l at c old new group none p; noted = ap (λ x. x ++ last) p.noted ∙ ap (λ x. notes_of c p.more ++ x) is; stops = stops; calls = p.calls };
-  holds = p.holds;
-  queue = p.queue;
+  items = record {
+    passes = p.passes;
+    noted = ap (λ x. x ++ last) p.noted ∙ ap (λ x. notes_of c p.more ++ x) (is ∙ ap (λ e. told_behind t g a.took at c e (queued_in new.ends)) (p.edges ∙ ap (λ n. edges_noted n old.ends.edges) p.noted));
+    stops = stops;
+    calls = p.calls;
+  };
+  holds = now;
+  client_queue = client ∙ p.client_queue;
+  server_queue = server ∙ p.server_queue;
   asking = awake;
 }
 
@@ -80,7 +95,8 @@ pub runs_more : (s : code.Setup) (c : ℕ) (old new : Conn) (before after : List
 runs_more s c old new before after r = (
   r.group ++ [],
   r.notes ∙ ap (λ x. before ++ x) (sym (append-nil r.group)),
-  λ g a l serves h awake. (let p = r.along g a l serves h awake in inl (gives g a l p.at c old new r.group [] turn.More h.no_cut p.gave refl tt p.awake)),
+  tells_same old new r.group r.tells,
+  λ g a l serves h awake. (let p = r.along g a l serves h awake in inl (gives g a l p.at c old new new r.group [] turn.More p.gave refl tt p.gave.holds refl refl p.awake)),
 )
 
 both_notes : (before first second notes after : List Note) → notes ≡ before ++ first → after ≡ notes ++ second → after ≡ before ++ (first ++ second)
@@ -91,82 +107,207 @@ runs_asks s c old mid new before notes after call r acted =
     let k = acted_well s c mid new notes after (done.Asks call) acted in (
       (r.group ++ k.group) ++ [],
       both_notes before r.group k.group notes after r.notes k.notes ∙ ap (λ x. before ++ x) (sym (append-nil (r.group ++ k.group))),
+      tells_same old new (r.group ++ k.group) (tells_on old mid new r.group k.group r.tells k.tells),
       λ g a l serves h awake.
           (let p = r.along g a l serves h awake in
           let q = k.along g a p.at serves p.gave.holds p.awake in
-          inl (gives g a l q.at c old new (r.group ++ k.group) [] (turn.Asks call) h.no_cut (gave_more g a l p.at q.at c old mid new r.group k.group p.gave q.gave) refl q.stops.0 q.stops.1)),
+          inl (gives g a l q.at c old new new (r.group ++ k.group) [] (turn.Asks call) (gave_more g a l p.at q.at c old mid new r.group k.group h.no_cut p.gave q.gave) refl q.stops q.gave.holds refl refl (asks_there s c mid new notes after call acted))),
     )
 
--- one that rests wasn't reset: it waits for its client to take, or its client is to take the rest
-kept_by : (draining b : Bool) (q : List ℕ) → (draining ≡ false → b ≡ false) → (draining && is_empty (if b then [] else q)) ≡ false → b ≡ false
-kept_by draining false q k e = refl
-kept_by false true q k e = k refl
-kept_by true true q k e = cc
+-- no server is asked for by what is told at a rest
+abbrev AsksNone : List Note → Type 0
+AsksNone notes = (e : Edges) → is_connecting (edges_noted notes e).server.state ≡ true → is_connecting e.server.state ≡ true
 
-not_reset : (g : Setup) (a : Around) (at : TraceState) (new : Conn) → Holds g a at new → (is_draining new.stage ≡ false → new.client.reset ≡ false) → over_in new ≡ false → is_none a.took.client ≡ false
-not_reset g a at new h k left = ap is_none h.counts ∙ ap (λ b. is_none (taken_by b a.counted)) (kept_by (is_draining new.stage) new.client.reset new.host.to_client k left)
+none_if : (b : Bool) (n : Note) → AsksNone (n ∷ []) → AsksNone (note_if b n)
+none_if true n k = k
+none_if false n k = λ e is. is
 
-pub runs_rests : (s : code.Setup) (c : ℕ) (old mid new : Conn) (before notes after last : List Note) (t : ConnTurn) → RunsOn s c old mid before notes → Acted s c mid new notes after done.Rests → Rested c new after last t → RunsBy s c old new before last t
-runs_rests s c old mid new before notes after last t r acted rested = by_turn t rested
+none_both : (first second : List Note) → AsksNone first → AsksNone second → AsksNone (first ++ second)
+none_both first second p q = λ e is. p e (q (edges_noted first e) (sym (ap (λ x. is_connecting x.server.state) (edges_on first second e)) ∙ is))
+
+half_asks : (c : ℕ) (side : Side) → AsksNone (note.HalfClose c side ∷ [])
+half_asks c Client = λ e is. is
+half_asks c Server = λ e is. is
+
+close_asks : (c : ℕ) (server client : Bool) (e : Edges) → AsksNone (close_notes c server client e)
+close_asks c server client e =
+    none_both (note_if (server && is_there e.server.state) (note.CloseServer c)) (note_if (client && is_there e.client.state) (note.CloseClient c))
+    (none_if (server && is_there e.server.state) (note.CloseServer c) (λ f is. absurd (true≢false (sym is)))) (none_if (client && is_there e.client.state) (note.CloseClient c) (λ f is. is))
+
+settle_asks : (over : Bool) (c : ℕ) (e : Edges) (server client : Bool) (dropped : ℕ) → AsksNone (settling over c e server client dropped)
+settle_asks true c e server client dropped =
+    none_both (close_notes c server client e) (note_if (client && server) (note.Ended c dropped)) (close_asks c server client e) (none_if (client && server) (note.Ended c dropped) (λ f is. is))
+settle_asks false c e server client dropped = λ f is. is
+
+rest_asks : (c : ℕ) (conn : Conn) → AsksNone (rest_notes c conn)
+rest_asks c conn =
+    none_both (half_notes c Client conn) (half_notes c Server conn ++ settle_notes c conn) (none_if (half_due Client conn) (note.HalfClose c Client) (half_asks c Client))
+    (none_both (half_notes c Server conn) (settle_notes c conn) (none_if (half_due Server conn) (note.HalfClose c Server) (half_asks c Server))
+    (settle_asks (is_draining conn.stage) c conn.ends.edges (is_empty (queue_in Server conn)) (is_empty (queue_in Client conn)) (queued_in conn.ends)))
+
+-- and it holds the same
+told_holds : (g : Setup) (a : Around) (l : TraceState) (c : ℕ) (conn : Conn) → Holds g a l conn → Holds g a l (noted_in (rest_notes c conn) conn)
+told_holds g a l c conn h =
+    holds g a a l l.client l.server l.answers.connects conn (noted_in (rest_notes c conn) conn).ends h (with_edges a l conn.ends h.ends (edges_noted (rest_notes c conn) conn.ends.edges) (rest_asks c conn conn.ends.edges)) h.fits
+
+pub runs_rests : (s : code.Setup) (c : ℕ) (old mid new last : Conn) (before notes after told : List Note) (t : ConnTurn) → RunsOn s c old mid before notes → Acted s c mid new notes after done.Rests → Rested c new last after told t → RunsBy s c old last before told t
+runs_rests s c old mid new last before notes after told t r acted rested = by_turn t rested
   where
     k : ActedWell s c mid new notes after done.Rests
     k = acted_well s c mid new notes after done.Rests acted
 
-    by_turn : (t : ConnTurn) → Rested c new after last t → RunsBy s c old new before last t
-    by_turn turn.More x = absurd x
-    by_turn (turn.Asks call) x = absurd x
-    by_turn turn.NotYet (settles, (same, left)) = (
-      (r.group ++ k.group) ++ [],
-      same ∙ both_notes before r.group k.group notes after r.notes k.notes ∙ ap (λ x. before ++ x) (sym (append-nil (r.group ++ k.group))),
-      λ g a l serves h awake.
-          (let p = r.along g a l serves h awake in
-          let q = k.along g a p.at serves p.gave.holds p.awake in
-          inl (gives g a l q.at c old new (r.group ++ k.group) [] turn.NotYet h.no_cut (gave_more g a l p.at q.at c old mid new r.group k.group p.gave q.gave) refl (q.stops.0, (sym (settles g a q.at q.gave.holds), not_reset g a q.at new q.gave.holds q.stops.1 left)) q.stops.2)),
-    )
-    by_turn turn.Over (settles, more) = (
-      (r.group ++ k.group) ++ closing c (length new.host.to_client),
-      both_notes before (r.group ++ k.group) (closing c (length new.host.to_client)) after last (both_notes before r.group k.group notes after r.notes k.notes) more,
-      λ g a l serves h awake.
-          (let p = r.along g a l serves h awake in
-          let q = k.along g a p.at serves p.gave.holds p.awake in
-          inl (gives g a l q.at c old new (r.group ++ k.group) (closing c (length new.host.to_client)) turn.Over h.no_cut (gave_more g a l p.at q.at c old mid new r.group k.group p.gave q.gave) refl (sym (settles g a q.at q.gave.holds)) q.stops.2)),
+    all : (over : Bool) → RestsThere c new last after told over → (told ≡ before ++ ((r.group ++ k.group) ++ rest_notes c new)) × Tells ((r.group ++ k.group) ++ rest_notes c new) old (noted_in (rest_notes c new) new)
+    all over x = (
+      both_notes before (r.group ++ k.group) (rest_notes c new) after told (both_notes before r.group k.group notes after r.notes k.notes) x.noted,
+      tells_on old new (noted_in (rest_notes c new) new) (r.group ++ k.group) (rest_notes c new) (tells_on old mid new r.group k.group r.tells k.tells) refl,
     )
 
-pub runs_out : (s : code.Setup) (c pending : ℕ) (old mid new : Conn) (before notes after : List Note) → RunsOn s c old mid before notes → pending ≡ length mid.host.to_client → after ≡ (notes ++ note.Finish c Memory ∷ []) ++ closing c pending
+    -- where its trace stands, and what it gave
+    on : (t : ConnTurn) → (g : Setup) (a : Around) (l : TraceState) → Serves s g → Holds g a l old → is_asking old.stage ≡ false → told_behind t ≡ told_behind turn.NotYet → asked_at t ≡ [] → asks t ≡ false → ((at : TraceState) → (GivesNoMore false at.sent a.took (next_item g at) × (is_cut a.took at ≡ false)) → Holds g a at new → StopsAt g a.took at t)
+        → GoesOnWith g a l c old (noted_in (rest_notes c new) new) ((r.group ++ k.group) ++ rest_notes c new) t
+    on t g a l serves h awake is none quiet stops =
+        let p = r.along g a l serves h awake in
+        let q = k.along g a p.at serves p.gave.holds p.awake in
+        gives g a l q.at c old new (noted_in (rest_notes c new) new) (r.group ++ k.group) (rest_notes c new) t (subst (Gave g a l q.at c old new (r.group ++ k.group)) (sym none) (gave_more g a l p.at q.at c old mid new r.group k.group h.no_cut p.gave q.gave))
+        (rests_with c new g a q.at q.gave.holds ∙ sym (ap (λ f. f g a.took q.at c new.ends.edges (queued_in new.ends)) is)) (stops q.at q.stops q.gave.holds) (told_holds g a q.at c new q.gave.holds) refl refl (ap (λ x. is_asking x.stage) (rests_same s c mid new notes after acted) ∙ p.awake ∙ sym quiet)
+
+    by_turn : (t : ConnTurn) → Rested c new last after told t → RunsBy s c old last before told t
+    by_turn turn.More x = absurd x
+    by_turn (turn.Asks call) x = absurd x
+    by_turn turn.NotYet x =
+        subst (λ z. RunsBy s c old z before told turn.NotYet) (sym x.told) (
+          (r.group ++ k.group) ++ rest_notes c new,
+          (all false x).0,
+          (all false x).1,
+          λ g a l serves h awake. inl (on turn.NotYet g a l serves h awake refl refl refl (λ at stops now. (stops.0, (sym (settles new false x.over_is g a at now), stops.1)))),
+        )
+    by_turn turn.Over x =
+        subst (λ z. RunsBy s c old z before told turn.Over) (sym x.told) (
+          (r.group ++ k.group) ++ rest_notes c new,
+          (all true x).0,
+          (all true x).1,
+          λ g a l serves h awake. inl (on turn.Over g a l serves h awake refl refl refl (λ at stops now. sym (settles new true x.over_is g a at now))),
+        )
+
+pub runs_out : (s : code.Setup) (c pending : ℕ) (old mid lost new : Conn) (before notes after : List Note) (t : ConnTurn) → RunsOn s c old mid before notes → pending ≡ queued_in mid.ends → lost.ends.edges ≡ mid.ends.edges → DropsQueued c pending lost new (notes ++ note.Finish c Memory ∷ []) after t
     → RunsBy s c old new before after turn.Over
-runs_out s c pending old mid new before notes after r waits ends = (
-  r.group ++ note.Finish c Memory ∷ closing c pending,
-  both_notes before r.group (note.Finish c Memory ∷ closing c pending) notes after r.notes (ends ∙ append_assoc notes (note.Finish c Memory ∷ []) (closing c pending)),
+runs_out s c pending old mid lost new before notes after t r waits kept d = (
+  r.group ++ note.Finish c Memory ∷ closing c mid.ends.edges pending,
+  both_notes before r.group (note.Finish c Memory ∷ closing c mid.ends.edges pending) notes after r.notes (d.noted ∙ append_assoc notes (note.Finish c Memory ∷ []) (closing c lost.ends.edges pending) ∙ ap (λ e. notes ++ note.Finish c Memory ∷ closing c e pending) kept),
+  tells_on old mid new r.group (note.Finish c Memory ∷ closing c mid.ends.edges pending) r.tells (d.edges ∙ ap (λ e. edges_noted (closing c e pending) e) kept),
   λ g a l serves h awake.
       (let given = r.along g a l serves h awake in
       let p = given.gave in
-      let q : pending ≡ length old.host.to_client + length (client_output p.more) = waits ∙ ap length p.queue ∙ length-append old.host.to_client (client_output p.more) in
+      let client = ap length p.client_queue ∙ length-append old.ends.client.queued (client_output p.more) in
+      let server = ap length p.server_queue ∙ length-append old.ends.server.queued (server_output 1 p.more) in
+      let q : pending ≡ queued_in old.ends + (length (client_output p.more) + length (server_output 1 p.more)) = omega (arith, waits, client, server) in
       inr (record {
         more = p.more;
         at = given.at;
-        passes = passes_of g a l given.at c old mid r.group h.no_cut p;
+        passes = p.passes;
         no_call = p.calls;
-        noted = ap (λ x. x ++ note.Finish c Memory ∷ closing c pending) p.noted ∙ ap (λ n. notes_of c p.more ++ note.Finish c Memory ∷ closing c n) q;
+        sent = omega (arith, h.ends.server_untaken, p.holds.ends.server_untaken, server);
+        noted = ap (λ x. x ++ note.Finish c Memory ∷ closing c mid.ends.edges pending) p.noted ∙ ap (λ n. notes_of c p.more ++ note.Finish c Memory ∷ closing c mid.ends.edges n) q
+            ∙ ap (λ e. notes_of c p.more ++ note.Finish c Memory ∷ closing c e (queued_in old.ends + (length (client_output p.more) + length (server_output 1 p.more)))) (p.edges ∙ ap (λ n. edges_noted n old.ends.edges) p.noted);
         over = refl;
       })),
 )
 
 -- a Run that rests doesn't stop in the middle
-pub rests_whole : (c : ℕ) (conn : Conn) (before after : List Note) (t : ConnTurn) (steps notes : ℕ) → Rested c conn before after t → IsWhole t steps notes
-rests_whole c conn before after turn.More steps notes r = absurd r
-rests_whole c conn before after (turn.Asks call) steps notes r = tt
-rests_whole c conn before after turn.NotYet steps notes r = tt
-rests_whole c conn before after turn.Over steps notes r = tt
+pub rests_whole : (c : ℕ) (old conn : Conn) (before after : List Note) (t : ConnTurn) (steps notes : ℕ) → Rested c old conn before after t → IsWhole t steps notes
+rests_whole c old conn before after turn.More steps notes r = absurd r
+rests_whole c old conn before after (turn.Asks call) steps notes r = absurd r
+rests_whole c old conn before after turn.NotYet steps notes r = tt
+rests_whole c old conn before after turn.Over steps notes r = tt
 
 -- and counts as many steps as its actions
-pub rests_bounded : (c : ℕ) (conn : Conn) (before after : List Note) (t : ConnTurn) (steps : ℕ) → Rested c conn before after t → steps ≤ 2000 → IsBounded t steps
-rests_bounded c conn before after turn.More steps r few = few
-rests_bounded c conn before after (turn.Asks call) steps r few = few
-rests_bounded c conn before after turn.NotYet steps r few = few
-rests_bounded c conn before after turn.Over steps r few = tt
+pub rests_bounded : (c : ℕ) (old conn : Conn) (before after : List Note) (t : ConnTurn) (steps : ℕ) → Rested c old conn before after t → steps ≤ 2000 → IsBounded t steps
+rests_bounded c old conn before after turn.More steps r few = absurd r
+rests_bounded c old conn before after (turn.Asks call) steps r few = absurd r
+rests_bounded c old conn before after turn.NotYet steps r few = few
+rests_bounded c old conn before after turn.Over steps r few = tt
 
 -- what was queued is dropped, as the last notes tell
-pub drops_told : (c given : ℕ) (new : Conn) (before after : List Note) (t : ConnTurn) → DropsQueued c given new before after t → TellsDropped t c new after
-drops_told c given new before after t d =
-    let P : ConnTurn → Type 0 = λ x. TellsDropped x c new after in
-    subst P (sym d.over) (before, d.noted ∙ ap (λ n. before ++ closing c n) (sym (ap (λ st. dropped_at st (if new.client.reset then length new.host.to_client else 0)) d.there)))
+pub drops_told : (c given : ℕ) (old new : Conn) (before after : List Note) (t : ConnTurn) → DropsQueued c given old new before after t → TellsDropped t c new after
+drops_told c given old new before after t d =
+    let close = close_notes c true true old.ends.edges in
+    let dropped : dropped_by new ≡ given = ap (λ st. dropped_at st (lost_at new.ends.client + lost_at new.ends.server)) d.there in
+    subst (λ x. TellsDropped x c new after) (sym d.over) (before ++ close, d.noted ∙ sym (append_assoc before close (note.Ended c given ∷ [])) ∙ ap (λ n. (before ++ close) ++ note.Ended c n ∷ []) (sym dropped))
+
+-- nothing is queued that no reset left
+lost_all : (reset : Bool) (q : List ℕ) → is_empty (if reset then [] else q) ≡ true → length q ≡ (if reset then length q else 0)
+lost_all true q is = refl
+lost_all false [] is = refl
+lost_all false (b ∷ q) is = absurd (true≢false (sym is))
+
+draining_at : (st : Stage) (n : ℕ) → is_draining st ≡ true → dropped_at st n ≡ n
+draining_at (stage.Dropped m) n is = absurd (true≢false (sym is))
+draining_at other n is = refl
+
+over_told : (c : ℕ) (conn : Conn) (before : List Note) → over_in conn ≡ true → TellsDropped turn.Over c (noted_in (rest_notes c conn) conn) (before ++ rest_notes c conn)
+over_told c conn before over =
+    let first = and_parts (is_draining conn.stage) _ over in
+    let both = and_parts (is_empty (queue_in Client conn)) (is_empty (queue_in Server conn)) first.1 in
+    let halves = half_notes c Client conn ++ half_notes c Server conn in
+    let close = close_notes c true true conn.ends.edges in
+    let dropped : queued_in conn.ends ≡ dropped_by conn =
+    ap (λ n. n + length conn.ends.server.queued) (lost_all conn.ends.client.reset conn.ends.client.queued both.0)
+    ∙ ap (λ n. lost_at conn.ends.client + n) (lost_all conn.ends.server.reset conn.ends.server.queued both.1)
+    ∙ sym (draining_at conn.stage (lost_at conn.ends.client + lost_at conn.ends.server) first.0) in
+    let last : settle_notes c conn ≡ close ++ note.Ended c (dropped_by conn) ∷ [] =
+    ap (λ b. settling b c conn.ends.edges (is_empty (queue_in Server conn)) (is_empty (queue_in Client conn)) (queued_in conn.ends)) first.0
+    ∙ ap (λ b. settling true c conn.ends.edges b (is_empty (queue_in Client conn)) (queued_in conn.ends)) both.1
+    ∙ ap (λ b. settling true c conn.ends.edges true b (queued_in conn.ends)) both.0
+    ∙ ap (λ n. close ++ note.Ended c n ∷ []) dropped in
+    let ended = note.Ended c (dropped_by conn) ∷ [] in (
+      before ++ (half_notes c Client conn ++ (half_notes c Server conn ++ close)),
+      ap (λ x. before ++ (half_notes c Client conn ++ (half_notes c Server conn ++ x))) last
+          ∙ ap (λ x. before ++ (half_notes c Client conn ++ x)) (sym (append_assoc (half_notes c Server conn) close ended))
+          ∙ ap (λ x. before ++ x) (sym (append_assoc (half_notes c Client conn) (half_notes c Server conn ++ close) ended))
+          ∙ sym (append_assoc before (half_notes c Client conn ++ (half_notes c Server conn ++ close)) ended),
+    )
+
+pub rest_dropped : (c : ℕ) (old new : Conn) (before after : List Note) (t : ConnTurn) → Rested c old new before after t → TellsDropped t c new after
+rest_dropped c old new before after turn.More r = absurd r
+rest_dropped c old new before after (turn.Asks call) r = absurd r
+rest_dropped c old new before after turn.NotYet r = tt
+rest_dropped c old new before after turn.Over r =
+    subst (λ x. TellsDropped turn.Over c x after) (sym r.told) (subst (λ x. TellsDropped turn.Over c (noted_in (rest_notes c old) old) x) (sym r.noted) (over_told c old before (sym r.over_is)))
+
+-- how many notes come at a rest, and at the end
+one_if : (b : Bool) (n : Note) → length (note_if b n) ≤ 1
+one_if true n = omega arith
+one_if false n = omega arith
+
+close_few : (c : ℕ) (server client : Bool) (e : Edges) → length (close_notes c server client e) ≤ 2
+close_few c server client e =
+    let a = one_if (server && is_there e.server.state) (note.CloseServer c) in
+    let b = one_if (client && is_there e.client.state) (note.CloseClient c) in
+    let n = length-append (note_if (server && is_there e.server.state) (note.CloseServer c)) (note_if (client && is_there e.client.state) (note.CloseClient c)) in omega (arith, a, b, n)
+
+pub closing_few : (c : ℕ) (e : Edges) (dropped : ℕ) → length (closing c e dropped) ≤ 3
+closing_few c e dropped = let a = close_few c true true e in let n = length-append (close_notes c true true e) (note.Ended c dropped ∷ []) in omega (arith, a, n)
+
+settle_few : (over : Bool) (c : ℕ) (e : Edges) (server client : Bool) (dropped : ℕ) → length (settling over c e server client dropped) ≤ 3
+settle_few true c e server client dropped =
+    let a = close_few c server client e in
+    let b = one_if (client && server) (note.Ended c dropped) in
+    let n = length-append (close_notes c server client e) (note_if (client && server) (note.Ended c dropped)) in omega (arith, a, b, n)
+settle_few false c e server client dropped = omega arith
+
+pub rest_few : (c : ℕ) (conn : Conn) → length (rest_notes c conn) ≤ 5
+rest_few c conn =
+    let first = half_notes c Client conn in
+    let second = half_notes c Server conn in
+    let last = settle_notes c conn in
+    let a = one_if (half_due Client conn) (note.HalfClose c Client) in
+    let b = one_if (half_due Server conn) (note.HalfClose c Server) in
+    let d = settle_few (is_draining conn.stage) c conn.ends.edges (is_empty (queue_in Server conn)) (is_empty (queue_in Client conn)) (queued_in conn.ends) in
+    let n = length-append first (second ++ last) in
+    let m = length-append second last in omega (arith, a, b, d, n, m)
+
+pub rested_few : (c : ℕ) (old new : Conn) (before after : List Note) (t : ConnTurn) → Rested c old new before after t → length after ≤ length before + 5
+rested_few c old new before after turn.More r = absurd r
+rested_few c old new before after (turn.Asks call) r = absurd r
+rested_few c old new before after turn.NotYet r = let a = rest_few c old in let n = ap length r.noted ∙ length-append before (rest_notes c old) in omega (arith, a, n)
+rested_few c old new before after turn.Over r = let a = rest_few c old in let n = ap length r.noted ∙ length-append before (rest_notes c old) in omega (arith, a, n)

@@ -1,63 +1,135 @@
 -- What one action changes.
-use Rattle.std.specs.Prelude.{◌≡◌, ℕ, List, [], ◌∷◌, ◌++◌, length, nat_lt}
+use Rattle.std.specs.Prelude.{◌≡◌, ℕ, List, [], ◌∷◌, ◌++◌, length, Bool, ◌&&◌, nat_lt}
+use Rattle.std.specs.Prelude.{Option, Some, None, if◌then◌else◌}
 use Rattle.std.specs.Bool.{MatchBool}
+use Rattle.px_bytes.specs.declared.addr.Addr.{Addr}
+use Rattle.px_bytes.specs.declared.addr.Side.TheVariants.{Client, Server}
 use Rattle.px_bytes.specs.declared.fault.FaultKind.{FaultKind}
+use Rattle.connection_model.specs.Edges.{edge}
 use Rattle.connection_model.specs.Gates.{room_limit}
+use Rattle.connection_model.specs.declared.edges.EdgeState.TheVariants as state
+use Rattle.connection_model.specs.declared.note.CutReason.{CutReason}
+use Rattle.connection_model.specs.declared.note.CutReason.TheVariants.{ClientReset, ServerReset}
 use Rattle.connection_model.specs.declared.note.Note.{Note}
 use Rattle.connection_model.specs.declared.note.Note.TheVariants as note
 use Rattle.conn.specs.declared.connection.Conn.{Conn}
+use Rattle.conn.specs.declared.ends.Ends.{Ends}
+use Rattle.conn.specs.declared.ends.Link.{Link}
+use Rattle.conn.specs.declared.ends.Link.TheVariants as link
 use Rattle.conn.specs.declared.events.At.{At}
-use Rattle.conn.specs.declared.events.At.TheVariants.{Accepted, Failed, Closed}
+use Rattle.conn.specs.declared.events.At.TheVariants.{Failed, Connected}
+use Rattle.conn.specs.declared.relay.Relay.{Relay}
+use Rattle.conn.specs.declared.relay.Relay.TheVariants as relay
 use Rattle.conn.specs.declared.setup.Setup.{Setup}
+use Rattle.conn.specs.declared.stage.Finish.{Finish}
 use Rattle.conn.specs.declared.stage.Finish.TheVariants as finish
 use Rattle.conn.specs.declared.stage.Stage.{Stage}
 use Rattle.conn.specs.declared.stage.Stage.TheVariants as stage
 use Rattle.conn.specs.declared.turn.Act.{Act}
 use Rattle.conn.specs.declared.turn.Act.TheVariants as act
-use Rattle.conn.specs.Changes.{GoesTo, NextBody, StartsBody}
-use Rattle.conn.specs.Hosts.{begun_host, unselected_host}
+use Rattle.conn.specs.Changes.{Closes, Enters, GoesTo, NextBody, StartsBody}
+use Rattle.conn.specs.Choosing.{Chooses, TakesChosen}
+use Rattle.conn.specs.Events.{is_closed}
 use Rattle.conn.specs.Queues.{queue_in}
-use Rattle.conn.specs.Stages.{entered_stage, cause_for}
+use Rattle.conn.specs.Relaying.{PassesOn, relay_plan}
+use Rattle.conn.specs.Stages.{cause_for, has_finished}
 use Rattle.conn.specs.Steps.{BodyMoved}
 
--- with room for its client the bodies begin
-abbrev pub PassesGate : Setup → At → Conn → Conn → Act → Type 0
-PassesGate s at old new a = MatchBool (nat_lt (length (queue_in old)) room_limit)
-    ((a ≡ act.Goes) × StartsBody s at 0 old new) ((a ≡ act.Rests) × (new ≡ old))
+-- it finishes for this reason
+abbrev pub Finishes : Setup → ℕ → Finish → Conn → Conn → List Note → List Note → Type 0
+Finishes s c f old new before after =
+    Closes s old new × (after ≡ before ++ note.Finish c (cause_for f) ∷ [])
 
--- no server is found
-pub record Chooses (s : Setup) (old new : Conn) : Type 0 where
-  pub there : new.stage ≡ entered_stage s Failed
-  pub vars : new.vars ≡ old.vars
-  pub host : new.host ≡ begun_host Failed (unselected_host old.host)
-  pub client : new.client ≡ old.client
+-- the reset that cuts it
+abbrev pub cut_of : Conn → Option CutReason
+cut_of c =
+    if has_finished c.stage then None
+    else (if c.ends.client.reset then Some ClientReset
+    else (if c.ends.server.reset then Some ServerReset else None))
 
--- the closing event begins
-pub record Closes (s : Setup) (old new : Conn) : Type 0 where
-  pub mid : Conn
-  pub vars : mid.vars ≡ old.vars
-  pub host : mid.host ≡ begun_host Closed old.host
-  pub client : mid.client ≡ old.client
-  pub begins : NextBody s Closed 0 mid new
+-- where nothing may be given it is cut by a reset that was told, or rests
+abbrev pub RestsBy : Option CutReason → Setup → ℕ → Conn → Conn → List Note → List Note → Act
+    → Type 0
+RestsBy None s c old new before after a = (a ≡ act.Rests) × (new ≡ old) × (after ≡ before)
+RestsBy (Some reason) s c old new before after a =
+    (a ≡ act.Goes) × Finishes s c (finish.Cut reason) old new before after
+
+abbrev pub Rests : Setup → ℕ → Conn → Conn → List Note → List Note → Act → Type 0
+Rests s c old new before after a = RestsBy (cut_of old) s c old new before after a
+
+-- there is room for what bodies send to either side
+abbrev pub has_room : Conn → Bool
+has_room c =
+    nat_lt (length (queue_in Client c)) room_limit && nat_lt (length (queue_in Server c)) room_limit
+
+-- then the bodies begin
+abbrev pub PassesGate : Setup → ℕ → At → Conn → Conn → List Note → List Note → Act → Type 0
+PassesGate s c at old new before after a = MatchBool (has_room old)
+    ((a ≡ act.Goes) × StartsBody s at 0 old new × (after ≡ before))
+    (Rests s c old new before after a)
 
 -- behind a fault it finishes; a closing event goes on
 abbrev pub BehindFault : Setup → At → ℕ → FaultKind → Conn → Conn → Type 0
-BehindFault s Accepted next kind old new = GoesTo (stage.Finishing (finish.Fault kind)) old new
-BehindFault s Failed next kind old new = GoesTo (stage.Finishing (finish.Fault kind)) old new
-BehindFault s Closed next kind old new = NextBody s Closed next old new
+BehindFault s at next kind old new = MatchBool (is_closed at)
+    (NextBody s at next old new) (GoesTo (stage.Finishing (finish.Fault kind)) old new)
+
+-- the server is asked for a connection
+abbrev pub asked_ends : Ends → Ends
+asked_ends e =
+    record e { link = link.Asked; edges = record e.edges { server = edge state.Connecting } }
+
+pub record Connects (c : ℕ) (to : Addr) (old new : Conn) (before after : List Note) : Type 0 where
+  pub there : new.stage ≡ stage.Answering to
+  pub vars : new.vars ≡ old.vars
+  pub host : new.host ≡ old.host
+  pub ends : new.ends ≡ asked_ends old.ends
+  pub noted : after ≡ before ++ note.Connect c to ∷ []
+
+-- the answer whether it is made is taken, if that came
+abbrev pub with_link : Link → Ends → Ends
+with_link l e = record e { link = l }
+
+abbrev pub AnswersBy : Link → Setup → ℕ → Conn → Conn → List Note → List Note → Act → Type 0
+AnswersBy link.Made s c old new before after a =
+    (a ≡ act.Goes) × Enters s Connected old.host (with_link link.Up old.ends) old new
+    × (after ≡ before)
+AnswersBy link.Refused s c old new before after a =
+    (a ≡ act.Goes) × Enters s Failed old.host (with_link link.Absent old.ends) old new
+    × (after ≡ before)
+AnswersBy other s c old new before after a = Rests s c old new before after a
+
+abbrev pub Answers : Setup → ℕ → Conn → Conn → List Note → List Note → Act → Type 0
+Answers s c old new before after a = AnswersBy old.ends.link s c old new before after a
+
+-- it passes bytes on, finishes where both ends have ended, or rests
+abbrev pub RelaysBy : Relay → Setup → ℕ → Conn → Conn → List Note → List Note → Act → Type 0
+RelaysBy relay.Done s c old new before after a =
+    (a ≡ act.Goes) × Finishes s c finish.Closed old new before after
+RelaysBy (relay.Pass side n) s c old new before after a =
+    (a ≡ act.Goes) × PassesOn c side n old new before after
+RelaysBy relay.Rest s c old new before after a = Rests s c old new before after a
+
+abbrev pub Relays : Setup → ℕ → Conn → Conn → List Note → List Note → Act → Type 0
+Relays s c old new before after a = RelaysBy (relay_plan old.ends) s c old new before after a
 
 -- what one action does, by where the connection stands
 abbrev pub ActedAt : Stage → Setup → ℕ → Conn → Conn → List Note → List Note → Act → Type 0
 ActedAt (stage.Gated at) s c old new before after a =
-    PassesGate s at old new a × (after ≡ before)
+    PassesGate s c at old new before after a
 ActedAt (stage.Running at number) s c old new before after a =
     BodyMoved s c at number old new before after a
 ActedAt (stage.Failing at next kind line) s c old new before after a =
     (a ≡ act.Goes) × BehindFault s at next kind old new × (after ≡ before ++ note.Log c line ∷ [])
 ActedAt stage.Choosing s c old new before after a =
-    (a ≡ act.Goes) × Chooses s old new × (after ≡ before)
+    Chooses s old new a × (after ≡ before)
+ActedAt (stage.Chosen addr) s c old new before after a =
+    (a ≡ act.Goes) × TakesChosen s addr old new × (after ≡ before)
+ActedAt (stage.Connecting to) s c old new before after a =
+    (a ≡ act.Goes) × Connects c to old new before after
+ActedAt (stage.Answering to) s c old new before after a = Answers s c old new before after a
+ActedAt stage.Relaying s c old new before after a = Relays s c old new before after a
 ActedAt (stage.Finishing f) s c old new before after a =
-    (a ≡ act.Goes) × Closes s old new × (after ≡ before ++ note.Finish c (cause_for f) ∷ [])
+    (a ≡ act.Goes) × Finishes s c f old new before after
 ActedAt other s c old new before after a =
     (a ≡ act.Rests) × (new ≡ old) × (after ≡ before)
 

@@ -11,38 +11,30 @@ use Rattle.connection_model.specs.Further.{Further, longer, replies_only}
 use Rattle.connection_model.specs.Gates.{Counts, TakenCounts, Met, sent_from}
 use Rattle.connection_model.specs.HeardLaws.{taken_by_items}
 use Rattle.connection_model.specs.Host.{HostState, body_setting}
-use Rattle.connection_model.specs.Item.{Item, Choice}
+use Rattle.connection_model.specs.Item.{Item}
 use Rattle.connection_model.specs.Laws.{TakesMore}
 use Rattle.connection_model.specs.Setup.{Handler, Setup}
-use Rattle.connection_model.specs.State.{Gated, Running, Failing, Phase, InEvent, Stream, NoServer}
+use Rattle.connection_model.specs.State.{Gated, Running, Failing, Phase, InEvent, Stream}
 use Rattle.connection_model.specs.State.{Cut, Answers, TraceState, Next, no_stream, no_answers}
 use Rattle.connection_model.specs.declared.note.Note.{Note}
 use Rattle.connection_model.specs.State as phase
-use Rattle.connection_model.specs.Trace.{next_item, Unfolds, trace_from, trace, start}
+use Rattle.connection_model.specs.Trace.{counted, next_item, selected_next, Unfolds, trace_from}
+use Rattle.connection_model.specs.Trace.{trace, start}
 use Rattle.frame_machine.specs.Frames.{comes_to}
+use Rattle.irule_net.specs.declared.state.NetState.{NetState}
+use Rattle.px_bytes.specs.declared.addr.Side.{Side}
 use Rattle.conn.specs.declared.connection.Conn.{Conn}
+use Rattle.conn.specs.declared.ends.Ends.{Ends}
 use Rattle.conn.specs.declared.stage.Stage.{Stage}
 use Rattle.conn.specs.declared.stage.Stage.TheVariants as stage
 use Rattle.conn.specs.declared.turn.ConnTurn.{ConnTurn}
-use Rattle.conn.specs.Arrivals.{arrived}
+use Rattle.conn.specs.Ends.{arrived, connects_by, number_by, server_by}
 use Rattle.conn.specs.Calls.{took_more, Takes, Replies}
 use Rattle.conn.specs.Events.{event_of}
-use Rattle.conn.specs.Holds.{Around, fresh, Holds}
+use Rattle.conn.specs.Holds.{Around, call_of, fresh, Holds}
 use Rattle.conn.specs.Hosts.{seen_host}
 use Rattle.conn.specs.Runs.{GoesOnWith}
 use Rattle.conn.specs.Stages.{has_finished, reason_for}
-
--- What came and wasn't read, besides its client's bytes. A connection of today keeps none of it, as
--- nothing reads it.
-pub record Unread : Type 0 where
-  pub connects : List (Option Stream)
-  pub choices : List Choice
-
-abbrev pub unread_in : TraceState → Unread
-unread_in l = record {
-  connects = l.answers.connects;
-  choices = l.answers.choices;
-}
 
 -- the phase before, in and behind the bodies of an event
 abbrev pub gated_phase : EventName → List Handler → Phase
@@ -53,35 +45,45 @@ abbrev pub begun_phase : EventName → List Handler → Phase
 begun_phase e [] = phase.Draining
 begun_phase e (b ∷ bs) = InEvent e (Running b bs 0)
 
-abbrev pub phase_at : Setup → Stage → Phase
-phase_at g (stage.Gated at) = gated_phase (event_of at) (g.handlers (event_of at))
-phase_at g (stage.Running at n) = begun_phase (event_of at) (drop n (g.handlers (event_of at)))
-phase_at g (stage.Asking at n) = begun_phase (event_of at) (drop n (g.handlers (event_of at)))
-phase_at g (stage.Failing at n kind line) =
+abbrev pub phase_at : Setup → NetState → Stage → Phase
+phase_at g net (stage.Gated at) = gated_phase (event_of at) (g.handlers (event_of at))
+phase_at g net (stage.Running at n) = begun_phase (event_of at) (drop n (g.handlers (event_of at)))
+phase_at g net (stage.Asking at n) = begun_phase (event_of at) (drop n (g.handlers (event_of at)))
+phase_at g net (stage.Failing at n kind line) =
     InEvent (event_of at) (Failing kind line (drop n (g.handlers (event_of at))))
-phase_at g stage.Choosing = phase.Choosing
-phase_at g (stage.Finishing f) = phase.Finishing (reason_for f)
-phase_at g other = phase.Draining
+phase_at g net stage.Choosing = phase.Choosing
+phase_at g net stage.Selecting = phase.Selecting (call_of g net)
+phase_at g net (stage.Chosen addr) = phase.Selecting (call_of g net)
+phase_at g net (stage.Connecting to) = phase.Connecting to
+phase_at g net (stage.Answering to) = phase.Answering to
+phase_at g net stage.Relaying = phase.Relaying
+phase_at g net (stage.Finishing f) = phase.Finishing (reason_for f)
+phase_at g net other = phase.Draining
 
--- what was taken, and what waits for its client, was sent
-abbrev pub sent_by : Around → Conn → Counts
-sent_by a c = record {
-  client = length c.host.to_client + a.counted;
-  server = 0;
-  number = 0;
+-- what was taken, and what waits for a side, was sent to it
+abbrev pub sent_by : Around → Ends → Counts
+sent_by a e = record {
+  client = length e.client.queued + a.counted;
+  server = length e.server.queued + a.counted_server;
+  number = number_by e.link;
 }
 
 -- where its trace stands, by its own fields
-abbrev pub own_state : Setup → Around → Unread → Conn → TraceState
-own_state g a u c = record {
-  phase = phase_at g c.stage;
+abbrev pub own_state : Setup → Around → Conn → TraceState
+own_state g a c = record {
+  phase = phase_at g c.host.net c.stage;
   vars = c.vars;
   host = seen_host c.host;
   finished = has_finished c.stage;
-  client = arrived c.client;
-  server = NoServer;
-  sent = sent_by a c;
-  answers = record { replies = []; connects = u.connects; choices = u.choices; cut = None };
+  client = arrived c.ends.client;
+  server = server_by c.ends.link c.ends.server;
+  sent = sent_by a c.ends;
+  answers = record {
+    replies = [];
+    connects = connects_by c.ends.link c.ends.server;
+    choices = [];
+    cut = None;
+  };
 }
 
 -- these items, and then what this says
@@ -96,7 +98,7 @@ items_of n g ahead = take n (ahead.items ++ trace_from n g ahead.next)
 abbrev pub body_ahead : Setup → EventName → Handler → List Handler → TraceState → List Act
     → Outcome HostState → Ahead
 body_ahead g e b bs l acts o =
-    let items = map (act_item 0) acts in
+    let items = map (act_item l.sent.number) acts in
     let given = record l { sent = sent_from l.sent items } in
     record { items = items; next = ended_next g e b bs given o }
 
@@ -110,7 +112,10 @@ first_ahead g c e (b ∷ bs) waiting cost l =
     (seen_host c.host) l.answers.replies cost [] in
     body_ahead g e b bs l (drop waiting (state_after o).acts) o
 
+-- Where the reply came that selects an address or none, that comes first.
 abbrev pub ahead_at : Stage → Setup → Conn → (cost : ℕ) → TraceState → Ahead
+ahead_at (stage.Chosen addr) g c cost l =
+    record { items = []; next = counted l.sent (selected_next g l l.answers.replies addr) }
 ahead_at (stage.Running at n) g c cost l =
     first_ahead g c (event_of at) (drop n (g.handlers (event_of at))) 0 cost l
 ahead_at (stage.Asking at n) g c cost l =
@@ -118,9 +123,8 @@ ahead_at (stage.Asking at n) g c cost l =
 ahead_at other g c cost l = record { items = []; next = next_item g l }
 
 -- the first n items that follow on this further input, where the body that runs has this cost
-abbrev pub rest : Setup → Around → Unread → Conn → (cost : ℕ) → Further → ℕ → List Item
-rest g a u c cost f n =
-    items_of n g (ahead_at c.stage g c cost (longer f (own_state g a u c)))
+abbrev pub rest : Setup → Around → Conn → (cost : ℕ) → Further → ℕ → List Item
+rest g a c cost f n = items_of n g (ahead_at c.stage g c cost (longer f (own_state g a c)))
 
 -- these items were given, each let through its gate, and it holds what stands behind them
 pub record Continues (g : Setup) (a : Around) (l : TraceState) (given : List Item)
@@ -146,15 +150,15 @@ ConnectionContinues =
     → answers.cut ≡ None → Continues g a (start g client answers) given at c
     → (cost : ℕ) × ((f : Further) (n : ℕ) → MayCome a.took f.cut
     → trace (length given + n) g (longer f (start g client answers))
-    ≡ given ++ rest g a (unread_in at) c cost f n)
+    ≡ given ++ rest g a c cost f n)
 
 -- Each call keeps it: what a connection gives stands behind what it gave before.
 pub record CallsContinue : Type 0 where
   pub begins : (g : Setup) (c : Conn) → Holds g fresh (start g no_stream no_answers) c
       → Continues g fresh (start g no_stream no_answers) [] (start g no_stream no_answers) c
   pub takes : (g : Setup) (a : Around) (l : TraceState) (given : List Item) (at : TraceState)
-      (n : ℕ) (old new : Conn) → Takes n old new
-      → Continues g a l given at old → Continues g (took_more n a) l given at new
+      (side : Side) (n : ℕ) (old new : Conn) → Takes side n old new
+      → Continues g a l given at old → Continues g (took_more side n a) l given at new
   pub replies : (g : Setup) (a : Around) (l : TraceState) (given : List Item) (at : TraceState)
       (reply : Reply) (old new : Conn) → Replies reply old new
       → Continues g a l given at old

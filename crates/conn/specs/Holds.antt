@@ -1,34 +1,43 @@
 -- What a connection of the code holds, by where its trace stands.
-use Rattle.std.specs.Prelude.{◌≡◌, ℕ, ◌+◌, List, [], ◌∷◌, ◌++◌, length, drop, true, Some, None}
+use Rattle.std.specs.Prelude.{◌≡◌, ℕ, ◌+◌, List, [], ◌∷◌, ◌++◌, length, drop, true, false}
+use Rattle.std.specs.Prelude.{Option, None}
+use Rattle.px_bytes.specs.declared.addr.Addr.{Addr}
 use Rattle.px_bytes.specs.declared.fault.Reply.{Reply}
 use Rattle.event_order.specs.declared.event.EventName.{EventName}
+use Rattle.irule_net.specs.declared.state.NetState.{NetState}
+use Rattle.irule_net.specs.declared.state.Target.{Target}
+use Rattle.irule_net.specs.declared.state.Target.TheVariants.{Default, PoolOf, MemberOf, NodeAt}
 use Rattle.rule_model.specs.Evaluator.{evaluate}
 use Rattle.rule_model.specs.Outcome.{Act}
+use Rattle.connection_model.specs.Edges.{is_connecting}
 use Rattle.connection_model.specs.Gates.{TakenCounts, none_taken}
 use Rattle.connection_model.specs.Heard.{taken_by}
-use Rattle.irule_net.specs.declared.state.Asks.TheVariants.{NotAsked}
 use Rattle.connection_model.specs.Host.{body_setting}
+use Rattle.connection_model.specs.Selected.{any_member, only_member, select_call}
 use Rattle.connection_model.specs.Setup.{Handler, Setup}
 use Rattle.connection_model.specs.State.{Gated, Running, Failing, Phase, InEvent, TraceState}
-use Rattle.connection_model.specs.State.{NoServer}
 use Rattle.connection_model.specs.State as phase
 use Rattle.frame_machine.specs.Frames.{comes_to}
 use Rattle.conn.specs.declared.connection.Conn.{Conn}
+use Rattle.conn.specs.declared.ends.Ends.{Ends}
+use Rattle.conn.specs.declared.ends.Link.TheVariants as link
 use Rattle.conn.specs.declared.stage.Stage.{Stage}
 use Rattle.conn.specs.declared.stage.Stage.TheVariants as stage
-use Rattle.conn.specs.Arrivals.{arrived}
+use Rattle.conn.specs.Ends.{arrived, connects_by, fresh_end, has_stream, is_up, number_by}
+use Rattle.conn.specs.Ends.{server_by, servers_by}
 use Rattle.conn.specs.Events.{event_of}
-use Rattle.conn.specs.Hosts.{AsksNothing, seen_host}
-use Rattle.conn.specs.Stages.{reason_for}
+use Rattle.conn.specs.Hosts.{CollectsNothing, seen_host}
+use Rattle.conn.specs.Stages.{InEvent as HostIn, fits, has_finished, reason_for, selects}
 
--- What was told of it from outside: what was taken, where a client that was reset counts as having
--- taken all, and how many bytes its client was told to have taken.
+-- What was told of it from outside: what was taken, where a side that was reset counts as having
+-- taken all, and how many bytes its client and its server connection were told to have taken.
 pub record Around : Type 0 where
   pub took : TakenCounts
   pub counted : ℕ
+  pub counted_server : ℕ
 
 abbrev pub fresh : Around
-fresh = record { took = none_taken; counted = 0 }
+fresh = record { took = none_taken; counted = 0; counted_server = 0 }
 
 -- between bodies nothing is kept back
 pub record Between (l : TraceState) (c : Conn) : Type 0 where
@@ -44,7 +53,7 @@ pub record BodyGoesOn (g : Setup) (e : EventName) (b : Handler) (bs : List Handl
   pub acts : List Act
   pub cost : ℕ
   pub phase : l.phase ≡ InEvent e (Running b bs (length acts + waiting))
-  pub no_collect : l.host.net.client.asks ≡ NotAsked
+  pub no_collect : CollectsNothing g l.host.net
   pub same : (more : List Reply)
       → evaluate (body_setting g b.procedures) b.body l.vars l.host (l.answers.replies ++ more)
       g.budget
@@ -61,6 +70,25 @@ abbrev pub GatedBefore : EventName → List Handler → Phase → Type 0
 GatedBefore e [] p = ⊥
 GatedBefore e (b ∷ bs) p = p ≡ InEvent e (Gated b bs)
 
+-- the shared call that selects a server, by what the rules chose last; a node isn't asked for
+abbrev pub call_by : Setup → List ℕ → Target → List (List ℕ)
+call_by g pool Default = select_call g pool any_member
+call_by g pool (PoolOf name) = select_call g name any_member
+call_by g pool (MemberOf name addr) = select_call g name (only_member addr)
+call_by g pool (NodeAt addr) = []
+
+abbrev pub call_of : Setup → NetState → List (List ℕ)
+call_of g net = call_by g net.pool net.target
+
+-- the reply came that selects this address or none, and isn't taken yet
+pub record ReplyCame (l : TraceState) (c : Conn) (addr : Option Addr)
+    : Type 0 where
+  pub vars : l.vars ≡ c.vars
+  pub host : l.host ≡ seen_host c.host
+  pub reply : Reply
+  pub replies : l.answers.replies ≡ reply ∷ []
+  pub selects : addr ≡ selects reply
+
 abbrev pub Stands : Setup → Stage → TraceState → Conn → Type 0
 Stands g (stage.Gated at) l c =
     GatedBefore (event_of at) (g.handlers (event_of at)) l.phase × Between l c
@@ -72,21 +100,40 @@ Stands g (stage.Failing at n kind line) l c =
     (l.phase ≡ InEvent (event_of at) (Failing kind line (drop n (g.handlers (event_of at)))))
     × Between l c
 Stands g stage.Choosing l c = (l.phase ≡ phase.Choosing) × Between l c
+Stands g stage.Selecting l c = (l.phase ≡ phase.Selecting (call_of g c.host.net)) × Between l c
+Stands g (stage.Chosen addr) l c =
+    (l.phase ≡ phase.Selecting (call_of g c.host.net)) × ReplyCame l c addr
+Stands g (stage.Connecting to) l c = (l.phase ≡ phase.Connecting to) × Between l c
+Stands g (stage.Answering to) l c = (l.phase ≡ phase.Answering to) × Between l c
+Stands g stage.Relaying l c = (l.phase ≡ phase.Relaying) × Between l c
 Stands g (stage.Finishing f) l c = (l.phase ≡ phase.Finishing (reason_for f)) × Between l c
 Stands g stage.Draining l c = (l.phase ≡ phase.Draining) × Between l c
 Stands g stage.OutOfMemory l c = ⊥
 Stands g (stage.Dropped n) l c = ⊥
 
--- What it holds where its trace stands at l: what waits for its client is what was sent and not
--- taken, and what came of its client and wasn't read is that of the trace. Nothing was sent to a
--- server, and no cut was heard.
+-- What its two ends say where its trace stands at l: what waits for a side is what was sent to it and
+-- not taken, what came of it and wasn't read is that of the trace, and the link says the rest of the
+-- server's side. Where no server connection was made nothing came of it, and nothing was sent to it.
+pub record HoldsEnds (a : Around) (l : TraceState) (e : Ends) : Type 0 where
+  pub client : l.client ≡ arrived e.client
+  pub client_took : a.took.client ≡ taken_by e.client.reset a.counted
+  pub client_untaken : length e.client.queued + a.counted ≡ l.sent.client
+  pub server : l.server ≡ server_by e.link e.server
+  pub connects : l.answers.connects ≡ connects_by e.link e.server
+  pub number : l.sent.number ≡ number_by e.link
+  pub servers_took : a.took.servers ≡ servers_by e.link e.server.reset a.counted_server
+  pub server_untaken : length e.server.queued + a.counted_server ≡ l.sent.server
+  pub unsent : is_up e.link ≡ false → l.sent.server ≡ 0
+  pub nothing_came : has_stream e.link ≡ false → e.server ≡ fresh_end
+  pub connecting : is_connecting e.edges.server.state ≡ true → e.link ≡ link.Asked
+
+-- What it holds where its trace stands at l. No choice and no cut was heard that wasn't taken.
 pub record Holds (g : Setup) (a : Around) (l : TraceState) (c : Conn) : Type 0 where
   pub stage : Stands g c.stage l c
-  pub unasked : AsksNothing c.host.net
-  pub counts : a.took.client ≡ taken_by c.client.reset a.counted
-  pub untaken : length c.host.to_client + a.counted ≡ l.sent.client
-  pub client : l.client ≡ arrived c.client
-  pub no_server : l.server ≡ NoServer
-  pub none_sent : l.sent.server ≡ 0
-  pub no_number : l.sent.number ≡ 0
+  pub finished : l.finished ≡ has_finished c.stage
+  pub fits : fits c.stage c.ends.link ≡ true
+  pub event : HostIn c.stage c.host.event
+  pub no_collect : CollectsNothing g c.host.net
+  pub ends : HoldsEnds a l c.ends
+  pub no_choice : l.answers.choices ≡ []
   pub no_cut : l.answers.cut ≡ None

@@ -1,13 +1,13 @@
 -- The host of a connection's rules: what its commands see of it, and what is done of what they made.
-use Rattle.std.specs.Prelude.{◌≡◌, ℕ, List, [], ◌∷◌, ◌++◌, false, None}
+use Rattle.std.specs.Prelude.{◌≡◌, ℕ, List, [], ◌∷◌, ◌++◌, Bool, Option}
 use Rattle.px_bytes.specs.Host.{Effect, Logged, Sent}
 use Rattle.px_bytes.specs.declared.addr.Side.TheVariants.{Client, Server}
 use Rattle.event_order.specs.declared.event.EventName.{EventName}
-use Rattle.irule_net.specs.State.{begun}
-use Rattle.irule_net.specs.declared.state.Asks.TheVariants.{NotAsked}
+use Rattle.irule_net.specs.State.{begun, no_collect}
 use Rattle.irule_net.specs.declared.state.NetState.{NetState}
-use Rattle.irule_net.specs.declared.state.Target.TheVariants.{Default}
+use Rattle.irule_net.specs.declared.state.Selected.{Selected}
 use Rattle.connection_model.specs.Host.{HostState}
+use Rattle.connection_model.specs.Setup.{Setup}
 use Rattle.connection_model.specs.declared.note.Note.{Note}
 use Rattle.connection_model.specs.declared.note.Note.TheVariants as note
 use Rattle.conn.specs.declared.events.At.{At}
@@ -22,25 +22,31 @@ abbrev pub seen_host : RuleHost → HostState
 seen_host h = seen_net (event_of h.event) h.net
 
 abbrev pub fresh_host : NetState → RuleHost
-fresh_host net = record { event = Accepted; net = net; made = []; to_client = [] }
+fresh_host net = record { event = Accepted; net = net; made = [] }
 
--- an event begins, and there is no server
-abbrev pub begun_host : At → RuleHost → RuleHost
-begun_host at h = record h { event = at; net = record (begun h.net) { relays = false } }
+-- an event begins, where there is a server connection or none
+abbrev pub begun_host : At → (up : Bool) → RuleHost → RuleHost
+begun_host at up h = record h { event = at; net = record (begun h.net) { relays = up } }
 
-abbrev pub unselected_host : RuleHost → RuleHost
-unselected_host h = record h { net = record h.net { selected = None } }
+abbrev pub selected_host : Option Selected → RuleHost → RuleHost
+selected_host selected h = record h { net = record h.net { selected = selected } }
 
 -- the same with nothing left to be done
 abbrev pub cleared_host : RuleHost → RuleHost
 cleared_host h = record h { made = [] }
 
--- the bytes that effects send to the client
+-- the bytes that effects send to the client, and to the server
 abbrev pub client_bytes : List Effect → List ℕ
 client_bytes [] = []
 client_bytes (Logged text ∷ es) = client_bytes es
 client_bytes (Sent Client bytes ∷ es) = bytes ++ client_bytes es
 client_bytes (Sent Server bytes ∷ es) = client_bytes es
+
+abbrev pub server_bytes : List Effect → List ℕ
+server_bytes [] = []
+server_bytes (Logged text ∷ es) = server_bytes es
+server_bytes (Sent Client bytes ∷ es) = server_bytes es
+server_bytes (Sent Server bytes ∷ es) = bytes ++ server_bytes es
 
 -- the notes of the lines that effects log
 abbrev pub logs_of : ℕ → List Effect → List Note
@@ -48,12 +54,12 @@ logs_of c [] = []
 logs_of c (Logged text ∷ es) = note.Log c text ∷ logs_of c es
 logs_of c (Sent side bytes ∷ es) = logs_of c es
 
--- nothing is sent to a server
-abbrev pub ToClientAlone : List Effect → Type 0
-ToClientAlone [] = Unit {0}
-ToClientAlone (Logged text ∷ es) = ToClientAlone es
-ToClientAlone (Sent Client bytes ∷ es) = ToClientAlone es
-ToClientAlone (Sent Server bytes ∷ es) = ⊥
+-- bytes are sent to a server connection only where it is the first one
+abbrev pub SendsToFirst : (number : ℕ) → List Effect → Type 0
+SendsToFirst number [] = Unit {0}
+SendsToFirst number (Logged text ∷ es) = SendsToFirst number es
+SendsToFirst number (Sent Client bytes ∷ es) = SendsToFirst number es
+SendsToFirst number (Sent Server bytes ∷ es) = (number ≡ 1) × SendsToFirst number es
 
 -- one effect at most
 abbrev pub OneAtMost : List Effect → Type 0
@@ -62,15 +68,20 @@ OneAtMost (e ∷ []) = Unit {0}
 OneAtMost (e ∷ (f ∷ es)) = ⊥
 
 -- the effects were made, and aren't done yet
-pub record Made (a : RuleHost) (es : List Effect) (b : RuleHost) : Type 0 where
-  pub effects : b.made ≡ a.made ++ es
-  pub queue : b.to_client ≡ a.to_client
+abbrev pub Made : RuleHost → List Effect → RuleHost → Type 0
+Made a es b = b.made ≡ a.made ++ es
 
--- No rule chose where a server comes from, collects bytes, ends the connection or asks for another
--- selection: no command of today does, and the virtual server has no pool.
-pub record AsksNothing (s : NetState) : Type 0 where
-  pub target : s.target ≡ Default
-  pub pool : s.pool ≡ []
-  pub collect : s.client.asks ≡ NotAsked
-  pub ends : s.wishes.ends ≡ None
-  pub again : s.wishes.reselects ≡ false
+-- No rule collects bytes: no command of today does, so none are held, and none wait for a server.
+-- The client's address is that of its accept.
+pub record CollectsNothing (g : Setup) (s : NetState) : Type 0 where
+  pub from : s.from ≡ g.from
+  pub client : s.client ≡ no_collect
+  pub server : s.server ≡ no_collect
+  pub loose : s.loose ≡ []
+
+-- the same of what rules collect, and of the client's address
+pub record SameCollects (s t : NetState) : Type 0 where
+  pub from : t.from ≡ s.from
+  pub client : t.client ≡ s.client
+  pub server : t.server ≡ s.server
+  pub loose : t.loose ≡ s.loose

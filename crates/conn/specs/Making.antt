@@ -1,14 +1,11 @@
 -- What a host made grows along.
-use Rattle.std.proofs.Common.{refl, sym, ap, ◌∙◌, List, [], ◌++◌, append_assoc, append-nil}
+use Rattle.std.proofs.Common.{sym, ap, ◌∙◌, List, [], ◌++◌, append_assoc, append-nil}
 use Rattle.px_bytes.specs.Host.{Effect}
 use Rattle.conn.specs.declared.host.RuleHost.{RuleHost}
 use Rattle.conn.specs.Hosts.{Made}
 
 pub made_none : (a : RuleHost) → Made a [] a
-made_none a = record { effects = sym (append-nil a.made); queue = refl }
+made_none a = sym (append-nil a.made)
 
 pub made_both : (a b c : RuleHost) (es fs : List Effect) → Made a es b → Made b fs c → Made a (es ++ fs) c
-made_both a b c es fs p q = record {
-  effects = q.effects ∙ ap (λ x. x ++ fs) p.effects ∙ append_assoc a.made es fs;
-  queue = q.queue ∙ p.queue;
-}
+made_both a b c es fs p q = q ∙ ap (λ x. x ++ fs) p ∙ append_assoc a.made es fs

@@ -1,17 +1,18 @@
--- What is queued to a client. Once it was reset nothing is: all that it had, and all that is given to
--- it later, is dropped.
-use Rattle.std.specs.Prelude.{ℕ, List, [], length, if◌then◌else◌}
+-- What is queued to a side, and what was dropped.
+use Rattle.std.specs.Prelude.{ℕ, ◌+◌, List}
+use Rattle.px_bytes.specs.declared.addr.Side.{Side}
+use Rattle.conn.specs.Ends.{end_of, lost_at, queue_of}
 use Rattle.conn.specs.declared.connection.Conn.{Conn}
 use Rattle.conn.specs.declared.stage.Stage.{Stage}
 use Rattle.conn.specs.declared.stage.Stage.TheVariants as stage
 
-abbrev pub queue_in : Conn → List ℕ
-queue_in c = if c.client.reset then [] else c.host.to_client
+abbrev pub queue_in : Side → Conn → List ℕ
+queue_in side c = queue_of (end_of side c.ends)
 
--- so many bytes were dropped: those that were queued when it found no memory, or those of a reset
+-- so many bytes were dropped: those that were queued when it found no memory, or those of resets
 abbrev pub dropped_at : Stage → ℕ → ℕ
 dropped_at (stage.Dropped n) lost = n
 dropped_at other lost = lost
 
 abbrev pub dropped_by : Conn → ℕ
-dropped_by c = dropped_at c.stage (if c.client.reset then length c.host.to_client else 0)
+dropped_by c = dropped_at c.stage (lost_at c.ends.client + lost_at c.ends.server)

@@ -1,7 +1,9 @@
 -- What a Run makes of a connection, for each state that its trace may stand at.
-use Rattle.std.specs.Prelude.{◌≡◌, ◌⊎◌, ℕ, ◌+◌, ◌<◌, ◌≤◌, List, [], ◌++◌, length, true, false}
+use Rattle.std.specs.Prelude.{◌≡◌, ◌⊎◌, ℕ, ◌+◌, ◌<◌, ◌≤◌, List, [], ◌∷◌, ◌++◌, length, Bool, true, false}
 use Rattle.connection_model.specs.declared.note.Note.{Note}
-use Rattle.connection_model.specs.Item.{Item, calls_in, client_output}
+use Rattle.connection_model.specs.Edges.{edges_noted}
+use Rattle.connection_model.specs.declared.note.Note.TheVariants.{Ended}
+use Rattle.connection_model.specs.Item.{Item, calls_in, client_output, server_output}
 use Rattle.connection_model.specs.Setup as model
 use Rattle.connection_model.specs.State.{TraceState}
 use Rattle.conn.specs.declared.connection.Conn.{Conn}
@@ -10,22 +12,24 @@ use Rattle.conn.specs.declared.stage.Stage.{Stage}
 use Rattle.conn.specs.declared.stage.Stage.TheVariants as stage
 use Rattle.conn.specs.declared.turn.ConnTurn.{ConnTurn}
 use Rattle.conn.specs.declared.turn.ConnTurn.TheVariants as turn
+use Rattle.conn.specs.Ends.{queued_in}
 use Rattle.conn.specs.Holds.{Around, Holds}
-use Rattle.conn.specs.RunsItems.{Passes, RunsItems, asks, closing, out_of_memory}
-use Rattle.conn.specs.Calls.{Settles, over_in}
+use Rattle.conn.specs.RunsItems.{Passes, RunsItems, asks, out_of_memory}
 use Rattle.conn.specs.Setups.{Serves}
 use Rattle.conn.specs.Queues.{dropped_by}
+use Rattle.conn.specs.Settling.{closing, noted_in, over_in, rest_notes}
 use Rattle.conn.specs.Stages.{is_asking}
 
--- It goes on with these items, and its queue grew by what they send. It waits for a reply only where it
+-- It goes on with these items, and its queues grew by what they send. It waits for a reply only where it
 -- stopped at a call.
 pub record GoesOnWith (g : model.Setup) (a : Around) (l : TraceState) (c : ℕ) (old new : Conn)
     (group : List Note) (t : ConnTurn) : Type 0 where
   pub more : List Item
   pub at : TraceState
-  pub items : RunsItems g a.took l c more at group t (length new.host.to_client)
+  pub items : RunsItems g a.took old.ends.edges l c more at group t (queued_in new.ends)
   pub holds : Holds g a at new
-  pub queue : new.host.to_client ≡ old.host.to_client ++ client_output more
+  pub client_queue : new.ends.client.queued ≡ old.ends.client.queued ++ client_output more
+  pub server_queue : new.ends.server.queued ≡ old.ends.server.queued ++ server_output 1 more
   pub asking : is_asking new.stage ≡ asks t
 
 -- behind these items, no call among them, it found no memory, and all that is queued is dropped
@@ -34,9 +38,10 @@ pub record StopsWithout (g : model.Setup) (a : Around) (l : TraceState) (c : ℕ
   pub more : List Item
   pub at : TraceState
   pub passes : Passes g a.took l more at
-  pub noted : group ≡ out_of_memory c more
-      (length old.host.to_client + length (client_output more))
   pub no_call : calls_in more ≡ []
+  pub sent : at.sent.server ≡ l.sent.server + length (server_output 1 more)
+  pub noted : group ≡ out_of_memory c old.ends.edges more
+      (queued_in old.ends + (length (client_output more) + length (server_output 1 more)))
   pub over : t ≡ turn.Over
 
 -- wherever its trace stands, and no call is open
@@ -46,14 +51,18 @@ Runs s c old new group t =
     → is_asking old.stage ≡ false
     → GoesOnWith g a l c old new group t ⊎ StopsWithout g a l c old group t
 
--- where no more may be given the last notes come, if it is over
-abbrev pub Rested : ℕ → Conn → List Note → List Note → ConnTurn → Type 0
-Rested c conn before after turn.More = ⊥
-Rested c conn before after (turn.Asks call) = ⊥
-Rested c conn before after turn.NotYet =
-    Settles conn false × ((after ≡ before) × (over_in conn ≡ false))
-Rested c conn before after turn.Over =
-    Settles conn true × (after ≡ before ++ closing c (length conn.host.to_client))
+-- where no more may be given the notes come that are due
+pub record RestsThere (c : ℕ) (old new : Conn) (before after : List Note) (over : Bool)
+    : Type 0 where
+  pub over_is : over ≡ over_in old
+  pub noted : after ≡ before ++ rest_notes c old
+  pub told : new ≡ noted_in (rest_notes c old) old
+
+abbrev pub Rested : ℕ → Conn → Conn → List Note → List Note → ConnTurn → Type 0
+Rested c old new before after turn.More = ⊥
+Rested c old new before after (turn.Asks call) = ⊥
+Rested c old new before after turn.NotYet = RestsThere c old new before after false
+Rested c old new before after turn.Over = RestsThere c old new before after true
 
 -- a slice that stops in the middle counted more steps than these, or gave so many notes
 abbrev pub IsWhole : ConnTurn → (steps notes : ℕ) → Type 0
@@ -71,15 +80,17 @@ IsFew (stage.Dropped n) steps = Unit {0}
 IsFew other steps = steps ≤ 2000
 
 -- Memory was refused: what is queued is dropped, of which so many bytes were given, and it is over.
-pub record DropsQueued (c given : ℕ) (new : Conn) (before after : List Note) (t : ConnTurn)
+pub record DropsQueued (c given : ℕ) (old new : Conn) (before after : List Note) (t : ConnTurn)
     : Type 0 where
   pub there : new.stage ≡ stage.Dropped given
-  pub queue : new.host.to_client ≡ []
-  pub noted : after ≡ before ++ closing c given
+  pub client_queue : new.ends.client.queued ≡ []
+  pub server_queue : new.ends.server.queued ≡ []
+  pub edges : new.ends.edges ≡ edges_noted (closing c old.ends.edges given) old.ends.edges
+  pub noted : after ≡ before ++ closing c old.ends.edges given
   pub over : t ≡ turn.Over
 
 -- where it is over its last notes tell what was dropped
 abbrev pub TellsDropped : ConnTurn → ℕ → Conn → List Note → Type 0
 TellsDropped turn.Over c new after =
-    (before : List Note) × (after ≡ before ++ closing c (dropped_by new))
+    (before : List Note) × (after ≡ before ++ Ended c (dropped_by new) ∷ [])
 TellsDropped other c new after = Unit {0}

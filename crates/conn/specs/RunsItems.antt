@@ -1,54 +1,58 @@
 -- What a connection gives in one Run, from where its trace stands: the code's promise and the
 -- scheduler's move alike.
-use Rattle.std.specs.Prelude.{◌≡◌, ℕ, List, [], ◌∷◌, ◌++◌, Bool, true, false, ◌&&◌, nat_eq}
-use Rattle.std.specs.Prelude.{if◌then◌else◌, None, is_none}
-use Rattle.std.specs.List.{flat_map}
-use Rattle.px_bytes.specs.declared.addr.Addr.{Addr}
+use Rattle.std.specs.Prelude.{◌≡◌, ℕ, List, [], ◌∷◌, ◌++◌, Bool, true, false, Some, None}
+use Rattle.std.specs.Prelude.{if◌then◌else◌}
 use Rattle.px_bytes.specs.declared.addr.Side.TheVariants.{Client, Server}
+use Rattle.connection_model.specs.Edges.{edges_noted}
+use Rattle.connection_model.specs.declared.edges.Edges.{Edges}
 use Rattle.connection_model.specs.declared.note.Cause.TheVariants.{Memory}
+use Rattle.connection_model.specs.declared.note.CutReason.{CutReason}
+use Rattle.connection_model.specs.declared.note.CutReason.TheVariants.{ClientReset, ServerReset}
+use Rattle.connection_model.specs.declared.note.CutReason.TheVariants.{Idle}
 use Rattle.connection_model.specs.declared.note.Note.{Note}
-use Rattle.connection_model.specs.declared.note.Note.TheVariants.{Finish, CloseClient, Ended}
-use Rattle.connection_model.specs.Gates.{TakenCounts, to_take, Met}
-use Rattle.connection_model.specs.Item.{Item, Connected, calls_in, notes_of}
-use Rattle.connection_model.specs.Further.{longer}
+use Rattle.connection_model.specs.declared.note.Note.TheVariants.{Finish}
+use Rattle.connection_model.specs.Gates.{Counts, TakenCounts, Met}
+use Rattle.connection_model.specs.Item.{Item, CutBy, Finished, calls_in, choices_in, notes_of}
+use Rattle.connection_model.specs.Further.{choosing, longer}
 use Rattle.connection_model.specs.HeardLaws.{cut_in, taken_by_items}
+use Rattle.connection_model.specs.Queries.{is_reset}
 use Rattle.connection_model.specs.Setup.{Setup}
-use Rattle.connection_model.specs.State.{TraceState, ForReply, Next, Does, Waits, Over}
+use Rattle.connection_model.specs.State.{TraceState, ForReply, Waits}
 use Rattle.connection_model.specs.Trace.{next_item, Unfolds, GivesNoMore}
+use Rattle.conn.specs.Settling.{closing, is_drained, resting}
 use Rattle.conn.specs.declared.turn.ConnTurn.{ConnTurn}
 use Rattle.conn.specs.declared.turn.ConnTurn.TheVariants as turn
-
--- the last notes of a connection: its client is closed, and it is over, with so many bytes dropped
-abbrev pub closing : ℕ → ℕ → List Note
-closing number dropped = CloseClient number ∷ Ended number dropped ∷ []
-
-abbrev pub is_over : Next → Bool
-is_over (Does i l) = false
-is_over (Waits kind) = false
-is_over Over = true
-
--- its trace is over, and both sides took all that was sent to them
-abbrev pub is_drained : Setup → TakenCounts → TraceState → Bool
-is_drained g took at =
-    is_over (next_item g at)
-    && (nat_eq (to_take at.sent took Client) 0 && nat_eq (to_take at.sent took Server) 0)
-
--- then it ends, and what a reset left is dropped
-abbrev pub closing_if : Bool → ℕ → (dropped : ℕ) → List Note
-closing_if over c dropped = if over then closing c dropped else []
 
 abbrev pub ends : ConnTurn → Bool
 ends turn.Over = true
 ends other = false
 
--- where a Run stops: in the middle, at a call, where no more may be given, but not behind a reset, or
--- at the end
+-- it can't go on, or it is over
+abbrev pub is_resting : ConnTurn → Bool
+is_resting turn.NotYet = true
+is_resting turn.Over = true
+is_resting other = false
+
+-- what was told from outside licenses a cut: a side of it was reset
+abbrev pub licenses : CutReason → Counts → TakenCounts → Bool
+licenses ClientReset sent took = is_reset sent took Client
+licenses ServerReset sent took = is_reset sent took Server
+licenses Idle sent took = false
+
+-- the cut that is due where it rests, while it hasn't finished
+abbrev pub is_cut : TakenCounts → TraceState → Bool
+is_cut took at =
+    if at.finished then false
+    else (if licenses ClientReset at.sent took then true else licenses ServerReset at.sent took)
+
+-- where a Run stops: in the middle, at a call, where no more may be given and no cut is due, or at
+-- the end
 abbrev pub StopsAt : Setup → TakenCounts → TraceState → ConnTurn → Type 0
 StopsAt g took at turn.More = Unit {0}
 StopsAt g took at (turn.Asks call) = next_item g at ≡ Waits (ForReply call)
 StopsAt g took at turn.NotYet =
     GivesNoMore false at.sent took (next_item g at)
-    × ((is_drained g took at ≡ false) × (is_none took.client ≡ false))
+    × ((is_drained g took at ≡ false) × (is_cut took at ≡ false))
 StopsAt g took at turn.Over = is_drained g took at ≡ true
 
 -- whether it stopped at a call
@@ -61,35 +65,45 @@ abbrev pub asked_at : ConnTurn → List (List (List ℕ))
 asked_at (turn.Asks call) = call ∷ []
 asked_at other = []
 
--- the servers that items ask for a connection
-abbrev pub sought : Item → List Addr
-sought (Connected to) = to ∷ []
-sought other = []
-
-abbrev pub connects_in : List Item → List Addr
-connects_in items = flat_map sought items
+-- A cut came behind these items, where no more might be given, and what was told licenses it.
+pub record CutAtRest (g : Setup) (took : TakenCounts) (l : TraceState) (more : List Item)
+    (reason : CutReason) : Type 0 where
+  pub first : List Item
+  pub behind : List Item
+  pub mid : TraceState
+  pub split : more ≡ first ++ Finished (CutBy reason) ∷ behind
+  pub passed : Unfolds g (longer (choosing (choices_in first) None) l) first mid
+  pub rests : GivesNoMore false mid.sent took (next_item g mid)
+  pub licensed : licenses reason mid.sent took ≡ true
 
 -- From l these items came, on the choices that they took, and each was let through its gate; then
--- it stands at `at`. No cut is among them, no server is asked for a connection, and nothing was
--- sent to one.
+-- it stands at `at`. A cut is among them only where it is due.
 pub record Passes (g : Setup) (took : TakenCounts) (l : TraceState) (more : List Item)
     (at : TraceState) : Type 0 where
   pub passed : Unfolds g (longer (taken_by_items took more) l) more at
   pub met : Met l.sent took more
-  pub uncut : (t : TakenCounts) → cut_in t more ≡ None
-  pub no_connect : connects_in more ≡ []
-  pub no_server : at.sent.server ≡ 0
+  pub cut : (reason : CutReason) → cut_in took more ≡ Some (record { reason = reason; took = took })
+      → CutAtRest g took l more reason
 
--- It gave these items, and stops there; its notes are those of the items, and then the last ones
--- where it ends. The only call among them is the one at which it stops.
-pub record RunsItems (g : Setup) (took : TakenCounts) (l : TraceState) (c : ℕ)
+-- what is told behind the items, where it rests
+abbrev pub told_behind : ConnTurn → Setup → TakenCounts → TraceState → ℕ → Edges → (dropped : ℕ)
+    → List Note
+told_behind t g took at c e dropped =
+    if is_resting t then resting g took at c e dropped else []
+
+-- It gave these items, and stops there; its notes are those of the items, and then what is due where
+-- it rests. Before it the outside had been told so much of its ends. The only call among them is the
+-- one at which it stops.
+pub record RunsItems (g : Setup) (took : TakenCounts) (e : Edges) (l : TraceState) (c : ℕ)
     (more : List Item) (at : TraceState) (group : List Note) (t : ConnTurn) (dropped : ℕ)
     : Type 0 where
   pub passes : Passes g took l more at
-  pub noted : group ≡ notes_of c more ++ closing_if (ends t) c dropped
+  pub noted : group
+      ≡ notes_of c more ++ told_behind t g took at c (edges_noted (notes_of c more) e) dropped
   pub stops : StopsAt g took at t
   pub calls : calls_in more ≡ asked_at t
 
 -- it found no memory behind these items, and ends: so many bytes are dropped
-abbrev pub out_of_memory : ℕ → List Item → (dropped : ℕ) → List Note
-out_of_memory c more dropped = notes_of c more ++ Finish c Memory ∷ closing c dropped
+abbrev pub out_of_memory : ℕ → Edges → List Item → (dropped : ℕ) → List Note
+out_of_memory c e more dropped =
+    notes_of c more ++ Finish c Memory ∷ closing c (edges_noted (notes_of c more) e) dropped

@@ -45,11 +45,12 @@ nth_body s e n = option_and_then (body_in s.rules.now e) (slice_get (places_in s
 abbrev pub body_at : given.Setup → At → ℕ → Option Handler
 body_at s at n = nth_body s (event_of at) n
 
--- It is the setup of a trace, of a virtual server without HTTP that has no pool: the bodies of each
--- event are those at the places, one by one.
+-- It is the setup of a trace, of a virtual server without HTTP: the bodies of each event are those at
+-- the places, one by one.
 pub record Serves (s : given.Setup) (g : Setup) : Type 0 where
+  pub name : g.name ≡ s.name.now
   pub port : g.port ≡ s.port
-  pub pool : g.pool ≡ []
+  pub pool : g.pool ≡ s.pool.now
   pub http : g.http ≡ false
   pub budget : g.budget ≡ s.budget
   pub statics : g.statics ≡ s.statics.now.statics

@@ -1,48 +1,98 @@
 -- Where a connection goes.
-use Rattle.std.specs.Prelude.{ℕ, List, [], ◌∷◌, Bool, true, false}
-use Rattle.connection_model.specs.declared.note.Cause.{Cause}
-use Rattle.connection_model.specs.declared.note.Cause.TheVariants as cause
+use Rattle.std.specs.Prelude.{◌≡◌, ℕ, List, [], ◌∷◌, Bool, true, false, ◌&&◌, not, Option, Some, None}
+use Rattle.std.specs.Prelude.{if◌then◌else◌}
+use Rattle.px_bytes.specs.declared.addr.Addr.{Addr}
+use Rattle.px_bytes.specs.declared.fault.Reply.{Reply}
+use Rattle.px_bytes.specs.declared.fault.Reply.TheVariants as reply
+use Rattle.irule_net.specs.declared.state.Ending.{Ending}
+use Rattle.irule_net.specs.declared.state.Ending.TheVariants.{Rejects, Closes}
+use Rattle.irule_net.specs.declared.state.NetState.{NetState}
+use Rattle.irule_net.specs.declared.state.Selected.{Selected}
 use Rattle.connection_model.specs.Item.{Reason}
 use Rattle.connection_model.specs.Item as reason
+use Rattle.connection_model.specs.Selected.{addr_of}
+use Rattle.connection_model.specs.declared.note.Cause.{Cause}
+use Rattle.connection_model.specs.declared.note.Cause.TheVariants as cause
+use Rattle.conn.specs.declared.ends.Link.{Link}
 use Rattle.conn.specs.declared.events.At.{At}
-use Rattle.conn.specs.declared.events.At.TheVariants.{Accepted, Failed, Closed}
+use Rattle.conn.specs.declared.events.At.TheVariants as at
 use Rattle.conn.specs.declared.stage.Finish.{Finish}
 use Rattle.conn.specs.declared.stage.Finish.TheVariants as finish
 use Rattle.conn.specs.declared.stage.Stage.{Stage}
 use Rattle.conn.specs.declared.stage.Stage.TheVariants as stage
 use Rattle.conn.specs.declared.setup.Place.{Place}
 use Rattle.conn.specs.declared.setup.Setup.{Setup}
+use Rattle.conn.specs.Ends.{is_sought, is_up}
+use Rattle.conn.specs.Events.{event_of, is_closed}
 use Rattle.conn.specs.Setups.{places_at}
 
 abbrev pub reason_for : Finish → Reason
+reason_for finish.Closed = reason.Closed
+reason_for finish.Rejected = reason.Rejected
 reason_for finish.Unselected = reason.Unselected
 reason_for (finish.Fault kind) = reason.Tcl kind
+reason_for (finish.Cut cut) = reason.CutBy cut
 
 abbrev pub cause_for : Finish → Cause
+cause_for finish.Closed = cause.Closed
+cause_for finish.Rejected = cause.Rejected
 cause_for finish.Unselected = cause.Unselected
 cause_for (finish.Fault kind) = cause.Tcl kind
+cause_for (finish.Cut cut) = cause.Cut cut
 
--- where all bodies of an event have ended
-abbrev pub after_stage : At → Stage
-after_stage Accepted = stage.Choosing
-after_stage Failed = stage.Finishing finish.Unselected
-after_stage Closed = stage.Draining
+-- the address that a reply selects
+abbrev pub selects : Reply → Option Addr
+selects (reply.Ok text) = addr_of text
+selects (reply.Fault fault) = None
+
+abbrev pub ended_stage : Ending → Stage
+ended_stage Rejects = stage.Finishing finish.Rejected
+ended_stage Closes = stage.Finishing finish.Closed
+
+abbrev pub connecting_stage : Option Selected → Stage
+connecting_stage None = stage.Finishing finish.Unselected
+connecting_stage (Some s) = stage.Connecting s.addr
+
+-- where it goes behind an event that nothing ended
+abbrev pub goes_on_stage : At → NetState → Stage
+goes_on_stage at.Accepted net = stage.Choosing
+goes_on_stage at.Selected net = connecting_stage net.selected
+goes_on_stage at.Failed net =
+    if net.wishes.reselects then stage.Choosing else stage.Finishing finish.Unselected
+goes_on_stage at.Connected net = stage.Relaying
+goes_on_stage at.ServerClosed net = stage.Draining
+goes_on_stage at.Closed net = stage.Draining
+
+abbrev pub unless_ended : Option Ending → Stage → Stage
+unless_ended None st = st
+unless_ended (Some ending) st = ended_stage ending
+
+-- where all bodies of an event have ended; behind the one that closes its server another comes
+abbrev pub after_stage : At → NetState → Stage
+after_stage at net =
+    if is_closed at then stage.Draining else unless_ended net.wishes.ends (goes_on_stage at net)
 
 -- where an event is entered
-abbrev pub entered_by : At → List Place → Stage
-entered_by at [] = after_stage at
-entered_by at (p ∷ ps) = stage.Gated at
+abbrev pub entered_by : At → NetState → List Place → Stage
+entered_by at net [] = after_stage at net
+entered_by at net (p ∷ ps) = stage.Gated at
 
-abbrev pub entered_stage : Setup → At → Stage
-entered_stage s at = entered_by at (places_at s at)
+abbrev pub entered_stage : Setup → At → NetState → Stage
+entered_stage s at net = entered_by at net (places_at s at)
 
+-- it waits for the reply to a shared call
 abbrev pub is_asking : Stage → Bool
 is_asking (stage.Asking at number) = true
+is_asking stage.Selecting = true
 is_asking other = false
 
 abbrev pub is_draining : Stage → Bool
 is_draining stage.Draining = true
 is_draining other = false
+
+abbrev pub is_relaying : Stage → Bool
+is_relaying stage.Relaying = true
+is_relaying other = false
 
 -- where memory was refused; a connection that is over stays so
 abbrev pub failed : Stage → Stage
@@ -54,12 +104,6 @@ abbrev pub dropped_in : Stage → ℕ
 dropped_in (stage.Dropped n) = n
 dropped_in other = 0
 
--- the closing event runs once it has finished
-abbrev pub is_closed : At → Bool
-is_closed Accepted = false
-is_closed Failed = false
-is_closed Closed = true
-
 abbrev pub has_finished : Stage → Bool
 has_finished (stage.Running at n) = is_closed at
 has_finished (stage.Asking at n) = is_closed at
@@ -68,3 +112,33 @@ has_finished stage.Draining = true
 has_finished stage.OutOfMemory = true
 has_finished (stage.Dropped n) = true
 has_finished other = false
+
+-- the host has the event whose bodies run, or are to
+abbrev pub InEvent : Stage → At → Type 0
+InEvent (stage.Gated at) event = event_of event ≡ event_of at
+InEvent (stage.Running at n) event = event_of event ≡ event_of at
+InEvent (stage.Asking at n) event = event_of event ≡ event_of at
+InEvent (stage.Failing at n kind line) event = event_of event ≡ event_of at
+InEvent other event = Unit {0}
+
+-- Where there may be a server connection: it is selected and asked for while there is none, and there
+-- once it was made. The closing events have no gate, and a cut finishes at once.
+abbrev pub at_fits : At → Link → Bool
+at_fits at.Connected link = is_up link
+at_fits at.ServerClosed link = true
+at_fits at.Closed link = true
+at_fits other link = not (is_sought link)
+
+abbrev pub fits : Stage → Link → Bool
+fits (stage.Gated at) link = not (is_closed at) && at_fits at link
+fits (stage.Running at n) link = at_fits at link
+fits (stage.Asking at n) link = at_fits at link
+fits (stage.Failing at n kind line) link = at_fits at link
+fits stage.Choosing link = not (is_sought link)
+fits stage.Selecting link = not (is_sought link)
+fits (stage.Chosen addr) link = not (is_sought link)
+fits (stage.Connecting to) link = not (is_sought link)
+fits (stage.Answering to) link = is_sought link && not (is_up link)
+fits stage.Relaying link = is_up link
+fits (stage.Finishing (finish.Cut reason)) link = false
+fits other link = true

@@ -13,6 +13,7 @@ use Rattle.frame_machine.specs.declared.turn.Turn.TheVariants as turn
 use Rattle.conn.specs.declared.body_step.Said.{Said}
 use Rattle.conn.specs.declared.body_step.Said.TheVariants as said
 use Rattle.conn.specs.declared.connection.Conn.{Conn}
+use Rattle.conn.specs.declared.ends.Ends.{Ends}
 use Rattle.conn.specs.declared.events.At.{At}
 use Rattle.conn.specs.declared.setup.Setup.{Setup}
 use Rattle.conn.specs.declared.stage.Stage.TheVariants as stage
@@ -21,7 +22,8 @@ use Rattle.conn.specs.declared.turn.Act.TheVariants as act
 use Rattle.conn.specs.Bodies.{SaidIs}
 use Rattle.conn.specs.Changes.{GoesTo, NextBody}
 use Rattle.conn.specs.Events.{event_of}
-use Rattle.conn.specs.Hosts.{Made, cleared_host, client_bytes, logs_of, seen_host}
+use Rattle.conn.specs.Hosts.{Made, cleared_host, client_bytes, logs_of, seen_host, server_bytes}
+use Rattle.conn.specs.Relaying.{queue_end}
 use Rattle.conn.specs.Setups.{body_at}
 
 -- what one command made
@@ -29,15 +31,21 @@ abbrev pub one_of : List Effect → List Effect
 one_of (e ∷ []) = e ∷ []
 one_of es = []
 
--- it is done: a line is noted, and bytes go to the client
+-- bytes are queued to both ends
+abbrev pub queue_both : List ℕ → List ℕ → Ends → Ends
+queue_both to_client to_server e = record e {
+  client = queue_end to_client e.client;
+  server = queue_end to_server e.server;
+}
+
+-- it is done: a line is noted, and bytes go to a side
 pub record DoesMade (c : ℕ) (old new : Conn) (before after : List Note) : Type 0 where
   pub there : new.stage ≡ old.stage
   pub body : new.body ≡ old.body
   pub vars : new.vars ≡ old.vars
-  pub client : new.client ≡ old.client
-  pub host : new.host ≡ record old.host {
-    to_client = old.host.to_client ++ client_bytes (one_of old.host.made);
-  }
+  pub host : new.host ≡ old.host
+  pub ends : new.ends ≡ queue_both (client_bytes (one_of old.host.made))
+      (server_bytes (one_of old.host.made)) old.ends
   pub noted : after ≡ before ++ logs_of c (one_of old.host.made)
 
 -- what a step said, with the line of a fault that it left uncaught
@@ -67,7 +75,7 @@ pub record BodySteps (s : Setup) (h : Handler) (c : ℕ) (at : At) (number : ℕ
   pub turned : Turn
   pub ticks : ℕ
   pub there : stepped.stage ≡ old.stage
-  pub client : stepped.client ≡ old.client
+  pub ends : stepped.ends ≡ old.ends
   pub went : old.body.runs ≡ true
       → Went (setting (Some s.statics.now.statics) (commands s.groups.now) h.procedures)
       h.body (place old.body.machine.at old.vars (seen_host old.host))
@@ -79,7 +87,8 @@ pub record BodySteps (s : Setup) (h : Handler) (c : ℕ) (at : At) (number : ℕ
 
 abbrev pub BodyMovedBy :
     Setup → Option Handler → ℕ → At → ℕ → Conn → Conn → List Note → List Note → Act → Type 0
-BodyMovedBy s None c at number old new before after a = after ≡ before
+BodyMovedBy s None c at number old new before after a =
+    (a ≡ act.Rests) × (new ≡ old) × (after ≡ before)
 BodyMovedBy s (Some h) c at number old new before after a =
     BodySteps s h c at number old new before after a
 

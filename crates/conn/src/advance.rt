@@ -2,23 +2,19 @@
 
 ghost use Rattle.std.specs.Prelude.{◌≡◌, ◌+◌, ◌<◌, ◌≤◌, ◌∷◌, ◌++◌, [], length, IfOk, OnOk};
 ghost use Rattle.std.specs.Prelude.{OnErr};
-ghost use Rattle.connection_model.specs.declared.note.Note.TheVariants as noted;
-ghost use Rattle.conn.specs.Acts.{Acted, BehindFault, Chooses, Closes, LogsFault, PassesGate};
-ghost use Rattle.conn.specs.Stages.{cause_for};
+ghost use Rattle.conn.specs.Acts.{Acted, BehindFault, LogsFault, PassesGate, Rests, cut_of};
 
 use crate::connection::Conn;
+use crate::ends::ROOM;
 use crate::events::At;
 use crate::setup::Setup;
 use crate::stage::{Finish, Stage};
 use crate::turn::Act;
-use connection_model::{Note, Notes};
-use px_bytes::{FaultKind, M, Steps, Text};
+use connection_model::{CutReason, Note, Notes};
+use px_bytes::{FaultKind, M, Steps};
 use std::alloc::Global;
 use std::mem;
 use std::sync::ledger::Ledger;
-
-/// Bytes are moved on while fewer than these wait.
-const ROOM: usize = 65_536;
 
 impl Conn {
     /// Gives the items of one action, where there are some and they may be given.
@@ -36,6 +32,7 @@ impl Conn {
         ensures ok { IfOk result
             (λ act. Acted setup.now number self.old self.new notes.old.items notes.new.items act) }
         ensures err { OnErr result (notes.new ≡ notes.old) }
+        ensures kept { OnErr result (self.new.ends.edges ≡ self.old.ends.edges) }
         ensures ticks { OnOk result (steps.old < steps.new) }
         ensures few { OnOk result (steps.new ≤ steps.old + 10) }
         ensures counted { OnOk result (spent.new + steps.old ≡ spent.old + steps.new) }
@@ -57,13 +54,34 @@ impl Conn {
             Stage::Gated { at } => {
                 steps.tick();
                 *spent += 1;
-                Ok(self.pass_gate(setup, at))
+                Ok(self.pass_gate(setup, number, at, notes))
             }
             Stage::Choosing => {
                 steps.tick();
                 *spent += 1;
-                self.choose(setup);
+                self.choose(alloc, setup)
+            }
+            Stage::Chosen(addr) => {
+                steps.tick();
+                *spent += 1;
+                self.take_chosen(alloc, setup, addr)?;
                 Ok(Act::Goes)
+            }
+            Stage::Connecting(to) => {
+                steps.tick();
+                *spent += 1;
+                self.connect(number, to, notes);
+                Ok(Act::Goes)
+            }
+            Stage::Answering(_) => {
+                steps.tick();
+                *spent += 1;
+                Ok(self.answer(setup, number, notes))
+            }
+            Stage::Relaying => {
+                steps.tick();
+                *spent += 1;
+                self.relay(setup, number, notes)
             }
             Stage::Finishing(finish) => {
                 steps.tick();
@@ -71,7 +89,11 @@ impl Conn {
                 self.finish(setup, number, finish, notes);
                 Ok(Act::Goes)
             }
-            Stage::Asking { .. } | Stage::Draining | Stage::OutOfMemory | Stage::Dropped(_) => {
+            Stage::Asking { .. }
+            | Stage::Selecting
+            | Stage::Draining
+            | Stage::OutOfMemory
+            | Stage::Dropped(_) => {
                 steps.tick();
                 *spent += 1;
                 Ok(Act::Rests)
@@ -80,15 +102,57 @@ impl Conn {
     }
 
     // Through the gate before bodies, where there is room for what they send.
-    fn pass_gate(&mut self, setup: &Setup<'_>, at: At) -> Act
-        ensures { PassesGate setup.now at self.old self.new result }
+    fn pass_gate(&mut self, setup: &Setup<'_>, number: u32, at: At, notes: &mut Notes) -> Act
+        requires { 1 ≤ notes.old.spare }
+        ensures passes { PassesGate setup.now number at self.old self.new
+            notes.old.items notes.new.items result }
+        ensures spare { notes.old.spare ≤ notes.new.spare + 1 }
+        ensures grows { length notes.old.items ≤ length notes.new.items }
+        ensures room { notes.new.spare + length notes.new.items
+            ≡ notes.old.spare + length notes.old.items }
     {
-        if self.pending() < ROOM {
-            self.start_body(setup, at, 0);
-            Act::Goes
-        } else {
-            Act::Rests
+        if self.ends.client.pending() < ROOM {
+            if self.ends.server.pending() < ROOM {
+                self.start_body(setup, at, 0);
+                return Act::Goes;
+            }
         }
+        self.rest_or_cut(setup, number, notes)
+    }
+
+    /// Nothing may be given: a reset that was told cuts the connection.
+    pub(crate) fn rest_or_cut(&mut self, setup: &Setup<'_>, number: u32, notes: &mut Notes) -> Act
+        requires { 1 ≤ notes.old.spare }
+        ensures rests { Rests setup.now number self.old self.new
+            notes.old.items notes.new.items result }
+        ensures spare { notes.old.spare ≤ notes.new.spare + 1 }
+        ensures grows { length notes.old.items ≤ length notes.new.items }
+        ensures room { notes.new.spare + length notes.new.items
+            ≡ notes.old.spare + length notes.old.items }
+    {
+        match self.cut() {
+            Some(reason) => {
+                self.finish(setup, number, Finish::Cut(reason), notes);
+                Act::Goes
+            }
+            None => Act::Rests,
+        }
+    }
+
+    // The reset that cuts it.
+    fn cut(&self) -> Option<CutReason>
+        ensures { result ≡ cut_of self.now }
+    {
+        if self.stage.has_finished() {
+            return None;
+        }
+        if self.ends.client.reset {
+            return Some(CutReason::ClientReset);
+        }
+        if self.ends.server.reset {
+            return Some(CutReason::ServerReset);
+        }
+        None
     }
 
     // Logs the fault that a body left.
@@ -120,36 +184,10 @@ impl Conn {
     fn behind_fault(&mut self, setup: &Setup<'_>, at: At, next: usize, kind: FaultKind)
         ensures { BehindFault setup.now at next kind self.old self.new }
     {
-        match at {
-            At::Closed => self.next_body(setup, at, next),
-            At::Accepted | At::Failed => self.stage = Stage::Finishing(Finish::Fault(kind)),
+        if at.is_closed() {
+            self.next_body(setup, at, next);
+        } else {
+            self.stage = Stage::Finishing(Finish::Fault(kind));
         }
-    }
-
-    // No server is found.
-    fn choose(&mut self, setup: &Setup<'_>)
-        ensures { Chooses setup.now self.old self.new }
-    {
-        self.host.unselect();
-        self.host.begin(At::Failed);
-        self.stage = setup.enter(At::Failed);
-    }
-
-    fn finish(&mut self, setup: &Setup<'_>, number: u32, finish: Finish, notes: &mut Notes)
-        requires { 1 ≤ notes.old.spare }
-        ensures closes { Closes setup.now self.old self.new }
-        ensures noted { notes.new.items
-            ≡ notes.old.items ++ noted.Finish number (cause_for finish) ∷ [] }
-        ensures spare { notes.old.spare ≤ notes.new.spare + 1 }
-        ensures grows { length notes.old.items ≤ length notes.new.items }
-        ensures room { notes.new.spare + length notes.new.items
-            ≡ notes.old.spare + length notes.old.items }
-    {
-        notes.push_reserved(Note::Finish {
-            conn: number,
-            cause: finish.cause(),
-        });
-        self.host.begin(At::Closed);
-        self.next_body(setup, At::Closed, 0);
     }
 }

@@ -14,17 +14,18 @@ use crate::turn::Act;
 use crate::uncaught::uncaught;
 use connection_model::{Notes, uncaught_line};
 use frame_machine::Turn;
+use irule_net::NetState;
 use px_bytes::{FaultKind, M, Steps, Text, Texts};
 use std::alloc::Global;
 use std::sync::ledger::Ledger;
 
 impl Setup<'_> {
     /// Where a connection stands that enters an event.
-    pub(crate) fn enter(&self, at: At) -> Stage
-        ensures { result ≡ entered_stage self.now at }
+    pub(crate) fn enter(&self, at: At, net: &NetState) -> Stage
+        ensures { result ≡ entered_stage self.now at net.now }
     {
         if self.places(at).is_empty() {
-            return Stage::after(at);
+            return Stage::after(at, net);
         }
         Stage::Gated { at }
     }
@@ -38,7 +39,7 @@ impl Conn {
         if number < setup.places(at).len() {
             self.start_body(setup, at, number);
         } else {
-            self.stage = Stage::after(at);
+            self.leave(setup, at);
         }
     }
 
@@ -68,6 +69,7 @@ impl Conn {
         ensures moved { IfOk result (λ act.
             BodyMoved setup.now number at body self.old self.new notes.old.items notes.new.items act) }
         ensures err { OnErr result (notes.new ≡ notes.old) }
+        ensures kept { OnErr result (self.new.ends.edges ≡ self.old.ends.edges) }
         ensures ticks { OnOk result (steps.old < steps.new) }
         ensures few { OnOk result (steps.new ≤ steps.old + 10) }
         ensures counted { OnOk result (spent.new + steps.old ≡ spent.old + steps.new) }

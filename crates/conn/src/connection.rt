@@ -1,75 +1,79 @@
 // A connection.
 
-ghost use Rattle.std.specs.Prelude.{◌≡◌, ◌≤◌, ◌++◌, [], true, false, IfOk, OnOk, OnErr};
-ghost use Rattle.std.specs.Prelude.{length, take, drop};
-ghost use Rattle.conn.specs.Calls.{Begins, Hears, Replies, Resets, Takes, Settles, Wants, over_in};
-ghost use Rattle.conn.specs.Queues.{queue_in};
+ghost use Rattle.std.specs.Prelude.{◌≡◌, ◌≤◌, [], true, false, IfOk, OnOk, OnErr};
+ghost use Rattle.std.specs.Prelude.{length, take};
+ghost use Rattle.connection_model.specs.Edges.{is_connecting};
+ghost use Rattle.conn.specs.Calls.{Begins, Connects, Hears, Replies, Resets, Takes, Wants};
+ghost use Rattle.conn.specs.Calls.{connected_ends, ended_ends, heard_ends, reset_ends, took_ends};
 ghost use Rattle.conn.specs.Calls.{wanted_in};
-ghost use Rattle.conn.specs.Stages.{has_finished, is_asking};
-ghost use Rattle.conn.specs.RunsItems.{closing_if};
+ghost use Rattle.connection_model.specs.Selected.{addr_of};
+ghost use Rattle.conn.specs.Ends.{end_of, fresh_ends};
+ghost use Rattle.conn.specs.Queues.{queue_in};
+ghost use Rattle.conn.specs.Stages.{has_finished, is_asking, selects};
 
-use crate::arrived::Arrived;
 use crate::body::Body;
+use crate::ends::{End, Ends, UNREAD_LIMIT};
 use crate::events::At;
 use crate::host::RuleHost;
 use crate::setup::Setup;
 use crate::stage::Stage;
-use connection_model::{Note, Notes};
+use connection_model::Edges;
 use irule_net::NetState;
-use px_bytes::{Addr, M, Reply, Text};
+use px_bytes::{Addr, M, Reply, Side, Text, read_addr};
 use std::alloc::Global;
 use tcl_vars::Vars;
 
-/// The most bytes of a side that may lie unread.
-const UNREAD_LIMIT: usize = 65_536;
-
 /// A connection: where it stands, the body that runs, the variables of its rules, which all events
-/// share, their host, and what came of its client and wasn't read.
+/// share, their host, and its two ends.
 #[derive(Drop)]
 pub struct Conn {
     pub(crate) stage: Stage,
     pub(crate) body: Body,
     pub(crate) vars: Vars,
     pub(crate) host: RuleHost,
-    pub(crate) client: Arrived,
+    pub(crate) ends: Ends,
 }
 
 impl Conn {
     /// A connection from an address that was accepted and has done nothing yet.
-    pub fn new(alloc: Global, setup: &Setup<'_>, from: Addr) -> Conn
-        ensures begins { Begins setup.now from result }
-        ensures queue { result.host.to_client ≡ [] }
-        ensures awake { is_asking result.stage ≡ false }
+    pub fn new(alloc: Global, setup: &Setup<'_>, from: Addr) -> M<Conn>
+        ensures begins { IfOk result (λ new. Begins setup.now from new) }
+        ensures ends { IfOk result (λ new. new.ends ≡ fresh_ends) }
+        ensures awake { IfOk result (λ new. is_asking new.stage ≡ false) }
     {
-        let net = NetState::new(alloc, from, setup.port, Text::empty(alloc), false);
-        Conn {
-            stage: setup.enter(At::Accepted),
+        let pool = Text::new(alloc, setup.pool)?;
+        let net = NetState::new(alloc, from, setup.port, pool, false);
+        Ok(Conn {
+            stage: setup.enter(At::Accepted, &net),
             body: Body::new(alloc),
             vars: Vars::new(alloc),
             host: RuleHost::new(alloc, net),
-            client: Arrived::new(alloc),
-        }
+            ends: Ends::new(alloc),
+        })
     }
 
-    /// Its client took the first `n` bytes.
-    pub fn took(&mut self, n: usize)
-        requires { n ≤ length (queue_in self.old) }
-        ensures takes { Takes n self.old self.new }
-        ensures queue { self.new.host.to_client ≡ drop n self.old.host.to_client }
-        ensures stage { self.new.stage ≡ self.old.stage }
-        ensures client { self.new.client ≡ self.old.client }
+    /// A side took the first `n` bytes.
+    pub fn took(&mut self, side: Side, n: usize)
+        requires { n ≤ length (queue_in side self.old) }
+        ensures takes { Takes side n self.old self.new }
+        ensures ends { self.new ≡ record self.old { ends = took_ends side n self.old.ends } }
     {
-        self.host.to_client.drop_front(n);
+        self.ends.took(side, n);
     }
 
-    /// Its client was reset: what is queued to it is dropped, and all that is given to it later.
-    pub fn reset(&mut self)
-        ensures resets { Resets self.old self.new }
-        ensures host { self.new.host ≡ self.old.host }
-        ensures stage { self.new.stage ≡ self.old.stage }
-        ensures client { self.new.client ≡ record self.old.client { reset = true } }
+    /// A side was reset: what is queued to it is dropped, and all that is given to it later.
+    pub fn reset(&mut self, side: Side)
+        ensures resets { Resets side self.old self.new }
+        ensures ends { self.new ≡ record self.old { ends = reset_ends side self.old.ends } }
     {
-        self.client.reset = true;
+        self.ends.reset(side);
+    }
+
+    /// Where its ends stand for the outside.
+    pub fn edges(&self) -> Edges
+        ensures { result ≡ self.now.ends.edges }
+    {
+        self.ends.edges
     }
 
     /// Whether it waits for the reply to a shared call.
@@ -84,13 +88,16 @@ impl Conn {
     pub fn reply(&mut self, reply: &Reply) -> M<()>
         requires { is_asking self.old.stage ≡ true }
         ensures replies { OnOk result (Replies reply.now self.old self.new) }
-        ensures queue { self.new.host.to_client ≡ self.old.host.to_client }
+        ensures ends { self.new.ends ≡ self.old.ends }
         ensures awake { OnOk result (is_asking self.new.stage ≡ false) }
         ensures stage { OnErr result (self.new.stage ≡ self.old.stage) }
-        ensures client { self.new.client ≡ self.old.client }
     {
         match self.stage {
             Stage::Asking { at, number } => self.hear(at, number, reply),
+            Stage::Selecting => {
+                self.stage = Stage::Chosen(selected_by(reply));
+                Ok(())
+            }
             _ => Ok(()),
         }
     }
@@ -98,133 +105,117 @@ impl Conn {
     fn hear(&mut self, at: At, number: usize, reply: &Reply) -> M<()>
         requires { self.old.stage ≡ Stage.Asking at number }
         ensures replies { OnOk result (Replies reply.now self.old self.new) }
-        ensures queue { self.new.host.to_client ≡ self.old.host.to_client }
+        ensures ends { self.new.ends ≡ self.old.ends }
         ensures awake { OnOk result (is_asking self.new.stage ≡ false) }
         ensures stage { OnErr result (self.new.stage ≡ self.old.stage) }
-        ensures client { self.new.client ≡ self.old.client }
     {
         self.body.resume(reply)?;
         self.stage = Stage::Running { at, number };
         Ok(())
     }
 
-    /// How many bytes its client is to take.
-    pub fn pending(&self) -> usize
-        ensures { result ≡ length (queue_in self.now) }
+    /// Whether the server that it asked for took the connection. Once it has finished nothing comes
+    /// of it.
+    pub fn connected(&mut self, made: bool)
+        requires { is_connecting self.old.ends.edges.server.state ≡ true }
+        ensures connects { Connects made self.old self.new }
+        ensures ends { self.new ≡ record self.old {
+          ends = connected_ends (has_finished self.old.stage) made self.old.ends;
+        } }
     {
-        if self.client.reset { 0 } else { self.queued() }
+        let finished = self.stage.has_finished();
+        self.ends.connected(made, finished);
     }
 
-    /// How many bytes were queued to it and weren't taken, also behind a reset.
-    pub(crate) fn queued(&self) -> usize
-        ensures { result ≡ length self.now.host.to_client }
+    fn end_of(&self, side: Side) -> &End
+        ensures { result.now ≡ end_of side self.now.ends }
     {
-        self.host.to_client.len()
-    }
-
-    /// The bytes that its client is to take.
-    pub fn front(&self) -> &[u8]
-        ensures { result.now ≡ queue_in self.now }
-    {
-        if self.client.reset {
-            &[]
-        } else {
-            self.host.to_client.front()
+        match side {
+            Side::Client => &self.ends.client,
+            Side::Server => &self.ends.server,
         }
     }
 
+    /// How many bytes a side is to take.
+    pub fn pending(&self, side: Side) -> usize
+        ensures { result ≡ length (queue_in side self.now) }
+    {
+        self.end_of(side).pending()
+    }
+
+    /// The bytes that a side is to take.
+    pub fn front(&self, side: Side) -> &[u8]
+        ensures { result.now ≡ queue_in side self.now }
+    {
+        self.end_of(side).front()
+    }
+
     /// The first `n` of them.
-    pub fn copy(&self, n: usize) -> M<Text>
-        requires { n ≤ length (queue_in self.now) }
-        ensures { IfOk result (λ text. text ≡ take n (queue_in self.now)) }
+    pub fn copy(&self, side: Side, n: usize) -> M<Text>
+        requires { n ≤ length (queue_in side self.now) }
+        ensures { IfOk result (λ text. text ≡ take n (queue_in side self.now)) }
     {
-        self.host.to_client.copy(n)
+        self.end_of(side).copy(n)
     }
 
-    /// How many bytes of its client may come.
-    pub fn wants(&self) -> usize
-        ensures exact { result ≡ wanted_in self.now }
-        ensures wanted { Wants self.now result }
+    /// How many bytes of a side may come.
+    pub fn wants(&self, side: Side) -> usize
+        ensures exact { result ≡ wanted_in side self.now }
+        ensures wanted { Wants side self.now result }
     {
-        self.left()
+        self.left(side)
     }
 
-    fn left(&self) -> usize
-        ensures { result ≡ wanted_in self.now }
+    fn left(&self, side: Side) -> usize
+        ensures { result ≡ wanted_in side self.now }
     {
         if self.stage.has_finished() {
             return UNREAD_LIMIT;
         }
-        UNREAD_LIMIT.saturating_sub(self.client.unread.len())
+        UNREAD_LIMIT.saturating_sub(self.end_of(side).unread.len())
     }
 
-    /// Bytes come of its client. Once it has finished they are dropped.
-    pub fn arrive(&mut self, bytes: &[u8]) -> M<()>
+    /// Bytes come of a side. Once it has finished they are dropped.
+    pub fn arrive(&mut self, side: Side, bytes: &[u8]) -> M<()>
         ensures hears { OnOk result
-            (Hears (record { bytes = bytes.now; ended = false }) self.old self.new) }
-        ensures host { self.new.host ≡ self.old.host }
-        ensures stage { self.new.stage ≡ self.old.stage }
-        ensures reset { self.new.client.reset ≡ self.old.client.reset }
+            (Hears side (record { bytes = bytes.now; ended = false }) self.old self.new) }
+        ensures ends { OnOk result (self.new ≡ record self.old {
+          ends = heard_ends (has_finished self.old.stage) side
+              (record { bytes = bytes.now; ended = false }) self.old.ends;
+        }) }
         ensures err { OnErr result (self.new ≡ self.old) }
         ensures goes_on { OnErr result (has_finished self.old.stage ≡ false) }
     {
         if self.stage.has_finished() {
             return Ok(());
         }
-        self.client.push(bytes)
+        self.ends.arrive(side, bytes)
     }
 
-    /// Its client sends no more.
-    pub fn end(&mut self)
-        ensures hears { Hears (record { bytes = []; ended = true }) self.old self.new }
-        ensures host { self.new.host ≡ self.old.host }
-        ensures stage { self.new.stage ≡ self.old.stage }
-        ensures reset { self.new.client.reset ≡ self.old.client.reset }
+    /// A side sends no more.
+    pub fn end(&mut self, side: Side)
+        ensures hears { Hears side (record { bytes = []; ended = true }) self.old self.new }
+        ensures ends { self.new ≡ record self.old {
+          ends = ended_ends (has_finished self.old.stage) side self.old.ends;
+        } }
     {
-        if !self.stage.has_finished() {
-            self.client.end();
-        }
-    }
-
-    /// Gives its last notes where it is over and its client took all, and says whether.
-    pub fn settle(&self, number: u32, notes: &mut Notes) -> bool
-        requires { 2 ≤ notes.old.spare }
-        ensures settles { Settles self.now result }
-        ensures over { result ≡ over_in self.now }
-        ensures notes { notes.new.items ≡ notes.old.items ++ closing_if result number (length self.now.host.to_client) }
-    {
-        self.close_if_over(number, notes)
-    }
-
-    fn close_if_over(&self, number: u32, notes: &mut Notes) -> bool
-        requires { 2 ≤ notes.old.spare }
-        ensures over { result ≡ over_in self.now }
-        ensures notes { notes.new.items ≡ notes.old.items ++ closing_if result number (length self.now.host.to_client) }
-    {
-        let over = self.is_over();
-        if over {
-            close(number, self.queued(), notes);
-        }
-        over
-    }
-
-    fn is_over(&self) -> bool
-        ensures { result ≡ over_in self.now }
-    {
-        self.stage.is_draining() && self.pending() == 0
+        let finished = self.stage.has_finished();
+        self.ends.end(side, finished);
     }
 }
 
-ghost use Rattle.conn.specs.RunsItems.{closing};
-
-/// The last notes of a connection.
-pub(crate) fn close(number: u32, dropped: usize, notes: &mut Notes)
-    requires { 2 ≤ notes.old.spare }
-    ensures { notes.new.items ≡ notes.old.items ++ closing number dropped }
+// The address that a reply spells.
+fn selected_by(reply: &Reply) -> Option<Addr>
+    ensures { result ≡ selects reply.now }
 {
-    notes.push_reserved(Note::CloseClient { conn: number });
-    notes.push_reserved(Note::Ended {
-        conn: number,
-        dropped,
-    });
+    match reply {
+        Reply::Ok(text) => addr_by(text.as_bytes()),
+        Reply::Fault(_) => None,
+    }
+}
+
+fn addr_by(text: &[u8]) -> Option<Addr>
+    ensures { result ≡ addr_of text.now }
+{
+    read_addr(text)
 }

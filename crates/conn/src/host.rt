@@ -3,15 +3,14 @@
 ghost use Rattle.std.specs.Prelude.{◌≡◌, ◌++◌, [], MatchResult};
 ghost use Rattle.px_bytes.specs.Answered.{DidStep};
 ghost use Rattle.connection_model.specs.Host.{commands, first_word};
-ghost use Rattle.conn.specs.Hosts.{begun_host, fresh_host, seen_net, unselected_host};
+ghost use Rattle.conn.specs.Hosts.{begun_host, fresh_host, seen_net, selected_host};
 
 use crate::events::At;
 use connection_model::is_there;
 use event_order::EventName;
 use frame_machine::Host;
-use irule_net::{Effects, Groups, NetState, net_command};
+use irule_net::{Effects, Groups, NetState, Selected, net_command};
 use px_bytes::{HostAnswer, M, TclFault, Texts};
-use seg_buffer::Held;
 use std::alloc::Global;
 
 /// What the commands of a connection's rules read and leave.
@@ -23,8 +22,6 @@ pub struct RuleHost {
     pub net: NetState,
     /// What commands did outside the script, and wasn't done yet.
     pub made: Effects,
-    /// The bytes that the client is to take.
-    pub to_client: Held,
 }
 
 impl RuleHost {
@@ -35,24 +32,23 @@ impl RuleHost {
             event: At::Accepted,
             net,
             made: Effects::new(alloc),
-            to_client: Held::new(alloc),
         }
     }
 
-    /// An event begins, and there is no server.
-    pub fn begin(&mut self, event: At)
-        ensures { self.new ≡ begun_host event self.old }
+    /// An event begins, where there is a server connection or none.
+    pub fn begin(&mut self, event: At, up: bool)
+        ensures { self.new ≡ begun_host event up self.old }
     {
         self.event = event;
         self.net.begin();
-        self.net.relays = false;
+        self.net.relays = up;
     }
 
-    /// No server is selected.
-    pub fn unselect(&mut self)
-        ensures { self.new ≡ unselected_host self.old }
+    /// This server is selected, or none.
+    pub fn select(&mut self, selected: Option<Selected>)
+        ensures { self.new ≡ selected_host selected self.old }
     {
-        self.net.selected = None;
+        self.net.selected = selected;
     }
 }
 

@@ -2,27 +2,33 @@
 #![tactic(auto)]
 
 mod advance;
-mod arrived;
 mod body;
 mod body_step;
+mod connect;
 mod connection;
+mod ends;
 mod events;
+mod finish;
 mod host;
 mod laws;
 mod made;
+mod relay;
 mod run;
+mod select;
+mod settle;
 mod setup;
 mod stage;
 mod turn;
 mod uncaught;
 mod without_memory;
 
-pub use arrived::Arrived;
 pub use body::Body;
 pub use connection::Conn;
+pub use ends::{End, Ends, Link};
 pub use events::At;
 pub use host::{RuleHost, host_command};
 pub use laws::{calls_continue, connection_continues};
+pub use settle::close;
 pub use setup::{Handler, Place, Places, Setup, body_in};
 pub use stage::{Finish, Stage};
 pub use turn::ConnTurn;

@@ -1,7 +1,9 @@
 // A slice of a connection.
 
 ghost use Rattle.std.specs.Prelude.{◌+◌, ◌≡◌, ◌-◌, ◌≤◌, ◌++◌, List, length};
+ghost use Rattle.connection_model.specs.Edges.{edges_noted};
 ghost use Rattle.connection_model.specs.declared.note.Note.{Note};
+ghost use Rattle.conn.specs.Ends.{queued_in};
 ghost use Rattle.conn.specs.Runs.{DropsQueued, IsBounded, IsFew, IsWhole, Rested, Runs, TellsDropped};
 
 use crate::connection::Conn;
@@ -31,20 +33,21 @@ impl Conn {
     ) -> ConnTurn
         requires { 68 ≤ notes.old.spare }
         ensures ran { (group : List Note) × (notes.new.items ≡ notes.old.items ++ group)
+            × (self.new.ends.edges ≡ edges_noted group self.old.ends.edges)
             × Runs setup.now number self.old self.new group result }
         ensures slice { let given = length notes.new.items - length notes.old.items in
             IsWhole result (steps.new - steps.old) given }
         ensures bounded { IsBounded result (steps.new - steps.old) }
         ensures few { IsFew self.new.stage (steps.new - steps.old) }
-        ensures failed { let queued = length self.old.host.to_client in
+        ensures failed { let queued = queued_in self.old.ends in
             let after = notes.new.items in
             self.old.stage ≡ Stage.OutOfMemory
-            → DropsQueued number queued self.new notes.old.items after result }
+            → DropsQueued number queued self.old self.new notes.old.items after result }
         ensures dropped { TellsDropped result number self.new notes.new.items }
         ensures few_notes { length notes.new.items ≤ length notes.old.items + 68 }
     {
         if let Stage::OutOfMemory = self.stage {
-            let dropped = self.queued();
+            let dropped = self.ends.queued();
             return self.drop_queued(number, dropped, notes);
         }
         let given = notes.len();
@@ -56,23 +59,23 @@ impl Conn {
             if notes.len() - given >= MOST_NOTES {
                 return ConnTurn::More;
             }
-            let pending = self.queued();
+            let pending = self.ends.queued();
             match self.advance(alloc, setup, number, steps, &mut spent, notes) {
                 Ok(Act::Goes) => {}
                 Ok(Act::Asks(call)) => return ConnTurn::Asks(call),
-                Ok(Act::Rests) => return self.rest(number, notes),
+                Ok(Act::Rests) => return self.comes_to_rest(number, notes),
                 Err(_) => return self.fail(number, pending, notes),
             }
         }
         ConnTurn::More
     }
 
-    fn rest(&self, number: u32, notes: &mut Notes) -> ConnTurn
-        requires { 2 ≤ notes.old.spare }
-        ensures rested { Rested number self.now notes.old.items notes.new.items result }
-        ensures dropped { TellsDropped result number self.now notes.new.items }
+    fn comes_to_rest(&mut self, number: u32, notes: &mut Notes) -> ConnTurn
+        requires { 5 ≤ notes.old.spare }
+        ensures rested { Rested number self.old self.new notes.old.items notes.new.items result }
+        ensures dropped { TellsDropped result number self.new notes.new.items }
     {
-        if self.settle(number, notes) {
+        if self.rest(number, notes) {
             ConnTurn::Over
         } else {
             ConnTurn::NotYet

@@ -1,20 +1,28 @@
 // Where a connection stands.
 
 ghost use Rattle.std.specs.Prelude.{◌≡◌};
-ghost use Rattle.conn.specs.Stages.{after_stage, cause_for, dropped_in, failed, is_asking};
-ghost use Rattle.conn.specs.Stages.{has_finished, is_draining};
+ghost use Rattle.conn.specs.Stages.{after_stage, cause_for, connecting_stage, dropped_in, ended_stage};
+ghost use Rattle.conn.specs.Stages.{failed, goes_on_stage, has_finished, is_asking, is_draining};
+ghost use Rattle.conn.specs.Stages.{is_relaying};
 
 use crate::events::At;
-use connection_model::Cause;
-use px_bytes::{FaultKind, Text};
+use connection_model::{Cause, CutReason};
+use irule_net::{Ending, NetState, Selected};
+use px_bytes::{Addr, FaultKind, Text};
 
 /// Why a connection finishes.
-#[derive(Clone, Copy)]
+#[derive(Clone, Copy, Debug, PartialEq, Eq)]
 pub enum Finish {
+    /// Both ends closed, or a rule closed it.
+    Closed,
+    /// A rule rejected it.
+    Rejected,
     /// No server could be selected.
     Unselected,
     /// A fault that no body caught.
     Fault(FaultKind),
+    /// A reset.
+    Cut(CutReason),
 }
 
 impl Finish {
@@ -22,8 +30,11 @@ impl Finish {
         ensures { result ≡ cause_for self }
     {
         match self {
+            Finish::Closed => Cause::Closed,
+            Finish::Rejected => Cause::Rejected,
             Finish::Unselected => Cause::Unselected,
             Finish::Fault(kind) => Cause::Tcl(kind),
+            Finish::Cut(reason) => Cause::Cut(reason),
         }
     }
 }
@@ -55,6 +66,16 @@ pub enum Stage {
     },
     /// A server is to be selected.
     Choosing,
+    /// It waits for the reply that selects one.
+    Selecting,
+    /// The reply came, and spells this address or none.
+    Chosen(Option<Addr>),
+    /// The server is to be asked for a connection.
+    Connecting(Addr),
+    /// It was asked.
+    Answering(Addr),
+    /// Bytes are passed on both ways.
+    Relaying,
     /// It is to finish.
     Finishing(Finish),
     /// What is queued is to be taken.
@@ -66,14 +87,49 @@ pub enum Stage {
 }
 
 impl Stage {
-    /// Where a connection stands whose bodies of an event have ended.
-    pub fn after(at: At) -> Stage
-        ensures { result ≡ after_stage at }
+    /// Where a connection stands whose bodies of an event have ended. Behind the one that closes its
+    /// server the next event comes.
+    pub fn after(at: At, net: &NetState) -> Stage
+        ensures { result ≡ after_stage at net.now }
+    {
+        if at.is_closed() {
+            return Stage::Draining;
+        }
+        match net.wishes.ends {
+            Some(ending) => Stage::ended(ending),
+            None => Stage::going_on(at, net),
+        }
+    }
+
+    fn ended(ending: Ending) -> Stage
+        ensures { result ≡ ended_stage ending }
+    {
+        match ending {
+            Ending::Rejects => Stage::Finishing(Finish::Rejected),
+            Ending::Closes => Stage::Finishing(Finish::Closed),
+        }
+    }
+
+    // Nothing ended the connection.
+    fn going_on(at: At, net: &NetState) -> Stage
+        ensures { result ≡ goes_on_stage at net.now }
     {
         match at {
             At::Accepted => Stage::Choosing,
+            At::Selected => Stage::connecting(&net.selected),
+            At::Failed if net.wishes.reselects => Stage::Choosing,
             At::Failed => Stage::Finishing(Finish::Unselected),
-            At::Closed => Stage::Draining,
+            At::Connected => Stage::Relaying,
+            At::ServerClosed | At::Closed => Stage::Draining,
+        }
+    }
+
+    fn connecting(selected: &Option<Selected>) -> Stage
+        ensures { result ≡ connecting_stage selected.now }
+    {
+        match selected {
+            Some(server) => Stage::Connecting(server.addr),
+            None => Stage::Finishing(Finish::Unselected),
         }
     }
 
@@ -102,7 +158,7 @@ impl Stage {
         ensures { result ≡ is_asking self.now }
     {
         match self {
-            Stage::Asking { .. } => true,
+            Stage::Asking { .. } | Stage::Selecting => true,
             _ => false,
         }
     }
@@ -113,7 +169,7 @@ impl Stage {
     {
         match self {
             Stage::Running { at, .. } | Stage::Asking { at, .. } | Stage::Failing { at, .. } => {
-                matches!(at, At::Closed)
+                at.is_closed()
             }
             Stage::Draining | Stage::OutOfMemory | Stage::Dropped(_) => true,
             _ => false,
@@ -126,6 +182,16 @@ impl Stage {
     {
         match self {
             Stage::Draining => true,
+            _ => false,
+        }
+    }
+
+    /// Whether bytes are passed on.
+    pub fn is_relaying(&self) -> bool
+        ensures { result ≡ is_relaying self.now }
+    {
+        match self {
+            Stage::Relaying => true,
             _ => false,
         }
     }

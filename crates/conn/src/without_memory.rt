@@ -3,12 +3,13 @@
 ghost use Rattle.std.specs.Prelude.{◌≡◌, ◌≤◌, [], ◌∷◌, ◌++◌};
 ghost use Rattle.connection_model.specs.declared.note.Note.TheVariants as noted;
 ghost use Rattle.connection_model.specs.declared.note.Cause.TheVariants as causes;
-ghost use Rattle.conn.specs.Calls.{DropsReset};
+ghost use Rattle.conn.specs.Settling.{DropsReset};
 ghost use Rattle.conn.specs.Queues.{dropped_by};
 ghost use Rattle.conn.specs.Runs.{DropsQueued};
 ghost use Rattle.conn.specs.Stages.{failed};
 
-use crate::connection::{Conn, close};
+use crate::connection::Conn;
+use crate::settle::close;
 use crate::stage::Stage;
 use crate::turn::ConnTurn;
 use connection_model::{Cause, Note, Notes};
@@ -35,15 +36,15 @@ impl Conn {
     {
         match self.stage {
             Stage::Dropped(dropped) => dropped,
-            _ => { if self.client.reset { self.queued() } else { 0 } }
+            _ => self.ends.client.lost() + self.ends.server.lost(),
         }
     }
 
     /// No memory was found, where so many bytes were queued.
     pub(crate) fn fail(&mut self, number: u32, queued: usize, notes: &mut Notes) -> ConnTurn
-        requires { 3 ≤ notes.old.spare }
+        requires { 4 ≤ notes.old.spare }
         ensures { let before = notes.old.items ++ noted.Finish number causes.Memory ∷ [] in
-            DropsQueued number queued self.new before notes.new.items result }
+            DropsQueued number queued self.old self.new before notes.new.items result }
     {
         notes.push_reserved(Note::Finish {
             conn: number,
@@ -54,13 +55,17 @@ impl Conn {
 
     /// Drops what is queued, of which so many bytes were given, and gives the last notes.
     pub(crate) fn drop_queued(&mut self, number: u32, given: usize, notes: &mut Notes) -> ConnTurn
-        requires { 2 ≤ notes.old.spare }
-        ensures { DropsQueued number given self.new notes.old.items notes.new.items result }
+        requires { 3 ≤ notes.old.spare }
+        ensures { DropsQueued number given self.old self.new notes.old.items notes.new.items result }
     {
-        let queued = self.queued();
-        self.host.to_client.drop_front(queued);
+        self.ends.client.drop_queued();
+        self.ends.server.drop_queued();
         self.stage = Stage::Dropped(given);
-        close(number, given, notes);
+        close(&mut self.ends.edges, number, true, true, notes);
+        notes.push_reserved(Note::Ended {
+            conn: number,
+            dropped: given,
+        });
         ConnTurn::Over
     }
 }

@@ -9,7 +9,9 @@ use Rattle.tcl_compile.specs.Procedures.{Procedure}
 use Rattle.event_order.specs.declared.command.HostCommand.{HostCommand}
 use Rattle.event_order.specs.declared.command.HostCommand.TheVariants.{Log, Class, TcpRespond}
 use Rattle.event_order.specs.declared.command.HostCommand.TheVariants.{IpClientAddr, IpServerAddr}
-use Rattle.event_order.specs.declared.command.HostCommand.TheVariants.{ActiveMembers}
+use Rattle.event_order.specs.declared.command.HostCommand.TheVariants.{ActiveMembers, Pool, Node}
+use Rattle.event_order.specs.declared.command.HostCommand.TheVariants.{LbReselect, Reject, Drop}
+use Rattle.event_order.specs.declared.command.HostCommand.TheVariants.{TcpClose}
 use Rattle.event_order.specs.declared.command.HostCommand.TheVariants.{TcpClientPort, LbServer}
 use Rattle.event_order.specs.declared.event.EventName.{EventName}
 use Rattle.event_order.specs.declared.event.EventName.TheVariants.{ClientAccepted}
@@ -42,8 +44,8 @@ with_collect side c h = record h { net = with_collected side c h.net }
 abbrev pub with_loose : List ℕ → HostState → HostState
 with_loose loose h = record h { net = record h.net { loose = loose } }
 
--- The commands that there are today. Those that choose a server, collect bytes or end the
--- connection aren't there yet; of those that ask a shared call one is.
+-- The commands that there are today. Those that collect bytes aren't there yet; of those that ask a
+-- shared call one is.
 abbrev pub is_there : HostCommand → Bool
 is_there Log = true
 is_there Class = true
@@ -53,6 +55,12 @@ is_there TcpClientPort = true
 is_there LbServer = true
 is_there TcpRespond = true
 is_there ActiveMembers = true
+is_there Pool = true
+is_there Node = true
+is_there LbReselect = true
+is_there Reject = true
+is_there Drop = true
+is_there TcpClose = true
 is_there other = false
 
 -- the name is that of one of them

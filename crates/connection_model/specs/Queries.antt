@@ -68,7 +68,7 @@ wanted side l =
     if l.finished then unread_limit
     else unread_limit - (length (unread_at (arriving side l)) - counted_held side l)
 
-abbrev is_empty : List ℕ → Bool
+abbrev pub is_empty : List ℕ → Bool
 is_empty [] = true
 is_empty (b ∷ bs) = false
 

@@ -17,6 +17,7 @@ mod serve;
 mod serve_real;
 #[cfg(test)]
 mod serve_tests;
+mod server_bytes;
 mod taken;
 #[cfg(test)]
 mod tests;

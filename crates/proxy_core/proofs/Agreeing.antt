@@ -1,50 +1,45 @@
 -- What every event owes: the core agrees with the longer past where its own connection does; and an accepted one.
-use Rattle.std.proofs.Common.{◌≡◌, refl, sym, ap, subst, ◌∙◌, ℕ, List, Bool, true, false, not, Option, Some, None, nat_eq, if◌then◌else◌, remove, set, ◌⊎◌, inl, inr, [], ◌∷◌, ◌++◌}
+use Rattle.std.proofs.Common.{◌≡◌, refl, sym, ap, subst, ◌∙◌, ℕ, suc, ◌+◌, ◌-◌, ◌≤◌, arith, List, Bool, true, false, not, Option, Some, None, nat_eq, if◌then◌else◌, remove, set, ◌⊎◌, inl, inr, [], ◌∷◌, ◌++◌}
 use Rattle.std.specs.Prelude.{slice_get, is_some, option_and_then}
-use Rattle.std.specs.List.{IsDistinct}
+use Rattle.std.specs.List.{IsDistinct, position_from}
+use Rattle.std.specs.Str.{bytes_eq}
+use Rattle.std.proofs.lemmas.Slice.Eq.{bytes_eq-Decides}
 use Rattle.connection_model.specs.declared.note.Note.{Note}
-use Rattle.connection_model.specs.Heard.{EventKind, Heard, start_of, Accepts, Accepted}
-use Rattle.connection_model.specs.Item.{Item}
+use Rattle.connection_model.specs.Heard.{EventKind, Accepts, Accepted}
 use Rattle.connection_model.specs.Setup.{Setup}
-use Rattle.connection_model.specs.State.{TraceState}
-use Rattle.connection_model.specs.Trace.{Unfolds}
-use Rattle.conn.specs.Holds.{Holds}
-use Rattle.conn.specs.RunsItems.{closing_if}
 use Rattle.conn.specs.declared.connection.Conn.{Conn}
 use Rattle.conn.specs.declared.setup.Place.{Place}
 use Rattle.proxy_core.specs.Bodies.{all_places}
 use Rattle.proxy_core.specs.Changes as code
-use Rattle.proxy_core.specs.Calls.{calls_of, is_any}
+use Rattle.proxy_core.specs.Calls.{is_any}
 use Rattle.proxy_core.specs.History.{store_of, store_after}
-use Rattle.proxy_core.specs.Live.{SamePlace, asks_in}
+use Rattle.proxy_core.specs.Live.{KeepsPlace, asks_in, edges_by_conn, edges_in}
 use Rattle.proxy_core.specs.Moves.{MovesBy}
 use Rattle.proxy_core.specs.Past.{Past, ended_in, without_all, with_accepted, last_after, moment_after, Shared, shared, shared_after}
 use Rattle.proxy_core.specs.Ready.{numbers, is_in, without}
 use Rattle.proxy_core.specs.Refusals.{live_at, virtual_place}
-use Rattle.proxy_core.specs.Represents.{around, ConnectionContinues, AgreesLive, AgreesAt, AgreesBy, Represents}
+use Rattle.proxy_core.specs.Represents.{ConnectionContinues, AgreesLive, AgreesAt, AgreesBy, Represents}
 use Rattle.proxy_core.specs.Scheduler.{State, Seen, seen_after}
 use Rattle.proxy_core.specs.Serving.{Serves}
-use Rattle.proxy_core.specs.Setup.{statics_of, setup_of, stand_of, handlers_in, setup_in, port_in}
+use Rattle.proxy_core.specs.Setup.{statics_of, setup_of, handlers_in, setup_in, name_at, name_in, pool_in, port_in}
 use Rattle.proxy_core.specs.declared.config.Config.{Config}
+use Rattle.proxy_core.specs.declared.config.Virtual.{Virtual}
 use Rattle.proxy_core.specs.declared.core_state.Core.{Core}
 use Rattle.proxy_core.specs.declared.live.Live.{Live}
 use Rattle.px_bytes.specs.declared.addr.Addr.{Addr}
 use Rattle.tcl_vars.specs.Scopes.{Level}
 use Rattle.connection_model.specs.declared.note.Cause.TheVariants.{Memory}
 use Rattle.connection_model.specs.declared.note.Note.TheVariants.{Finish}
-use Rattle.proxy_core.specs.Refusal.{edges_in, refused}
-use Rattle.connection_model.specs.declared.edges.EdgeState.TheVariants.{Open}
-use Rattle.connection_model.specs.Edges.{edge}
+use Rattle.proxy_core.specs.Refusal.{refused}
+use Rattle.connection_model.specs.Edges.{accepted_edges}
 use Rattle.proxy_core.specs.Others.{about}
 use Rattle.proxy_core.proofs.Framing.{touches, only_changed, each_by}
 use Rattle.proxy_core.proofs.LiveLookups.{live_absent, live_set_self, live_set_other, live_removed_other, numbers_removed, live_pushed_other, live_pushed_self}
 use Rattle.proxy_core.proofs.Members.{not_in_without}
 use Rattle.proxy_core.proofs.Places.{numbers_set}
-use Rattle.proxy_core.proofs.Standing.{stands_at}
 use Rattle.proxy_core.proofs.ReadyRing.{numbers_push}
 use Rattle.proxy_core.proofs.Setups.{serves_code}
-use Rattle.proxy_core.proofs.SoundEvents.{first_notes, fresh, seen_accept}
-use Rattle.proxy_core.proofs.SoundPast.{not_accepted}
+use Rattle.proxy_core.proofs.Fresh.{first_notes, fresh, not_accepted, seen_accept}
 
 -- the core agrees with the past that has one event more, of this kind and with these notes
 pub record After (C : Config) (past : Past) (s : State) (v : EventKind) (group : List Note) (new : Core) : Type 0 where
@@ -105,31 +100,38 @@ one_changed c false olds news at before after d get nb na e =
       numbers_are = ap numbers e ∙ numbers_set at olds before after get same;
     }
 
-pub closing_live : (over : Bool) (c d : ℕ) (live : List ℕ) → without_all (ended_in (closing_if over c d)) live ≡ (if over then without c live else live)
-closing_live true c d live = refl
-closing_live false c d live = refl
-
 pub is_live_over : (c : ℕ) (over : Bool) (olds news : List Live) (after : Live) (z : Seen) (C : Config) → OneChanged c over olds news after → z.live ≡ not over → (over ≡ false → ConnectionContinues C z after.conn) → (over ≡ false → Serves C (statics_of C) after.vs (setup_of C z.heard)) → (over ≡ false → z.heard.edges ≡ edges_in after) → (over ≡ false → asks_in after.conn ≡ is_any z.asked) → AgreesAt C z (live_at news c)
 is_live_over c true olds news after z C o live k s e w = let P : Option Live → Type 0 = λ x. AgreesAt C z x in subst P (sym o.own) live
 is_live_over c false olds news after z C o live k s e w = let P : Option Live → Type 0 = λ x. AgreesAt C z x in subst P (sym o.own) (record { live = live; continues = k refl; serves = s refl; edges = e refl; asking = w refl })
 
--- what goes on is what was told of it
-pub to_standing : (C : Config) (h : Heard) (g : Setup) (place : List Item) (at : TraceState) (conn : Conn) → setup_of C h ≡ g → Unfolds g (start_of g h) place at → Holds g (around h) at conn → Holds (setup_of C h) (around h) (stand_of C h place) conn
-to_standing C h g place at conn e u k =
-    let P : TraceState → Type 0 = λ l. Holds (setup_of C h) (around h) l conn in
-    let Q : Setup → Type 0 = λ y. Holds y (around h) at conn in
-    subst P (sym (stands_at C h g place at e u)) (subst Q (sym e) k)
-
-pub serves_still : (C : Config) (old new : Live) (g g' : Setup) → SamePlace old new → g' ≡ g → Serves C (statics_of C) old.vs g → Serves C (statics_of C) new.vs g'
+pub serves_still : (C : Config) (old new : Live) (g g' : Setup) → KeepsPlace old new → g' ≡ g → Serves C (statics_of C) old.vs g → Serves C (statics_of C) new.vs g'
 serves_still C old new g g' same e k =
     let P : Setup → Type 0 = λ y. Serves C (statics_of C) new.vs y in
     let Q : ℕ → Type 0 = λ n. Serves C (statics_of C) n g in
     subst P (sym e) (subst Q (sym same.vs) k)
 
+named_from : (name : List ℕ) (i at : ℕ) (vs : List Virtual) → position_from (λ v. bytes_eq v.name name) i vs ≡ Some at → (i ≤ at) × (name_in (slice_get vs (at - i)) ≡ name)
+named_from name i at [] e = cc
+named_from name i at (v ∷ vs) e = by_name (bytes_eq v.name name) refl (named_from name (i + 1) at vs) e
+  where
+    by_name : (b : Bool) → bytes_eq v.name name ≡ b → (position_from (λ x. bytes_eq x.name name) (i + 1) vs ≡ Some at → (i + 1 ≤ at) × (name_in (slice_get vs (at - (i + 1))) ≡ name)) → (if b then Some i else position_from (λ x. bytes_eq x.name name) (i + 1) vs) ≡ Some at → (i ≤ at) × (name_in (slice_get (v ∷ vs) (at - i)) ≡ name)
+    by_name true t rest f =
+        let g : at ≡ i = cc in
+        let z : at - i ≡ 0 = omega arith in
+        (omega arith, rw z ((bytes_eq-Decides v.name name).0 t))
+    by_name false t rest f =
+        let r = rest f in
+        let m : at - i ≡ suc (at - (i + 1)) = omega (arith, r.0) in
+        (omega (arith, r.0), rw m r.1)
+
+named_at : (C : Config) (name : List ℕ) (place : ℕ) → virtual_place C name ≡ Some place → name ≡ name_at C place
+named_at C name place e = sym (let n = (named_from name 0 place C.virtuals e).1 in let z : place - 0 ≡ place = omega arith in sym (ap (λ x. name_in (slice_get C.virtuals x)) z) ∙ n)
+
 serves_named : (C : Config) (vs : List ℕ) (from : Addr) (place : ℕ) → virtual_place C vs ≡ Some place → Serves C (statics_of C) place (setup_in C (Some (record { virtual = vs; from = from })))
 serves_named C vs from place e = record {
+  name = named_at C vs place e;
   port = ap (λ o. port_in (option_and_then (λ p. slice_get C.virtuals p) o)) e;
-  pool = refl;
+  pool = ap (λ o. pool_in (option_and_then (λ p. slice_get C.virtuals p) o)) e;
   http = refl;
   budget = refl;
   statics = refl;
@@ -137,12 +139,28 @@ serves_named C vs from place e = record {
   handlers = λ x. ap (λ o. handlers_in C (option_and_then (λ p. slice_get C.virtuals p) o) x) e;
 }
 
+-- what an accepted connection begins with
+record Begun (C : Config) (c : ℕ) (a : Accepted) (conn : Option Conn) (group : List Note) : Type 0 where
+  notes : group ≡ first_notes c (not (is_some conn))
+  continues : ConnectionContinues C (fresh c a (not (is_some conn))) conn
+  edges : accepted_edges ≡ edges_by_conn conn accepted_edges
+  asks : asks_in conn ≡ false
+
 begun : (C : Config) (places : List (List (List Place))) (c place : ℕ) (vs : List ℕ) (from : Addr) (conn : Option Conn) (group : List Note) → places ≡ all_places C.rules C.virtuals → virtual_place C vs ≡ Some place → code.BeginsAt (statics_of C) places C c place from conn group
-    → (group ≡ first_notes c (not (is_some conn))) × ConnectionContinues C (fresh c (record { virtual = vs; from = from }) (not (is_some conn))) conn × (asks_in conn ≡ false)
-begun C places c place vs from None group all e b = (b, record { failed = refl; finished = refl; no_items = refl }, refl)
+    → Begun C c (record { virtual = vs; from = from }) conn group
+begun C places c place vs from None group all e b = record { notes = b.2; continues = record { failed = refl; finished = refl; no_items = refl }; edges = refl; asks = refl }
 begun C places c place vs from (Some conn) group all e b =
     let g = setup_in C (Some (record { virtual = vs; from = from })) in
-    (b.2, inl (record { not_failed = refl; holds = b.0.2 g (serves_code C (statics_of C) places place b.0.0 g all b.0.1 (serves_named C vs from place e)) refl; queue = b.1 }), b.3)
+    record {
+      notes = b.2.2;
+      continues = inl (record {
+        not_failed = refl;
+        holds = b.2.0 g (serves_code C (statics_of C) places place b.0 g all b.1 (serves_named C vs from place e)) refl;
+        queues = record { client = ap (λ x. x.client.queued) b.2.1; server = ap (λ x. x.server.queued) b.2.1 };
+      });
+      edges = sym (ap (λ x. x.edges) b.2.1);
+      asks = b.2.3;
+    }
 
 accept_moves : (c : ℕ) (failed : Bool) (group : List Note) → group ≡ first_notes c failed → (group ≡ []) ⊎ (group ≡ Finish c Memory ∷ [])
 accept_moves c true group e = inr e
@@ -158,19 +176,19 @@ accepts C past s old new c vs from group r h k =
     let a : Accepted = record { virtual = vs; from = from } in
     let u = not_accepted C past c vs from s r.sound h in
     let failed = not (is_some k.conn) in
-    let l : Live = record { number = c; vs = k.place; from = from; client = edge Open; conn = k.conn } in
+    let l : Live = record { number = c; vs = k.place; from = from; conn = k.conn; edges = accepted_edges } in
     let next : State = record s { ring = s.ring ++ c ∷ [] } in
     let place_is : virtual_place C vs ≡ Some k.place = ap (λ D. virtual_place D vs) (sym r.agrees.config) ∙ k.virtual in
     let D : Config → Type 0 = λ x. code.BeginsAt (statics_of C) old.places x c k.place from k.conn group in
     let L : Level → Type 0 = λ x. code.BeginsAt x old.places old.config c k.place from k.conn group in
     let b = begun C old.places c k.place vs from k.conn group r.agrees.places place_is (subst D r.agrees.config (subst L r.agrees.statics k.begins)) in
-    let moves : MovesBy C past v group s next = record { notes = accept_moves c failed group b.0; state = refl } in
+    let moves : MovesBy C past v group s next = record { notes = accept_moves c failed group b.notes; state = refl } in
     let absent : is_in (numbers old.live.items) c ≡ false = ap (λ y. is_in y.live c) r.agrees.shared ∙ ap (λ z. z.live) u in
     let there : live_at new.live.items c ≡ Some l = ap (λ ls. live_at ls c) k.live ∙ live_pushed_self old.live.items l absent in
     let P : Seen → Type 0 = λ z. AgreesAt C z (live_at new.live.items c) in
     let Q : Option Live → Type 0 = λ o. AgreesAt C (fresh c a failed) o in
     assemble C past s next v group old new r moves k.keeps k.last k.moment
-    (ap numbers k.live ∙ numbers_push old.live.items l ∙ sym (first_live c failed group (numbers old.live.items ++ c ∷ []) b.0))
+    (ap numbers k.live ∙ numbers_push old.live.items l ∙ sym (first_live c failed group (numbers old.live.items ++ c ∷ []) b.notes))
     (k.ring ∙ ap (λ ns. ns ++ c ∷ []) r.agrees.ring) (k.queue ∙ r.agrees.queue) k.store
     (λ q e. ap (λ ls. live_at ls q) k.live ∙ live_pushed_other q old.live.items l e)
-    (subst P (sym (seen_accept past c a failed group s next u b.0 refl)) (subst Q (sym there) (record { live = refl; continues = b.1; serves = serves_named C vs from k.place place_is; edges = refl; asking = b.2 })))
+    (subst P (sym (seen_accept past c a failed group s next u b.notes refl)) (subst Q (sym there) (record { live = refl; continues = b.continues; serves = serves_named C vs from k.place place_is; edges = b.edges; asking = b.asks })))

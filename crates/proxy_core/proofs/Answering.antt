@@ -1,5 +1,5 @@
 -- The answers of shared calls: one history of the store, and what a connection hears of it.
-use Rattle.std.proofs.Common.{◌≡◌, refl, sym, ap, subst, ◌∙◌, ◌⊎◌, inl, inr, ℕ, List, [], ◌∷◌, ◌++◌, map, Bool, true, false, None, nat_eq, if◌then◌else◌}
+use Rattle.std.proofs.Common.{◌≡◌, refl, sym, ap, subst, ◌∙◌, ◌⊎◌, inl, inr, ℕ, List, [], ◌∷◌, ◌++◌, map, Bool, true, false, nat_eq, if◌then◌else◌}
 use Rattle.std.specs.Bool.{MatchBool}
 use Rattle.std.proofs.lemmas.List.{map-append}
 use Rattle.px_bytes.specs.declared.addr.Side.TheVariants.{Client, Server}
@@ -9,19 +9,24 @@ use Rattle.connection_model.specs.declared.note.Note.{Note}
 use Rattle.connection_model.specs.declared.note.Note.TheVariants.{Finish}
 use Rattle.connection_model.specs.Heard.{Input, Bytes, Ends, Resets, Connects, Takes, EventKind, Accepts, Comes, Ticks, Turns, Runs, Marks, Heard, accepts, marks, event_marks, hears}
 use Rattle.connection_model.specs.Item.{Item, notes_of}
-use Rattle.connection_model.specs.Tellings.{tells, own, replies_told, notes_about}
-use Rattle.conn.specs.RunsItems.{closing, closing_if, ends}
+use Rattle.connection_model.specs.Tellings.{own, replies_told, notes_about}
+use Rattle.connection_model.specs.declared.edges.Edges.{Edges}
+use Rattle.connection_model.specs.Edges.{edges_noted}
+use Rattle.connection_model.specs.Heard.{edges_met, taken}
+use Rattle.conn.specs.RunsItems.{told_behind}
+use Rattle.connection_model.specs.Trace.{next_item}
+use Rattle.conn.specs.Settling.{closing, is_over, settling_at, took_all}
 use Rattle.shared_store.specs.Calls.{reply}
 use Rattle.proxy_core.specs.History.{entries_in, store_of, IsAnswer, AreAnswers, IsHistory}
-use Rattle.proxy_core.specs.Live.{entry_note}
-use Rattle.proxy_core.specs.Moves.{Rests, MovesFailed, MovesLacks, MovesOn, MovesCome, MovesRing, MovesFront, MovesBy, MovesQueue, TurnNotes, RunsOn, RunsOut, RunsFailed, is_drained_at, may_come, Leads}
+use Rattle.proxy_core.specs.Moves.{MovesFailed, MovesLacks, MovesOn, MovesCome, MovesRing, MovesBy, MovesQueue, TurnNotes, RunsOn, RunsOut, RunsFailed, Leads}
 use Rattle.proxy_core.specs.Past.{Past, kind_of, heard, shared}
 use Rattle.proxy_core.specs.Scheduler.{State, untaken_all}
+use Rattle.proxy_core.specs.Setup.{setup_of, stand_of}
 use Rattle.proxy_core.specs.declared.call.Asked.{Asked}
 use Rattle.proxy_core.specs.declared.config.Config.{Config}
 use Rattle.proxy_core.proofs.Besides.{replies_are}
-use Rattle.proxy_core.proofs.GroupNotes.{of_items, entries_items, entries_on}
-use Rattle.proxy_core.proofs.SoundEvents.{entries_closing}
+use Rattle.proxy_core.proofs.GroupNotes.{of_items, entries_items, entries_on, due_entries, closing_due, settling_due}
+use Rattle.proxy_core.proofs.RunOn.{told_due}
 
 -- ---- one history
 
@@ -44,27 +49,36 @@ ring_answers C past [] group old new m = no_entries C past Runs group [] m.0 ref
 ring_answers C past (c ∷ rest) group old new m = by_failed (heard c past).failed m
   where
     by_failed : (b : Bool) → MatchBool b (RunsFailed (heard c past) c rest group old new) (RunsOn C (heard c past) c rest group old new ⊎ RunsOut C (heard c past) c rest group old new) → AreAnswers C past Runs (entries_in group)
-    by_failed true k = no_entries C past Runs group (closing c (untaken_all (heard c past) (old.places c))) k.notes refl
+    by_failed true k =
+        let e = (heard c past).edges in
+        let d = untaken_all (heard c past) (old.places c) in
+        no_entries C past Runs group (closing c e d) k.notes (due_entries c (closing c e d) (closing_due c e d))
     by_failed false (inl k) =
-        let behind = closing_if (ends k.turn) c (untaken_all (heard c past) (old.places c ++ k.more)) in
-        no_entries C past Runs group (notes_of c k.more ++ behind) k.items.noted (run_entries c k.more behind (entries_closing (ends k.turn) c (untaken_all (heard c past) (old.places c ++ k.more))))
+        let h = heard c past in
+        let e = edges_noted (notes_of c k.more) h.edges in
+        let d = untaken_all h (old.places c ++ k.more) in
+        let behind = told_behind k.turn (setup_of C h) (taken h) k.at c e d in
+        no_entries C past Runs group (notes_of c k.more ++ behind) k.items.noted (run_entries c k.more behind (due_entries c behind (told_due k.turn (setup_of C h) (taken h) k.at c e d)))
     by_failed false (inr k) =
-        let behind = Finish c Memory ∷ closing c (untaken_all (heard c past) (old.places c ++ k.more)) in
-        no_entries C past Runs group (notes_of c k.more ++ behind) k.notes (run_entries c k.more behind refl)
+        let e = edges_noted (notes_of c k.more) (heard c past).edges in
+        let d = untaken_all (heard c past) (old.places c ++ k.more) in
+        no_entries C past Runs group (notes_of c k.more ++ Finish c Memory ∷ closing c e d) k.notes (run_entries c k.more (Finish c Memory ∷ closing c e d) (due_entries c (closing c e d) (closing_due c e d)))
 
-input_answers : (C : Config) (past : Past) (c : ℕ) (input : Input) (group : List Note) (old new : State) (b : Bool) → MatchBool b (MovesCome C input (heard c past) (hears c (heard c past) (Comes c input) group) c group old new) ⊥ → AreAnswers C past (Comes c input) (entries_in group)
-input_answers C past c input group old new false m = absurd m
-input_answers C past c input group old new true m = by_failed (heard c past).failed m
+input_answers : (C : Config) (past : Past) (c : ℕ) (input : Input) (group : List Note) (old new : State) → MovesCome C input (heard c past) (hears c (heard c past) (Comes c input) group) c group old new → AreAnswers C past (Comes c input) (entries_in group)
+input_answers C past c input group old new m = by_failed (heard c past).failed m
   where
-    v : EventKind
-    v = Comes c input
+    now : Heard
+    now = hears c (heard c past) (Comes c input) group
 
-    by_failed : (b : Bool) → MatchBool b (MovesFailed c group old new) (MovesOn C (hears c (heard c past) (Comes c input) group) c group old new ⊎ MovesLacks input c group old new) → AreAnswers C past (Comes c input) (entries_in group)
+    e : Edges
+    e = edges_met input (heard c past).edges
+
+    by_failed : (b : Bool) → MatchBool b (MovesFailed c group old new) (MovesOn C now c e group old new ⊎ MovesLacks input c group old new) → AreAnswers C past (Comes c input) (entries_in group)
     by_failed true k = no_entries C past (Comes c input) group [] k.notes refl
     by_failed false (inl k) =
-        let over = is_drained_at C (hears c (heard c past) (Comes c input) group) (old.places c) in
-        let d = untaken_all (hears c (heard c past) (Comes c input) group) (old.places c) in
-        no_entries C past (Comes c input) group (closing_if over c d) k.notes (entries_closing over c d)
+        let at = stand_of C now (old.places c) in
+        let d = untaken_all now (old.places c) in
+        no_entries C past (Comes c input) group (settling_at (setup_of C now) (taken now) at c e d) k.notes (due_entries c (settling_at (setup_of C now) (taken now) at c e d) (settling_due (is_over (next_item (setup_of C now) at)) c e (took_all at (taken now) Server) (took_all at (taken now) Client) d))
     by_failed false (inr k) = no_entries C past (Comes c input) group (Finish c Memory ∷ []) k.notes refl
 
 one_answer : (C : Config) (past : Past) (a : Asked) (r : Reply) → r ≡ (reply (store_of C past) (shared past).moment a.call).reply → IsAnswer C past (record { conn = a.conn; moment = (shared past).moment; call = a.call; reply = r })
@@ -85,7 +99,7 @@ accept_answers C past c v group (inr k) = no_entries C past v group (Finish c Me
 
 are_answers : (C : Config) (past : Past) (v : EventKind) (group : List Note) (old new : State) → MovesBy C past v group old new → AreAnswers C past v (entries_in group)
 are_answers C past (Accepts c vs from) group old new m = accept_answers C past c (Accepts c vs from) group m.notes
-are_answers C past (Comes c input) group old new m = input_answers C past c input group old new (may_come input) m
+are_answers C past (Comes c input) group old new m = input_answers C past c input group old new m
 are_answers C past (Ticks moment) group old new m = no_entries C past (Ticks moment) group [] m.0 refl
 are_answers C past Turns group old new m = queue_answers C past old.queue group old new m
 are_answers C past Runs group old new m = ring_answers C past old.ring group old new m

@@ -1,36 +1,27 @@
 -- What a core tells is what the past and the scheduler's state say.
-use Rattle.std.proofs.Common.{◌≡◌, inl, inr, refl, sym, ap, subst, ◌∙◌, ℕ, zero, suc, List, [], ◌∷◌, length, drop, Bool, true, false, ◌&&◌, Option, Some, None, map, option_map, arith, if◌then◌else◌}
+use Rattle.std.proofs.Common.{◌≡◌, refl, sym, ap, ◌∙◌, ℕ, List, [], ◌∷◌, length, Bool, true, false, ◌&&◌, Option, Some, None, option_map, if◌then◌else◌}
 use Rattle.std.specs.Prelude.{◌↔◌, IsTrue, option_and_then, slice_get}
 use Rattle.std.proofs.lemmas.List.{length-map}
 use Rattle.px_bytes.specs.declared.addr.Side.{Side}
-use Rattle.px_bytes.specs.declared.addr.Side.TheVariants.{Client, Server}
 use Rattle.connection_model.specs.declared.edges.Edges.{Edges}
-use Rattle.connection_model.specs.Edges.{is_open}
-use Rattle.connection_model.specs.Gates.{Counts, no_bytes, sent_from, taken_of}
-use Rattle.connection_model.specs.Heard.{Heard, taken}
-use Rattle.connection_model.specs.Item.{Item, client_output, server_output}
-use Rattle.connection_model.specs.Setup.{Setup}
-use Rattle.connection_model.specs.Tellings.{tells, finish_told}
-use Rattle.connection_model.proofs.Sending.{sent_to_server}
-use Rattle.conn.specs.declared.connection.Conn.{Conn}
-use Rattle.proxy_core.specs.Asked.{is_none_of, settled_of, next_of, live_of, edges_of, wants_of, pending_of, left_of, queue_at, queue_of, first_of, copy_of}
-use Rattle.proxy_core.specs.Live.{pending_in}
+use Rattle.proxy_core.specs.Asked.{is_none_of, settled_of, next_of, live_of, edges_of, wants_of, pending_of, queue_at, queue_of, first_of, copy_of}
+use Rattle.proxy_core.specs.Live.{edges_in, wanted_of}
 use Rattle.proxy_core.specs.Past.{Past, heard, shared}
-use Rattle.proxy_core.specs.Queries.{front_in, front_of, pending_on, queue_on, wanted_on}
-use Rattle.proxy_core.specs.Ready.{numbers, is_in}
-use Rattle.proxy_core.specs.Refusal.{edges_in, wants_at}
+use Rattle.proxy_core.specs.Queries.{front_of, pending_on, queue_on}
+use Rattle.proxy_core.specs.Ready.{is_in}
+use Rattle.proxy_core.specs.Refusal.{wants_at}
 use Rattle.proxy_core.specs.Refusals.{live_at}
-use Rattle.proxy_core.specs.Represents.{ConnectionContinues, AgreesLive, AgreesAt, Represents}
+use Rattle.proxy_core.specs.Represents.{AgreesLive, AgreesAt, Represents}
 use Rattle.proxy_core.specs.Scheduler.{State, Seen, seen, untaken_of}
-use Rattle.proxy_core.specs.Setup.{setup_of, begins_at, stand_of}
-use Rattle.proxy_core.specs.Sound.{Served, SoundAt}
+use Rattle.proxy_core.specs.Sound.{Served}
 use Rattle.proxy_core.specs.declared.call.Asked.{Asked}
 use Rattle.proxy_core.specs.declared.config.Config.{Config}
 use Rattle.proxy_core.specs.declared.core_state.Core.{Core}
 use Rattle.proxy_core.specs.declared.live.Live.{Live}
 use Rattle.proxy_core.proofs.Finished.{heard_finish}
-use Rattle.proxy_core.proofs.Standing.{as_live, sent_at}
-use Rattle.proxy_core.proofs.Stepping.{pending_same, wants_same, none_from_server, queue_told as queue_told_of}
+use Rattle.proxy_core.proofs.Standing.{as_live}
+use Rattle.proxy_core.proofs.Waiting.{pending_is, pending_same, queue_same}
+use Rattle.proxy_core.proofs.Wanted.{wants_same}
 
 -- of a live connection, by its number
 asked : {A : Type 0} (f : Live → A) (x : A) (C : Config) (past : Past) (s : State) (core : Core) (c : ℕ) → Represents C past s core → ((l : Live) → Served C c (seen past s c) → AgreesLive C (seen past s c) l → f l ≡ x)
@@ -78,68 +69,24 @@ live_same C past s core n h r = h ∙ sym (length-map core.live.items (λ l. l.n
 pub edges_same : (C : Config) (past : Past) (s : State) (core : Core) (c : ℕ) (o : Option Edges) → o ≡ option_map edges_in (live_at core.live.items c) → Represents C past s core → o ≡ edges_of past c
 edges_same C past s core c o h r = h ∙ asked edges_in (heard c past).edges C past s core c r (λ l v a. sym a.edges)
 
-wants_side : (C : Config) (past : Past) (s : State) (c : ℕ) (side : Side) (l : Live) → Served C c (seen past s c) → AgreesLive C (seen past s c) l → wanted_on side l.conn ≡ wants_at C (seen past s c) side
-wants_side C past s c Client l v a = wants_same C c (seen past s c) l.conn v (heard_finish c past) a.continues
-wants_side C past s c Server l v a = none_from_server C (seen past s c) l a.edges
-
-pub wants_told : (C : Config) (past : Past) (s : State) (core : Core) (c : ℕ) (side : Side) (o : Option ℕ) → o ≡ option_map (λ l. wanted_on side l.conn) (live_at core.live.items c) → Represents C past s core → o ≡ wants_of C past s c side
-wants_told C past s core c side o h r = h ∙ asked (λ l. wanted_on side l.conn) (wants_at C (seen past s c) side) C past s core c r (wants_side C past s c side)
-
-pending_side : (C : Config) (past : Past) (s : State) (c : ℕ) (side : Side) (l : Live) → Served C c (seen past s c) → AgreesLive C (seen past s c) l → pending_on side l.conn ≡ untaken_of (heard c past) (s.places c) side
-pending_side C past s c Client l v a = by_conn l.conn ∙ (pending_same C c (seen past s c) l.conn v a.continues).0
-  where
-    by_conn : (o : Option Conn) → pending_on Client o ≡ pending_in o
-    by_conn None = refl
-    by_conn (Some conn) = refl
-pending_side C past s c Server l v a = by_conn l.conn ∙ (pending_same C c (seen past s c) l.conn v a.continues).1
-  where
-    by_conn : (o : Option Conn) → pending_on Server o ≡ 0
-    by_conn None = refl
-    by_conn (Some conn) = refl
+-- of each side
+pub wants_told : (C : Config) (past : Past) (s : State) (core : Core) (c : ℕ) (side : Side) (o : Option ℕ) → o ≡ option_map (λ l. wanted_of side l.conn) (live_at core.live.items c) → Represents C past s core → o ≡ wants_of C past s c side
+wants_told C past s core c side o h r =
+    let z = seen past s c in
+    h ∙ asked (λ l. wanted_of side l.conn) (wants_at C z side) C past s core c r
+    (λ l v a. wants_same C c z v (heard_finish c past) side l.conn l.edges a.edges a.continues)
 
 pub pending_told : (C : Config) (past : Past) (s : State) (core : Core) (c : ℕ) (side : Side) (o : Option ℕ) → o ≡ option_map (λ l. pending_on side l.conn) (live_at core.live.items c) → Represents C past s core → o ≡ pending_of past s c side
-pending_told C past s core c side o h r = h ∙ asked (λ l. pending_on side l.conn) (untaken_of (heard c past) (s.places c) side) C past s core c r (pending_side C past s c side)
-
--- nothing was sent to a server
-none_of_length : (xs : List ℕ) → length xs ≡ 0 → xs ≡ []
-none_of_length [] e = refl
-none_of_length (x ∷ xs) e = absurd (omega (arith, e))
-
-drop_none : (n : ℕ) → ◌≡◌ {A = List ℕ} (drop n []) []
-drop_none zero = refl
-drop_none (suc n) = refl
-
-left_none : (o : Option ℕ) → left_of o [] ≡ []
-left_none None = refl
-left_none (Some n) = drop_none n
-
-none_to_server : (C : Config) (past : Past) (s : State) (c : ℕ) → Served C c (seen past s c) → queue_at (heard c past) (s.places c) Server ≡ []
-none_to_server C past s c v =
-    let h = heard c past in
-    let place = s.places c in
-    let g = setup_of C h in
-    let at = stand_of C h place in
-    let sent = sent_at g h place at v.stands in
-    let all = sent_to_server g (begins_at C h).client (begins_at C h).answers at place v.stands in
-    let k = (sent_from no_bytes place).number in
-    let length_is : length (server_output k place) ≡ 0 = ap (λ n. length (server_output n place)) (sym (ap (λ x. x.number) sent)) ∙ sym all ∙ v.no_server in
-    ap (left_of (taken_of (taken h).servers k)) (none_of_length (server_output k place) length_is) ∙ left_none (taken_of (taken h).servers k)
-
-queue_side : (C : Config) (past : Past) (s : State) (c : ℕ) (side : Side) (l : Live) → Served C c (seen past s c) → AgreesLive C (seen past s c) l → queue_on side l.conn ≡ queue_at (heard c past) (s.places c) side
-queue_side C past s c Client l v a =
-    by_conn l.conn a.continues
-  where
-    by_conn : (o : Option Conn) → ConnectionContinues C (seen past s c) o → queue_on Client o ≡ left_of (taken (heard c past)).client (client_output (s.places c))
-    by_conn None k = sym (ap (λ p. left_of (taken (heard c past)).client (client_output p)) k.no_items ∙ left_none (taken (heard c past)).client)
-    by_conn (Some conn) k = queue_told_of C (seen past s c) conn k
-queue_side C past s c Server l v a = by_conn l.conn ∙ sym (none_to_server C past s c v)
-  where
-    by_conn : (o : Option Conn) → queue_on Server o ≡ []
-    by_conn None = refl
-    by_conn (Some conn) = refl
+pending_told C past s core c side o h r =
+    let z = seen past s c in
+    h ∙ asked (λ l. pending_on side l.conn) (untaken_of z.heard z.place side) C past s core c r
+    (λ l v a. pending_is side l.conn ∙ pending_same C c z side l.conn v a.continues)
 
 pub queue_told : (C : Config) (past : Past) (s : State) (core : Core) (c : ℕ) (side : Side) (o : Option (List ℕ)) → o ≡ option_map (λ l. queue_on side l.conn) (live_at core.live.items c) → Represents C past s core → o ≡ queue_of past s c side
-queue_told C past s core c side o h r = h ∙ asked (λ l. queue_on side l.conn) (queue_at (heard c past) (s.places c) side) C past s core c r (queue_side C past s c side)
+queue_told C past s core c side o h r =
+    let z = seen past s c in
+    h ∙ asked (λ l. queue_on side l.conn) (queue_at z.heard z.place side) C past s core c r
+    (λ l v a. queue_same C c z side l.conn v a.continues)
 
 front_by : (side : Side) (n : ℕ) (o : Option Live) → front_of side n o ≡ option_and_then (first_of n) (option_map (λ l. queue_on side l.conn) o)
 front_by side n None = refl

@@ -1,83 +1,86 @@
--- What comes of a client, as its connection takes it.
-use Rattle.std.proofs.Common.{◌≡◌, refl, sym, ap, subst, ◌∙◌, ℕ, ◌+◌, List, [], length, drop, Bool, true, false, Option, Some, None, option_map, arith}
+-- What comes of a connection, as the connection takes it.
+use Rattle.std.proofs.Common.{◌≡◌, refl, sym, subst, ◌∙◌, ℕ, List, [], ◌++◌, Bool, true, false, if◌then◌else◌}
+use Rattle.std.specs.Prelude.{OnOk}
+use Rattle.std.specs.declared.result.Result.{Result}
+use Rattle.std.specs.declared.result.Result.TheVariants.{Ok, Err}
+use Rattle.std.proofs.lemmas.List.{append_cancel_left}
+use Rattle.px_bytes.specs.declared.addr.Side.{Side}
 use Rattle.px_bytes.specs.declared.addr.Side.TheVariants.{Client, Server}
 use Rattle.connection_model.specs.Further.{longer, nothing_further}
-use Rattle.connection_model.specs.Gates.{TakenCounts}
-use Rattle.connection_model.specs.Heard.{Input, Bytes, Ends, Resets, Connects, Takes, taken_by}
-use Rattle.connection_model.specs.Setup.{Setup}
+use Rattle.connection_model.specs.Heard.{Input, Bytes, Ends, Resets, Connects, Takes, edges_met}
 use Rattle.connection_model.specs.State.{TraceState}
-use Rattle.conn.specs.Calls.{Hears, Resets as Reset, Takes as Took, reset_in, took_more, unless_finished}
-use Rattle.conn.specs.Holds.{Around, Holds}
+use Rattle.conn.specs.Calls.{Connects as Answers, Hears, Resets as Reset, Takes as Took, connected_ends, ended_ends, heard_ends, reset_ends, reset_in, took_ends, took_more, unless_finished}
+use Rattle.conn.specs.Holds.{Holds}
+use Rattle.conn.specs.Stages.{has_finished}
 use Rattle.conn.specs.declared.connection.Conn.{Conn}
-use Rattle.conn.proofs.Giving.{longer_nothing}
-use Rattle.proxy_core.specs.Live.{ConnHears, met_by, queue_of, reset_met, taken_more}
-use Rattle.proxy_core.specs.Moves.{may_come}
-use Rattle.proxy_core.proofs.Hearing.{counts}
+use Rattle.conn.specs.declared.setup.Setup as given
+use Rattle.conn.specs.declared.stage.Stage.TheVariants.{OutOfMemory}
+use Rattle.conn.specs.declared.turn.ConnTurn.{ConnTurn}
+use Rattle.conn.specs.declared.ends.Ends.{Ends as BothEnds}
+use Rattle.conn.specs.Ends.{has_stream, heard_end, queued_in}
+use Rattle.conn.specs.Runs.{DropsQueued, Runs}
+use Rattle.conn.specs.Settling.{closing}
+use Rattle.connection_model.specs.Edges.{edges_noted}
+use Rattle.connection_model.specs.declared.note.Note.{Note}
+use Rattle.conn.proofs.Joining.{longer_nothing}
+use Rattle.proxy_core.specs.Live.{ConnHears, ConnRuns, ends_met}
 
-none_more : (o : Option ℕ) → option_map (λ k. k + 0) o ≡ o
-none_more None = refl
-none_more (Some n) = ap (λ k. Some k) (omega arith)
+pub bytes_heard : (side : Side) (bytes : List ℕ) (old new : Conn) → Hears side (record { bytes = bytes; ended = false }) old new → new ≡ record old { ends = heard_ends (has_finished old.stage) side (record { bytes = bytes; ended = false }) old.ends } → ConnHears (Bytes side bytes) old new
+bytes_heard Client bytes old new k is = record { hears = k; is = is }
+bytes_heard Server bytes old new k is = record { hears = k; is = is }
 
-no_more : (a : Around) → took_more 0 a ≡ a
-no_more a = ap (λ o. with_taken o (a.counted + 0)) (none_more a.took.client) ∙ ap (with_taken a.took.client) (omega arith)
-  where
-    with_taken : Option ℕ → ℕ → Around
-    with_taken o n = record { took = record a.took { client = o }; counted = n }
+pub end_heard : (side : Side) (old new : Conn) → Hears side (record { bytes = []; ended = true }) old new → new ≡ record old { ends = ended_ends (has_finished old.stage) side old.ends } → ConnHears (Ends side) old new
+end_heard Client old new k is = record { hears = k; is = is }
+end_heard Server old new k is = record { hears = k; is = is }
 
--- all is told by whether it was reset, and how many it took
-abbrev pub at_counts : Bool → ℕ → Around
-at_counts b n = record { took = counts b n; counted = n }
-
-more_counted : (b : Bool) (n m : ℕ) → option_map (λ k. k + m) (taken_by b n) ≡ taken_by b (n + m)
-more_counted true n m = refl
-more_counted false n m = refl
-
-took_at : (b : Bool) (n m : ℕ) → took_more m (at_counts b n) ≡ at_counts b (n + m)
-took_at b n m = ap (λ o. record { took = record { client = o; servers = [] }; counted = n + m }) (more_counted b n m)
-
-pub around_met : (i : Input) → may_come i ≡ true → (b : Bool) (n : ℕ) → met_by i (at_counts b n) ≡ at_counts (reset_met i b) (n + taken_more i)
-around_met (Bytes Client bytes) e b n = took_at b n 0
-around_met (Ends Client) e b n = took_at b n 0
-around_met (Resets Client) e b n = ap (at_counts true) (omega arith)
-around_met (Takes Client m) e b n = took_at b n m
-around_met (Bytes Server bytes) e b n = cc
-around_met (Ends Server) e b n = cc
-around_met (Resets Server) e b n = cc
-around_met (Connects made) e b n = cc
-around_met (Takes Server m) e b n = cc
-
-pub bytes_heard : (bytes : List ℕ) (old new : Conn) → Hears (record { bytes = bytes; ended = false }) old new → new.host ≡ old.host → new.stage ≡ old.stage → new.client.reset ≡ old.client.reset → ConnHears (Bytes Client bytes) old new
-bytes_heard bytes old new k host stage same = record {
-  hears = λ g a l h order. (let P : Around → Type 0 = λ x. Holds g x (longer (unless_finished l.finished (record { bytes = bytes; ended = false })) l) new in subst P (sym (no_more a)) (k g a l h order));
-  queue = ap (λ x. x.to_client) host;
-  reset = same;
-  stage = stage;
-}
-
-pub end_heard : (old new : Conn) → Hears (record { bytes = []; ended = true }) old new → new.host ≡ old.host → new.stage ≡ old.stage → new.client.reset ≡ old.client.reset → ConnHears (Ends Client) old new
-end_heard old new k host stage same = record {
-  hears = λ g a l h order. (let P : Around → Type 0 = λ x. Holds g x (longer (unless_finished l.finished (record { bytes = []; ended = true })) l) new in subst P (sym (no_more a)) (k g a l h order));
-  queue = ap (λ x. x.to_client) host;
-  reset = same;
-  stage = stage;
-}
-
-nothing_comes_of : (b : Bool) (l : TraceState) → longer (unless_finished b (record { bytes = []; ended = false })) l ≡ longer nothing_further l
+nothing_comes_of : (b : Bool) (l : TraceState) → longer (unless_finished b nothing_further) l ≡ longer nothing_further l
 nothing_comes_of true l = refl
 nothing_comes_of false l = refl
 
-pub took_heard : (n : ℕ) (old new : Conn) → Took n old new → queue_of new ≡ drop n (queue_of old) → new.stage ≡ old.stage → new.client ≡ old.client → ConnHears (Takes Client n) old new
-took_heard n old new k queue stage client = record {
-  hears = λ g a l h order. (let P : TraceState → Type 0 = λ x. Holds g (took_more n a) x new in subst P (sym (nothing_comes_of l.finished l ∙ longer_nothing l h.no_cut)) (k g a l h));
-  queue = queue;
-  reset = ap (λ x. x.reset) client;
-  stage = stage;
+pub took_heard : (side : Side) (n : ℕ) (old new : Conn) → Took side n old new → new ≡ record old { ends = took_ends side n old.ends } → ConnHears (Takes side n) old new
+took_heard side n old new k is = record {
+  hears = λ g a l h order. (let P : TraceState → Type 0 = λ x. Holds g (took_more side n a) x new in subst P (sym (nothing_comes_of l.finished l ∙ longer_nothing l h.no_cut)) (k g a l h));
+  is = is;
 }
 
-pub reset_heard : (old new : Conn) → Reset old new → new.host ≡ old.host → new.stage ≡ old.stage → new.client ≡ record old.client { reset = true } → ConnHears (Resets Client) old new
-reset_heard old new k host stage client = record {
-  hears = λ g a l h order. (let P : TraceState → Type 0 = λ x. Holds g (reset_in a) x new in subst P (sym (nothing_comes_of l.finished l ∙ longer_nothing l h.no_cut)) (k g a l h));
-  queue = ap (λ x. x.to_client) host;
-  reset = ap (λ x. x.reset) client;
-  stage = stage;
+pub reset_heard : (side : Side) (old new : Conn) → Reset side old new → new ≡ record old { ends = reset_ends side old.ends } → ConnHears (Resets side) old new
+reset_heard side old new k is = record {
+  hears = λ g a l h order. (let P : TraceState → Type 0 = λ x. Holds g (reset_in side a) x new in subst P (sym (nothing_comes_of l.finished l ∙ longer_nothing l h.no_cut)) (k g a l h));
+  is = is;
 }
+
+pub answer_heard : (made : Bool) (old new : Conn) → Answers made old new → new ≡ record old { ends = connected_ends (has_finished old.stage) made old.ends } → ConnHears (Connects made) old new
+answer_heard true old new k is = record { hears = k; is = is }
+answer_heard false old new k is = record { hears = k; is = is }
+
+-- where memory was found
+pub arrives : (side : Side) (bytes : List ℕ) {T E : Type 0} (result : Result T E) (old new : Conn) → OnOk result (Hears side (record { bytes = bytes; ended = false }) old new) → OnOk result (new ≡ record old { ends = heard_ends (has_finished old.stage) side (record { bytes = bytes; ended = false }) old.ends })
+    → OnOk result (ConnHears (Bytes side bytes) old new)
+arrives side bytes (Ok t) old new k is = bytes_heard side bytes old new k is
+arrives side bytes (Err e) old new k is = tt
+
+-- what a Run gave, and that one that found no memory before gave its last notes alone
+pub conn_runs : (s : given.Setup) (number : ℕ) (old new : Conn) (before group after : List Note) (t : ConnTurn) → after ≡ before ++ group → new.ends.edges ≡ edges_noted group old.ends.edges → Runs s number old new group t
+    → (old.stage ≡ OutOfMemory → DropsQueued number (queued_in old.ends) old new before after t) → ConnRuns s number old new group t
+conn_runs s number old new before group after t is edges runs failed = record {
+  runs = runs;
+  edges = edges;
+  failed = λ there. (let d = failed there in (append_cancel_left before group (closing number old.ends.edges (queued_in old.ends)) (sym is ∙ d.noted), d.over));
+}
+
+-- where its ends stand for the outside
+pub ends_edges : (i : Input) (f : Bool) (e : BothEnds) → (ends_met i f e).edges ≡ edges_met i e.edges
+ends_edges (Bytes Client bytes) true e = refl
+ends_edges (Bytes Client bytes) false e = refl
+ends_edges (Bytes Server bytes) true e = refl
+ends_edges (Bytes Server bytes) false e = by_stream (has_stream e.link)
+  where
+    by_stream : (b : Bool) → (if b then record e { server = heard_end (record { bytes = bytes; ended = false }) e.server } else e).edges ≡ e.edges
+    by_stream true = refl
+    by_stream false = refl
+ends_edges (Ends side) f e = refl
+ends_edges (Resets Client) f e = refl
+ends_edges (Resets Server) f e = refl
+ends_edges (Takes Client n) f e = refl
+ends_edges (Takes Server n) f e = refl
+ends_edges (Connects made) f e = refl

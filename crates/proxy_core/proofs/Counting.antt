@@ -4,6 +4,7 @@ use Rattle.std.specs.Prelude.{is_some}
 use Rattle.std.specs.Bool.{MatchBool}
 use Rattle.std.proofs.lemmas.List.{length-map}
 use Rattle.connection_model.specs.Gates.{TakenCounts}
+use Rattle.connection_model.specs.declared.edges.Edges.{Edges}
 use Rattle.connection_model.specs.Heard.{taken}
 use Rattle.connection_model.specs.Setup.{Setup}
 use Rattle.connection_model.specs.State.{TraceState}
@@ -18,7 +19,7 @@ use Rattle.proxy_core.specs.declared.call.Asked.{Asked}
 use Rattle.proxy_core.specs.declared.config.Config.{Config}
 use Rattle.proxy_core.specs.declared.core_state.Core.{Core}
 use Rattle.proxy_core.proofs.Entries.{calls_front, calls_without, calls_without_self}
-use Rattle.proxy_core.proofs.Members.{eq_same, eq_self, in_without_other}
+use Rattle.proxy_core.proofs.Members.{eq_same, in_without_other}
 
 -- the calls of one connection, and the others
 parted : (n : ℕ) (queue : List Asked) → length queue ≡ length (without_calls n queue) + length (calls_of n queue)
@@ -69,25 +70,25 @@ length_without c (n ∷ live) h = by_test (nat_eq c n) h (length_without c live)
     by_test false k rest = omega (arith, rest k)
 
 -- what a sound state says of each
-spot_few : (failed live : Bool) (ready : List ℕ) (asked : List (List (List ℕ))) (g : Setup) (took : TakenCounts) (at : TraceState) → Spot failed live ready asked g took at → (length asked ≤ 1) × (is_any asked ≡ true → live ≡ true)
-spot_few failed live ready [] g took at s = (omega arith, λ e. absurd (let x : false ≡ true = e in cc))
-spot_few false true [] (call ∷ []) g took at s = (omega arith, λ e. refl)
-spot_few false true [] (call ∷ (k ∷ ks)) g took at s = absurd s
-spot_few false true (x ∷ []) (call ∷ ks) g took at s = absurd s
-spot_few false true (x ∷ (y ∷ ys)) (call ∷ ks) g took at s = absurd s
-spot_few false false [] (call ∷ ks) g took at s = absurd s
-spot_few false false (x ∷ xs) (call ∷ ks) g took at s = absurd s
-spot_few true true [] (call ∷ ks) g took at s = absurd s
-spot_few true true (x ∷ []) (call ∷ ks) g took at s = absurd s
-spot_few true true (x ∷ (y ∷ ys)) (call ∷ ks) g took at s = absurd s
-spot_few true false [] (call ∷ ks) g took at s = absurd s
-spot_few true false (x ∷ xs) (call ∷ ks) g took at s = absurd s
+spot_few : (failed live : Bool) (ready : List ℕ) (asked : List (List (List ℕ))) (g : Setup) (took : TakenCounts) (at : TraceState) (e : Edges) → Spot failed live ready asked g took at e → (length asked ≤ 1) × (is_any asked ≡ true → live ≡ true)
+spot_few failed live ready [] g took at e s = (omega arith, λ h. absurd (let x : false ≡ true = h in cc))
+spot_few false true [] (call ∷ []) g took at e s = (omega arith, λ h. refl)
+spot_few false true [] (call ∷ (k ∷ ks)) g took at e s = absurd s
+spot_few false true (x ∷ []) (call ∷ ks) g took at e s = absurd s
+spot_few false true (x ∷ (y ∷ ys)) (call ∷ ks) g took at e s = absurd s
+spot_few false false [] (call ∷ ks) g took at e s = absurd s
+spot_few false false (x ∷ xs) (call ∷ ks) g took at e s = absurd s
+spot_few true true [] (call ∷ ks) g took at e s = absurd s
+spot_few true true (x ∷ []) (call ∷ ks) g took at e s = absurd s
+spot_few true true (x ∷ (y ∷ ys)) (call ∷ ks) g took at e s = absurd s
+spot_few true false [] (call ∷ ks) g took at e s = absurd s
+spot_few true false (x ∷ xs) (call ∷ ks) g took at e s = absurd s
 
 sound_few : (C : Config) (c : ℕ) (z : Seen) → SoundAt C c z → (length z.asked ≤ 1) × (is_any z.asked ≡ true → z.live ≡ true)
 sound_few C c z s = by_accepted (is_some z.heard.accepted) s
   where
     by_accepted : (b : Bool) → MatchBool b (Served C c z) (z ≡ unseen) → (length z.asked ≤ 1) × (is_any z.asked ≡ true → z.live ≡ true)
-    by_accepted true k = spot_few z.heard.failed z.live z.ready z.asked (setup_of C z.heard) (taken z.heard) (stand_of C z.heard z.place) k.spot
+    by_accepted true k = spot_few z.heard.failed z.live z.ready z.asked (setup_of C z.heard) (taken z.heard) (stand_of C z.heard z.place) z.heard.edges k.spot
     by_accepted false e =
         let none : z.asked ≡ [] = ap (λ y. y.asked) e in
         let P : List (List (List ℕ)) → Type 0 = λ x. (length x ≤ 1) × (is_any x ≡ true → z.live ≡ true) in

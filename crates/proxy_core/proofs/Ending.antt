@@ -36,7 +36,7 @@ act_goes_on g e b bs n l (Some a) o sent took c s k = gives_on sent took (act_it
 act_goes_on g e b bs n l None (Ends code st) sent took c s k = gives_on sent took (Ran e st.cost) c s k
 act_goes_on g e b bs n l None (Stops path call st) sent took c s k = cc
 
-finished_is_over : (g : Setup) (p : Phase) (l : TraceState) (took : TakenCounts) → OrderlyIn p true (link_of l.server) → to_take l.sent took Client ≡ 0 → to_take l.sent took Server ≡ 0
+pub finished_is_over : (g : Setup) (p : Phase) (l : TraceState) (took : TakenCounts) → OrderlyIn p true (link_of l.server) → to_take l.sent took Client ≡ 0 → to_take l.sent took Server ≡ 0
     → GivesNoMore false l.sent took (counted l.sent (phase_next g p l)) → counted l.sent (phase_next g p l) ≡ Over
 finished_is_over g (InEvent e (Gated b bs)) l took o c s k = absurd (gives_on l.sent took (Opened BeforeBodies) c s k)
 finished_is_over g (InEvent e (Running b bs n)) l took o c s k = absurd (act_goes_on g e b bs n l (slice_get (state_after (run_body g b l)).acts n) (run_body g b l) l.sent took c s k)
@@ -127,7 +127,7 @@ not_over (Does i m) sent k e = cc
 not_over (Waits w) sent k e = cc
 not_over Over sent k e = k
 
-over_finished : (g : Setup) (p : Phase) (l : TraceState) → OrderlyIn p l.finished (link_of l.server) → counted l.sent (phase_next g p l) ≡ Over → l.finished ≡ true
+pub over_finished : (g : Setup) (p : Phase) (l : TraceState) → OrderlyIn p l.finished (link_of l.server) → counted l.sent (phase_next g p l) ≡ Over → l.finished ≡ true
 over_finished g (InEvent e (Gated b bs)) l o k = absurd (not_over (phase_next g (InEvent e (Gated b bs)) l) l.sent tt k)
 over_finished g (InEvent e (Running b bs n)) l o k = absurd (not_over (phase_next g (InEvent e (Running b bs n)) l) l.sent (act_goes g e b bs n l (slice_get (state_after (run_body g b l)).acts n) (run_body g b l)) k)
 over_finished g (InEvent e (Failing kind line bs)) l o k = absurd (not_over (phase_next g (InEvent e (Failing kind line bs)) l) l.sent tt k)

@@ -1,24 +1,20 @@
 -- Whether a connection has finished: what was heard, its notes, and where its trace stands.
-use Rattle.std.proofs.Common.{◌≡◌, refl, sym, ap, ◌∙◌, ℕ, List, [], ◌∷◌, ◌++◌, map, Bool, true, false, ◌||◌, nat_eq, if◌then◌else◌}
+use Rattle.std.proofs.Common.{◌≡◌, refl, sym, ap, ◌∙◌, ℕ, List, [], ◌∷◌, ◌++◌, append-nil, map, Bool, true, false, ◌||◌, nat_eq, if◌then◌else◌}
 use Rattle.std.proofs.lemmas.List.{map-append}
 use Rattle.px_bytes.specs.declared.addr.Side.TheVariants.{Client, Server}
 use Rattle.connection_model.specs.Further.{is_some_of}
 use Rattle.connection_model.specs.Heard.{Input, Bytes, Ends, Resets, Connects, Takes, EventKind, Accepts, Comes, Ticks, Turns, Runs, Marks, Heard, accepts, marks, event_marks}
-use Rattle.connection_model.specs.Item.{notes_of, reasons_in}
+use Rattle.connection_model.specs.Item.{cause_of, reasons_in}
 use Rattle.connection_model.specs.Phases.{Orderly}
 use Rattle.connection_model.specs.Tellings.{NoteTells, tells, own, notes_about, finish_told}
 use Rattle.connection_model.proofs.Stepping.{finishes_once}
-use Rattle.connection_model.proofs.Telling.{items_tell}
 use Rattle.proxy_core.specs.Past.{Past, kind_of, heard}
-use Rattle.proxy_core.specs.Scheduler.{Seen, untaken_all}
+use Rattle.proxy_core.specs.Scheduler.{Seen}
 use Rattle.proxy_core.specs.Setup.{setup_of, begins_at, stand_of}
-use Rattle.proxy_core.specs.Sound.{last_notes, Served}
+use Rattle.proxy_core.specs.Shown.{causes_behind}
+use Rattle.proxy_core.specs.Sound.{Served}
 use Rattle.proxy_core.specs.declared.config.Config.{Config}
-use Rattle.proxy_core.proofs.Besides.{besides_finish}
-
-or_false : (b : Bool) → (b || false) ≡ b
-or_false true = refl
-or_false false = refl
+use Rattle.proxy_core.proofs.Sums.{finish_of_causes, some_causes}
 
 -- by notes behind others
 finish_on : (xs ys : List NoteTells) → finish_told (xs ++ ys) ≡ (finish_told xs || finish_told ys)
@@ -58,21 +54,13 @@ heard_finish c (x ∷ past) =
     ap (λ b. b || finish_told (notes_about c x.group)) (marks_finish c (kind_of x.event) (heard c past) (heard_finish c past))
     ∙ sym (finish_on (map tells k.notes) (notes_about c x.group)) ∙ ap finish_told (sym (map-append tells k.notes (own c x.group)))
 
-last_finish : (c : ℕ) (live : Bool) (d : ℕ) → finish_told (map tells (last_notes c false live d)) ≡ false
-last_finish c true d = refl
-last_finish c false d = refl
-
 -- the trace has finished where its notes say so, unless memory was wanted
 pub trace_finished : (C : Config) (c : ℕ) (z : Seen) → Served C c z → z.heard.finished ≡ finish_told (map tells z.heard.notes) → z.heard.failed ≡ false → (stand_of C z.heard z.place).finished ≡ z.heard.finished
 trace_finished C c z k told none =
     let f = finishes_once (setup_of C z.heard) (begins_at C z.heard).client (begins_at C z.heard).answers (stand_of C z.heard z.place) z.place k.stands in
-    let t = items_tell c z.place in
-    let N = notes_of c z.place in
-    let d = untaken_all z.heard z.place in
-    let items : finish_told (map tells N) ≡ is_some_of (reasons_in z.place) = ap (λ ns. finish_told (map tells ns)) (sym t.own) ∙ t.finish in
-    f.finished ∙ sym (told ∙ besides_finish z.heard.notes ∙ ap (λ ns. finish_told (map tells ns)) k.noted ∙ ap (λ b. finish_told (map tells (N ++ last_notes c b z.live d))) none
-    ∙ ap finish_told (map-append tells N (last_notes c false z.live d)) ∙ finish_on (map tells N) (map tells (last_notes c false z.live d))
-    ∙ ap (λ b. finish_told (map tells N) || b) (last_finish c z.live d) ∙ or_false (finish_told (map tells N)) ∙ items)
+    let causes = map cause_of (reasons_in z.place) in
+    f.finished
+    ∙ sym (told ∙ finish_of_causes z.heard.notes ∙ ap is_some_of (k.causes ∙ ap (λ b. causes ++ causes_behind b) none ∙ append-nil causes) ∙ some_causes cause_of (reasons_in z.place))
 
 -- and is in order there
 pub stands_orderly : (C : Config) (c : ℕ) (z : Seen) → Served C c z → Orderly (stand_of C z.heard z.place)

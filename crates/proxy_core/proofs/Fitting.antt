@@ -1,175 +1,167 @@
--- While a connection is live its client's end is open, and so its last notes fit.
-use Rattle.std.proofs.Common.{◌≡◌, append-nil, ◌⊎◌, inl, inr, refl, sym, ap, subst, ◌∙◌, ℕ, List, [], ◌∷◌, ◌++◌, Bool, true, false, not, None, map, nat_eq, if◌then◌else◌}
+-- The notes of each event fit where the ends of their connection stand.
+use Rattle.std.proofs.Common.{◌≡◌, ◌⊎◌, inl, inr, refl, sym, ap, subst, ◌∙◌, ℕ, List, [], ◌∷◌, ◌++◌, Bool, true, false, ◌&&◌, not, true≢false, nat_eq, if◌then◌else◌}
+use Rattle.std.specs.Prelude.{is_some}
 use Rattle.std.specs.Bool.{MatchBool}
-use Rattle.std.specs.List.{IsDistinct}
-use Rattle.px_bytes.specs.declared.addr.Addr.{Addr}
+use Rattle.std.proofs.lemmas.Bool.{and_parts}
+use Rattle.px_bytes.specs.declared.addr.Side.{Side}
 use Rattle.px_bytes.specs.declared.addr.Side.TheVariants.{Client, Server}
+use Rattle.px_bytes.specs.declared.fault.Reply.{Reply}
+use Rattle.event_order.specs.declared.event.EventName.TheVariants.{ClientData, ServerData}
 use Rattle.connection_model.specs.declared.edges.Edges.{Edges}
 use Rattle.connection_model.specs.declared.edges.EdgeState.{EdgeState}
-use Rattle.connection_model.specs.declared.edges.EdgeState.TheVariants.{Open}
 use Rattle.connection_model.specs.declared.note.Cause.TheVariants.{Memory}
 use Rattle.connection_model.specs.declared.note.Note.{Note}
-use Rattle.connection_model.specs.declared.note.Note.TheVariants.{Finish}
-use Rattle.connection_model.specs.Edges.{edges_noted}
-use Rattle.connection_model.specs.Heard.{Input, Bytes, Ends, Resets, Connects, Takes, EventKind, Accepts, Comes, Ticks, Turns, Runs, Marks, Heard, hears, edges_met, event_edges, taken}
-use Rattle.connection_model.specs.Item.{Item, Passed, Fired, Reused, Connected, Logged, Finished, notes_of}
+use Rattle.connection_model.specs.declared.note.Note.TheVariants as note
+use Rattle.connection_model.specs.Edges.{edge_of, edges_noted}
+use Rattle.connection_model.specs.Further.{longer}
+use Rattle.connection_model.specs.Gates.{TakenCounts}
+use Rattle.connection_model.specs.Heard.{Input, EventKind, Accepts, Comes, Ticks, Turns, Runs, Marks, Heard, hears, edges_met, event_edges, taken}
+use Rattle.connection_model.specs.HeardLaws.{taken_by_items}
+use Rattle.connection_model.specs.Item.{Item, Passed, Fired, Reused, Connected, Logged, Finished, note_of, notes_of}
+use Rattle.connection_model.specs.Phases.{Orderly}
+use Rattle.connection_model.specs.Places.{is_up}
+use Rattle.connection_model.specs.Queries.{half_close_due, relays_at}
+use Rattle.connection_model.specs.Setup.{Setup}
+use Rattle.connection_model.specs.State.{Phase, InEvent, Relaying, Link, Absent, Asked, Up, GivenUp, TraceState, link_of}
 use Rattle.connection_model.specs.Tellings.{own}
-use Rattle.connection_model.proofs.Hearing.{others_not_heard}
-use Rattle.conn.specs.RunsItems.{closing, closing_if, connects_in, ends}
-use Rattle.proxy_core.specs.Fitting.{is_used, Fit, NotesFitEdges}
-use Rattle.px_bytes.specs.declared.fault.Reply.{Reply}
+use Rattle.connection_model.specs.Trace.{next_item, Unfolds}
+use Rattle.connection_model.proofs.Stepping.{steps}
+use Rattle.conn.specs.RunsItems.{Passes, told_behind}
+use Rattle.conn.specs.Settling.{closing, is_over, settling_at, took_all}
 use Rattle.shared_store.specs.Calls.{reply}
 use Rattle.shared_store.specs.Store.{StoreState}
-use Rattle.proxy_core.specs.Calls.{asker, calls_of}
+use Rattle.proxy_core.specs.Calls.{asker}
+use Rattle.proxy_core.specs.Fitting.{Fit, NotesFitEdges}
 use Rattle.proxy_core.specs.History.{store_of}
 use Rattle.proxy_core.specs.Live.{entry_note}
-use Rattle.proxy_core.specs.declared.call.Asked.{Asked}
-use Rattle.proxy_core.proofs.Entries.{calls_front}
-use Rattle.proxy_core.proofs.Standing.{is_served}
-use Rattle.proxy_core.specs.Moves.{Rests, MovesAccept, MovesFailed, MovesLacks, MovesOn, MovesCome, MovesRing, MovesFront, MovesQueue, TurnNotes, MovesBy, RunsOn, RunsOut, RunsFailed, is_drained_at, may_come, Leads}
+use Rattle.proxy_core.specs.Moves.{MovesFailed, MovesLacks, MovesOn, MovesCome, MovesRing, MovesFront, MovesQueue, TurnNotes, MovesBy, RunsOn, RunsOut, RunsFailed}
 use Rattle.proxy_core.specs.Others.{about, front}
-use Rattle.proxy_core.specs.Past.{Past, kind_of, heard, ended_in, shared, without_all, with_accepted}
-use Rattle.proxy_core.specs.Ready.{is_in}
-use Rattle.proxy_core.specs.Refusal.{refused}
-use Rattle.proxy_core.specs.Scheduler.{State, entries, Seen, seen, seen_after, untaken_all}
+use Rattle.proxy_core.specs.Past.{Past, kind_of, heard, shared}
+use Rattle.proxy_core.specs.Scheduler.{State, Seen, seen, untaken_all}
+use Rattle.proxy_core.specs.Servers.{is_used, awaits, LinkedAt, Linked}
 use Rattle.proxy_core.specs.Setup.{setup_of, stand_of}
-use Rattle.proxy_core.specs.Sound.{Sound, SoundAt, Spot}
+use Rattle.proxy_core.specs.Sound.{is_closed, Served, Sound}
+use Rattle.proxy_core.specs.declared.call.Asked.{Asked as Call}
 use Rattle.proxy_core.specs.declared.config.Config.{Config}
-use Rattle.conn.specs.declared.turn.ConnTurn.{ConnTurn}
-use Rattle.proxy_core.proofs.EdgeNotes.{edges_told, noted_edges}
-use Rattle.proxy_core.proofs.Framing.{only_changed, touches}
-use Rattle.proxy_core.proofs.GroupNotes.{About, about_closing_if, about_items, about_joined, ended_behind, of_items, own_all, own_none}
+use Rattle.proxy_core.proofs.Drains.{longer_orderly}
+use Rattle.proxy_core.proofs.EdgeNotes.{edges_joined}
+use Rattle.proxy_core.proofs.Finished.{heard_finish, stands_orderly, trace_finished}
+use Rattle.proxy_core.proofs.Framing.{touches}
+use Rattle.proxy_core.proofs.GroupNotes.{About, about_items, about_joined, closing_due, due_about, of_items, own_all, own_none, settling_due}
+use Rattle.proxy_core.proofs.Linking.{RunLinked, fit_joined, linked_now, linked_then, longer_linked, run_linked}
 use Rattle.proxy_core.proofs.Members.{eq_same, eq_self}
-use Rattle.proxy_core.proofs.SoundEvents.{at_front, ended_closing, front_call}
-use Rattle.proxy_core.proofs.SoundPast.{front_served, leads_sound, may_come_at, unchanged}
+use Rattle.proxy_core.proofs.ServerLaws.{unserved_longer, went_on}
+use Rattle.proxy_core.proofs.ServerLeft.{unserved_at}
+use Rattle.proxy_core.proofs.SoundPast.{front_served, leads_sound}
+use Rattle.proxy_core.proofs.ServerGone.{never}
+use Rattle.proxy_core.proofs.DueFits.{Begun, client_begun, fit_settling, fit_closing, HalvesThere, fit_behind, about_behind}
 
--- where the client's end stands
-abbrev client_at : Edges → EdgeState
-client_at e = e.client.state
+-- ---- a half-close is due on a connection that relays
 
-abbrev IsOpen : Edges → Type 0
-IsOpen e = client_at e ≡ Open
+record Relays (at : TraceState) : Type 0 where
+  going : at.finished ≡ false
+  up : is_up (link_of at.server) ≡ true
+  settled : awaits at.phase ≡ false
 
--- no input opens or closes it
-met_state : (input : Input) (e : Edges) → client_at (edges_met input e) ≡ client_at e
-met_state (Bytes side bytes) e = refl
-met_state (Ends Client) e = refl
-met_state (Ends Server) e = refl
-met_state (Resets Client) e = refl
-met_state (Resets Server) e = refl
-met_state (Connects made) e = refl
-met_state (Takes side n) e = refl
+up_only : (p : Phase) (k : Link) → relays_at p k ≡ true → is_up k ≡ true
+up_only Relaying Up e = refl
+up_only Relaying Absent e = never e
+up_only Relaying Asked e = never e
+up_only Relaying GivenUp e = never e
+up_only (InEvent ClientData bodies) Up e = refl
+up_only (InEvent ClientData bodies) Absent e = never e
+up_only (InEvent ClientData bodies) Asked e = never e
+up_only (InEvent ClientData bodies) GivenUp e = never e
+up_only (InEvent ServerData bodies) Up e = refl
+up_only (InEvent ServerData bodies) Absent e = never e
+up_only (InEvent ServerData bodies) Asked e = never e
+up_only (InEvent ServerData bodies) GivenUp e = never e
+up_only other k e = never e
 
-come_state : (c : ℕ) (input : Input) (e : Edges) → client_at (event_edges c (Comes c input) e) ≡ client_at e
-come_state c input e = ap (λ b. client_at (if b then edges_met input e else e)) (eq_self c) ∙ met_state input e
+awaits_none : (p : Phase) (k : Link) → relays_at p k ≡ true → awaits p ≡ false
+awaits_none Relaying k e = refl
+awaits_none (InEvent event bodies) k e = refl
+awaits_none other k e = never e
 
--- the front of the ring is live
-front_live : (C : Config) (past : Past) (c : ℕ) (rest : List ℕ) (s : State) → s.ring ≡ c ∷ rest → SoundAt C c (seen past s c) → (seen past s c).live ≡ true
-front_live C past c rest s e k =
-    let z = seen past s c in
-    let v = front_served C past c rest s e k in
-    let ready : z.ready ≡ c ∷ entries c rest = ap (entries c) e ∙ ap (λ x. if x then c ∷ entries c rest else entries c rest) (eq_self c) in
-    let S : List ℕ → Type 0 = λ r. Spot z.heard.failed z.live r z.asked (setup_of C z.heard) (taken z.heard) (stand_of C z.heard z.place) in
-    (at_front c rest z.heard.failed z.live z.asked (setup_of C z.heard) (taken z.heard) (stand_of C z.heard z.place) (subst S ready v.1.spot)).is_live
+not_true : (b : Bool) → not b ≡ true → b ≡ false
+not_true true e = never e
+not_true false e = refl
 
--- so is the connection whose call is in front
-call_live : (C : Config) (past : Past) (a : Asked) (rest : List Asked) (s : State) → s.queue ≡ a ∷ rest → SoundAt C a.conn (seen past s a.conn) → (seen past s a.conn).live ≡ true
-call_live C past a rest s e k =
-    let z = seen past s a.conn in
-    let asked : z.asked ≡ a.call ∷ calls_of a.conn rest = ap (calls_of a.conn) e ∙ calls_front a rest in
-    let v = is_served C a.conn z (λ u. let n = sym asked ∙ ap (λ y. y.asked) u in cc) k in
-    (front_call C past a rest s e v.1).is_live
+relays : (at : TraceState) (took : TakenCounts) (side : Side) → half_close_due at took side ≡ true → Relays at
+relays at took side e =
+    let first = (and_parts (relays_at at.phase (link_of at.server) && not at.finished) _ e).0 in
+    let parts = and_parts (relays_at at.phase (link_of at.server)) (not at.finished) first in
+    record { going = not_true at.finished parts.1; up = up_only at.phase (link_of at.server) parts.0; settled = awaits_none at.phase (link_of at.server) parts.0 }
 
--- one that ended isn't live
-gone : (over : Bool) (c : ℕ) (behind : List Note) (live : List ℕ) → over ≡ true → is_in (without_all (ended_in behind) live) c ≡ not over → is_in (without_all (ended_in behind) live) c ≡ false
-gone over c behind live e k = k ∙ ap not e
+-- ---- a Run
 
--- while it is live its client's end is open
-abbrev OpenWhile : Seen → Type 0
-OpenWhile z = z.live ≡ true → IsOpen z.heard.edges
+not_before : (g : Setup) (l at : TraceState) (items : List Item) → Orderly l → Unfolds g l items at → at.finished ≡ false → l.finished ≡ false
+not_before g l at [] o is e = ap (λ x. x.finished) is ∙ e
+not_before g l at (i ∷ items) o (mid, step, rest) e = let s = steps g l mid i o step in went_on l mid i s (not_before g mid at items s.orderly rest e)
+
+item_client : (c : ℕ) (i : Item) (e : Edges) → (edges_noted (note_of c i) e).client ≡ e.client
+item_client c (Passed from to bytes) e = refl
+item_client c (Fired side n) e = refl
+item_client c (Reused kept) e = refl
+item_client c (Connected to) e = refl
+item_client c (Logged text) e = refl
+item_client c (Finished reason) e = refl
+item_client c other e = refl
+
+items_client : (c : ℕ) (items : List Item) (e : Edges) → (edges_noted (notes_of c items) e).client ≡ e.client
+items_client c [] e = refl
+items_client c (i ∷ items) e = ap (λ x. x.client) (edges_joined (note_of c i) (notes_of c items) e) ∙ items_client c items (edges_noted (note_of c i) e) ∙ item_client c i e
+
+-- its items' notes fit, and behind them what is to be half closed is there
+record RunFits (took : TakenCounts) (at : TraceState) (c : ℕ) (more : List Item) (e : Edges) : Type 0 where
+  items : Fit (notes_of c more) e
+  halves : HalvesThere took at (edges_noted (notes_of c more) e)
 
 module _ (C : Config) (past : Past) (old : State) (sound : Sound C past old) where
-  -- its notes leave the end, or it ends
-  stays_open : (c : ℕ) (v : EventKind) (group notes : List Note) (new : State) → OpenWhile (seen past old c) → (seen past old c).live ≡ true → group ≡ notes → About c notes → client_at (edges_noted notes (event_edges c v (heard c past).edges)) ≡ client_at (heard c past).edges → OpenWhile (seen_after past v group new c)
-  stays_open c v group notes new opens live e a same is =
-      ap (λ g. client_at (hears c (heard c past) v g).edges) e ∙ ap client_at (edges_told c (heard c past) v notes a) ∙ same ∙ opens live
-
-  came_open : (c : ℕ) (input : Input) (group : List Note) (new : State) (over : Bool) (d : ℕ) → OpenWhile (seen past old c) → (seen past old c).live ≡ true → group ≡ closing_if over c d → OpenWhile (seen_after past (Comes c input) group new c)
-  came_open c input group new true d opens live e is =
-      let k = ended_closing true c d (shared past).live sound.distinct live in
-      let n = sym (ap (λ g. is_in (without_all (ended_in g) (shared past).live) c) e ∙ k) ∙ is in
-      absurd (let f : false ≡ true = n in cc)
-  came_open c input group new false d opens live e is =
-      stays_open c (Comes c input) group [] new opens live e tt (come_state c input (heard c past).edges) is
-
-  input_open : (c : ℕ) (input : Input) (group : List Note) (new : State) (b : Bool) → OpenWhile (seen past old c) → (seen past old c).live ≡ true → MatchBool b (MovesCome C input (heard c past) (hears c (heard c past) (Comes c input) group) c group old new) ⊥ → OpenWhile (seen_after past (Comes c input) group new c)
-  input_open c input group new false opens live m = absurd m
-  input_open c input group new true opens live m = by_failed (heard c past).failed m
+  front_fits : (c : ℕ) (more : List Item) (at : TraceState) → (heard c past).failed ≡ false → is_some (heard c past).accepted ≡ true → Served C c (seen past old c)
+      → Passes (setup_of C (heard c past)) (taken (heard c past)) (stand_of C (heard c past) (old.places c)) more at → RunFits (taken (heard c past)) at c more (heard c past).edges
+  front_fits c more at found accepted k p =
+      record { items = ran.fits; halves = λ side due. by_side side due (relays at (taken h) side due) }
     where
-      by_failed : (b : Bool) → MatchBool b (MovesFailed c group old new) (MovesOn C (hears c (heard c past) (Comes c input) group) c group old new ⊎ MovesLacks input c group old new) → OpenWhile (seen_after past (Comes c input) group new c)
-      by_failed true k = came_open c input group new false 0 opens live k.notes
-      by_failed false (inl k) = came_open c input group new (is_drained_at C (hears c (heard c past) (Comes c input) group) (old.places c)) (untaken_all (hears c (heard c past) (Comes c input) group) (old.places c)) opens live k.notes
-      by_failed false (inr k) = stays_open c (Comes c input) group (Finish c Memory ∷ []) new opens live k.notes (refl, tt) (come_state c input (heard c past).edges)
+      z : Seen
+      z = seen past old c
 
-  -- behind its items' notes
-  ran_open : (c : ℕ) (more : List Item) (group behind : List Note) (new : State) (over : Bool) → (seen past old c).live ≡ true → group ≡ notes_of c more ++ behind → over ≡ true → is_in (without_all (ended_in behind) (shared past).live) c ≡ not over → OpenWhile (seen_after past Runs group new c)
-  ran_open c more group behind new over live e last k is =
-      let n = ap (λ g. is_in (without_all (ended_in g) (shared past).live) c) e ∙ ap (λ ns. is_in (without_all ns (shared past).live) c) (ended_behind c (notes_of c more) behind (of_items c more)) ∙ k ∙ ap not last in
-      absurd (let f : false ≡ true = sym n ∙ is in cc)
+      h : Heard
+      h = heard c past
 
-  on_open : (c : ℕ) (more : List Item) (group : List Note) (new : State) (over : Bool) (d : ℕ) → OpenWhile (seen past old c) → (seen past old c).live ≡ true → connects_in more ≡ [] → group ≡ notes_of c more ++ closing_if over c d → OpenWhile (seen_after past Runs group new c)
-  on_open c more group new true d opens live none e = ran_open c more group (closing_if true c d) new true live e refl (ended_closing true c d (shared past).live sound.distinct live)
-  on_open c more group new false d opens live none e =
-      let a = about_joined c (notes_of c more) [] (about_items c (notes_of c more) (of_items c more)) tt in
-      let same : edges_noted (notes_of c more ++ []) (heard c past).edges ≡ (heard c past).edges = ap (λ ns. edges_noted ns (heard c past).edges) (append-nil (notes_of c more)) ∙ noted_edges c more (heard c past).edges none in
-      stays_open c Runs group (notes_of c more ++ []) new opens live e a (ap client_at same)
+      g : Setup
+      g = setup_of C h
 
-  front_open : (c : ℕ) (rest group : List _) (new : State) → OpenWhile (seen past old c) → (seen past old c).live ≡ true → MovesFront C (heard c past) c rest group old new → OpenWhile (seen_after past Runs group new c)
-  front_open c rest group new opens live m = by_failed (heard c past).failed m
-    where
-      by_failed : (b : Bool) → MatchBool b (RunsFailed (heard c past) c rest group old new) (RunsOn C (heard c past) c rest group old new ⊎ RunsOut C (heard c past) c rest group old new) → OpenWhile (seen_after past Runs group new c)
-      by_failed true k = ran_open c [] group (closing c (untaken_all (heard c past) (old.places c))) new true live k.notes refl (ended_closing true c (untaken_all (heard c past) (old.places c)) (shared past).live sound.distinct live)
-      by_failed false (inl k) = on_open c k.more group new (ends k.turn) (untaken_all (heard c past) (old.places c ++ k.more)) opens live k.items.passes.no_connect k.items.noted
-      by_failed false (inr k) =
-          let d = untaken_all (heard c past) (old.places c ++ k.more) in
-          ran_open c k.more group (Finish c Memory ∷ closing c d) new true live k.notes refl (ended_closing true c d (shared past).live sound.distinct live)
+      l : TraceState
+      l = stand_of C h z.place
 
-  rest_open : (v : EventKind) (group : List Note) (new : State) (q : ℕ) → Rests group old new → ((h : Heard) → hears q h v [] ≡ h) → with_accepted v (shared past).live ≡ (shared past).live → OpenWhile (seen past old q) → OpenWhile (seen_after past v group new q)
-  rest_open v group new q m same live k = subst OpenWhile (sym (unchanged past v group old new q m same live)) k
+      s : EdgeState
+      s = h.edges.server.state
 
-  ring_open : (ring : List ℕ) (group : List Note) (new : State) → old.ring ≡ ring → OpenWhile (seen past old (front ring)) → MovesRing C past ring group old new → OpenWhile (seen_after past Runs group new (front ring))
-  ring_open [] group new e k m = rest_open Runs group new 0 m (λ h. others_not_heard 0 h Runs [] refl refl) refl k
-  ring_open (c ∷ rest) group new e k m = front_open c rest group new k (front_live C past c rest old e (sound.each c)) m
+      same : l.finished ≡ h.finished
+      same = trace_finished C c z k (heard_finish c past) found
 
-  queue_open : (store : StoreState) (moment : ℕ) (queue : List Asked) (group : List Note) (new : State) → old.queue ≡ queue → OpenWhile (seen past old (asker queue)) → MovesQueue store moment queue group old new → OpenWhile (seen_after past Turns group new (asker queue))
-  queue_open store moment [] group new e k m = rest_open Turns group new 0 m (λ x. others_not_heard 0 x Turns [] refl refl) refl k
-  queue_open store moment (a ∷ rest) group new e k m = by_notes (reply store moment a.call).reply m.notes
-    where
-      put : (notes : List Note) → group ≡ notes → About a.conn notes → edges_noted notes (heard a.conn past).edges ≡ (heard a.conn past).edges → OpenWhile (seen_after past Turns group new a.conn)
-      put notes f about same = stays_open a.conn Turns group notes new k (call_live C past a rest old e (sound.each a.conn)) f about (ap client_at same)
+      was : Linked l.finished l s
+      was = linked_now h.finished l.finished l s s (λ x. sym same ∙ x) (λ x. refl) k.linked
 
-      by_notes : (r : Reply) → TurnNotes a moment r group → OpenWhile (seen_after past Turns group new a.conn)
-      by_notes r (inl f) = put (entry_note a moment r ∷ []) f (refl, tt) refl
-      by_notes r (inr (inl f)) = put (entry_note a moment r ∷ Finish a.conn Memory ∷ []) f (refl, (refl, tt)) refl
-      by_notes r (inr (inr f)) = put (Finish a.conn Memory ∷ []) f (refl, tt) refl
+      ran : RunLinked at c more h.edges
+      ran =
+          let f = taken_by_items (taken h) more in
+          run_linked g (longer f l) at more c h.edges (unserved_longer f l (unserved_at g h z.place l k.stands)) (longer_linked l.finished f l s refl was) p.passed
 
-  accept_open : (c : ℕ) (vs : List ℕ) (from : Addr) (group : List Note) (new : State) → (group ≡ []) ⊎ (group ≡ Finish c Memory ∷ []) → OpenWhile (seen_after past (Accepts c vs from) group new c)
-  accept_open c vs from group new e is = by_notes e
-    where
-      put : (notes : List Note) → About c notes → group ≡ notes → IsOpen (edges_noted notes (event_edges c (Accepts c vs from) (heard c past).edges)) → IsOpen (hears c (heard c past) (Accepts c vs from) group).edges
-      put notes a k opens = ap (λ g. client_at (hears c (heard c past) (Accepts c vs from) g).edges) k ∙ ap client_at (edges_told c (heard c past) (Accepts c vs from) notes a) ∙ opens
+      ends : Edges
+      ends = edges_noted (notes_of c more) h.edges
 
-      by_notes : (group ≡ []) ⊎ (group ≡ Finish c Memory ∷ []) → IsOpen (hears c (heard c past) (Accepts c vs from) group).edges
-      by_notes (inl k) = put [] tt k (rw (eq_self c) refl)
-      by_notes (inr k) = put (Finish c Memory ∷ []) (refl, tt) k (rw (eq_self c) refl)
+      by_begun : l.finished ≡ false → Begun h.edges → is_used h.edges.client.state ≡ true
+      by_begun going (inl opens) = ap is_used opens
+      by_begun going (inr shut) = absurd (true≢false (sym (k.closed_over found Client (ap is_closed shut)).1 ∙ going))
 
-  own_open : (v : EventKind) (group : List Note) (new : State) → refused C past old v ≡ None → OpenWhile (seen past old (about v old)) → MovesBy C past v group old new → OpenWhile (seen_after past v group new (about v old))
-  own_open (Accepts c vs from) group new h k m = accept_open c vs from group new m.notes
-  own_open (Comes c input) group new h k m = input_open c input group new (may_come input) k (may_come_at C past old c input (sound.each c) h).live m
-  own_open (Ticks moment) group new h k m = rest_open (Ticks moment) group new 0 m (λ x. others_not_heard 0 x (Ticks moment) [] refl refl) refl k
-  own_open Turns group new h k m = queue_open (store_of C past) (shared past).moment old.queue group new refl k m
-  own_open Runs group new h k m = ring_open old.ring group new refl k m
-  own_open (Marks pool member up) group new h k m = rest_open (Marks pool member up) group new 0 m (λ x. others_not_heard 0 x (Marks pool member up) [] refl refl) refl k
+      by_side : (side : Side) → half_close_due at (taken h) side ≡ true → Relays at → is_used (edge_of side ends).state ≡ true
+      by_side Client due r =
+          let f = taken_by_items (taken h) more in
+          let going = not_before g (longer f l) at more (longer_orderly f l (stands_orderly C c z k)) p.passed r.going in
+          ap (λ x. is_used x.state) (items_client c more h.edges) ∙ by_begun going (client_begun c past accepted)
+      by_side Server due r = ap is_used (subst (λ b. LinkedAt b ends.server.state) r.up (linked_then at.finished at ends.server.state ran.linked r.settled r.going))
 
   -- its notes fit
   fit_told : (c : ℕ) (group notes : List Note) (e : Edges) → group ≡ notes → About c notes → Fit notes e → Fit (own c group) e
@@ -177,102 +169,86 @@ module _ (C : Config) (past : Past) (old : State) (sound : Sound C past old) whe
       let P : List Note → Type 0 = λ g. Fit g e in
       subst P (sym (ap (own c) k ∙ own_all c notes a)) f
 
-  fit_closing : (c d : ℕ) (e : Edges) → IsOpen e → Fit (closing c d) e
-  fit_closing c d e opens = (ap is_used opens, (refl, tt))
-
-  fit_closing_if : (over : Bool) (c d : ℕ) (e : Edges) → IsOpen e → Fit (closing_if over c d) e
-  fit_closing_if true c d e opens = fit_closing c d e opens
-  fit_closing_if false c d e opens = tt
-
-  fit_items : (c : ℕ) (items : List Item) (more : List Note) (e : Edges) → connects_in items ≡ [] → Fit more e → Fit (notes_of c items ++ more) e
-  fit_items c [] more e k f = f
-  fit_items c (Passed from to bytes ∷ items) more e k f = (refl, fit_items c items more e k f)
-  fit_items c (Fired side n ∷ items) more e k f = (refl, fit_items c items more e k f)
-  fit_items c (Reused kept ∷ items) more e k f = (refl, fit_items c items more e k f)
-  fit_items c (Connected to ∷ items) more e k f = absurd (cc)
-  fit_items c (Logged text ∷ items) more e k f = (refl, fit_items c items more e k f)
-  fit_items c (Finished reason ∷ items) more e k f = (refl, fit_items c items more e k f)
-  fit_items c (other ∷ items) more e k f = fit_items c items more e k f
-
-  come_fits : (c : ℕ) (input : Input) (group : List Note) (new : State) (b : Bool) → IsOpen (heard c past).edges → MatchBool b (MovesCome C input (heard c past) (hears c (heard c past) (Comes c input) group) c group old new) ⊥ → Fit (own c group) (event_edges c (Comes c input) (heard c past).edges)
-  come_fits c input group new false opens m = absurd m
-  come_fits c input group new true opens m = by_failed (heard c past).failed m
-    where
-      e : Edges
-      e = event_edges c (Comes c input) (heard c past).edges
-
-      is_open : IsOpen e
-      is_open = come_state c input (heard c past).edges ∙ opens
-
-      by_failed : (b : Bool) → MatchBool b (MovesFailed c group old new) (MovesOn C (hears c (heard c past) (Comes c input) group) c group old new ⊎ MovesLacks input c group old new) → Fit (own c group) e
-      by_failed true k = fit_told c group [] e k.notes tt tt
-      by_failed false (inl k) =
-          let over = is_drained_at C (hears c (heard c past) (Comes c input) group) (old.places c) in
-          let d = untaken_all (hears c (heard c past) (Comes c input) group) (old.places c) in
-          fit_told c group (closing_if over c d) e k.notes (about_closing_if over c d) (fit_closing_if over c d e is_open)
-      by_failed false (inr k) = fit_told c group (Finish c Memory ∷ []) e k.notes (refl, tt) (refl, tt)
-
-  run_fits : (c : ℕ) (rest : List ℕ) (group : List Note) (new : State) → IsOpen (heard c past).edges → MovesFront C (heard c past) c rest group old new → Fit (own c group) (heard c past).edges
-  run_fits c rest group new opens m = by_failed (heard c past).failed m
-    where
-      e : Edges
-      e = (heard c past).edges
-
-      behind : (more : List Item) (last : List Note) → connects_in more ≡ [] → group ≡ notes_of c more ++ last → About c last → Fit last e → Fit (own c group) e
-      behind more last none k a f = fit_told c group (notes_of c more ++ last) e k (about_joined c (notes_of c more) last (about_items c (notes_of c more) (of_items c more)) a) (fit_items c more last e none f)
-
-      by_failed : (b : Bool) → MatchBool b (RunsFailed (heard c past) c rest group old new) (RunsOn C (heard c past) c rest group old new ⊎ RunsOut C (heard c past) c rest group old new) → Fit (own c group) e
-      by_failed true k = fit_told c group (closing c (untaken_all (heard c past) (old.places c))) e k.notes (refl, (refl, tt)) (fit_closing c (untaken_all (heard c past) (old.places c)) e opens)
-      by_failed false (inl k) =
-          let d = untaken_all (heard c past) (old.places c ++ k.more) in
-          behind k.more (closing_if (ends k.turn) c d) k.items.passes.no_connect k.items.noted (about_closing_if (ends k.turn) c d) (fit_closing_if (ends k.turn) c d e opens)
-      by_failed false (inr k) =
-          let d = untaken_all (heard c past) (old.places c ++ k.more) in
-          behind k.more (Finish c Memory ∷ closing c d) k.passes.no_connect k.notes (refl, (refl, (refl, tt))) (refl, fit_closing c d e opens)
-
   none_fits : (c : ℕ) (group : List Note) (e : Edges) → group ≡ [] → Fit (own c group) e
   none_fits c group e k = fit_told c group [] e k tt tt
 
-  ring_fits : (ring : List ℕ) (group : List Note) (new : State) → old.ring ≡ ring → OpenWhile (seen past old (front ring)) → MovesRing C past ring group old new → Fit (own (front ring) group) (heard (front ring) past).edges
-  ring_fits [] group new e k m = none_fits 0 group (heard 0 past).edges m.0
-  ring_fits (c ∷ rest) group new e k m = run_fits c rest group new (k (front_live C past c rest old e (sound.each c))) m
+  come_fits : (c : ℕ) (input : Input) (group : List Note) (new : State) → MovesCome C input (heard c past) (hears c (heard c past) (Comes c input) group) c group old new → Fit (own c group) (event_edges c (Comes c input) (heard c past).edges)
+  come_fits c input group new m = by_failed (heard c past).failed m
+    where
+      now : Heard
+      now = hears c (heard c past) (Comes c input) group
 
-  queue_fits : (store : StoreState) (moment : ℕ) (queue : List Asked) (group : List Note) (new : State) (e : Edges) → MovesQueue store moment queue group old new → Fit (own (asker queue) group) e
+      e : Edges
+      e = event_edges c (Comes c input) (heard c past).edges
+
+      met : Edges
+      met = edges_met input (heard c past).edges
+
+      by_failed : (b : Bool) → MatchBool b (MovesFailed c group old new) (MovesOn C now c met group old new ⊎ MovesLacks input c group old new) → Fit (own c group) e
+      by_failed true k = none_fits c group e k.notes
+      by_failed false (inl k) =
+          let there = stand_of C now (old.places c) in
+          let took = taken now in
+          let d = untaken_all now (old.places c) in
+          let over = is_over (next_item (setup_of C now) there) in
+          let notes = settling_at (setup_of C now) took there c met d in
+          let P : Edges → Type 0 = λ y. Fit notes y in
+          let same : e ≡ met = ap (λ b. if b then met else (heard c past).edges) (eq_self c) in
+          fit_told c group notes e k.notes (due_about c notes (settling_due over c met (took_all there took Server) (took_all there took Client) d))
+          (subst P (sym same) (fit_settling over c met met (took_all there took Server) (took_all there took Client) d refl refl))
+      by_failed false (inr k) = fit_told c group (note.Finish c Memory ∷ []) e k.notes (refl, tt) (refl, tt)
+
+  run_fits : (c : ℕ) (rest : List ℕ) (group : List Note) (new : State) → old.ring ≡ c ∷ rest → MovesFront C (heard c past) c rest group old new → Fit (own c group) (heard c past).edges
+  run_fits c rest group new ring m = by_failed (heard c past).failed refl m
+    where
+      h : Heard
+      h = heard c past
+
+      behind : (more : List Item) (last : List Note) → group ≡ notes_of c more ++ last → About c last → Fit (notes_of c more) h.edges → Fit last (edges_noted (notes_of c more) h.edges) → Fit (own c group) h.edges
+      behind more last k a f f' =
+          fit_told c group (notes_of c more ++ last) h.edges k (about_joined c (notes_of c more) last (about_items c (notes_of c more) (of_items c more)) a) (fit_joined (notes_of c more) last h.edges f f')
+
+      by_failed : (b : Bool) → h.failed ≡ b → MatchBool b (RunsFailed h c rest group old new) (RunsOn C h c rest group old new ⊎ RunsOut C h c rest group old new) → Fit (own c group) h.edges
+      by_failed true found k =
+          let d = untaken_all h (old.places c) in
+          fit_told c group (closing c h.edges d) h.edges k.notes (due_about c (closing c h.edges d) (closing_due c h.edges d)) (fit_closing c h.edges d)
+      by_failed false found (inl k) =
+          let v = front_served C past c rest old ring (sound.each c) in
+          let d = untaken_all h (old.places c ++ k.more) in
+          let e = edges_noted (notes_of c k.more) h.edges in
+          let r = front_fits c k.more k.at found v.0 v.1 k.items.passes in
+          behind k.more (told_behind k.turn (setup_of C h) (taken h) k.at c e d) k.items.noted (about_behind k.turn (setup_of C h) (taken h) k.at c e d) r.items (fit_behind k.turn (setup_of C h) (taken h) k.at c e d r.halves)
+      by_failed false found (inr k) =
+          let v = front_served C past c rest old ring (sound.each c) in
+          let d = untaken_all h (old.places c ++ k.more) in
+          let e = edges_noted (notes_of c k.more) h.edges in
+          let r = front_fits c k.more k.at found v.0 v.1 k.passes in
+          behind k.more (note.Finish c Memory ∷ closing c e d) k.notes (refl, due_about c (closing c e d) (closing_due c e d)) r.items (refl, fit_closing c e d)
+
+  ring_fits : (ring : List ℕ) (group : List Note) (new : State) → old.ring ≡ ring → MovesRing C past ring group old new → Fit (own (front ring) group) (heard (front ring) past).edges
+  ring_fits [] group new e m = none_fits 0 group (heard 0 past).edges m.0
+  ring_fits (c ∷ rest) group new e m = run_fits c rest group new e m
+
+  queue_fits : (store : StoreState) (moment : ℕ) (queue : List Call) (group : List Note) (new : State) (e : Edges) → MovesQueue store moment queue group old new → Fit (own (asker queue) group) e
   queue_fits store moment [] group new e m = none_fits 0 group e m.0
   queue_fits store moment (a ∷ rest) group new e m = by_notes (reply store moment a.call).reply m.notes
     where
       by_notes : (r : Reply) → TurnNotes a moment r group → Fit (own a.conn group) e
       by_notes r (inl f) = fit_told a.conn group (entry_note a moment r ∷ []) e f (refl, tt) (refl, tt)
-      by_notes r (inr (inl f)) = fit_told a.conn group (entry_note a moment r ∷ Finish a.conn Memory ∷ []) e f (refl, (refl, tt)) (refl, (refl, tt))
-      by_notes r (inr (inr f)) = fit_told a.conn group (Finish a.conn Memory ∷ []) e f (refl, tt) (refl, tt)
+      by_notes r (inr (inl f)) = fit_told a.conn group (entry_note a moment r ∷ note.Finish a.conn Memory ∷ []) e f (refl, (refl, tt)) (refl, (refl, tt))
+      by_notes r (inr (inr f)) = fit_told a.conn group (note.Finish a.conn Memory ∷ []) e f (refl, tt) (refl, tt)
 
-  accept_fits : (c : ℕ) (group : List Note) (e : Edges) → (group ≡ []) ⊎ (group ≡ Finish c Memory ∷ []) → Fit (own c group) e
+  accept_fits : (c : ℕ) (group : List Note) (e : Edges) → (group ≡ []) ⊎ (group ≡ note.Finish c Memory ∷ []) → Fit (own c group) e
   accept_fits c group e (inl k) = none_fits c group e k
-  accept_fits c group e (inr k) = fit_told c group (Finish c Memory ∷ []) e k (refl, tt) (refl, tt)
+  accept_fits c group e (inr k) = fit_told c group (note.Finish c Memory ∷ []) e k (refl, tt) (refl, tt)
 
-  own_fits : (v : EventKind) (group : List Note) (new : State) → refused C past old v ≡ None → OpenWhile (seen past old (about v old)) → MovesBy C past v group old new → Fit (own (about v old) group) (event_edges (about v old) v (heard (about v old) past).edges)
-  own_fits (Accepts c vs from) group new h k m = accept_fits c group (event_edges c (Accepts c vs from) (heard c past).edges) m.notes
-  own_fits (Comes c input) group new h k m = come_fits c input group new (may_come input) (k (may_come_at C past old c input (sound.each c) h).live) m
-  own_fits (Ticks moment) group new h k m = none_fits 0 group (heard 0 past).edges m.0
-  own_fits Turns group new h k m = queue_fits (store_of C past) (shared past).moment old.queue group new (heard (asker old.queue) past).edges m
-  own_fits Runs group new h k m = ring_fits old.ring group new refl k m
-  own_fits (Marks pool member up) group new h k m = none_fits 0 group (heard 0 past).edges m.0
-
--- behind every past
-pub open_while_live : (C : Config) (past : Past) (s : State) → Leads C past s → (q : ℕ) → OpenWhile (seen past s q)
-open_while_live C [] s leads q = λ is. absurd (let f : false ≡ true = is in cc)
-open_while_live C (x ∷ past) s (before, leads, accepted, moves) q = by_test (open_while_live C past before leads) (nat_eq (about v before) q) refl
-  where
-    v : EventKind
-    v = kind_of x.event
-
-    by_test : ((n : ℕ) → OpenWhile (seen past before n)) → (b : Bool) → nat_eq (about v before) q ≡ b → OpenWhile (seen_after past v x.group s q)
-    by_test first true e =
-        let P : ℕ → Type 0 = λ n. OpenWhile (seen_after past v x.group s n) in
-        subst P (eq_same (about v before) q e) (own_open C past before (leads_sound C past before leads) v x.group s accepted (first (about v before)) moves)
-    by_test first false e =
-        let k = (only_changed past v x.group before s (touches C past v x.group before s moves)).others q e in
-        subst OpenWhile (sym k) (first q)
+  own_fits : (v : EventKind) (group : List Note) (new : State) → MovesBy C past v group old new → Fit (own (about v old) group) (event_edges (about v old) v (heard (about v old) past).edges)
+  own_fits (Accepts c vs from) group new m = accept_fits c group (event_edges c (Accepts c vs from) (heard c past).edges) m.notes
+  own_fits (Comes c input) group new m = come_fits c input group new m
+  own_fits (Ticks moment) group new m = none_fits 0 group (heard 0 past).edges m.0
+  own_fits Turns group new m = queue_fits (store_of C past) (shared past).moment old.queue group new (heard (asker old.queue) past).edges m
+  own_fits Runs group new m = ring_fits old.ring group new refl m
+  own_fits (Marks pool member up) group new m = none_fits 0 group (heard 0 past).edges m.0
 
 pub notes_fit_edges : NotesFitEdges
 notes_fit_edges C past s x next leads accepted moves q = by_test (nat_eq (about v s) q) refl
@@ -283,7 +259,7 @@ notes_fit_edges C past s x next leads accepted moves q = by_test (nat_eq (about 
     by_test : (b : Bool) → nat_eq (about v s) q ≡ b → Fit (own q x.group) (event_edges q v (heard q past).edges)
     by_test true e =
         let P : ℕ → Type 0 = λ n. Fit (own n x.group) (event_edges n v (heard n past).edges) in
-        subst P (eq_same (about v s) q e) (own_fits C past s (leads_sound C past s leads) v x.group next accepted (open_while_live C past s leads (about v s)) moves)
+        subst P (eq_same (about v s) q e) (own_fits C past s (leads_sound C past s leads) v x.group next moves)
     by_test false e =
         let P : List Note → Type 0 = λ g. Fit g (event_edges q v (heard q past).edges) in
         subst P (sym (own_none (about v s) q x.group (touches C past v x.group s next moves).notes e)) tt

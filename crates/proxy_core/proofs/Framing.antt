@@ -4,7 +4,7 @@ use Rattle.std.specs.Bool.{MatchBool}
 use Rattle.connection_model.specs.declared.note.Cause.TheVariants.{Memory}
 use Rattle.connection_model.specs.declared.note.Note.{Note}
 use Rattle.connection_model.specs.declared.note.Note.TheVariants.{Finish}
-use Rattle.connection_model.specs.Heard.{Input, EventKind, Accepts, Comes, Ticks, Turns, Runs, Marks, Heard, hears}
+use Rattle.connection_model.specs.Heard.{Input, EventKind, Accepts, Comes, Ticks, Turns, Runs, Marks, Heard, taken, edges_met, hears}
 use Rattle.connection_model.specs.HeardLaws.{concerns}
 use Rattle.px_bytes.specs.declared.fault.Reply.{Reply}
 use Rattle.shared_store.specs.Store.{StoreState}
@@ -14,17 +14,27 @@ use Rattle.connection_model.specs.Tellings.{tells, conn_of}
 use Rattle.connection_model.proofs.Hearing.{others_not_heard}
 use Rattle.proxy_core.specs.Calls.{calls_of, is_any, asker, queue_behind}
 use Rattle.proxy_core.specs.History.{store_of}
-use Rattle.proxy_core.specs.Live.{entry_note}
-use Rattle.proxy_core.specs.Moves.{Rests, is_drained_at, came, lacked, may_come, ran, MovesFailed, MovesLacks, MovesOn, MovesCome, RunsOn, RunsOut, RunsFailed, MovesRing, TurnNotes, MovesTurn, MovesQueue, MovesBy}
+use Rattle.proxy_core.specs.Moves.{Rests, is_drained_at, came, lacked, ran, MovesFailed, MovesLacks, MovesOn, MovesCome, RunsOn, RunsOut, RunsFailed, MovesRing, TurnNotes, MovesQueue, MovesBy}
 use Rattle.proxy_core.specs.declared.call.Asked.{Asked}
 use Rattle.proxy_core.specs.Others.{about, front}
 use Rattle.proxy_core.specs.Past.{Past, heard, ended_in, without_all, with_accepted, shared}
 use Rattle.proxy_core.specs.Ready.{is_in, ring_behind, with_ready, without}
-use Rattle.conn.specs.RunsItems.{closing, closing_if, ends, out_of_memory}
+use Rattle.conn.specs.RunsItems.{is_resting, out_of_memory, told_behind}
+use Rattle.conn.specs.Settling.{closing, resting, settling_at}
+use Rattle.connection_model.specs.Edges.{edges_noted}
+use Rattle.connection_model.specs.Gates.{TakenCounts}
+use Rattle.connection_model.specs.Setup.{Setup}
+use Rattle.connection_model.specs.State.{TraceState}
+use Rattle.connection_model.specs.declared.edges.Edges.{Edges}
+use Rattle.conn.specs.declared.turn.ConnTurn.{ConnTurn}
 use Rattle.proxy_core.specs.Scheduler.{State, entries, Seen, seen, seen_after, untaken_all}
 use Rattle.proxy_core.specs.declared.config.Config.{Config}
 use Rattle.proxy_core.proofs.Entries.{entries_behind, entries_pushed, entries_rest, entries_without, entries_ready, entries_woken, calls_behind, calls_rest, calls_without}
-use Rattle.proxy_core.proofs.GroupNotes.{About, about_joined, about_closing_if, about_items, of_items, own_none}
+use Rattle.proxy_core.proofs.GroupNotes.{About, about_joined, about_items, closing_due, due_about, of_items, own_none, resting_due, settling_due}
+use Rattle.proxy_core.specs.Setup.{setup_of, stand_of}
+use Rattle.conn.specs.Settling.{is_over, took_all}
+use Rattle.connection_model.specs.Trace.{next_item}
+use Rattle.px_bytes.specs.declared.addr.Side.TheVariants.{Client, Server}
 use Rattle.proxy_core.proofs.Members.{eq_same, eq_turned, in_pushed_other, in_without_other}
 
 not_concerned : (q : ℕ) (v : EventKind) (s : State) → nat_eq (about v s) q ≡ false → concerns q v ≡ false
@@ -68,12 +78,23 @@ touched c group notes old new after e f t =
 rests : (c : ℕ) (group : List Note) (old new : State) → Rests group old new → Touches c group old new
 rests c group old new m = touched c group [] old new old m.0 m.1 (record { notes = tt; ready = λ q e. refl; asked = λ q e. refl; place = λ q e. refl })
 
-comes_touch : (over : Bool) (c d : ℕ) (group : List Note) (old new : State) → group ≡ closing_if over c d → new ≡ came c over old → Touches c group old new
-comes_touch over c d group old new e f = touched c group (closing_if over c d) old new (came c over old) e f (record { notes = about_closing_if over c d; ready = λ q h. by_end over q h; asked = λ q h. refl; place = λ q h. refl })
+comes_touch : (over : Bool) (c : ℕ) (group notes : List Note) (old new : State) → About c notes → group ≡ notes → new ≡ came c over old → Touches c group old new
+comes_touch over c group notes old new a e f = touched c group notes old new (came c over old) e f (record { notes = a; ready = λ q h. by_end over q h; asked = λ q h. refl; place = λ q h. refl })
   where
     by_end : (b : Bool) (q : ℕ) → nat_eq c q ≡ false → entries q (came c b old).ring ≡ entries q old.ring
     by_end true q h = entries_without c q old.ring (eq_turned c q h)
     by_end false q h = entries_woken (is_any (calls_of c old.queue)) c q old.ring (eq_turned c q h)
+
+-- what is due is about it
+pub about_settling : (g : Setup) (took : TakenCounts) (at : TraceState) (c : ℕ) (e : Edges) (d : ℕ) → About c (settling_at g took at c e d)
+about_settling g took at c e d = due_about c (settling_at g took at c e d) (settling_due (is_over (next_item g at)) c e (took_all at took Server) (took_all at took Client) d)
+
+pub about_behind : (t : ConnTurn) (g : Setup) (took : TakenCounts) (at : TraceState) (c : ℕ) (e : Edges) (d : ℕ) → About c (told_behind t g took at c e d)
+about_behind t g took at c e d = by_rest (is_resting t)
+  where
+    by_rest : (b : Bool) → About c (if b then resting g took at c e d else [])
+    by_rest true = due_about c (resting g took at c e d) (resting_due g took at c e d)
+    by_rest false = tt
 
 -- the front ran: its notes are about it
 ran_touch : (c : ℕ) (rest after : List ℕ) (queue : List Asked) (more : List Item) (group notes : List Note) (old new : State) → old.ring ≡ c ∷ rest → ((q : ℕ) → nat_eq q c ≡ false → entries q after ≡ entries q rest) → ((q : ℕ) → nat_eq q c ≡ false → calls_of q queue ≡ calls_of q old.queue) → group ≡ notes → About c notes → new ≡ ran c after queue more old → Touches c group old new
@@ -90,24 +111,37 @@ by_ring C past [] group old new e m = rests 0 group old new m
 by_ring C past (c ∷ rest) group old new e m = by_failed (heard c past).failed m
   where
     by_failed : (b : Bool) → MatchBool b (RunsFailed (heard c past) c rest group old new) (RunsOn C (heard c past) c rest group old new ⊎ RunsOut C (heard c past) c rest group old new) → Touches c group old new
-    by_failed true k = touched c group (closing c (untaken_all (heard c past) (old.places c))) old new (record old { ring = rest }) k.notes k.state (record { notes = (refl, (refl, tt)); ready = λ q h. entries_rest c q rest (eq_turned c q h) ∙ ap (entries q) (sym e); asked = λ q h. refl; place = λ q h. refl })
+    by_failed true k =
+        let notes = closing c (heard c past).edges (untaken_all (heard c past) (old.places c)) in
+        touched c group notes old new (record old { ring = rest }) k.notes k.state (record { notes = due_about c notes (closing_due c (heard c past).edges (untaken_all (heard c past) (old.places c))); ready = λ q h. entries_rest c q rest (eq_turned c q h) ∙ ap (entries q) (sym e); asked = λ q h. refl; place = λ q h. refl })
     by_failed false (inl k) =
-        let d = untaken_all (heard c past) (old.places c ++ k.more) in
-        let behind = closing_if (ends k.turn) c d in
+        let h = heard c past in
+        let ends = edges_noted (notes_of c k.more) h.edges in
+        let d = untaken_all h (old.places c ++ k.more) in
+        let behind = told_behind k.turn (setup_of C h) (taken h) k.at c ends d in
         ran_touch c rest (ring_behind k.turn c rest) (queue_behind k.turn c old.queue) k.more group (notes_of c k.more ++ behind) old new e (λ q h. entries_behind k.turn c q rest h) (λ q h. calls_behind k.turn c q old.queue h) k.items.noted
-        (about_joined c (notes_of c k.more) behind (about_items c (notes_of c k.more) (of_items c k.more)) (about_closing_if (ends k.turn) c d)) k.state
+        (about_joined c (notes_of c k.more) behind (about_items c (notes_of c k.more) (of_items c k.more)) (about_behind k.turn (setup_of C h) (taken h) k.at c ends d)) k.state
     by_failed false (inr k) =
-        ran_touch c rest rest old.queue k.more group (out_of_memory c k.more (untaken_all (heard c past) (old.places c ++ k.more))) old new e (λ q h. refl) (λ q h. refl) k.notes
-        (about_joined c (notes_of c k.more) (Finish c Memory ∷ closing c (untaken_all (heard c past) (old.places c ++ k.more))) (about_items c (notes_of c k.more) (of_items c k.more)) (refl, (refl, (refl, tt)))) k.state
+        let h = heard c past in
+        let ends = edges_noted (notes_of c k.more) h.edges in
+        let d = untaken_all h (old.places c ++ k.more) in
+        ran_touch c rest rest old.queue k.more group (out_of_memory c h.edges k.more d) old new e (λ q h. refl) (λ q h. refl) k.notes
+        (about_joined c (notes_of c k.more) (Finish c Memory ∷ closing c ends d) (about_items c (notes_of c k.more) (of_items c k.more)) (refl, due_about c (closing c ends d) (closing_due c ends d))) k.state
 
-by_input : (C : Config) (past : Past) (c : ℕ) (input : Input) (group : List Note) (old new : State) → (b : Bool) → MatchBool b (MovesCome C input (heard c past) (hears c (heard c past) (Comes c input) group) c group old new) ⊥ → Touches c group old new
-by_input C past c input group old new true m = by_failed (heard c past).failed m
+by_input : (C : Config) (past : Past) (c : ℕ) (input : Input) (group : List Note) (old new : State) → MovesCome C input (heard c past) (hears c (heard c past) (Comes c input) group) c group old new → Touches c group old new
+by_input C past c input group old new m = by_failed (heard c past).failed m
   where
-    by_failed : (b : Bool) → MatchBool b (MovesFailed c group old new) (MovesOn C (hears c (heard c past) (Comes c input) group) c group old new ⊎ MovesLacks input c group old new) → Touches c group old new
-    by_failed true k = comes_touch false c 0 group old new k.notes k.state
-    by_failed false (inl k) = comes_touch (is_drained_at C (hears c (heard c past) (Comes c input) group) (old.places c)) c (untaken_all (hears c (heard c past) (Comes c input) group) (old.places c)) group old new k.notes k.state
+    now : Heard
+    now = hears c (heard c past) (Comes c input) group
+
+    by_failed : (b : Bool) → MatchBool b (MovesFailed c group old new) (MovesOn C now c (edges_met input (heard c past).edges) group old new ⊎ MovesLacks input c group old new) → Touches c group old new
+    by_failed true k = comes_touch false c group [] old new tt k.notes k.state
+    by_failed false (inl k) =
+        let at = stand_of C now (old.places c) in
+        let e = edges_met input (heard c past).edges in
+        let d = untaken_all now (old.places c) in
+        comes_touch (is_drained_at C now (old.places c)) c group (settling_at (setup_of C now) (taken now) at c e d) old new (about_settling (setup_of C now) (taken now) at c e d) k.notes k.state
     by_failed false (inr k) = touched c group (Finish c Memory ∷ []) old new (lacked c old) k.notes k.state (record { notes = (refl, tt); ready = λ q h. entries_ready c q old.ring (eq_turned c q h); asked = λ q h. calls_without c q old.queue (eq_turned c q h); place = λ q h. refl })
-by_input C past c input group old new false m = absurd m
 
 by_accept : (c : ℕ) (group : List Note) (old new : State) → (group ≡ []) ⊎ (group ≡ Finish c Memory ∷ []) → new ≡ record old { ring = old.ring ++ c ∷ [] } → Touches c group old new
 by_accept c group old new e f = by_notes e
@@ -137,7 +171,7 @@ by_queue store moment (a ∷ rest) group old new e m =
 
 pub touches : (C : Config) (past : Past) (v : EventKind) (group : List Note) (old new : State) → MovesBy C past v group old new → Touches (about v old) group old new
 touches C past (Accepts c vs from) group old new m = by_accept c group old new m.notes m.state
-touches C past (Comes c input) group old new m = by_input C past c input group old new (may_come input) m
+touches C past (Comes c input) group old new m = by_input C past c input group old new m
 touches C past (Ticks moment) group old new m = rests 0 group old new m
 touches C past Turns group old new m = by_queue (store_of C past) (shared past).moment old.queue group old new refl m
 touches C past Runs group old new m = by_ring C past old.ring group old new refl m

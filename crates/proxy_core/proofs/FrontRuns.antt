@@ -1,6 +1,5 @@
 -- The run of the front, of the whole ring; the answer to the front of the calls.
-use Rattle.std.proofs.Common.{◌≡◌, ◌≤◌, ◌-◌, ℕ, List, [], ◌∷◌, ◌++◌, length, length-append, Option, Some, None, ap, ◌∙◌, subst, sym, refl, nat_eq, Bool, true, false, inr, arith}
-use Rattle.std.specs.List.{IsDistinct}
+use Rattle.std.proofs.Common.{◌≡◌, ◌≤◌, ◌-◌, ℕ, List, [], ◌∷◌, ◌++◌, length, length-append, ap, ◌∙◌, subst, sym, refl, Bool, true, false, inr, arith}
 use Rattle.conn.specs.Runs.{IsBounded, IsWhole}
 use Rattle.conn.specs.RunsItems.{ends}
 use Rattle.conn.specs.declared.turn.ConnTurn.{ConnTurn}

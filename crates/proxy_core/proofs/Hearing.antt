@@ -1,226 +1,201 @@
--- What an event and its notes change in what its connection heard.
-use Rattle.std.proofs.Common.{◌≡◌, refl, sym, ap, subst, ◌∙◌, ℕ, ◌+◌, ◌≤◌, List, [], ◌++◌, Bool, true, false, ◌||◌, Option, Some, None, map, nat_eq, if◌then◌else◌, arith, zero, suc}
+-- What an event and its notes change in what their connection heard.
+use Rattle.std.proofs.Common.{◌≡◌, refl, sym, ap, subst, ◌∙◌, ℕ, zero, suc, ◌+◌, List, [], ◌∷◌, ◌++◌, append-nil, map, Bool, true, false, ◌||◌, Option, Some, None, if◌then◌else◌, arith}
+use Rattle.std.specs.Prelude.{slice_get, unwrap_or}
 use Rattle.px_bytes.specs.declared.addr.Side.TheVariants.{Client, Server}
-use Rattle.connection_model.specs.declared.note.Note.{Note}
 use Rattle.px_bytes.specs.declared.fault.Reply.{Reply}
-use Rattle.connection_model.specs.Further.{Coming, Further, first_cut, nothing_further, replies_only}
-use Rattle.connection_model.specs.HeardLaws.{TellsNothing}
+use Rattle.connection_model.specs.declared.note.Note.{Note}
+use Rattle.connection_model.specs.Further.{Coming, Further, nothing_comes, replies_only}
 use Rattle.connection_model.specs.Item.{Choice}
 use Rattle.connection_model.specs.State.{Cut}
-use Rattle.conn.specs.Calls.{unless_finished}
 use Rattle.connection_model.specs.Gates.{TakenCounts, taken_of}
-use Rattle.connection_model.specs.Heard.{Input, Bytes, Ends, Resets, Connects, Takes, EventKind, Comes, Runs, SideHeard, Heard, taken_by, servers_taken, taken, hears_by, hears_more, at_last, as_answer, Brought, brought_nothing, brings_in, event_brings, marks, event_marks, brought, hears_event, hears, further_of, Accepts, Ticks, Turns, Marks}
+use Rattle.connection_model.specs.Heard.{Input, Bytes, Ends, Resets, Connects, Takes, EventKind, Comes, Turns, Runs, SideHeard, Heard, taken_by, side_taken, servers_taken, taken, has_made, hears_by, hears_more, at_last, as_answer, Brought, brought_nothing, hear_brought, marks, event_marks, brought, hears_event, hears, further_of}
 use Rattle.connection_model.specs.Laws.{AtLeast, TakesMore}
 use Rattle.connection_model.specs.Tellings.{tells, own, notes_about, replies_told, choices_told, cut_told, finish_told, failure_told}
-use Rattle.proxy_core.specs.Live.{taken_more, reset_met}
-use Rattle.proxy_core.specs.Moves.{may_come}
-use Rattle.proxy_core.specs.Sound.{IsPlain}
 use Rattle.proxy_core.proofs.GroupNotes.{About, own_all, tells_all}
 use Rattle.proxy_core.proofs.Members.{eq_self}
 
--- what an event changes, before its notes and what it brings are heard
-record Marked (h k : Heard) (n : ℕ) (b : Bool) : Type 0 where
+-- what an event leaves, before its notes and what it brings are heard
+record Kept (h k : Heard) : Type 0 where
   accepted : k.accepted ≡ h.accepted
-  took : k.client.took ≡ h.client.took + n
-  reset : k.client.reset ≡ b
-  connects : k.connects ≡ []
-  replies : k.replies ≡ h.replies
-  cut : k.cut ≡ h.cut
   finished : k.finished ≡ h.finished
   failed : k.failed ≡ h.failed
   notes : k.notes ≡ h.notes
 
-unmarked : (h : Heard) → h.connects ≡ [] → Marked h h 0 h.client.reset
-unmarked h e = record { accepted = refl; took = omega arith; reset = refl; connects = e; replies = refl; cut = refl; finished = refl; failed = refl; notes = refl }
+kept : (h : Heard) → Kept h h
+kept h = record { accepted = refl; finished = refl; failed = refl; notes = refl }
 
-marks_few : (input : Input) (h : Heard) → may_come input ≡ true → h.connects ≡ [] → Marked h (marks input h) (taken_more input) (reset_met input h.client.reset)
-marks_few (Bytes Client bytes) h m e = unmarked h e
-marks_few (Bytes Server bytes) h m e = absurd (let x : false ≡ true = m in cc)
-marks_few (Ends Client) h m e = unmarked h e
-marks_few (Ends Server) h m e = absurd (let x : false ≡ true = m in cc)
-marks_few (Resets Client) h m e = record { accepted = refl; took = omega arith; reset = refl; connects = e; replies = refl; cut = refl; finished = refl; failed = refl; notes = refl }
-marks_few (Resets Server) h m e = absurd (let x : false ≡ true = m in cc)
-marks_few (Connects made) h m e = absurd (let x : false ≡ true = m in cc)
-marks_few (Takes Client n) h m e = record { accepted = refl; took = refl; reset = refl; connects = e; replies = refl; cut = refl; finished = refl; failed = refl; notes = refl }
-marks_few (Takes Server n) h m e = absurd (let x : false ≡ true = m in cc)
-
--- whether its client was reset then
-abbrev pub reset_heard : EventKind → Bool → Bool
-reset_heard (Comes c input) b = reset_met input b
-reset_heard other b = b
+marks_keep : (input : Input) (h : Heard) → Kept h (marks input h)
+marks_keep (Bytes side bytes) h = kept h
+marks_keep (Ends side) h = kept h
+marks_keep (Resets Client) h = record { accepted = refl; finished = refl; failed = refl; notes = refl }
+marks_keep (Resets Server) h = record { accepted = refl; finished = refl; failed = refl; notes = refl }
+marks_keep (Connects made) h = kept h
+marks_keep (Takes Client n) h = record { accepted = refl; finished = refl; failed = refl; notes = refl }
+marks_keep (Takes Server n) h = record { accepted = refl; finished = refl; failed = refl; notes = refl }
 
 -- what it hears after an event and its notes, which are all about it
-pub record Told (c : ℕ) (h : Heard) (v : EventKind) (group : List Note) (n : ℕ) : Type 0 where
+pub record Told (c : ℕ) (h : Heard) (v : EventKind) (group : List Note) : Type 0 where
   pub accepted : (hears c h v group).accepted ≡ h.accepted
-  pub took : (hears c h v group).client.took ≡ h.client.took + n
-  pub reset : (hears c h v group).client.reset ≡ reset_heard v h.client.reset
-  pub connects : (hears c h v group).connects ≡ []
-  pub replies : (hears c h v group).replies ≡ h.replies ++ replies_told (map tells group)
-  pub at : TakenCounts
-  pub cut : (hears c h v group).cut ≡ first_cut h.cut (cut_told at (map tells group))
   pub finished : (hears c h v group).finished ≡ (h.finished || finish_told (map tells group))
   pub failed : (hears c h v group).failed ≡ (h.failed || failure_told (map tells group))
   pub notes : (hears c h v group).notes ≡ h.notes ++ group
 
-took_same : (b : Bool) (c : Coming) (s : SideHeard) → (hears_by b c s).took ≡ s.took
-took_same true c s = refl
-took_same false c s = refl
-
-reset_same : (b : Bool) (c : Coming) (s : SideHeard) → (hears_by b c s).reset ≡ s.reset
-reset_same true c s = refl
-reset_same false c s = refl
-
-told_by : (c : ℕ) (h : Heard) (v : EventKind) (group : List Note) (n : ℕ) → About c group → Marked h (event_marks c v h) n (reset_heard v h.client.reset) → (brought c h v group).connects ≡ [] → Told c h v group n
-told_by c h v group n a m none =
-    let k = event_marks c v h in
-    let b = brought c h v group in
+told_by : (c : ℕ) (h : Heard) (v : EventKind) (group : List Note) → About c group → Kept h (event_marks c v h) → Told c h v group
+told_by c h v group a m =
     let t = tells_all c group a in
     record {
       accepted = m.accepted;
-      took = took_same k.client.ended b.client k.client ∙ m.took;
-      reset = reset_same k.client.ended b.client k.client ∙ m.reset;
-      connects = ap (λ cs. at_last (hears_more b.server) cs ++ b.connects) m.connects ∙ none;
-      replies = ap (λ r. r ++ replies_told (notes_about c group)) m.replies ∙ ap (λ x. h.replies ++ replies_told x) t;
-      at = taken (hears_event c h v group);
-      cut = ap (λ x. first_cut x (cut_told (taken (hears_event c h v group)) (notes_about c group))) m.cut ∙ ap (λ x. first_cut h.cut (cut_told (taken (hears_event c h v group)) x)) t;
       finished = ap (λ x. x || finish_told (notes_about c group)) m.finished ∙ ap (λ x. h.finished || finish_told x) t;
       failed = ap (λ x. x || failure_told (notes_about c group)) m.failed ∙ ap (λ x. h.failed || failure_told x) t;
       notes = ap (λ x. x ++ own c group) m.notes ∙ ap (λ x. h.notes ++ x) (own_all c group a);
     }
 
--- what may come brings no connect answer
-brings_none : (input : Input) → may_come input ≡ true → (brings_in input).connects ≡ []
-brings_none (Bytes Client bytes) m = refl
-brings_none (Bytes Server bytes) m = refl
-brings_none (Ends Client) m = refl
-brings_none (Ends Server) m = refl
-brings_none (Resets side) m = refl
-brings_none (Connects made) m = absurd (let x : false ≡ true = m in cc)
-brings_none (Takes side n) m = refl
+pub come_told : (c : ℕ) (h : Heard) (input : Input) (group : List Note) → About c group → Told c h (Comes c input) group
+come_told c h input group a =
+    let P : Bool → Type 0 = λ b. Kept h (if b then marks input h else h) in
+    told_by c h (Comes c input) group a (subst P (sym (eq_self c)) (marks_keep input h))
+
+pub run_told : (c : ℕ) (h : Heard) (group : List Note) → About c group → Told c h Runs group
+run_told c h group a = told_by c h Runs group a (kept h)
+
+pub turn_told : (c : ℕ) (h : Heard) (group : List Note) → About c group → Told c h Turns group
+turn_told c h group a = told_by c h Turns group a (kept h)
+
+-- ---- a Run and a Turn tell nothing of the sides
+
+nothing_by : (b : Bool) (s : SideHeard) → s.ended ≡ b → hears_by b nothing_comes s ≡ s
+nothing_by true s is = refl
+nothing_by false s is = ap (λ u. record s { bytes = u; ended = false }) (append-nil s.bytes) ∙ ap (λ e. record s { ended = e }) (sym is)
+
+nothing_last : (hs : List (Option SideHeard)) → at_last (hears_more nothing_comes) hs ≡ hs
+nothing_last [] = refl
+nothing_last (None ∷ more) = ap (λ r. None ∷ r) (nothing_last more)
+nothing_last (Some s ∷ more) = ap (λ t. Some t ∷ at_last (hears_more nothing_comes) more) (by_made (has_made more)) ∙ ap (λ r. Some s ∷ r) (nothing_last more)
+  where
+    by_made : (b : Bool) → (if b then s else hears_more nothing_comes s) ≡ s
+    by_made true = refl
+    by_made false = nothing_by s.ended s refl
+
+pub record SidesStay (c : ℕ) (h : Heard) (v : EventKind) (group : List Note) : Type 0 where
+  pub client : (hears c h v group).client ≡ h.client
+  pub connects : (hears c h v group).connects ≡ h.connects
+  pub taken : taken (hears c h v group) ≡ taken h
+
+sides_stay : (c : ℕ) (h : Heard) (v : EventKind) (group : List Note) → event_marks c v h ≡ h → brought c h v group ≡ brought_nothing → SidesStay c h v group
+sides_stay c h v group m b =
+    let h' = hears c h v group in
+    let is : hears_event c h v group ≡ hear_brought brought_nothing h = ap (λ x. hear_brought x (event_marks c v h)) b ∙ ap (hear_brought brought_nothing) m in
+    let client : h'.client ≡ h.client = ap (λ k. k.client) is ∙ nothing_by h.client.ended h.client refl in
+    let connects : h'.connects ≡ h.connects = ap (λ k. k.connects) is ∙ append-nil (at_last (hears_more nothing_comes) h.connects) ∙ nothing_last h.connects in
+    let make : SideHeard → List (Option SideHeard) → TakenCounts = λ s cs. record { client = side_taken s; servers = servers_taken cs } in
+    record { client = client; connects = connects; taken = ap (λ s. make s h'.connects) client ∙ ap (make h.client) connects }
+
+nothing_if : (b : Bool) → (if b then brought_nothing else brought_nothing) ≡ brought_nothing
+nothing_if true = refl
+nothing_if false = refl
+
+pub run_stays : (c : ℕ) (h : Heard) (group : List Note) → SidesStay c h Runs group
+run_stays c h group = sides_stay c h Runs group refl (nothing_if (h.finished || finish_told (notes_about c group)))
+
+pub turn_stays : (c : ℕ) (h : Heard) (group : List Note) → SidesStay c h Turns group
+turn_stays c h group = sides_stay c h Turns group refl (nothing_if (h.finished || finish_told (notes_about c group)))
+
+-- ---- as much was taken then, or more
+
+least_same : (o : Option ℕ) → AtLeast o o
+least_same None = tt
+least_same (Some n) = omega arith
+
+least_on : (a b c : Option ℕ) → AtLeast a b → AtLeast b c → AtLeast a c
+least_on a b None p q = tt
+least_on a None (Some k) p q = absurd q
+least_on None (Some n) (Some k) p q = absurd p
+least_on (Some m) (Some n) (Some k) p q = omega (arith, p, q)
+
+least_none : (o : Option ℕ) → AtLeast (Some 0) o
+least_none None = tt
+least_none (Some n) = omega arith
+
+abbrev of_number : List (Option SideHeard) → ℕ → Option ℕ
+of_number cs k = unwrap_or (slice_get (servers_taken cs) k) (Some 0)
+
+grown : (f : SideHeard → SideHeard) → ((s : SideHeard) → AtLeast (side_taken s) (side_taken (f s))) → (cs : List (Option SideHeard)) (k : ℕ) → AtLeast (of_number cs k) (of_number (at_last f cs) k)
+grown f grows [] k = least_same (of_number [] k)
+grown f grows (None ∷ more) k = grown f grows more k
+grown f grows (Some s ∷ more) zero = by_made (has_made more)
+  where
+    by_made : (b : Bool) → AtLeast (side_taken s) (side_taken (if b then s else f s))
+    by_made true = least_same (side_taken s)
+    by_made false = grows s
+grown f grows (Some s ∷ more) (suc k) = grown f grows more k
+
+joined : (cs ds : List (Option SideHeard)) (k : ℕ) → AtLeast (of_number cs k) (of_number (cs ++ ds) k)
+joined [] ds k = by_place (slice_get (servers_taken ds) k)
+  where
+    by_place : (o : Option (Option ℕ)) → AtLeast (of_number [] k) (unwrap_or o (Some 0))
+    by_place None = least_none (Some 0)
+    by_place (Some o) = least_none o
+joined (None ∷ more) ds k = joined more ds k
+joined (Some s ∷ more) ds zero = least_same (side_taken s)
+joined (Some s ∷ more) ds (suc k) = joined more ds k
+
+heard_grows : (c : Coming) (s : SideHeard) → AtLeast (side_taken s) (side_taken (hears_more c s))
+heard_grows c s = by_end s.ended
+  where
+    by_end : (b : Bool) → AtLeast (side_taken s) (side_taken (hears_by b c s))
+    by_end true = least_same (side_taken s)
+    by_end false = least_same (side_taken s)
+
+takes_grow : (r : Bool) (t n : ℕ) → AtLeast (taken_by r t) (taken_by r (t + n))
+takes_grow true t n = tt
+takes_grow false t n = omega arith
+
+abbrev by_numbers : (a b : Heard) → Type 0
+by_numbers a b = AtLeast (side_taken a.client) (side_taken b.client) × ((k : ℕ) → AtLeast (of_number a.connects k) (of_number b.connects k))
+
+marks_grow : (input : Input) (h : Heard) → by_numbers h (marks input h)
+marks_grow (Bytes side bytes) h = (least_same (side_taken h.client), λ k. least_same (of_number h.connects k))
+marks_grow (Ends side) h = (least_same (side_taken h.client), λ k. least_same (of_number h.connects k))
+marks_grow (Connects made) h = (least_same (side_taken h.client), λ k. least_same (of_number h.connects k))
+marks_grow (Resets Client) h = (tt, λ k. least_same (of_number h.connects k))
+marks_grow (Resets Server) h = (least_same (side_taken h.client), λ k. grown (λ s. record s { reset = true }) (λ s. tt) h.connects k)
+marks_grow (Takes Client n) h = (takes_grow h.client.reset h.client.took n, λ k. least_same (of_number h.connects k))
+marks_grow (Takes Server n) h = (least_same (side_taken h.client), λ k. grown (λ s. record s { took = s.took + n }) (λ s. takes_grow s.reset s.took n) h.connects k)
+
+brought_grows : (b : Brought) (h : Heard) → by_numbers h (hear_brought b h)
+brought_grows b h = (heard_grows b.client h.client, λ k. least_on (of_number h.connects k) (of_number (at_last (hears_more b.server) h.connects) k) (of_number (at_last (hears_more b.server) h.connects ++ b.connects) k) (grown (hears_more b.server) (heard_grows b.server) h.connects k) (joined (at_last (hears_more b.server) h.connects) b.connects k))
+
+more_by : (a b d : Heard) → by_numbers a b → by_numbers b d → TakesMore (taken a) (taken d)
+more_by a b d p q = record {
+  client = least_on (side_taken a.client) (side_taken b.client) (side_taken d.client) p.0 q.0;
+  servers = by_number;
+}
+  where
+    by_number : (k : ℕ) → AtLeast (taken_of (servers_taken a.connects) k) (taken_of (servers_taken d.connects) k)
+    by_number zero = omega arith
+    by_number (suc k) = least_on (of_number a.connects k) (of_number b.connects k) (of_number d.connects k) (p.1 k) (q.1 k)
+
+pub come_takes : (c : ℕ) (h : Heard) (input : Input) (group : List Note) → TakesMore (taken h) (taken (hears c h (Comes c input) group))
+come_takes c h input group =
+    let v = Comes c input in
+    let k = event_marks c v h in
+    let is : k ≡ marks input h = ap (λ b. if b then marks input h else h) (eq_self c) in
+    let P : Heard → Type 0 = λ x. by_numbers h x in
+    more_by h k (hears_event c h v group) (subst P (sym is) (marks_grow input h)) (brought_grows (brought c h v group) k)
+
+-- ---- what an event brings that brings no bytes: the replies that its notes tell, alone
 
 abbrev adds : Brought → List Reply → List Choice → Option Cut → Further
 adds b replies choices cut = record { client = b.client; server = b.server; connects = map as_answer b.connects; replies = replies; choices = choices; cut = cut }
 
-pub come_told : (c : ℕ) (h : Heard) (input : Input) (group : List Note) → may_come input ≡ true → h.connects ≡ [] → About c group → Told c h (Comes c input) group (taken_more input)
-come_told c h input group m e a = told_by c h (Comes c input) group (taken_more input) a (subst P (sym (eq_self c)) (marks_few input h m e)) (by_end (h.finished || finish_told (notes_about c group)))
-  where
-    P : Bool → Type 0
-    P b = Marked h (if b then marks input h else h) (taken_more input) (reset_met input h.client.reset)
-
-    by_end : (b : Bool) → (if b then brought_nothing else (if nat_eq c c then brings_in input else brought_nothing)).connects ≡ []
-    by_end true = refl
-    by_end false = ap (λ b. (if b then brings_in input else brought_nothing).connects) (eq_self c) ∙ brings_none input m
-
--- an input whose notes tell nothing brings what comes of its client
-pub come_further : (c : ℕ) (h : Heard) (input : Input) (group : List Note) → may_come input ≡ true → TellsNothing c group → finish_told (notes_about c group) ≡ false → further_of c h (Comes c input) group ≡ unless_finished h.finished (brings_in input).client
-come_further c h input group m quiet none =
-    let v = Comes c input in
+still_further : (c : ℕ) (h : Heard) (v : EventKind) (group : List Note) → brought c h v group ≡ brought_nothing → choices_told (notes_about c group) ≡ [] → ((took : TakenCounts) → cut_told took (notes_about c group) ≡ None) → further_of c h v group ≡ replies_only (replies_told (notes_about c group))
+still_further c h v group b choices cut =
     let t = notes_about c group in
     let k = cut_told (taken (hears_event c h v group)) t in
-    let is : brought c h v group ≡ (if h.finished then brought_nothing else brings_in input) =
-    ap (λ b. if h.finished || b then brought_nothing else event_brings c v) none ∙ ap (λ b. if b then brought_nothing else event_brings c v) (or_false h.finished) ∙ ap (λ b. if h.finished then brought_nothing else (if b then brings_in input else brought_nothing)) (eq_self c) in
-    ap (λ b. adds b (replies_told t) (choices_told t) k) is
-    ∙ ap (λ r. adds (if h.finished then brought_nothing else brings_in input) r (choices_told t) k) quiet.replies
-    ∙ ap (λ i. adds (if h.finished then brought_nothing else brings_in input) [] i k) quiet.choices
-    ∙ ap (λ x. adds (if h.finished then brought_nothing else brings_in input) [] [] x) (quiet.cut (taken (hears_event c h v group)))
-    ∙ by_end h.finished input m
-  where
-    or_false : (b : Bool) → (b || false) ≡ b
-    or_false true = refl
-    or_false false = refl
+    ap (λ x. adds x (replies_told t) (choices_told t) k) b ∙ ap (λ i. adds brought_nothing (replies_told t) i k) choices ∙ ap (λ x. adds brought_nothing (replies_told t) [] x) (cut (taken (hears_event c h v group)))
 
-    by_end : (b : Bool) (i : Input) → may_come i ≡ true → adds (if b then brought_nothing else brings_in i) [] [] None ≡ unless_finished b (brings_in i).client
-    by_end true i e = refl
-    by_end false (Bytes Client bytes) e = refl
-    by_end false (Bytes Server bytes) e = absurd (let x : false ≡ true = e in cc)
-    by_end false (Ends Client) e = refl
-    by_end false (Ends Server) e = absurd (let x : false ≡ true = e in cc)
-    by_end false (Resets side) e = refl
-    by_end false (Connects made) e = absurd (let x : false ≡ true = e in cc)
-    by_end false (Takes side n) e = refl
+pub run_further : (c : ℕ) (h : Heard) (group : List Note) → choices_told (notes_about c group) ≡ [] → ((took : TakenCounts) → cut_told took (notes_about c group) ≡ None) → further_of c h Runs group ≡ replies_only (replies_told (notes_about c group))
+run_further c h group choices cut = still_further c h Runs group (nothing_if (h.finished || finish_told (notes_about c group))) choices cut
 
--- where it finishes with them they bring nothing
-pub last_further : (c : ℕ) (h : Heard) (v : EventKind) (group : List Note) → TellsNothing c group → finish_told (notes_about c group) ≡ true → further_of c h v group ≡ nothing_further
-last_further c h v group quiet last =
-    let t = notes_about c group in
-    let k = cut_told (taken (hears_event c h v group)) t in
-    let is : brought c h v group ≡ brought_nothing = ap (λ b. if h.finished || b then brought_nothing else event_brings c v) last ∙ by_end h.finished in
-    ap (λ b. adds b (replies_told t) (choices_told t) k) is
-    ∙ ap (λ r. adds brought_nothing r (choices_told t) k) quiet.replies
-    ∙ ap (λ i. adds brought_nothing [] i k) quiet.choices
-    ∙ ap (λ x. adds brought_nothing [] [] x) (quiet.cut (taken (hears_event c h v group)))
-  where
-    by_end : (b : Bool) → (if b || true then brought_nothing else event_brings c v) ≡ brought_nothing
-    by_end true = refl
-    by_end false = refl
-
-pub run_told : (c : ℕ) (h : Heard) (group : List Note) → h.connects ≡ [] → About c group → Told c h Runs group 0
-run_told c h group e a = told_by c h Runs group 0 a (unmarked h e) (by_end (h.finished || finish_told (notes_about c group)))
-  where
-    by_end : (b : Bool) → (if b then brought_nothing else brought_nothing).connects ≡ []
-    by_end true = refl
-    by_end false = refl
-
-pub turn_told : (c : ℕ) (h : Heard) (group : List Note) → h.connects ≡ [] → About c group → Told c h Turns group 0
-turn_told c h group e a = told_by c h Turns group 0 a (unmarked h e) (by_end (h.finished || finish_told (notes_about c group)))
-  where
-    by_end : (b : Bool) → (if b then brought_nothing else brought_nothing).connects ≡ []
-    by_end true = refl
-    by_end false = refl
-
--- a Turn brings the replies that its notes tell alone
 pub turn_further : (c : ℕ) (h : Heard) (group : List Note) → choices_told (notes_about c group) ≡ [] → ((took : TakenCounts) → cut_told took (notes_about c group) ≡ None) → further_of c h Turns group ≡ replies_only (replies_told (notes_about c group))
-turn_further c h group choices cut =
-    let t = notes_about c group in
-    let k = cut_told (taken (hears_event c h Turns group)) t in
-    ap (λ b. adds b (replies_told t) (choices_told t) k) (by_end (h.finished || finish_told t))
-    ∙ ap (λ i. adds brought_nothing (replies_told t) i k) choices
-    ∙ ap (λ x. adds brought_nothing (replies_told t) [] x) (cut (taken (hears_event c h Turns group)))
-  where
-    by_end : (b : Bool) → (if b then brought_nothing else brought_nothing) ≡ brought_nothing
-    by_end true = refl
-    by_end false = refl
-
--- what was taken, where nothing is heard of a server
-abbrev pub counts : Bool → ℕ → TakenCounts
-counts b n = record { client = taken_by b n; servers = [] }
-
-pub taken_plain : (h : Heard) → h.connects ≡ [] → taken h ≡ counts h.client.reset h.client.took
-taken_plain h e =
-    let make : List (Option SideHeard) → TakenCounts = λ cs. record { client = taken_by h.client.reset h.client.took; servers = servers_taken cs } in
-    ap make e
-
--- a took-count or a reset more
-pub counts_more : (a b : Bool) (n m : ℕ) → (a ≡ true → b ≡ true) → n ≤ m → TakesMore (counts a n) (counts b m)
-counts_more a b n m keeps le = record { client = by_resets a b keeps; servers = by_number }
-  where
-    by_number : (k : ℕ) → AtLeast (taken_of [] k) (taken_of [] k)
-    by_number zero = omega arith
-    by_number (suc k) = omega arith
-
-    by_resets : (a b : Bool) → (a ≡ true → b ≡ true) → AtLeast (taken_by a n) (taken_by b m)
-    by_resets false false keeps = le
-    by_resets false true keeps = tt
-    by_resets true true keeps = tt
-    by_resets true false keeps = absurd (let x = keeps refl in cc)
-
--- it stays reset
-pub reset_keeps : (v : EventKind) (b : Bool) → b ≡ true → reset_heard v b ≡ true
-reset_keeps (Comes c (Resets Client)) b e = refl
-reset_keeps (Comes c (Resets Server)) b e = e
-reset_keeps (Comes c (Bytes side bytes)) b e = e
-reset_keeps (Comes c (Ends side)) b e = e
-reset_keeps (Comes c (Connects made)) b e = e
-reset_keeps (Comes c (Takes side n)) b e = e
-reset_keeps (Accepts c vs from) b e = e
-reset_keeps (Ticks moment) b e = e
-reset_keeps Turns b e = e
-reset_keeps Runs b e = e
-reset_keeps (Marks pool member up) b e = e
-
--- it still heard of no server or cut, where its notes tell of none
-pub still_plain : (c : ℕ) (h : Heard) (v : EventKind) (group : List Note) (n : ℕ) → IsPlain h → Told c h v group n → ((took : TakenCounts) → cut_told took (map tells group) ≡ None) → IsPlain (hears c h v group)
-still_plain c h v group n p t cut = record {
-  connects = t.connects;
-  cut = t.cut ∙ ap (λ x. first_cut x (cut_told t.at (map tells group))) p.cut ∙ cut t.at;
-}
+turn_further c h group choices cut = still_further c h Turns group (nothing_if (h.finished || finish_told (notes_about c group))) choices cut

@@ -1,12 +1,10 @@
 -- One event changes what may be asked of one connection alone.
-use Rattle.std.proofs.Common.{◌≡◌, ap, ℕ, ◌∷◌, false, nat_eq, Some, None, if◌then◌else◌}
+use Rattle.std.proofs.Common.{ap, Some, None, if◌then◌else◌}
 use Rattle.proxy_core.specs.Asked.{queue_at}
-use Rattle.proxy_core.specs.Moves.{Moves}
-use Rattle.proxy_core.specs.Others.{OnlyItsOwnChanges, StaysAsItWas}
-use Rattle.proxy_core.specs.Past.{Happened, Past, kind_of}
+use Rattle.proxy_core.specs.Others.{OnlyItsOwnChanges}
+use Rattle.proxy_core.specs.Past.{kind_of}
 use Rattle.proxy_core.specs.Refusal.{wants_at}
-use Rattle.proxy_core.specs.Scheduler.{State, seen, seen_after, untaken_of}
-use Rattle.proxy_core.specs.declared.config.Config.{Config}
+use Rattle.proxy_core.specs.Scheduler.{untaken_of}
 use Rattle.proxy_core.proofs.Framing.{only_changed, touches}
 
 pub only_its_own_changes : OnlyItsOwnChanges

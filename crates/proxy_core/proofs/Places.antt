@@ -1,17 +1,12 @@
 -- Live connections by their numbers.
-use Rattle.std.proofs.Common.{◌≡◌, ℕ, zero, suc, ◌+◌, ◌-◌, ◌<◌, ◌≤◌, List, [], ◌∷◌, Bool, true, false, ◌||◌, if◌then◌else◌, Some, None, nat_eq, nat_lt, length, refl, sym, ap, ◌∙◌, arith, remove, set, get_or}
+use Rattle.std.proofs.Common.{◌≡◌, ℕ, zero, suc, ◌+◌, ◌-◌, ◌≤◌, List, [], ◌∷◌, Bool, true, false, ◌||◌, if◌then◌else◌, Some, nat_eq, refl, sym, ap, ◌∙◌, arith, remove, set, get_or}
 use Rattle.std.specs.List.{position_from, slice_get}
 use Rattle.std.proofs.lemmas.Bool.Decides.{nat_tests}
 use Rattle.connection_table.specs.Table.{place_in}
 use Rattle.connection_table.proofs.Numbers.{placed_by}
 use Rattle.proxy_core.specs.declared.live.Live.{Live}
 use Rattle.proxy_core.specs.Ready.{numbers, is_in, place_of}
-use Rattle.proxy_core.specs.Live.{pending_in}
 use Rattle.proxy_core.specs.Refusals.{live_at}
-use Rattle.proxy_core.specs.Refusal.{refusal_of}
-use Rattle.proxy_core.specs.declared.core_state.Core.{Core}
-use Rattle.px_bytes.specs.declared.addr.Side.TheVariants.{Client}
-use Rattle.connection_model.specs.Heard.{Comes, Takes}
 
 eq_number : (a b : ℕ) → nat_eq a b ≡ true → a ≡ b
 eq_number a b h = grind (arith, nat_tests)

@@ -19,8 +19,9 @@ serves_code C level places vs s g all i k =
     let numbers = numbers_in (slice_get C.virtuals vs) in
     let same : (e : EventName) → places_in s.places.now e ≡ places_of C.rules numbers e = λ e. ap (λ x. places_in x e) (i.places ∙ ap (λ ps. slice_index_or ps vs []) all) ∙ stand_at C.rules C.virtuals vs e in
     record {
+      name = k.name ∙ sym i.name;
       port = k.port ∙ sym i.port;
-      pool = k.pool;
+      pool = k.pool ∙ sym i.pool;
       http = k.http;
       budget = k.budget ∙ sym i.budget;
       statics = k.statics ∙ sym i.statics;

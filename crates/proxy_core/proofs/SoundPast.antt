@@ -1,5 +1,5 @@
 -- What holds of every state that a past leads to.
-use Rattle.std.proofs.Common.{◌≡◌, refl, sym, ap, subst, ◌∙◌, ℕ, ◌+◌, ◌-◌, ◌≤◌, ◌<◌, List, [], ◌∷◌, ◌++◌, length, Bool, true, false, ◌⊎◌, inl, inr, Some, None, nat_eq, nat_lt, arith, if◌then◌else◌}
+use Rattle.std.proofs.Common.{◌≡◌, refl, sym, ap, subst, ◌∙◌, ℕ, zero, suc, ◌+◌, ◌-◌, ◌≤◌, ◌<◌, List, [], ◌∷◌, ◌++◌, length, Bool, true, false, ◌⊎◌, inl, inr, Some, None, nat_eq, nat_lt, arith, zero-add, if◌then◌else◌}
 use Rattle.std.specs.Prelude.{is_none, is_some, not}
 use Rattle.std.specs.Bool.{MatchBool}
 use Rattle.std.specs.List.{IsDistinct}
@@ -9,42 +9,57 @@ use Rattle.px_bytes.specs.declared.addr.Side.TheVariants.{Client, Server}
 use Rattle.connection_model.specs.declared.note.Cause.TheVariants.{Memory}
 use Rattle.connection_model.specs.declared.note.Note.{Note}
 use Rattle.connection_model.specs.declared.note.Note.TheVariants.{Finish}
-use Rattle.connection_model.specs.Gates.{TakenCounts}
-use Rattle.connection_model.specs.Heard.{Input, Bytes, Ends, Resets, Connects, Takes, EventKind, Accepts, Comes, Ticks, Turns, Runs, Marks, Accepted, Heard, taken, event_marks, marks, hears}
+use Rattle.connection_model.specs.Gates.{TakenCounts, no_bytes, untaken}
+use Rattle.connection_model.specs.Edges.{edges_noted}
+use Rattle.connection_model.specs.Further.{longer}
+use Rattle.connection_model.specs.Tellings.{finish_told}
+use Rattle.connection_model.specs.Trace.{next_item}
+use Rattle.connection_model.proofs.Given.{sent_output}
+use Rattle.connection_model.specs.Heard.{Input, Bytes, Ends, Resets, Connects, Takes, EventKind, Accepts, Comes, Ticks, Turns, Runs, Marks, Accepted, Heard, taken, taken_by, event_marks, marks, brought, edges_met, further_of, hears}
 use Rattle.connection_model.specs.declared.edges.Edges.{Edges}
-use Rattle.connection_model.specs.Item.{Item, client_output, notes_of}
+use Rattle.connection_model.specs.Item.{Item, client_output, notes_of, server_output}
 use Rattle.connection_model.specs.State.{TraceState}
 use Rattle.connection_model.specs.Setup.{Setup}
 use Rattle.connection_model.proofs.Hearing.{others_not_heard}
-use Rattle.proxy_core.specs.Live.{taken_more, takes_memory}
 use Rattle.px_bytes.specs.declared.fault.Reply.{Reply}
 use Rattle.shared_store.specs.Calls.{reply}
 use Rattle.shared_store.specs.Store.{StoreState}
 use Rattle.proxy_core.specs.Calls.{asker, calls_of, queue_behind}
 use Rattle.proxy_core.specs.History.{called_in, entries_in, store_of}
 use Rattle.proxy_core.specs.Live.{entry_note}
-use Rattle.proxy_core.specs.Moves.{Rests, MovesFailed, MovesLacks, MovesOn, MovesCome, MovesRing, MovesFront, MovesBy, Moves, RunsOn, RunsOut, RunsFailed, TurnNotes, MovesTurn, MovesQueue, is_drained_at, came, lacked, may_come, ran, Leads}
+use Rattle.proxy_core.specs.Moves.{Rests, MovesFailed, MovesLacks, MovesOn, MovesCome, MovesRing, MovesFront, MovesBy, Moves, RunsOn, RunsOut, RunsFailed, TurnNotes, MovesQueue, is_drained_at, came, lacked, ran, Leads}
 use Rattle.proxy_core.specs.declared.call.Asked.{Asked}
 use Rattle.proxy_core.specs.Past.{Happened, Past, kind_of, heard, ended_in, without_all, with_accepted, shared, shared_after}
 use Rattle.proxy_core.specs.Ready.{is_in, ring_behind, without}
-use Rattle.proxy_core.specs.Refusal.{Row, wants_at, standing_by, known, takes_too_much, refusal_rows, first_of, refused}
-use Rattle.conn.specs.RunsItems.{asked_at, closing, closing_if, ends, Passes, StopsAt, out_of_memory}
+use Rattle.proxy_core.specs.Refusal.{Row, answers_nothing, by_edges, wants_at, standing_by, known, takes_too_much, refusal_rows, first_of, refused}
+use Rattle.proxy_core.specs.Servers.{took_of}
+use Rattle.conn.specs.RunsItems.{asked_at, ends, Passes, StopsAt, out_of_memory, told_behind}
+use Rattle.conn.specs.Settling.{closing, is_drained, is_over, resting, settling_at, took_all}
 use Rattle.connection_model.specs.Item.{calls_in}
 use Rattle.conn.specs.declared.turn.ConnTurn.{ConnTurn}
 use Rattle.conn.specs.declared.turn.ConnTurn.TheVariants as turn
 use Rattle.proxy_core.specs.Scheduler.{State, no_connections, entries, Seen, seen, seen_after, untaken_of, untaken_all}
-use Rattle.proxy_core.specs.Setup.{setup_of, stand_of}
+use Rattle.proxy_core.specs.Setup.{setup_in, setup_of, stand_of}
 use Rattle.proxy_core.specs.Sound.{unseen, Spot, Served, SoundAt, Sound}
 use Rattle.proxy_core.specs.declared.config.Config.{Config}
 use Rattle.proxy_core.proofs.Entries.{entries_behind_self, ready_behind, asked_behind, calls_behind_self, calls_front}
 use Rattle.proxy_core.specs.Others.{about, front}
+use Rattle.proxy_core.proofs.Finished.{heard_finish, stands_orderly, trace_finished}
+use Rattle.proxy_core.proofs.RunOn.{RunStood}
 use Rattle.proxy_core.proofs.Framing.{touches, only_changed, same_seen, each_by}
-use Rattle.proxy_core.proofs.GroupNotes.{about_closing_if}
+use Rattle.proxy_core.proofs.GroupNotes.{About, AreDue, closing_due, due_about, due_choices, due_cut, due_entries, due_failure, due_finish, due_hidden, due_quiet, due_replies, ended_closing, ended_resting, quiet_by, resting_due, settling_due, tells_all}
+use Rattle.proxy_core.proofs.CameAt.{heard_uncut, stands_come}
+use Rattle.proxy_core.proofs.Closings.{EndsBy, closing_ends, closing_gone, ends_behind, none_ends, resting_again, resting_closed, resting_ends, resting_gone, resting_opens}
+use Rattle.proxy_core.proofs.Meeting.{hears_took}
+use Rattle.proxy_core.proofs.Sums.{due_causes}
 use Rattle.proxy_core.proofs.Hearing.{Told, come_told, run_told, turn_told}
 use Rattle.proxy_core.proofs.Members.{eq_self}
 use Rattle.proxy_core.proofs.ReadyRing.{distinct_none, distinct_push, distinct_without}
-use Rattle.proxy_core.proofs.SoundEvents.{lack_served, first_notes, fresh_sound, seen_accept, MayCome, come_served, Answers, turned_to, turn_served, Behind, behind_closing, behind_memory, run_about, run_served, failed_served}
-use Rattle.proxy_core.proofs.Standing.{is_served, is_unseen, from_served, client_untaken, untaken_within}
+use Rattle.proxy_core.proofs.SoundEvents.{lack_served, failed_comes, first_notes, fresh_sound, seen_accept, MayCome, come_served, Answers, turned_to, turn_served, Behind, ran_at, run_about, run_served, failed_served}
+use Rattle.proxy_core.proofs.LinkedComes.{closing_closes, due_state}
+use Rattle.proxy_core.proofs.ServerCounts.{TookBy, more_of, come_took}
+use Rattle.proxy_core.proofs.ServerLeft.{server_left}
+use Rattle.proxy_core.proofs.Standing.{drained_at, from_served, is_served, is_unseen, stands_at}
 
 -- no row holds
 abbrev pub NoneHolds : List Row → Type 0
@@ -63,14 +78,62 @@ live_by : (C : Config) (b : Bool) (z : Seen) → is_none (standing_by C b z) ≡
 live_by C true z h = refl
 live_by C false z h = cc
 
+-- how many bytes more its client took
+abbrev took_more : Input → ℕ
+took_more (Takes Client n) = n
+took_more other = 0
+
+marked_took : (input : Input) (h : Heard) → (marks input h).client.took ≡ h.client.took + took_more input
+marked_took (Bytes side bytes) h = omega arith
+marked_took (Ends side) h = omega arith
+marked_took (Resets Client) h = omega arith
+marked_took (Resets Server) h = omega arith
+marked_took (Connects made) h = omega arith
+marked_took (Takes Client n) h = refl
+marked_took (Takes Server n) h = omega arith
+
+client_took : (c : ℕ) (h : Heard) (input : Input) (group : List Note) → (hears c h (Comes c input) group).client.took ≡ h.client.took + took_more input
+client_took c h input group =
+    let v = Comes c input in
+    hears_took (brought c h v group).client (event_marks c v h).client ∙ ap (λ b. (if b then marks input h else h).client.took) (eq_self c) ∙ marked_took input h
+
 -- what a took-count that isn't refused takes is there
-takes_within : (edges : Edges) (from from_server : ℕ) (input : Input) (took sent left right : ℕ) → took ≤ sent → left ≤ sent - took → takes_too_much (Some (record { edges = edges; from_client = from; from_server = from_server; to_client = left; to_server = right })) input ≡ false → took + taken_more input ≤ sent
+takes_within : (edges : Edges) (from from_server : ℕ) (input : Input) (took sent left right : ℕ) → took ≤ sent → left ≤ sent - took → takes_too_much (Some (record { edges = edges; from_client = from; from_server = from_server; to_client = left; to_server = right })) input ≡ false → took + took_more input ≤ sent
 takes_within edges from from_server (Bytes side bytes) took sent left right le e h = omega (arith, le)
 takes_within edges from from_server (Ends side) took sent left right le e h = omega (arith, le)
 takes_within edges from from_server (Resets side) took sent left right le e h = omega (arith, le)
 takes_within edges from from_server (Connects made) took sent left right le e h = omega (arith, le)
 takes_within edges from from_server (Takes Client n) took sent left right le e h = let t : nat_lt left n ≡ false = h in let few : n ≤ left = grind (arith, nat_tests) in omega (arith, few, e, le)
 takes_within edges from from_server (Takes Server n) took sent left right le e h = omega (arith, le)
+
+left_within : (b : Bool) (n t : ℕ) → untaken n (taken_by b t) ≤ n - t
+left_within true n t = omega arith
+left_within false n t = omega arith
+
+client_left : (h : Heard) (place : List Item) → untaken_of h place Client ≤ length (client_output place) - h.client.took
+client_left h place =
+    let P : ℕ → Type 0 = λ n. untaken n (taken_by h.client.reset h.client.took) ≤ length (client_output place) - h.client.took in
+    subst P (sym (sent_output no_bytes place ∙ zero-add (length (client_output place)))) (left_within h.client.reset (length (client_output place)) h.client.took)
+
+-- what a server takes is pending to it
+server_few : (edges : Edges) (from from_server : ℕ) (input : Input) (left right : ℕ) → takes_too_much (Some (record { edges = edges; from_client = from; from_server = from_server; to_client = left; to_server = right })) input ≡ false → more_of input ≤ right
+server_few edges from from_server (Bytes side bytes) left right h = omega arith
+server_few edges from from_server (Ends side) left right h = omega arith
+server_few edges from from_server (Resets side) left right h = omega arith
+server_few edges from from_server (Connects made) left right h = omega arith
+server_few edges from from_server (Takes Client n) left right h = omega arith
+server_few edges from from_server (Takes Server n) left right h = let t : nat_lt right n ≡ false = h in grind (arith, nat_tests)
+
+servers_within : (C : Config) (c : ℕ) (z : Seen) (input : Input) (group : List Note) → Served C c z → more_of input ≤ untaken_of z.heard z.place Server → (k : ℕ) → took_of (hears c z.heard (Comes c input) group).connects k ≤ length (server_output k z.place)
+servers_within C c z input group s few zero = omega arith
+servers_within C c z input group s few (suc k) = by_number (come_took c z.heard input group k)
+  where
+    by_number : TookBy (more_of input) k z.heard.connects (hears c z.heard (Comes c input) group).connects → took_of (hears c z.heard (Comes c input) group).connects (suc k) ≤ length (server_output (suc k) z.place)
+    by_number (inl e) = let w = s.within.servers (suc k) in omega (arith, e, w)
+    by_number (inr (e, f)) =
+        let L : ℕ → Type 0 = λ n. took_of z.heard.connects n + untaken_of z.heard z.place Server ≤ length (server_output n z.place) in
+        let w = subst L (sym e) (server_left (setup_of C z.heard) c z (stand_of C z.heard z.place) s) in
+        omega (arith, f, w, few)
 
 pub may_come_at : (C : Config) (past : Past) (old : State) (c : ℕ) (input : Input) → SoundAt C c (seen past old c) → refused C past old (Comes c input) ≡ None → MayCome C c input (seen past old c)
 may_come_at C past old c input s h =
@@ -79,8 +142,16 @@ may_come_at C past old c input s h =
     let live : z.live ≡ true = live_by C z.live z r.0 in
     let k = is_served C c z (λ u. let n : z.live ≡ false = ap (λ y. y.live) u in let m : true ≡ false = sym live ∙ n in cc) s in
     let P : Bool → Type 0 = λ b. takes_too_much (standing_by C b z) input ≡ false in
-    let L : ℕ → Type 0 = λ n. n ≤ length (client_output z.place) - z.heard.client.took in
-    record { live = live; accepted = k.0; served = k.1; within = takes_within z.heard.edges (wants_at C z Client) (wants_at C z Server) input z.heard.client.took (length (client_output z.place)) (untaken_of z.heard z.place Client) (untaken_of z.heard z.place Server) k.1.within (subst L (sym (client_untaken z.heard z.place k.1.plain)) (untaken_within z.heard.client.reset (length (client_output z.place)) z.heard.client.took)) (subst P live r.1.1.1.1.1.1.1.1.0) }
+    let le = takes_within z.heard.edges (wants_at C z Client) (wants_at C z Server) input z.heard.client.took (length (client_output z.place)) (untaken_of z.heard z.place Client) (untaken_of z.heard z.place Server) k.1.within.client (client_left z.heard z.place) (subst P live r.1.1.1.1.1.1.1.1.0) in
+    let few = server_few z.heard.edges (wants_at C z Client) (wants_at C z Server) input (untaken_of z.heard z.place Client) (untaken_of z.heard z.place Server) (subst P live r.1.1.1.1.1.1.1.1.0) in
+    let A : Bool → Type 0 = λ b. by_edges answers_nothing (standing_by C b z) input ≡ false in
+    record {
+      live = live;
+      accepted = k.0;
+      served = k.1;
+      within = λ group. record { client = (let e = client_took c z.heard input group in omega (arith, e, le)); servers = servers_within C c z input group k.1 few };
+      asked = subst A live r.1.1.1.1.1.0;
+    }
 
 -- an event that changes nothing
 pub unchanged : (past : Past) (v : EventKind) (group : List Note) (old new : State) (q : ℕ) → Rests group old new → ((h : Heard) → hears q h v [] ≡ h) → with_accepted v (shared past).live ≡ (shared past).live → seen_after past v group new q ≡ seen past old q
@@ -94,27 +165,53 @@ own_rest : (C : Config) (past : Past) (v : EventKind) (group : List Note) (old n
 own_rest C past v group old new q m same live s = let P : Seen → Type 0 = λ z. SoundAt C q z in subst P (sym (unchanged past v group old new q m same live)) s
 
 -- it stays accepted
-pub still_accepted : (c : ℕ) (h : Heard) (v : EventKind) (group : List Note) (n : ℕ) → Told c h v group n → is_some h.accepted ≡ true → is_some (hears c h v group).accepted ≡ true
-still_accepted c h v group n t e = ap is_some t.accepted ∙ e
+pub still_accepted : (c : ℕ) (h : Heard) (v : EventKind) (group : List Note) → Told c h v group → is_some h.accepted ≡ true → is_some (hears c h v group).accepted ≡ true
+still_accepted c h v group t e = ap is_some t.accepted ∙ e
 
-own_come : (C : Config) (past : Past) (c : ℕ) (input : Input) (group : List Note) (old new : State) (over : Bool) (n : ℕ) → may_come input ≡ true → IsDistinct nat_eq (shared past).live → MayCome C c input (seen past old c) → group ≡ closing_if over c n → new ≡ came c over old
-    → MatchBool (heard c past).failed (over ≡ false) (over ≡ is_drained_at C (hears c (heard c past) (Comes c input) group) (old.places c)) → n ≡ untaken_all (hears c (heard c past) (Comes c input) group) (old.places c) → SoundAt C c (seen_after past (Comes c input) group new c)
-own_come C past c input group old new over n may d m e f j left =
-    let P : List Note → Type 0 = λ g. MatchBool (heard c past).failed (over ≡ false) (over ≡ is_drained_at C (hears c (heard c past) (Comes c input) g) (old.places c)) in
-    let k = come_served C past c input over n old may d m (subst P e j) (left ∙ ap (λ g. untaken_all (hears c (heard c past) (Comes c input) g) (old.places c)) e) in
-    let Q : State → Type 0 = λ s. SoundAt C c (seen_after past (Comes c input) group s c) in
-    let R : List Note → Type 0 = λ g. SoundAt C c (seen_after past (Comes c input) g (came c over old) c) in
-    subst Q (sym f) (subst R (sym e) (from_served C c (seen_after past (Comes c input) (closing_if over c n) (came c over old) c) (still_accepted c (heard c past) (Comes c input) (closing_if over c n) (taken_more input) (come_told c (heard c past) input (closing_if over c n) may m.served.plain.connects (about_closing_if over c n)) m.accepted) k))
+-- what the notes of an event are by where it stands then
+own_come : (C : Config) (past : Past) (c : ℕ) (input : Input) (group : List Note) (old new : State) → IsDistinct nat_eq (shared past).live → MayCome C c input (seen past old c) → (heard c past).failed ≡ false
+    → MovesOn C (hears c (heard c past) (Comes c input) group) c (edges_met input (heard c past).edges) group old new → SoundAt C c (seen_after past (Comes c input) group new c)
+own_come C past c input group old new distinct m found j =
+    let h = heard c past in
+    let v = Comes c input in
+    let now = hears c h v group in
+    let g = setup_of C h in
+    let place = old.places c in
+    let l = stand_of C h place in
+    let at = longer (further_of c h v group) l in
+    let e = edges_met input h.edges in
+    let d = untaken_all now place in
+    let there = stand_of C now place in
+    let D : List Note → Type 0 = λ ns. AreDue c ns in
+    let due : AreDue c group = subst D (sym j.notes) (settling_due (is_over (next_item (setup_of C now) there)) c e (took_all there (taken now) Server) (took_all there (taken now) Client) d) in
+    let about = due_about c group due in
+    let t = come_told c h input group about in
+    let setup : setup_of C now ≡ g = ap (setup_in C) t.accepted in
+    let stands = stands_come g c h input group place l (heard_uncut c past) (due_quiet c group due) (ap finish_told (tells_all c group about) ∙ due_finish c group due) m.served.stands in
+    let same : there ≡ at = stands_at C now g place at setup stands in
+    let notes : group ≡ settling_at g (taken now) at c e d = j.notes ∙ ap (λ y. settling_at y (taken now) there c e d) setup ∙ ap (λ y. settling_at g (taken now) y c e d) same in
+    let over = is_drained_at C now place in
+    let Q : State → Type 0 = λ s. SoundAt C c (seen_after past v group s c) in
+    subst Q (sym j.state) (from_served C c (seen_after past v group (came c over old) c) (still_accepted c h v group t m.accepted)
+    (come_served C past c input group over old distinct m found notes (drained_at C now g place at setup stands)))
 
-own_lack : (C : Config) (past : Past) (c : ℕ) (input : Input) (group : List Note) (old new : State) → may_come input ≡ true → MayCome C c input (seen past old c) → (heard c past).failed ≡ false → group ≡ Finish c Memory ∷ [] → new ≡ lacked c old
+own_failed : (C : Config) (past : Past) (c : ℕ) (input : Input) (group : List Note) (old new : State) → MayCome C c input (seen past old c) → (heard c past).failed ≡ true → group ≡ [] → new ≡ came c false old → SoundAt C c (seen_after past (Comes c input) group new c)
+own_failed C past c input group old new m failed e f =
+    let h = heard c past in
+    let v = Comes c input in
+    let Q : State → Type 0 = λ s. SoundAt C c (seen_after past v group s c) in
+    let R : List Note → Type 0 = λ g. SoundAt C c (seen_after past v g (came c false old) c) in
+    subst Q (sym f) (subst R (sym e) (from_served C c (seen_after past v [] (came c false old) c) (still_accepted c h v [] (come_told c h input [] tt) m.accepted) (failed_comes C past c input old m failed)))
+
+own_lack : (C : Config) (past : Past) (c : ℕ) (input : Input) (group : List Note) (old new : State) → MayCome C c input (seen past old c) → (heard c past).failed ≡ false → group ≡ Finish c Memory ∷ [] → new ≡ lacked c old
     → SoundAt C c (seen_after past (Comes c input) group new c)
-own_lack C past c input group old new may m found e f =
+own_lack C past c input group old new m found e f =
     let notes : List Note = Finish c Memory ∷ [] in
     let z' = seen_after past (Comes c input) notes (lacked c old) c in
-    let k = lack_served C past c input old may m found in
+    let k = lack_served C past c input old m found in
     let Q : State → Type 0 = λ s. SoundAt C c (seen_after past (Comes c input) group s c) in
     let R : List Note → Type 0 = λ g. SoundAt C c (seen_after past (Comes c input) g (lacked c old) c) in
-    subst Q (sym f) (subst R (sym e) (from_served C c z' (still_accepted c (heard c past) (Comes c input) notes (taken_more input) (come_told c (heard c past) input notes may m.served.plain.connects (refl, tt)) m.accepted) k))
+    subst Q (sym f) (subst R (sym e) (from_served C c z' (still_accepted c (heard c past) (Comes c input) notes (come_told c (heard c past) input notes (refl, tt)) m.accepted) k))
 
 -- the front of the ring was accepted
 pub front_served : (C : Config) (past : Past) (c : ℕ) (rest : List ℕ) (old : State) → old.ring ≡ c ∷ rest → SoundAt C c (seen past old c) → (is_some (heard c past).accepted ≡ true) × Served C c (seen past old c)
@@ -124,11 +221,61 @@ front_served C past c rest old e s =
     is_served C c z (λ u. let n = sym ready ∙ ap (λ y. y.ready) u in cc) s
 
 -- where the front is put
-spot_ran : (t : ConnTurn) (c : ℕ) (g : Setup) (took : TakenCounts) (at : TraceState) → StopsAt g took at t → Spot false (not (ends t)) (ready_behind t c) (asked_behind t) g took at
-spot_ran turn.More c g took at k = tt
-spot_ran (turn.Asks call) c g took at k = k
-spot_ran turn.NotYet c g took at k = (k.1.0, (k.0, k.1.1))
-spot_ran turn.Over c g took at k = k
+spot_ran : (t : ConnTurn) (c d : ℕ) (g : Setup) (took : TakenCounts) (at : TraceState) (e : Edges) → StopsAt g took at t → Spot false (not (ends t)) (ready_behind t c) (asked_behind t) g took at (edges_noted (told_behind t g took at c e d) e)
+spot_ran turn.More c d g took at e k = tt
+spot_ran (turn.Asks call) c d g took at e k = k
+spot_ran turn.NotYet c d g took at e k = record { gives_no_more = k.0; no_cut = k.1.1; not_over = k.1.0; told = λ q n. resting_again g took at c q e d n k.1.0 }
+spot_ran turn.Over c d g took at e k = k
+
+-- what is told behind the items
+none_behind : (g : Setup) (took : TakenCounts) (at : TraceState) (c d : ℕ) (e : Edges) → Behind g took at c d e [] false false
+none_behind g took at c d e = record { about = tt; quiet = due_quiet c [] tt; failure = refl; ended = refl; hidden = refl; causes = refl; entries = refl; by = none_ends c d; gone = λ o. absurd (let x : false ≡ true = o in cc); opens = λ o. absurd (let x : false ≡ true = o in cc); kept = λ o. refl; closed = λ f side q. inr q }
+
+rest_behind : (g : Setup) (took : TakenCounts) (at : TraceState) (c d : ℕ) (e : Edges) (over : Bool) → is_drained g took at ≡ over → Behind g took at c d e (resting g took at c e d) false over
+rest_behind g took at c d e over is =
+    let group = resting g took at c e d in
+    let due = resting_due g took at c e d in
+    let E : Bool → Type 0 = λ b. EndsBy c d b group in
+    record {
+      about = due_about c group due;
+      quiet = due_quiet c group due;
+      failure = due_failure c group due;
+      ended = ended_resting g took at c e d ∙ ap (λ b. if b then c ∷ [] else []) is;
+      hidden = due_hidden c group due;
+      causes = due_causes c group due;
+      entries = due_entries c group due;
+      by = subst E is (resting_ends g took at c e d);
+      gone = λ o. (let x = resting_gone g took at c e d (is ∙ o) in (x.client, x.server));
+      opens = λ o. inr (resting_opens g took at c e d o);
+      kept = λ o. due_state c group due o e;
+      closed = λ f side q. resting_closed g took at c e e d side q;
+    }
+
+stop_behind : (t : ConnTurn) (g : Setup) (took : TakenCounts) (at : TraceState) (c d : ℕ) (e : Edges) → StopsAt g took at t → Behind g took at c d e (told_behind t g took at c e d) false (ends t)
+stop_behind turn.More g took at c d e k = none_behind g took at c d e
+stop_behind (turn.Asks call) g took at c d e k = none_behind g took at c d e
+stop_behind turn.NotYet g took at c d e k = rest_behind g took at c d e false k.1.0
+stop_behind turn.Over g took at c d e k = rest_behind g took at c d e true k
+
+memory_behind : (g : Setup) (took : TakenCounts) (at : TraceState) (c d : ℕ) (e : Edges) → Behind g took at c d e (Finish c Memory ∷ closing c e d) true true
+memory_behind g took at c d e =
+    let last = closing c e d in
+    let due = closing_due c e d in
+    let about : About c (Finish c Memory ∷ last) = (refl, due_about c last due) in
+    record {
+      about = about;
+      quiet = quiet_by c (Finish c Memory ∷ last) about (due_replies c last due) (due_choices c last due) (λ t. due_cut c t last due);
+      failure = refl;
+      ended = ended_closing c e d;
+      hidden = due_hidden c last due;
+      causes = ap (λ x. Memory ∷ x) (due_causes c last due);
+      entries = due_entries c last due;
+      by = ends_behind c d true (Finish c Memory ∷ []) last refl (closing_ends c e d);
+      gone = λ o. (let x = closing_gone c e d in (x.client, x.server));
+      opens = λ o. inl refl;
+      kept = λ o. absurd (let x : true ≡ false = sym (closing_closes c e d) ∙ o in cc);
+      closed = λ f. absurd (let x : true ≡ false = f in cc);
+    }
 
 few_asked : (t : ConnTurn) → length (asked_at t) ≤ 1
 few_asked turn.More = omega arith
@@ -142,23 +289,26 @@ asks_alike (turn.Asks call) = refl
 asks_alike turn.NotYet = refl
 asks_alike turn.Over = refl
 
-run_sound : (C : Config) (past : Past) (c : ℕ) (rest after ready : List ℕ) (queue : List Asked) (called asked : List (List (List ℕ))) (old : State) (more : List Item) (at : TraceState) (behind : List Note) (fails over : Bool) (d : ℕ)
+run_sound : (C : Config) (past : Past) (c : ℕ) (rest after ready : List ℕ) (queue : List Asked) (called asked : List (List (List ℕ))) (old : State) (more : List Item) (at : TraceState) (behind : List Note) (fails over : Bool)
     → IsDistinct nat_eq (shared past).live → old.ring ≡ c ∷ rest → (heard c past).failed ≡ false → is_some (heard c past).accepted ≡ true → Served C c (seen past old c)
-    → Passes (setup_of C (heard c past)) (taken (heard c past)) (stand_of C (heard c past) (old.places c)) more at → Behind c behind fails over d
-    → d ≡ untaken_all (heard c past) (old.places c ++ more) → (entries c rest ≡ [] → entries c after ≡ ready) → (calls_of c old.queue ≡ [] → calls_of c queue ≡ asked) → calls_in more ≡ called → length called ≤ 1 → (fails ≡ false → called ≡ asked) → Spot fails (not over) ready asked (setup_of C (heard c past)) (taken (heard c past)) at
+    → Passes (setup_of C (heard c past)) (taken (heard c past)) (stand_of C (heard c past) (old.places c)) more at
+    → Behind (setup_of C (heard c past)) (taken (heard c past)) at c (untaken_all (heard c past) (old.places c ++ more)) (edges_noted (notes_of c more) (heard c past).edges) behind fails over
+    → (entries c rest ≡ [] → entries c after ≡ ready) → (calls_of c old.queue ≡ [] → calls_of c queue ≡ asked) → calls_in more ≡ called → length called ≤ 1 → (fails ≡ false → called ≡ asked)
+    → Spot fails (not over) ready asked (setup_of C (heard c past)) (taken (heard c past)) at (edges_noted behind (edges_noted (notes_of c more) (heard c past).edges))
     → SoundAt C c (seen_after past Runs (notes_of c more ++ behind) (ran c after queue more old) c)
-run_sound C past c rest after ready queue called asked old more at behind fails over d distinct e f a v p b dropped put puts all few opens spot =
+run_sound C past c rest after ready queue called asked old more at behind fails over distinct e f a v p b put puts all few opens spot =
     let group = notes_of c more ++ behind in
     from_served C c (seen_after past Runs group (ran c after queue more old) c)
-    (still_accepted c (heard c past) Runs group 0 (run_told c (heard c past) group v.plain.connects (run_about c more behind b.about)) a)
-    (run_served C past c rest after ready queue called asked old more at behind fails over d distinct e f v p b dropped put puts all few opens spot)
+    (still_accepted c (heard c past) Runs group (run_told c (heard c past) group (run_about c more behind b.about)) a)
+    (run_served C past c rest after ready queue called asked old more at behind fails over distinct e f v p b put puts all few opens spot)
 
 failed_sound : (C : Config) (past : Past) (c : ℕ) (rest : List ℕ) (old : State) → IsDistinct nat_eq (shared past).live → old.ring ≡ c ∷ rest → (heard c past).failed ≡ true → is_some (heard c past).accepted ≡ true → Served C c (seen past old c)
-    → SoundAt C c (seen_after past Runs (closing c (untaken_all (heard c past) (old.places c))) (record old { ring = rest }) c)
+    → SoundAt C c (seen_after past Runs (closing c (heard c past).edges (untaken_all (heard c past) (old.places c))) (record old { ring = rest }) c)
 failed_sound C past c rest old d e f a v =
-    let group = closing c (untaken_all (heard c past) (old.places c)) in
+    let h = heard c past in
+    let group = closing c h.edges (untaken_all h (old.places c)) in
     from_served C c (seen_after past Runs group (record old { ring = rest }) c)
-    (still_accepted c (heard c past) Runs group 0 (run_told c (heard c past) group v.plain.connects (refl, (refl, tt))) a)
+    (still_accepted c h Runs group (run_told c h group (due_about c group (closing_due c h.edges (untaken_all h (old.places c))))) a)
     (failed_served C past c rest old d e f v)
 
 own_run : (C : Config) (past : Past) (c : ℕ) (rest : List ℕ) (group : List Note) (old new : State) → IsDistinct nat_eq (shared past).live → old.ring ≡ c ∷ rest → SoundAt C c (seen past old c) → MovesFront C (heard c past) c rest group old new
@@ -177,22 +327,29 @@ own_run C past c rest group old new d e s m = by_failed (heard c past).failed re
     by_failed : (b : Bool) → h.failed ≡ b → MatchBool b (RunsFailed h c rest group old new) (RunsOn C h c rest group old new ⊎ RunsOut C h c rest group old new) → SoundAt C c (seen_after past Runs group new c)
     by_failed true f k =
         let v = front_served C past c rest old e s in
-        moved (closing c (untaken_all h (old.places c))) (record old { ring = rest }) k.notes k.state
+        moved (closing c h.edges (untaken_all h (old.places c))) (record old { ring = rest }) k.notes k.state
         (failed_sound C past c rest old d e f v.0 v.1)
     by_failed false f (inl k) =
         let v = front_served C past c rest old e s in
-        let over = ends k.turn in
-        let after = ring_behind k.turn c rest in
         let left = untaken_all h (old.places c ++ k.more) in
-        let queue = queue_behind k.turn c old.queue in
-        let spot = spot_ran k.turn c (setup_of C h) (taken h) k.at k.items.stops in
-        moved (notes_of c k.more ++ closing_if over c left) (ran c after queue k.more old) k.items.noted k.state
-        (run_sound C past c rest after (ready_behind k.turn c) queue (asked_at k.turn) (asked_behind k.turn) old k.more k.at (closing_if over c left) false over left d e f v.0 v.1 k.items.passes (behind_closing over c left) refl (entries_behind_self k.turn c rest) (calls_behind_self k.turn c old.queue) k.items.calls (few_asked k.turn) (λ x. asks_alike k.turn) spot)
+        let e' = edges_noted (notes_of c k.more) h.edges in
+        let behind = told_behind k.turn (setup_of C h) (taken h) k.at c e' left in
+        moved (notes_of c k.more ++ behind) (ran c (ring_behind k.turn c rest) (queue_behind k.turn c old.queue) k.more old) k.items.noted k.state
+        (run_sound C past c rest (ring_behind k.turn c rest) (ready_behind k.turn c) (queue_behind k.turn c old.queue) (asked_at k.turn) (asked_behind k.turn) old k.more k.at behind false (ends k.turn) d e f v.0 v.1 k.items.passes
+        (stop_behind k.turn (setup_of C h) (taken h) k.at c left e' k.items.stops) (entries_behind_self k.turn c rest) (calls_behind_self k.turn c old.queue) k.items.calls (few_asked k.turn) (λ x. asks_alike k.turn) (spot_ran k.turn c left (setup_of C h) (taken h) k.at e' k.items.stops))
     by_failed false f (inr k) =
         let v = front_served C past c rest old e s in
         let left = untaken_all h (old.places c ++ k.more) in
-        moved (out_of_memory c k.more left) (ran c rest old.queue k.more old) k.notes k.state
-        (run_sound C past c rest rest [] old.queue [] [] old k.more k.at (Finish c Memory ∷ closing c left) true true left d e f v.0 v.1 k.passes (behind_memory c left) refl (λ x. x) (λ x. x) k.no_call (omega arith) (λ x. refl) tt)
+        let e' = edges_noted (notes_of c k.more) h.edges in
+        moved (out_of_memory c h.edges k.more left) (ran c rest old.queue k.more old) k.notes k.state
+        (run_sound C past c rest rest [] old.queue [] [] old k.more k.at (Finish c Memory ∷ closing c e' left) true true d e f v.0 v.1 k.passes (memory_behind (setup_of C h) (taken h) k.at c left e') (λ x. x) (λ x. x) k.no_call (omega arith) (λ x. refl) tt)
+
+-- where items and what is told behind them lead
+pub ran_on : (C : Config) (past : Past) (s : State) (c : ℕ) → Served C c (seen past s c) → RunStood C c (heard c past) (s.places c)
+ran_on C past s c k found more at behind quiet p =
+    let z = seen past s c in
+    let h = heard c past in
+    ran_at (setup_of C h) c h (s.places c) more behind (stand_of C h (s.places c)) at (heard_uncut c past) (trace_finished C c z k (heard_finish c past) found) (stands_orderly C c z k) quiet k.met k.stands p.passed
 
 own_ring : (C : Config) (past : Past) (ring : List ℕ) (group : List Note) (old new : State) → IsDistinct nat_eq (shared past).live → old.ring ≡ ring → ((c : ℕ) → SoundAt C c (seen past old c)) → MovesRing C past ring group old new
     → SoundAt C (front ring) (seen_after past Runs group new (front ring))
@@ -218,29 +375,28 @@ own_turn C past a rest group moment r old new e s notes f =
     with_notes : (ns : List Note) (fails : Bool) → group ≡ ns → is_some (heard a.conn past).accepted ≡ true → Served C a.conn (seen past old a.conn) → Answers a.conn ns fails → (called_in ns ≡ a.call ∷ []) ⊎ ((entries_in ns ≡ []) × (fails ≡ true)) → SoundAt C a.conn (seen_after past Turns group (turned_to a rest old) a.conn)
     with_notes ns fails k accepted v b entry =
         let G : List Note → Type 0 = λ g. SoundAt C a.conn (seen_after past Turns g (turned_to a rest old) a.conn) in
-        subst G (sym k) (from_served C a.conn (seen_after past Turns ns (turned_to a rest old) a.conn) (still_accepted a.conn (heard a.conn past) Turns ns 0 (turn_told a.conn (heard a.conn past) ns v.plain.connects b.about) accepted) (turn_served C past a rest old ns fails e v b entry))
+        subst G (sym k) (from_served C a.conn (seen_after past Turns ns (turned_to a rest old) a.conn) (still_accepted a.conn (heard a.conn past) Turns ns (turn_told a.conn (heard a.conn past) ns b.about) accepted) (turn_served C past a rest old ns fails e v b entry))
 
     by_notes : is_some (heard a.conn past).accepted ≡ true → Served C a.conn (seen past old a.conn) → TurnNotes a moment r group → SoundAt C a.conn (seen_after past Turns group (turned_to a rest old) a.conn)
-    by_notes accepted v (inl k) = with_notes (noted_by a moment r) false k accepted v (record { about = (refl, tt); cut = λ took. refl; failure = refl; ended = refl; others = refl }) (inl refl)
-    by_notes accepted v (inr (inl k)) = with_notes (lost_by a moment r) true k accepted v (record { about = (refl, (refl, tt)); cut = λ took. refl; failure = refl; ended = refl; others = refl }) (inl refl)
-    by_notes accepted v (inr (inr k)) = with_notes (Finish a.conn Memory ∷ []) true k accepted v (record { about = (refl, tt); cut = λ took. refl; failure = refl; ended = refl; others = refl }) (inr (refl, refl))
+    by_notes accepted v (inl k) = with_notes (noted_by a moment r) false k accepted v (record { about = (refl, tt); choices = refl; cut = λ took. refl; failure = refl; ended = refl; hidden = refl; causes = refl; goes_on = refl; opens = refl; edges = λ x. refl }) (inl refl)
+    by_notes accepted v (inr (inl k)) = with_notes (lost_by a moment r) true k accepted v (record { about = (refl, (refl, tt)); choices = refl; cut = λ took. refl; failure = refl; ended = refl; hidden = refl; causes = refl; goes_on = refl; opens = refl; edges = λ x. refl }) (inl refl)
+    by_notes accepted v (inr (inr k)) = with_notes (Finish a.conn Memory ∷ []) true k accepted v (record { about = (refl, tt); choices = refl; cut = λ took. refl; failure = refl; ended = refl; hidden = refl; causes = refl; goes_on = refl; opens = refl; edges = λ x. refl }) (inr (refl, refl))
 
 own_queue : (C : Config) (past : Past) (store : StoreState) (moment : ℕ) (queue : List Asked) (group : List Note) (old new : State) → old.queue ≡ queue → ((c : ℕ) → SoundAt C c (seen past old c)) → MovesQueue store moment queue group old new → SoundAt C (asker queue) (seen_after past Turns group new (asker queue))
 own_queue C past store moment [] group old new e each m = own_rest C past Turns group old new 0 m (λ h. others_not_heard 0 h Turns [] refl refl) refl (each 0)
 own_queue C past store moment (a ∷ rest) group old new e each m = own_turn C past a rest group moment (reply store moment a.call).reply old new e (each a.conn) m.notes m.state
 
-own_input : (C : Config) (past : Past) (c : ℕ) (input : Input) (group : List Note) (old new : State) → IsDistinct nat_eq (shared past).live → MayCome C c input (seen past old c) → (b : Bool) → may_come input ≡ b
-    → MatchBool b (MovesCome C input (heard c past) (hears c (heard c past) (Comes c input) group) c group old new) ⊥ → SoundAt C c (seen_after past (Comes c input) group new c)
-own_input C past c input group old new d m false e k = absurd k
-own_input C past c input group old new d m true e k = by_failed (heard c past).failed refl k
+own_input : (C : Config) (past : Past) (c : ℕ) (input : Input) (group : List Note) (old new : State) → IsDistinct nat_eq (shared past).live → MayCome C c input (seen past old c)
+    → MovesCome C input (heard c past) (hears c (heard c past) (Comes c input) group) c group old new → SoundAt C c (seen_after past (Comes c input) group new c)
+own_input C past c input group old new d m k = by_failed (heard c past).failed refl k
   where
     now : Heard
     now = hears c (heard c past) (Comes c input) group
 
-    by_failed : (b : Bool) → (heard c past).failed ≡ b → MatchBool b (MovesFailed c group old new) (MovesOn C now c group old new ⊎ MovesLacks input c group old new) → SoundAt C c (seen_after past (Comes c input) group new c)
-    by_failed true f j = own_come C past c input group old new false (untaken_all now (old.places c)) e d m j.notes j.state (let P : Bool → Type 0 = λ b. MatchBool b (false ≡ false) (false ≡ is_drained_at C now (old.places c)) in subst P (sym f) refl) refl
-    by_failed false f (inr j) = own_lack C past c input group old new e m f j.notes j.state
-    by_failed false f (inl j) = own_come C past c input group old new (is_drained_at C now (old.places c)) (untaken_all now (old.places c)) e d m j.notes j.state (let P : Bool → Type 0 = λ b. MatchBool b (is_drained_at C now (old.places c) ≡ false) (is_drained_at C now (old.places c) ≡ is_drained_at C now (old.places c)) in subst P (sym f) refl) refl
+    by_failed : (b : Bool) → (heard c past).failed ≡ b → MatchBool b (MovesFailed c group old new) (MovesOn C now c (edges_met input (heard c past).edges) group old new ⊎ MovesLacks input c group old new) → SoundAt C c (seen_after past (Comes c input) group new c)
+    by_failed true f j = own_failed C past c input group old new m f j.notes j.state
+    by_failed false f (inr j) = own_lack C past c input group old new m f j.notes j.state
+    by_failed false f (inl j) = own_come C past c input group old new d m f j
 
 own_accept : (C : Config) (past : Past) (c : ℕ) (vs : List ℕ) (from : Addr) (group : List Note) (old new : State) → seen past old c ≡ unseen → (group ≡ []) ⊎ (group ≡ Finish c Memory ∷ []) → new ≡ record old { ring = old.ring ++ c ∷ [] }
     → SoundAt C c (seen_after past (Accepts c vs from) group new c)
@@ -264,14 +420,14 @@ not_accepted C past c vs from s k h =
 -- each event owes its own connection
 own : (C : Config) (past : Past) (v : EventKind) (group : List Note) (old new : State) → Sound C past old → refused C past old v ≡ None → MovesBy C past v group old new → SoundAt C (about v old) (seen_after past v group new (about v old))
 own C past (Accepts c vs from) group old new s h m = own_accept C past c vs from group old new (not_accepted C past c vs from old s h) m.notes m.state
-own C past (Comes c input) group old new s h m = own_input C past c input group old new s.distinct (may_come_at C past old c input (s.each c) h) (may_come input) refl m
+own C past (Comes c input) group old new s h m = own_input C past c input group old new s.distinct (may_come_at C past old c input (s.each c) h) m
 own C past (Ticks moment) group old new s h m = own_rest C past (Ticks moment) group old new 0 m (λ k. others_not_heard 0 k (Ticks moment) [] refl refl) refl (s.each 0)
 own C past Turns group old new s h m = own_queue C past (store_of C past) (shared past).moment old.queue group old new refl s.each m
 own C past Runs group old new s h m = own_ring C past old.ring group old new s.distinct refl s.each m
 own C past (Marks pool member up) group old new s h m = own_rest C past (Marks pool member up) group old new 0 m (λ k. others_not_heard 0 k (Marks pool member up) [] refl refl) refl (s.each 0)
 
 -- above the last number nothing was heard
-marked_accepted : (input : Input) (h : Heard) → (marks input h).accepted ≡ h.accepted
+pub marked_accepted : (input : Input) (h : Heard) → (marks input h).accepted ≡ h.accepted
 marked_accepted (Bytes side bytes) h = refl
 marked_accepted (Ends side) h = refl
 marked_accepted (Resets Client) h = refl

@@ -1,22 +1,20 @@
 -- Where a connection stands, and what is not taken of what it sent.
-use Rattle.std.proofs.Common.{◌≡◌, refl, sym, ap, subst, ◌∙◌, ℕ, ◌-◌, List, length, Bool, true, false, Option, Some, None, arith, zero-add, ◌≤◌}
+use Rattle.std.proofs.Common.{◌≡◌, refl, sym, ap, subst, ◌∙◌, ℕ, ◌+◌, ◌-◌, List, length, Bool, true, false, arith}
 use Rattle.std.specs.Prelude.{is_some}
 use Rattle.std.specs.Bool.{MatchBool}
-use Rattle.px_bytes.specs.declared.addr.Side.TheVariants.{Client, Server}
-use Rattle.connection_model.specs.Gates.{TakenCounts, no_bytes, sent_from, untaken, taken_of, to_take}
-use Rattle.connection_model.specs.Heard.{Heard, taken, start_of, taken_by}
-use Rattle.connection_model.specs.Item.{Item, client_output}
+use Rattle.connection_model.specs.Gates.{no_bytes, sent_from}
+use Rattle.connection_model.specs.Heard.{Heard, taken, start_of}
+use Rattle.connection_model.specs.Item.{Item}
 use Rattle.connection_model.specs.Setup.{Setup}
 use Rattle.connection_model.specs.State.{TraceState}
 use Rattle.connection_model.specs.Trace.{Unfolds, behind}
-use Rattle.connection_model.proofs.Given.{unfolds_behind, sent_counted, sent_output}
+use Rattle.connection_model.proofs.Given.{unfolds_behind, sent_counted}
 use Rattle.proxy_core.specs.Moves.{is_drained_at}
-use Rattle.conn.specs.RunsItems.{is_drained}
-use Rattle.proxy_core.specs.Scheduler.{Seen, untaken_of, untaken_all}
+use Rattle.conn.specs.Settling.{is_drained}
+use Rattle.proxy_core.specs.Scheduler.{Seen}
 use Rattle.proxy_core.specs.Setup.{setup_of, stand_of}
-use Rattle.proxy_core.specs.Sound.{unseen, IsPlain, ServedAt, Served, SoundAt}
+use Rattle.proxy_core.specs.Sound.{unseen, ServedAt, Served, SoundAt}
 use Rattle.proxy_core.specs.declared.config.Config.{Config}
-use Rattle.proxy_core.proofs.Hearing.{taken_plain}
 
 pub stands_at : (C : Config) (h : Heard) (g : Setup) (place : List Item) (at : TraceState) → setup_of C h ≡ g → Unfolds g (start_of g h) place at → stand_of C h place ≡ at
 stands_at C h g place at e u = ap (λ y. behind (length place) y (start_of y h)) e ∙ unfolds_behind g (start_of g h) at place u
@@ -54,34 +52,6 @@ as_live C c z e s = (is_served C c z (λ u. let n : z.live ≡ false = ap (λ y.
 pub sent_at : (g : Setup) (h : Heard) (place : List Item) (at : TraceState) → Unfolds g (start_of g h) place at → at.sent ≡ sent_from no_bytes place
 sent_at g h place at u = sent_counted g (start_of g h) at place u
 
-pub none_untaken : (o : Option ℕ) → untaken 0 o ≡ 0
-none_untaken None = refl
-none_untaken (Some n) = omega arith
-
-pub server_untaken : (took : TakenCounts) (at : TraceState) → at.sent.server ≡ 0 → to_take at.sent took Server ≡ 0
-server_untaken took at e = let o = taken_of took.servers at.sent.number in ap (λ n. untaken n o) e ∙ none_untaken o
-
--- of a client that was reset nothing is
-pub client_untaken : (h : Heard) (place : List Item) → IsPlain h → untaken_of h place Client ≡ untaken (length (client_output place)) (taken_by h.client.reset h.client.took)
-client_untaken h place p =
-    ap (λ t. to_take (sent_from no_bytes place) t Client) (taken_plain h p.connects)
-    ∙ ap (λ n. untaken n (taken_by h.client.reset h.client.took)) (sent_output no_bytes place ∙ zero-add (length (client_output place)))
-
-pub untaken_within : (b : Bool) (n t : ℕ) → untaken n (taken_by b t) ≤ n - t
-untaken_within true n t = omega arith
-untaken_within false n t = omega arith
-
-pub none_to_server : (g : Setup) (h : Heard) (place : List Item) (at : TraceState) → Unfolds g (start_of g h) place at → at.sent.server ≡ 0 → untaken_of h place Server ≡ 0
-none_to_server g h place at u e = ap (λ s. to_take s (taken h) Server) (sym (sent_at g h place at u)) ∙ server_untaken (taken h) at e
-
-pub all_untaken : (g : Setup) (h : Heard) (place : List Item) (at : TraceState) → Unfolds g (start_of g h) place at → at.sent.server ≡ 0 → untaken_all h place ≡ length (client_output place) - h.client.took
-all_untaken g h place at u e =
-    let b = none_to_server g h place at u e in
-    omega (arith, b)
-
--- one that counts alike was reset alike
-pub reset_by : (a b : Bool) (n m : ℕ) → taken_by a n ≡ taken_by b m → a ≡ b
-reset_by true true n m e = refl
-reset_by false false n m e = refl
-reset_by true false n m e = cc
-reset_by false true n m e = cc
+-- of one that was sent so much, so much is left
+pub rest_left : (n t sent : ℕ) → n + t ≡ sent → n ≡ sent - t
+rest_left n t sent e = omega (arith, e)

@@ -1,5 +1,5 @@
 -- The table of the live connections, where one of them changed or is gone.
-use Rattle.std.proofs.Common.{◌≡◌, ◌∙◌, refl, sym, ap, ℕ, ◌≤◌, List, Some, true, nat_eq, length, arith, remove, set, slice_get, length-set}
+use Rattle.std.proofs.Common.{◌≡◌, ◌∙◌, sym, ap, ℕ, ◌≤◌, List, Some, true, length, arith, remove, set, slice_get, length-set}
 use Rattle.std.proofs.lemmas.List.Edits.{length-remove}
 use Rattle.std.proofs.lemmas.Option.{slice_get_within}
 use Rattle.connection_table.specs.Table.{place_in}

@@ -10,7 +10,7 @@ use Rattle.connection_model.specs.Item.{Item, client_output, server_output}
 use Rattle.proxy_core.specs.Past.{Past, heard, shared}
 use Rattle.proxy_core.specs.Ready.{is_in}
 use Rattle.proxy_core.specs.Refusal.{wants_at}
-use Rattle.proxy_core.specs.Scheduler.{State, Seen, seen, pending}
+use Rattle.proxy_core.specs.Scheduler.{State, seen, pending}
 use Rattle.proxy_core.specs.declared.config.Config.{Config}
 
 abbrev pub is_none_of : {A : Type 0} → List A → Bool

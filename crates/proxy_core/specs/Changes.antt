@@ -1,16 +1,16 @@
 -- What an event changes in a core, and the notes that come of it.
 use Rattle.std.specs.Prelude.{◌≡◌, ◌⊎◌, ℕ, ◌<◌, List, [], ◌∷◌, ◌++◌, length, Bool, true, false}
-use Rattle.std.specs.Prelude.{Option, Some, None, slice_get, slice_set, remove, if◌then◌else◌}
+use Rattle.std.specs.Prelude.{Option, Some, None, slice_get, slice_set, remove}
 use Rattle.px_bytes.specs.declared.addr.Addr.{Addr}
-use Rattle.px_bytes.specs.declared.addr.Side.TheVariants.{Client}
+use Rattle.px_bytes.specs.declared.addr.Side.TheVariants.{Client, Server}
 use Rattle.tcl_vars.specs.Scopes.{Level}
-use Rattle.connection_model.specs.declared.edges.EdgeState.TheVariants.{Open}
 use Rattle.connection_model.specs.declared.note.Cause.TheVariants.{Memory}
 use Rattle.connection_model.specs.declared.note.Note.{Note}
 use Rattle.connection_model.specs.declared.note.Note.TheVariants.{Finish}
-use Rattle.connection_model.specs.Edges.{edge}
-use Rattle.connection_model.specs.Heard.{Input, Bytes, Ends, Takes, Resets}
+use Rattle.connection_model.specs.Edges.{accepted_edges, edges_noted}
+use Rattle.connection_model.specs.Heard.{Input, Bytes, Ends, Takes, Resets, Connects, edges_met}
 use Rattle.conn.specs.Calls.{Begins}
+use Rattle.conn.specs.Ends.{fresh_ends}
 use Rattle.conn.specs.Runs.{IsBounded, IsWhole}
 use Rattle.conn.specs.RunsItems.{ends}
 use Rattle.conn.specs.declared.connection.Conn.{Conn}
@@ -20,8 +20,8 @@ use Rattle.conn.specs.declared.turn.ConnTurn.{ConnTurn}
 use Rattle.conn.specs.Stages.{is_asking}
 use Rattle.shared_store.specs.Store.{marked}
 use Rattle.proxy_core.specs.Calls.{queue_behind, without_calls, woken}
-use Rattle.proxy_core.specs.Live.{KeepsPlace, LiveAnswers, LiveComes, LiveRuns, SamePlace}
-use Rattle.proxy_core.specs.Live.{asks_in, client_met, comes_notes, left_in, queue_of}
+use Rattle.proxy_core.specs.Live.{KeepsPlace, LiveAnswers, MayCome, LiveComes, LiveRuns, SamePlace}
+use Rattle.proxy_core.specs.Live.{asks_in, edges_in}
 use Rattle.proxy_core.specs.Ready.{place_of, ring_behind, with_ready, without}
 use Rattle.proxy_core.specs.Refusals.{virtual_place}
 use Rattle.proxy_core.specs.Serving.{IsSetup}
@@ -39,12 +39,16 @@ pub record KeepsConfig (old new : Core) : Type 0 where
   pub places : new.places ≡ old.places
 
 -- the connection begins; where no memory was found for it, it has finished with that cause
+abbrev pub Begun : Setup → ℕ → Addr → Option Conn → List Note → Type 0
+Begun s number from (Some conn) group =
+    Begins s from conn × (conn.ends ≡ fresh_ends) × (group ≡ []) × (is_asking conn.stage ≡ false)
+Begun s number from None group = group ≡ Finish number Memory ∷ []
+
+-- on the setup of its virtual server
 abbrev pub BeginsAt : Level → List (List (List Place)) → Config → ℕ → ℕ → Addr → Option Conn
     → List Note → Type 0
-BeginsAt statics places C number place from (Some conn) group =
-    ((s : Setup) × IsSetup C statics places place s × Begins s from conn)
-    × (queue_of conn ≡ []) × (group ≡ []) × (is_asking conn.stage ≡ false)
-BeginsAt statics places C number place from None group = group ≡ Finish number Memory ∷ []
+BeginsAt statics places C number place from conn group =
+    (s : Setup) × IsSetup C statics places place s × Begun s number from conn group
 
 -- an accepted connection goes to the back of the ring
 pub record Accepts (old new : Core) (number : ℕ) (vs : List ℕ) (from : Addr)
@@ -57,7 +61,7 @@ pub record Accepts (old new : Core) (number : ℕ) (vs : List ℕ) (from : Addr)
   pub conn : Option Conn
   pub begins : BeginsAt old.statics.statics old.places old.config number place from conn group
   pub live : new.live.items ≡ old.live.items
-      ++ record { number = number; vs = place; from = from; client = edge Open; conn = conn } ∷ []
+      ++ record { number = number; vs = place; from = from; conn = conn; edges = accepted_edges } ∷ []
   pub ring : new.live.ring ≡ old.live.ring ++ number ∷ []
   pub queue : new.queue.items ≡ old.queue.items
   pub store : new.store ≡ old.store
@@ -76,8 +80,8 @@ pub record Goes (old new : Core) (at : ℕ) (before : Live) : Type 0 where
   pub ring : new.live.ring ≡ without before.number old.live.ring
   pub queue : new.queue.items ≡ old.queue.items
 
--- This came of the client. Where the connection is over then, it is gone. Where it found no memory
--- it goes on, finished with that cause.
+-- This came of it. Where the connection is over then, it is gone. Where it found no memory it goes
+-- on, finished with that cause. Its ends stand where this and its notes put them.
 pub record ComesOf (old new : Core) (number : ℕ) (input : Input) (group : List Note) : Type 0 where
   pub keeps : KeepsConfig old new
   pub last : new.last ≡ old.last
@@ -88,12 +92,11 @@ pub record ComesOf (old new : Core) (number : ℕ) (input : Input) (group : List
   pub before : Live
   pub found : slice_get old.live.items at ≡ Some before
   pub after : Live
+  pub may : MayCome input before
   pub same : KeepsPlace before after
-  pub client : after.client ≡ client_met input before.client
-  pub lacks : Bool
   pub over : Bool
-  pub came : LiveComes input before.conn after.conn lacks over
-  pub notes : group ≡ comes_notes lacks over number (left_in after.conn)
+  pub came : LiveComes input number before.conn after.conn group over
+  pub edges : edges_in after ≡ edges_noted group (edges_met input (edges_in before))
   pub goes_on : over ≡ false → Stays old new at before after
   pub ends : over ≡ true → Goes old new at before
 
@@ -111,11 +114,12 @@ pub record RunsFront (old new : Core) (number : ℕ) (rest : List ℕ) (group : 
   pub before : Live
   pub found : slice_get old.live.items at ≡ Some before
   pub after : Live
-  pub same : SamePlace before after
+  pub same : KeepsPlace before after
   pub setup : Setup
   pub setup_is : IsSetup old.config old.statics.statics old.places before.vs setup
   pub turn : ConnTurn
-  pub runs : LiveRuns setup number before.conn after.conn group turn
+  pub edges : ends turn ≡ false → edges_in after ≡ edges_noted group (edges_in before)
+  pub runs : LiveRuns setup number before.edges before.conn after.conn group turn
   pub whole : IsWhole turn steps (length group)
   pub bounded : IsBounded turn steps
   pub ring : new.live.ring ≡ ring_behind turn number rest
@@ -180,8 +184,7 @@ pub record Becomes (new after : Core) (group : List Note) (steps : ℕ) : Type 0
   pub notes : group ≡ []
   pub no_step : steps ≡ 0
 
--- What an event that isn't refused changes, and how many steps it counts. What comes of a server is
--- refused, as none is asked for a connection yet.
+-- What an event that isn't refused changes, and how many steps it counts.
 abbrev pub Changes : Core → Core → Event → List Note → (steps : ℕ) → Type 0
 Changes old new (event.Accept conn vs from) group steps =
     Accepts old new conn vs from group × (steps ≡ 0)
@@ -191,8 +194,20 @@ Changes old new (event.ClientEnd conn) group steps =
     ComesOf old new conn (Ends Client) group × (steps ≡ 0)
 Changes old new (event.ClientReset conn) group steps =
     ComesOf old new conn (Resets Client) group × (steps ≡ 0)
+Changes old new (event.Connected conn) group steps =
+    ComesOf old new conn (Connects true) group × (steps ≡ 0)
+Changes old new (event.Refused conn) group steps =
+    ComesOf old new conn (Connects false) group × (steps ≡ 0)
+Changes old new (event.FromServer conn bytes) group steps =
+    ComesOf old new conn (Bytes Server bytes) group × (steps ≡ 0)
+Changes old new (event.ServerEnd conn) group steps =
+    ComesOf old new conn (Ends Server) group × (steps ≡ 0)
+Changes old new (event.ServerReset conn) group steps =
+    ComesOf old new conn (Resets Server) group × (steps ≡ 0)
 Changes old new (event.ClientTook conn n) group steps =
     ComesOf old new conn (Takes Client n) group × (steps ≡ 0)
+Changes old new (event.ServerTook conn n) group steps =
+    ComesOf old new conn (Takes Server n) group × (steps ≡ 0)
 Changes old new (event.Tick moment) group steps =
     Becomes new (record old { moment = moment }) group steps
 Changes old new event.Turn group steps =
@@ -200,4 +215,3 @@ Changes old new event.Turn group steps =
 Changes old new event.Run group steps = RunsRing old new old.live.ring group steps
 Changes old new (event.Mark pool member up) group steps =
     Becomes new (record old { store = marked pool member up old.store }) group steps
-Changes old new other group steps = ⊥

@@ -1,9 +1,6 @@
 -- The notes of an event fit where the ends of their connection stand.
-use Rattle.std.specs.Prelude.{◌≡◌, ℕ, List, [], ◌∷◌, Bool, true, false, None}
+use Rattle.std.specs.Prelude.{◌≡◌, ℕ, List, [], ◌∷◌, Bool, true, None}
 use Rattle.connection_model.specs.declared.edges.Edges.{Edges}
-use Rattle.connection_model.specs.declared.edges.EdgeState.{EdgeState}
-use Rattle.connection_model.specs.declared.edges.EdgeState.TheVariants.{Absent, Connecting}
-use Rattle.connection_model.specs.declared.edges.EdgeState.TheVariants.{Open, Closed}
 use Rattle.connection_model.specs.declared.note.Note.{Note}
 use Rattle.connection_model.specs.declared.note.Note.TheVariants as note
 use Rattle.connection_model.specs.Edges.{edge_of, edges_by}
@@ -13,20 +10,8 @@ use Rattle.proxy_core.specs.Moves.{Leads, Moves}
 use Rattle.proxy_core.specs.Past.{Happened, Past, kind_of, heard}
 use Rattle.proxy_core.specs.Refusal.{refused}
 use Rattle.proxy_core.specs.Scheduler.{State}
+use Rattle.proxy_core.specs.Servers.{is_free, is_used}
 use Rattle.proxy_core.specs.declared.config.Config.{Config}
-
--- there is a link: a connection, or one that is asked for
-abbrev pub is_used : EdgeState → Bool
-is_used Absent = false
-is_used Connecting = true
-is_used Open = true
-is_used Closed = false
-
-abbrev pub is_free : EdgeState → Bool
-is_free Absent = true
-is_free Connecting = false
-is_free Open = false
-is_free Closed = true
 
 -- A server is asked for where there is none. A link that sends no more or is closed is there.
 abbrev pub fits : Note → Edges → Bool

@@ -1,30 +1,31 @@
 -- The promise: what holds of every connection, for every configuration and every past that leads
 -- to a state of the scheduler.
-use Rattle.std.specs.Prelude.{◌≡◌, ℕ, ◌+◌, ◌-◌, ◌≤◌, List, [], ◌∷◌, ◌++◌, length, take, map}
-use Rattle.std.specs.Prelude.{Bool, true, false, not, Option, Some, None, is_some, if◌then◌else◌}
-use Rattle.std.specs.List.{filter, flat_map, list_any}
+use Rattle.std.specs.Prelude.{◌≡◌, ℕ, ◌+◌, ◌≤◌, List, [], ◌∷◌, ◌++◌, length, take, map}
+use Rattle.std.specs.Prelude.{Bool, true, false, Some, is_some}
+use Rattle.std.specs.List.{filter}
+use Rattle.px_bytes.specs.declared.addr.Side.{Side}
 use Rattle.px_bytes.specs.declared.addr.Side.TheVariants.{Client, Server}
 use Rattle.connection_model.specs.declared.note.Cause.{Cause}
 use Rattle.connection_model.specs.declared.note.Cause.TheVariants.{Memory}
 use Rattle.connection_model.specs.declared.note.CutReason.{CutReason}
-use Rattle.connection_model.specs.declared.note.CutReason.TheVariants.{ClientReset, ServerReset}
-use Rattle.connection_model.specs.declared.note.CutReason.TheVariants.{Idle}
-use Rattle.connection_model.specs.declared.note.Note.{Note}
-use Rattle.connection_model.specs.declared.note.Note.TheVariants as note
 use Rattle.connection_model.specs.Gates.{no_bytes, sent_from}
-use Rattle.connection_model.specs.Heard.{SideHeard, Heard, taken}
+use Rattle.connection_model.specs.Heard.{Heard, taken}
+use Rattle.connection_model.specs.Edges.{edge_of}
+use Rattle.connection_model.specs.Queries.{half_close_due}
+use Rattle.connection_model.specs.State.{Cut}
 use Rattle.connection_model.specs.Item.{Item, calls_in, cause_of, client_output, notes_of}
-use Rattle.connection_model.specs.Item.{reasons_in}
-use Rattle.connection_model.specs.Laws.{takes_cut}
+use Rattle.connection_model.specs.Item.{reasons_in, server_output}
+use Rattle.connection_model.specs.Laws.{cut_is_taken}
 use Rattle.connection_model.specs.Tellings.{notes_about, failure_told}
 use Rattle.connection_model.specs.Trace.{next_item, trace, GivesNoMore}
-use Rattle.conn.specs.RunsItems.{closing}
 use Rattle.proxy_core.specs.History.{IsHistory, called_in, entries_in}
 use Rattle.proxy_core.specs.Moves.{Leads}
 use Rattle.proxy_core.specs.Past.{Past, heard}
-use Rattle.proxy_core.specs.Scheduler.{State, Seen, seen, untaken_of, untaken_all, pending}
+use Rattle.proxy_core.specs.Scheduler.{State, Seen, last_took, seen, untaken_of, untaken_all, pending}
+use Rattle.proxy_core.specs.Servers.{last_reset, licenses, took_of}
+use Rattle.proxy_core.specs.Shown.{shows, causes_told, causes_behind}
 use Rattle.proxy_core.specs.Setup.{setup_of, begins_at, stand_of}
-use Rattle.proxy_core.specs.Sound.{besides, last_notes}
+use Rattle.proxy_core.specs.Sound.{EndsTold}
 use Rattle.proxy_core.specs.declared.config.Config.{Config}
 
 -- the first n items of a connection's trace on what was heard
@@ -32,7 +33,8 @@ abbrev pub first_items : Config → Heard → ℕ → List Item
 first_items C h n = trace n (setup_of C h) (begins_at C h)
 
 -- The items that a connection passed are the first of its trace, and of each longer front of it.
--- What its client took is a front of what they send, and of what each longer front sends.
+-- What its client took is a front of what they send to it, and of what each longer front sends; so is
+-- what each server connection took.
 pub record SentIsPrefix (C : Config) (h : Heard) (place : List Item) : Type 0 where
   pub passed : place ≡ first_items C h (length place)
   pub longer : (n : ℕ)
@@ -41,11 +43,17 @@ pub record SentIsPrefix (C : Config) (h : Heard) (place : List Item) : Type 0 wh
   pub taken : (n : ℕ)
       → take h.client.took (client_output (first_items C h (length place + n)))
       ≡ take h.client.took (client_output place)
+  pub server_took_within : (k : ℕ) → took_of h.connects k ≤ length (server_output k place)
+  pub server_taken : (n k : ℕ)
+      → take (took_of h.connects k) (server_output k (first_items C h (length place + n)))
+      ≡ take (took_of h.connects k) (server_output k place)
 
--- its trace is no longer, and its client took all that it sends
+-- its trace is no longer, and its client and its present server connection took all that was sent to
+-- them
 pub record IsWhole (C : Config) (h : Heard) (place : List Item) : Type 0 where
   pub no_more : (n : ℕ) → first_items C h (length place + n) ≡ place
   pub took_all : h.client.took ≡ length (client_output place)
+  pub server_took_all : last_took h.connects ≡ (sent_from no_bytes place).server
 
 -- all that the gates let through was passed, and it waits for no answer of the proxy's own
 abbrev pub GaveDeliverable : Config → Heard → List Item → Type 0
@@ -53,24 +61,11 @@ GaveDeliverable C h place =
     GivesNoMore false (sent_from no_bytes place) (taken h)
     (next_item (setup_of C h) (stand_of C h place))
 
-abbrev pub last_reset : List (Option SideHeard) → Bool
-last_reset [] = false
-last_reset (None ∷ more) = last_reset more
-last_reset (Some s ∷ []) = s.reset
-last_reset (Some s ∷ more) = last_reset more
-
--- what was heard allows a cut for this reason; there is no idle limit yet
-abbrev pub licenses : Heard → CutReason → Bool
-licenses h ClientReset = h.client.reset
-licenses h ServerReset = last_reset h.connects
-licenses h Idle = false
-
--- no cut that is allowed goes on from there
+-- no cut that is allowed goes on from there; once it has finished none does
 abbrev pub NoCutIsDue : Config → Heard → List Item → Type 0
 NoCutIsDue C h place =
     (reason : CutReason) → licenses h reason ≡ true
-    → takes_cut (setup_of C h) (record { reason = reason; took = taken h })
-    (sent_from no_bytes place) (next_item (setup_of C h) (stand_of C h place)) ≡ false
+    → cut_is_taken (setup_of C h) (record { reason = reason; took = taken h }) (stand_of C h place) ≡ false
 
 -- nothing is ready, and no shared call waits
 pub record IsSettled (s : State) : Type 0 where
@@ -86,8 +81,11 @@ pub record SettledIsComplete (C : Config) (h : Heard) (s : State) (live : Bool)
   pub settled_found_memory : IsSettled s → live ≡ true → h.failed ≡ false
   pub settled_gave_deliverable : IsSettled s → live ≡ true → GaveDeliverable C h place
   pub settled_not_cut : IsSettled s → live ≡ true → NoCutIsDue C h place
-  pub drained_gave_whole_trace : IsSettled s → live ≡ true
-      → length (client_output place) ≤ h.client.took → IsWhole C h place
+  pub drained_gave_whole_trace : IsSettled s → live ≡ true → untaken_of h place Client ≡ 0
+      → untaken_of h place Server ≡ 0 → (n : ℕ) → first_items C h (length place + n) ≡ place
+  pub half_close_when_due : IsSettled s → live ≡ true → (side : Side)
+      → half_close_due (stand_of C h place) (taken h) side ≡ true
+      → (edge_of side h.edges).half ≡ true
   pub finished_has_ended : IsSettled s → h.finished ≡ true → untaken_of h place Client ≡ 0
       → untaken_of h place Server ≡ 0 → live ≡ false
   pub ended_gave_whole_trace : live ≡ false → h.failed ≡ false
@@ -95,67 +93,29 @@ pub record SettledIsComplete (C : Config) (h : Heard) (s : State) (live : Bool)
   pub ended_clean_sent_all : live ≡ false → h.failed ≡ false → untaken_all h place ≡ 0
       → IsWhole C h place
 
--- a note that shows an item
-abbrev pub shows : Note → Bool
-shows (note.Sleep c until) = false
-shows (note.History c moment call reply) = false
-shows (note.Finish c Memory) = false
-shows (note.HalfClose c side) = false
-shows (note.CloseServer c) = false
-shows (note.CloseClient c) = false
-shows (note.Ended c dropped) = false
-shows other = true
+-- What is told of the ends of a connection: nothing of it is closed before it has finished, and an end that
+-- is closed took all, unless it found no memory. It isn't over while it is live; one that isn't has told that
+-- it is over, once and last, with what was sent to its sides and not taken counted as dropped, and both its
+-- ends are closed. Where no side of it was reset and it found memory, nothing is dropped.
+pub record ClosesRightly (c : ℕ) (z : Seen) : Type 0 where
+  pub told : EndsTold c z
+  pub dropped : z.live ≡ false → z.heard.failed ≡ false → z.heard.client.reset ≡ false
+      → last_reset z.heard.connects ≡ false → untaken_all z.heard z.place ≡ 0
 
--- a note that something is closed for good
-abbrev pub closes : Note → Bool
-closes (note.CloseServer c) = true
-closes (note.CloseClient c) = true
-closes (note.Ended c dropped) = true
-closes other = false
-
--- why a connection finishes, by its notes
-abbrev pub cause_told : Note → List Cause
-cause_told (note.Finish c cause) = cause ∷ []
-cause_told other = []
-
-abbrev pub causes_told : List Note → List Cause
-causes_told notes = flat_map cause_told notes
-
--- The last notes of an ended connection say that its client is closed and that it is over; before
--- them it has finished and nothing was closed. All that was queued was taken, unless it found no
--- memory or its client was reset: then so many bytes are dropped.
-pub record ClosesRightly (c : ℕ) (h : Heard) (place : List Item) : Type 0 where
-  pub before : List Note
-  pub notes : h.notes ≡ before ++ closing c (untaken_all h place)
-  pub none_closed : list_any closes before ≡ false
-  pub cause : Cause
-  pub more : List Cause
-  pub finished : causes_told before ≡ cause ∷ more
-  pub dropped : h.failed ≡ false → h.client.reset ≡ false → untaken_all h place ≡ 0
-
--- a Finish for want of memory, where it found none
-abbrev pub causes_behind : Bool → List Cause
-causes_behind failed = if failed then Memory ∷ [] else []
-
--- The notes of a connection that show an item are those of the items that it passed. Besides them and
--- its entries in the history are its last ones alone: none while it goes on; that its client is closed,
--- and that it ended with what a reset left dropped; or a Finish for want of memory, and then so many
--- bytes dropped as were sent and not taken. Its trace finishes once at most, never for want of memory,
--- and has finished where it ended; a second Finish is for want of memory, and there is no third.
+-- The notes of a connection that show an item are those of the items that it passed. It finishes for its
+-- trace's reasons and for want of memory behind them, where it found none: its trace finishes once at most,
+-- never for want of memory, and has finished where it ended; a second Finish is for want of memory, and
+-- there is no third. A cut is only among them where it was allowed.
 pub record FinishCauses (C : Config) (c : ℕ) (h : Heard) (live : Bool)
     (place : List Item) : Type 0 where
   pub shown : filter shows h.notes ≡ notes_of c place
-  pub noted : besides h.notes
-      ≡ notes_of c place ++ last_notes c h.failed live (untaken_all h place)
-  pub dropped_counts : untaken_all h place ≡ length (client_output place) - h.client.took
   pub causes : causes_told h.notes ≡ map cause_of (reasons_in place) ++ causes_behind h.failed
   pub trace_found_memory : failure_told (notes_about c (notes_of c place)) ≡ false
   pub finishes_once : length (reasons_in place) ≤ 1
   pub second_is_memory : (first second : Cause) (more : List Cause)
       → causes_told h.notes ≡ first ∷ second ∷ more → (second ≡ Memory) × (more ≡ [])
-  pub open_while_live : list_any closes h.notes ≡ not live
-  pub closes_rightly : live ≡ false → ClosesRightly c h place
   pub ended_has_finished : live ≡ false → h.failed ≡ false → length (reasons_in place) ≡ 1
+  pub cut_is_allowed : (cut : Cut) → h.cut ≡ Some cut → licenses h cut.reason ≡ true
 
 -- The calls of the items that a connection passed are those of its entries in the history, each once
 -- and in their order, and its recorded answers are their replies. Behind them is one call at most that has
@@ -168,19 +128,23 @@ pub record EntriesAreCalls (h : Heard) (asked : List (List (List ℕ))) (place :
   pub unanswered_is_last : length unanswered ≤ 1
   pub unanswered_is_open : h.failed ≡ false → unanswered ≡ asked
 
--- The counts of a live connection: taken and pending are what was sent to its client, and once that
--- was reset nothing is pending. Nothing is sent to a server yet.
+-- The counts of a live connection: taken and pending are what was sent to a side, to the server's of its
+-- present connection; once a side was reset nothing is pending to it.
 pub record OpenCounts (past : Past) (s : State) (c : ℕ) : Type 0 where
   pub sent : (heard c past).client.reset ≡ false
       → (heard c past).client.took + pending past s c Client ≡ length (client_output (s.places c))
   pub reset : (heard c past).client.reset ≡ true → pending past s c Client ≡ 0
-  pub to_server : pending past s c Server ≡ 0
+  pub server_sent : last_reset (heard c past).connects ≡ false
+      → last_took (heard c past).connects + pending past s c Server
+      ≡ (sent_from no_bytes (s.places c)).server
+  pub server_reset : last_reset (heard c past).connects ≡ true → pending past s c Server ≡ 0
 
 pub record ConnectionPromise (C : Config) (past : Past) (s : State) (c : ℕ)
     (z : Seen) : Type 0 where
   pub sent_is_prefix : SentIsPrefix C z.heard z.place
   pub settled_is_complete : SettledIsComplete C z.heard s z.live z.place
   pub finish_causes : FinishCauses C c z.heard z.live z.place
+  pub closes_rightly : ClosesRightly c z
   pub entries_are_calls : EntriesAreCalls z.heard z.asked z.place
   pub open_line_counts : OpenCounts past s c
 

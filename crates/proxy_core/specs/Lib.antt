@@ -15,6 +15,8 @@ pub mod Queries
 pub mod Past
 pub mod History
 pub mod Scheduler
+pub mod Servers
+pub mod Shown
 pub mod Refusal
 pub mod Moves
 pub mod Sound

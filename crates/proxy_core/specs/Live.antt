@@ -1,28 +1,30 @@
 -- What the place of a live connection holds, and what calls make of it.
-use Rattle.std.specs.Prelude.{◌≡◌, ◌⊎◌, ℕ, List, [], ◌∷◌, Bool, true, false, Option, Some, None}
-use Rattle.conn.specs.Queues.{queue_in}
-use Rattle.std.specs.Prelude.{length, drop}
-use Rattle.px_bytes.specs.declared.addr.Side.TheVariants.{Client}
+use Rattle.std.specs.Prelude.{◌≡◌, ◌⊎◌, ◌≤◌, ℕ, List, [], ◌∷◌, length, map, Bool, true, false}
+use Rattle.std.specs.Prelude.{Option, Some, None}
+use Rattle.px_bytes.specs.declared.addr.Side.{Side}
 use Rattle.px_bytes.specs.declared.fault.Reply.{Reply}
-use Rattle.connection_model.specs.declared.edges.Edge.{Edge}
-use Rattle.connection_model.specs.declared.edges.EdgeState.TheVariants.{Absent}
+use Rattle.connection_model.specs.declared.edges.Edges.{Edges}
 use Rattle.connection_model.specs.declared.note.Cause.TheVariants.{Memory}
 use Rattle.connection_model.specs.declared.note.Note.{Note}
 use Rattle.connection_model.specs.declared.note.Note.TheVariants.{Finish, History}
-use Rattle.connection_model.specs.Edges.{edge}
-use Rattle.connection_model.specs.Further.{longer}
-use Rattle.connection_model.specs.Heard.{Input, Bytes, Ends, Takes, brings_in, edges_met, Resets}
+use Rattle.connection_model.specs.Edges.{edges_noted, is_connecting}
+use Rattle.connection_model.specs.Further.{Further, longer, nothing_further}
+use Rattle.connection_model.specs.Heard.{Input, Bytes, Ends, Resets, Connects, Takes, as_answer}
+use Rattle.connection_model.specs.Heard.{brings_in}
 use Rattle.connection_model.specs.Phases.{Orderly}
 use Rattle.connection_model.specs.Queries.{unread_limit}
 use Rattle.connection_model.specs.Setup as model
 use Rattle.connection_model.specs.State.{TraceState}
-use Rattle.conn.specs.Calls.{Replies, Settles, over_in, took_more, unless_finished, wanted_in}
-use Rattle.conn.specs.Calls.{reset_in}
+use Rattle.conn.specs.Calls.{Replies, answered_in, connected_ends, ended_ends, heard_ends, reset_ends}
+use Rattle.conn.specs.Calls.{reset_in, took_ends, took_more, unless_finished, wanted_in}
+use Rattle.conn.specs.Ends.{queued_in}
 use Rattle.conn.specs.Holds.{Around, Holds}
+use Rattle.conn.specs.Queues.{queue_in}
 use Rattle.conn.specs.Runs.{Runs}
-use Rattle.conn.specs.RunsItems.{closing, closing_if}
+use Rattle.conn.specs.Settling.{Settles, SettlesNotes, closing, noted_in, over_in, settle_notes}
 use Rattle.conn.specs.Stages.{has_finished, is_asking}
 use Rattle.conn.specs.declared.connection.Conn.{Conn}
+use Rattle.conn.specs.declared.ends.Ends.{Ends as BothEnds}
 use Rattle.conn.specs.declared.setup.Setup.{Setup}
 use Rattle.conn.specs.declared.stage.Stage.TheVariants.{OutOfMemory}
 use Rattle.conn.specs.declared.turn.ConnTurn.{ConnTurn}
@@ -30,27 +32,32 @@ use Rattle.conn.specs.declared.turn.ConnTurn.TheVariants as turn
 use Rattle.shared_store.specs.Calls.{reply}
 use Rattle.shared_store.specs.Store.{StoreState, at_moment}
 use Rattle.proxy_core.specs.declared.call.Asked.{Asked}
-use Rattle.proxy_core.specs.declared.input.ClientInput.{ClientInput}
-use Rattle.proxy_core.specs.declared.input.ClientInput.TheVariants as input
+use Rattle.proxy_core.specs.declared.input.Incoming.{Incoming}
+use Rattle.proxy_core.specs.declared.input.Incoming.TheVariants as input
 use Rattle.proxy_core.specs.declared.live.Live.{Live}
 
--- the bytes that its client hasn't taken, also behind a reset
-abbrev pub queue_of : Conn → List ℕ
-queue_of conn = conn.host.to_client
-
+-- the bytes that its sides haven't taken, also behind a reset
 abbrev pub left_in : Option Conn → ℕ
 left_in None = 0
-left_in (Some conn) = length (queue_of conn)
+left_in (Some conn) = queued_in conn.ends
 
--- how many bytes its client is to take
-abbrev pub pending_in : Option Conn → ℕ
-pending_in None = 0
-pending_in (Some conn) = length (queue_in conn)
+-- how many bytes a side is to take
+abbrev pub pending_in : Side → Option Conn → ℕ
+pending_in side None = 0
+pending_in side (Some conn) = length (queue_in side conn)
 
--- how many bytes of its client may come; where no memory was found for it, all of them are dropped
-abbrev pub wanted_of : Option Conn → ℕ
-wanted_of None = unread_limit
-wanted_of (Some conn) = wanted_in conn
+-- how many bytes of a side may come; where no memory was found for it, all of them are dropped
+abbrev pub wanted_of : Side → Option Conn → ℕ
+wanted_of side None = unread_limit
+wanted_of side (Some conn) = wanted_in side conn
+
+-- where its ends stand
+abbrev pub edges_by_conn : Option Conn → Edges → Edges
+edges_by_conn None edges = edges
+edges_by_conn (Some conn) edges = conn.ends.edges
+
+abbrev pub edges_in : Live → Edges
+edges_in l = edges_by_conn l.conn l.edges
 
 -- whether it waits for the reply to a shared call
 abbrev pub asks_in : Option Conn → Bool
@@ -62,98 +69,117 @@ pub record KeepsPlace (old new : Live) : Type 0 where
   pub number : new.number ≡ old.number
   pub vs : new.vs ≡ old.vs
 
--- and its client's end stands where it stood
+-- and its ends stand where they stood
 pub record SamePlace (old new : Live) : Type 0 where
   pub number : new.number ≡ old.number
   pub vs : new.vs ≡ old.vs
-  pub client : new.client ≡ old.client
+  pub edges : edges_in new ≡ edges_in old
 
--- what may come of a client
-abbrev pub input_of : ClientInput → Input
-input_of (input.Bytes bytes) = Bytes Client bytes.now
-input_of input.End = Ends Client
-input_of input.Reset = Resets Client
-input_of (input.Took n) = Takes Client n
+-- what may come of a connection
+abbrev pub input_of : Incoming → Input
+input_of (input.Bytes side bytes) = Bytes side bytes.now
+input_of (input.End side) = Ends side
+input_of (input.Reset side) = Resets side
+input_of (input.Took side n) = Takes side n
+input_of (input.Connected made) = Connects made
 
--- how many bytes more its client took by it
-abbrev pub taken_more : Input → ℕ
-taken_more (Takes Client n) = n
-taken_more other = 0
+-- no more is taken than is pending, and an answer comes where a server was asked for
+abbrev pub ConnMay : Input → Conn → Type 0
+ConnMay (Takes side n) conn = n ≤ length (queue_in side conn)
+ConnMay (Connects made) conn = is_connecting conn.ends.edges.server.state ≡ true
+ConnMay other conn = Unit {0}
 
--- what it makes of what was told from outside, and whether its client was reset then
-abbrev pub met_by : Input → Around → Around
-met_by (Resets Client) a = reset_in a
-met_by other a = took_more (taken_more other) a
+abbrev pub MayCome : Input → Live → Type 0
+MayCome (Takes side n) l = n ≤ pending_in side l.conn
+MayCome (Connects made) l = is_connecting (edges_in l).server.state ≡ true
+MayCome other l = Unit {0}
 
-abbrev pub reset_met : Input → Bool → Bool
-reset_met (Resets Client) b = true
-reset_met other b = b
+-- what it makes of what was told from outside
+abbrev pub met_by : Input → (finished : Bool) → Around → Around
+met_by (Resets side) finished a = reset_in side a
+met_by (Takes side n) finished a = took_more side n a
+met_by (Connects made) finished a = answered_in finished made a
+met_by other finished a = a
 
--- where it puts the client's end
-abbrev pub client_met : Input → Edge → Edge
-client_met input e = (edges_met input (record { client = e; server = edge Absent })).client
+-- what it adds to what the trace reads
+abbrev pub further_in : Input → Further
+further_in input = record nothing_further {
+  client = (brings_in input).client;
+  server = (brings_in input).server;
+  connects = map as_answer (brings_in input).connects;
+}
 
--- For each state that its trace may stand at it stands for the one with this input; its queue is what
--- is left.
+-- what it makes of the ends
+abbrev pub ends_met : Input → (finished : Bool) → BothEnds → BothEnds
+ends_met (Bytes side bytes) finished e =
+    heard_ends finished side (record { bytes = bytes; ended = false }) e
+ends_met (Ends side) finished e = ended_ends finished side e
+ends_met (Resets side) finished e = reset_ends side e
+ends_met (Takes side n) finished e = took_ends side n e
+ends_met (Connects made) finished e = connected_ends finished made e
+
+-- For each state that its trace may stand at it stands for the one with this input; nothing but its
+-- ends changes.
 pub record ConnHears (input : Input) (old new : Conn) : Type 0 where
   pub hears : (g : model.Setup) (a : Around) (l : TraceState) → Holds g a l old → Orderly l
-      → Holds g (met_by input a)
-      (longer (unless_finished l.finished (brings_in input).client) l) new
-  pub queue : queue_of new ≡ drop (taken_more input) (queue_of old)
-  pub reset : new.client.reset ≡ reset_met input old.client.reset
-  pub stage : new.stage ≡ old.stage
+      → Holds g (met_by input l.finished a)
+      (longer (unless_finished l.finished (further_in input)) l) new
+  pub is : new ≡ record old { ends = ends_met input (has_finished old.stage) old.ends }
 
 -- its bytes are kept, which may find no memory
 abbrev pub takes_memory : Input → Bool
 takes_memory (Bytes side bytes) = true
 takes_memory other = false
 
--- whether it is over then
-pub record ConnComes (input : Input) (old new : Conn) (over : Bool) : Type 0 where
-  pub comes : ConnHears input old new
-  pub settles : Settles new over
-  pub told : over ≡ over_in new
+-- it heard this, and then told what is due; whether it is over then
+pub record ConnComes (input : Input) (number : ℕ) (old new : Conn) (group : List Note) (over : Bool)
+    : Type 0 where
+  pub mid : Conn
+  pub hears : ConnHears input old mid
+  pub settles : Settles mid over
+  pub told : SettlesNotes number mid
+  pub over_is : over ≡ over_in mid
+  pub notes : group ≡ settle_notes number mid
+  pub is : new ≡ noted_in (settle_notes number mid) mid
 
 -- bytes found no memory: it goes on in nothing
-pub record ConnLacks (old new : Conn) (over : Bool) : Type 0 where
+pub record ConnLacks (input : Input) (number : ℕ) (old new : Conn) (group : List Note) (over : Bool)
+    : Type 0 where
+  pub memory : takes_memory input ≡ true
+  pub notes : group ≡ Finish number Memory ∷ []
   pub not_over : over ≡ false
   pub goes_on : has_finished old.stage ≡ false
   pub there : new.stage ≡ OutOfMemory
-  pub queue : queue_of new ≡ queue_of old
-  pub reset : new.client.reset ≡ old.client.reset
+  pub ends : new.ends ≡ old.ends
 
--- by whether memory was found, and whether it is over then
+-- one for which no memory was found hears nothing
 abbrev pub LiveComes :
-    Input → Option Conn → Option Conn → (lacks over : Bool) → Type 0
-LiveComes input None None false over = over ≡ false
-LiveComes input (Some old) (Some new) false over = ConnComes input old new over
-LiveComes input (Some old) (Some new) true over = (takes_memory input ≡ true) × ConnLacks old new over
-LiveComes input old new lacks over = ⊥
-
--- the notes of it
-abbrev pub comes_notes : (lacks over : Bool) → ℕ → (dropped : ℕ) → List Note
-comes_notes true over c dropped = Finish c Memory ∷ []
-comes_notes false over c dropped = closing_if over c dropped
+    Input → ℕ → Option Conn → Option Conn → List Note → (over : Bool) → Type 0
+LiveComes input number None None group over = (group ≡ []) × (over ≡ false)
+LiveComes input number (Some old) (Some new) group over =
+    ConnComes input number old new group over ⊎ ConnLacks input number old new group over
+LiveComes input number old new group over = ⊥
 
 -- A connection for which no memory was found ends with its Run, and what is queued on it is dropped.
--- Another one gives the items of its trace from wherever that stands.
+-- Another one gives the items of its trace from wherever that stands. What is told of its ends is in its
+-- notes.
 pub record ConnRuns (s : Setup) (number : ℕ) (old new : Conn) (group : List Note) (t : ConnTurn)
     : Type 0 where
   pub runs : Runs s number old new group t
+  pub edges : new.ends.edges ≡ edges_noted group old.ends.edges
   pub failed : old.stage ≡ OutOfMemory
-      → (group ≡ closing number (length (queue_of old))) × (t ≡ turn.Over)
+      → (group ≡ closing number old.ends.edges (queued_in old.ends)) × (t ≡ turn.Over)
 
 abbrev pub LiveRuns :
-    Setup → ℕ → Option Conn → Option Conn → List Note → ConnTurn → Type 0
-LiveRuns s number None new group t = (group ≡ closing number 0) × (t ≡ turn.Over)
-LiveRuns s number (Some old) None group t = ⊥
-LiveRuns s number (Some old) (Some new) group t = ConnRuns s number old new group t
+    Setup → ℕ → Edges → Option Conn → Option Conn → List Note → ConnTurn → Type 0
+LiveRuns s number edges None new group t = (group ≡ closing number edges 0) × (t ≡ turn.Over)
+LiveRuns s number edges (Some old) None group t = ⊥
+LiveRuns s number edges (Some old) (Some new) group t = ConnRuns s number old new group t
 
 -- the reply came to its call: it goes on
 pub record ConnReplies (r : Reply) (old new : Conn) : Type 0 where
   pub replies : Replies r old new
-  pub queue : queue_of new ≡ queue_of old
-  pub reset : new.client.reset ≡ old.client.reset
+  pub ends : new.ends ≡ old.ends
   pub awake : is_asking new.stage ≡ false
 
 abbrev pub LiveReplies : Reply → Option Conn → Option Conn → Type 0
@@ -164,8 +190,7 @@ LiveReplies r old new = ⊥
 -- memory was refused for it: it goes on in nothing
 pub record ConnFails (old new : Conn) : Type 0 where
   pub there : new.stage ≡ OutOfMemory
-  pub queue : queue_of new ≡ queue_of old
-  pub reset : new.client.reset ≡ old.client.reset
+  pub ends : new.ends ≡ old.ends
 
 abbrev pub LiveFails : Option Conn → Option Conn → Type 0
 LiveFails None None = Unit {0}

@@ -3,16 +3,17 @@ use Rattle.std.specs.Prelude.{◌≡◌, ◌⊎◌, ℕ, List, [], ◌∷◌, �
 use Rattle.std.specs.Prelude.{if◌then◌else◌}
 use Rattle.std.specs.Bool.{MatchBool}
 use Rattle.px_bytes.specs.declared.fault.Reply.{Reply}
-use Rattle.px_bytes.specs.declared.addr.Side.TheVariants.{Client}
 use Rattle.connection_model.specs.declared.note.Cause.TheVariants.{Memory}
 use Rattle.connection_model.specs.declared.note.Note.{Note}
 use Rattle.connection_model.specs.declared.note.Note.TheVariants.{Finish}
-use Rattle.connection_model.specs.Heard.{Input, Bytes, Ends, Resets, Connects, Takes, EventKind}
+use Rattle.connection_model.specs.Heard.{Input, EventKind}
 use Rattle.connection_model.specs.Heard.{Accepts, Comes, Ticks, Turns, Runs, Marks, Heard, taken}
-use Rattle.connection_model.specs.Heard.{hears}
+use Rattle.connection_model.specs.Heard.{edges_met, hears}
+use Rattle.connection_model.specs.declared.edges.Edges.{Edges}
 use Rattle.connection_model.specs.Item.{Item, calls_in}
 use Rattle.connection_model.specs.State.{TraceState}
-use Rattle.conn.specs.RunsItems.{closing, is_drained, closing_if, Passes, RunsItems}
+use Rattle.conn.specs.RunsItems.{Passes, RunsItems}
+use Rattle.conn.specs.Settling.{closing, is_drained, settling_at}
 use Rattle.conn.specs.RunsItems.{out_of_memory}
 use Rattle.conn.specs.declared.turn.ConnTurn.{ConnTurn}
 use Rattle.shared_store.specs.Calls.{reply}
@@ -54,10 +55,11 @@ abbrev pub lacked : ℕ → State → State
 lacked c old =
     record old { ring = with_ready old.ring c; queue = without_calls c old.queue }
 
--- something came of a connection
-pub record MovesOn (C : Config) (now : Heard) (c : ℕ) (group : List Note)
+-- Something came of a connection, which put its ends there. What is due of it is told.
+pub record MovesOn (C : Config) (now : Heard) (c : ℕ) (ends : Edges) (group : List Note)
     (old new : State) : Type 0 where
-  pub notes : group ≡ closing_if (is_drained_at C now (old.places c)) c
+  pub notes : group
+      ≡ settling_at (setup_of C now) (taken now) (stand_of C now (old.places c)) c ends
       (untaken_all now (old.places c))
   pub state : new ≡ came c (is_drained_at C now (old.places c)) old
 
@@ -77,15 +79,7 @@ abbrev pub MovesCome :
     Config → Input → (before now : Heard) → ℕ → List Note → State → State → Type 0
 MovesCome C input before now c group old new =
     MatchBool before.failed (MovesFailed c group old new)
-    (MovesOn C now c group old new ⊎ MovesLacks input c group old new)
-
--- what may come of a connection: nothing of a server yet
-abbrev pub may_come : Input → Bool
-may_come (Bytes Client bytes) = true
-may_come (Ends Client) = true
-may_come (Resets Client) = true
-may_come (Takes Client n) = true
-may_come other = false
+    (MovesOn C now c (edges_met input before.edges) group old new ⊎ MovesLacks input c group old new)
 
 -- the front passed items
 abbrev pub ran : ℕ → List ℕ → List Asked → List Item → State → State
@@ -104,7 +98,7 @@ pub record RunsOn (C : Config) (h : Heard) (c : ℕ) (rest : List ℕ) (group : 
   pub at : TraceState
   pub turn : ConnTurn
   pub items :
-      RunsItems (setup_of C h) (taken h) (stand_of C h (old.places c)) c more at group turn
+      RunsItems (setup_of C h) (taken h) h.edges (stand_of C h (old.places c)) c more at group turn
       (untaken_all h (old.places c ++ more))
   pub state : new ≡ ran c (ring_behind turn c rest) (queue_behind turn c old.queue) more old
 
@@ -115,13 +109,13 @@ pub record RunsOut (C : Config) (h : Heard) (c : ℕ) (rest : List ℕ) (group :
   pub at : TraceState
   pub passes : Passes (setup_of C h) (taken h) (stand_of C h (old.places c)) more at
   pub no_call : calls_in more ≡ []
-  pub notes : group ≡ out_of_memory c more (untaken_all h (old.places c ++ more))
+  pub notes : group ≡ out_of_memory c h.edges more (untaken_all h (old.places c ++ more))
   pub state : new ≡ ran c rest old.queue more old
 
 -- one that found no memory before ends
 pub record RunsFailed (h : Heard) (c : ℕ) (rest : List ℕ) (group : List Note)
     (old new : State) : Type 0 where
-  pub notes : group ≡ closing c (untaken_all h (old.places c))
+  pub notes : group ≡ closing c h.edges (untaken_all h (old.places c))
   pub state : new ≡ record old { ring = rest }
 
 abbrev pub MovesFront : Config → Heard → ℕ → List ℕ → List Note → State → State → Type 0
@@ -157,8 +151,7 @@ MovesQueue store moment (a ∷ rest) group old new = MovesTurn store moment a re
 abbrev pub MovesBy : Config → Past → EventKind → List Note → State → State → Type 0
 MovesBy C past (Accepts c vs from) group old new = MovesAccept c group old new
 MovesBy C past (Comes c input) group old new =
-    MatchBool (may_come input)
-    (MovesCome C input (heard c past) (hears c (heard c past) (Comes c input) group) c group old new) ⊥
+    MovesCome C input (heard c past) (hears c (heard c past) (Comes c input) group) c group old new
 MovesBy C past (Ticks moment) group old new = Rests group old new
 MovesBy C past Turns group old new =
     MovesQueue (store_of C past) (shared past).moment old.queue group old new

@@ -5,8 +5,7 @@ use Rattle.std.specs.Prelude.{is_none, nat_le, nat_lt, not, ◌||◌, option_map
 use Rattle.px_bytes.specs.declared.addr.Side.{Side}
 use Rattle.px_bytes.specs.declared.addr.Side.TheVariants.{Client, Server}
 use Rattle.connection_model.specs.declared.edges.Edges.{Edges}
-use Rattle.connection_model.specs.declared.edges.EdgeState.TheVariants.{Absent}
-use Rattle.connection_model.specs.Edges.{edge, edge_of, is_connecting, is_open, may_send}
+use Rattle.connection_model.specs.Edges.{edge_of, is_connecting, is_open, may_send}
 use Rattle.connection_model.specs.Edges.{may_take}
 use Rattle.connection_model.specs.Heard.{Input, Bytes, Ends, Resets, Connects, Takes, EventKind}
 use Rattle.connection_model.specs.Heard.{Accepts, Comes, Ticks, Marks}
@@ -15,7 +14,7 @@ use Rattle.connection_model.specs.Queries.{unread_limit}
 use Rattle.shared_store.specs.Store.{StoreState, pool_of}
 use Rattle.shared_store.specs.Store as store
 use Rattle.proxy_core.specs.History.{store_of}
-use Rattle.proxy_core.specs.Live.{pending_in, wanted_of}
+use Rattle.proxy_core.specs.Live.{edges_in, pending_in, wanted_of}
 use Rattle.proxy_core.specs.Past.{Past, kind_of, shared}
 use Rattle.proxy_core.specs.Refusals.{virtual_place, live_at}
 use Rattle.proxy_core.specs.Scheduler.{State, Seen, seen, untaken_of}
@@ -202,23 +201,21 @@ refusal_by C k v = first_of (refusal_rows C k v)
 abbrev pub refused : Config → Past → State → EventKind → Option BadEvent
 refused C past s v = refusal_by C (known C past s v) v
 
--- what a core knows of the same; there is no server connection yet
-abbrev pub edges_in : Live → Edges
-edges_in l = record { client = l.client; server = edge Absent }
-
+-- what a core knows of the same
 abbrev pub core_standing : Option Live → Option Standing
 core_standing o = option_map (λ l. record {
   edges = edges_in l;
-  from_client = wanted_of l.conn;
-  from_server = unread_limit;
-  to_client = pending_in l.conn;
-  to_server = 0;
+  from_client = wanted_of Client l.conn;
+  from_server = wanted_of Server l.conn;
+  to_client = pending_in Client l.conn;
+  to_server = pending_in Server l.conn;
 }) o
 
--- why what comes of the client of a live connection is refused
-abbrev pub client_refusal : Live → Input → Option BadEvent
-client_refusal l input =
+-- why what comes of a live connection is refused
+abbrev pub input_refusal : Live → Input → Option BadEvent
+input_refusal l input =
     if is_late (edges_in l) input then Some AfterEnd
+    else if answers_nothing (edges_in l) input then Some NotConnecting
     else if comes_too_much (core_standing (Some l)) input then Some TooMuch
     else if takes_too_much (core_standing (Some l)) input then Some TookTooMuch else None
 

@@ -1,20 +1,20 @@
 -- What a core stands for: a configuration, a past and a state of the scheduler.
-use Rattle.std.specs.Prelude.{◌≡◌, ◌⊎◌, ℕ, [], true, false, Option, Some, None, drop}
+use Rattle.std.specs.Prelude.{◌≡◌, ◌⊎◌, ℕ, List, [], true, false, Option, Some, None, drop}
 use Rattle.connection_model.specs.Heard.{Heard, taken}
-use Rattle.connection_model.specs.Item.{client_output}
-use Rattle.conn.specs.Holds.{Around, Holds}
+use Rattle.connection_model.specs.Item.{Item, client_output, server_output}
+use Rattle.conn.specs.Holds.{Around, Holds, HoldsEnds}
 use Rattle.conn.specs.declared.connection.Conn.{Conn}
+use Rattle.conn.specs.declared.ends.Ends.{Ends}
 use Rattle.conn.specs.declared.stage.Stage.TheVariants.{OutOfMemory}
 use Rattle.proxy_core.specs.Bodies.{all_places}
 use Rattle.shared_store.specs.Store.{StoreState}
 use Rattle.proxy_core.specs.Calls.{is_any}
 use Rattle.proxy_core.specs.History.{store_of}
-use Rattle.proxy_core.specs.Live.{asks_in, queue_of}
+use Rattle.proxy_core.specs.Live.{asks_in, edges_in}
 use Rattle.proxy_core.specs.Past.{Past, Shared, shared}
 use Rattle.proxy_core.specs.Ready.{numbers}
-use Rattle.proxy_core.specs.Refusal.{edges_in}
 use Rattle.proxy_core.specs.Refusals.{live_at}
-use Rattle.proxy_core.specs.Scheduler.{State, Seen, seen}
+use Rattle.proxy_core.specs.Scheduler.{State, Seen, last_took, seen}
 use Rattle.proxy_core.specs.Serving.{Serves}
 use Rattle.proxy_core.specs.Setup.{statics_of, setup_of, stand_of}
 use Rattle.proxy_core.specs.Sound.{Sound}
@@ -24,23 +24,31 @@ use Rattle.proxy_core.specs.declared.live.Live.{Live}
 
 -- what was told of it from outside
 abbrev pub around : Heard → Around
-around h = record { took = taken h; counted = h.client.took }
+around h = record {
+  took = taken h;
+  counted = h.client.took;
+  counted_server = last_took h.connects;
+}
 
--- The connection goes on with its trace from where it stands: what waits for its client is what was
--- sent and not taken.
+-- what waits for its sides is what was sent to them and not taken
+pub record HoldsQueues (h : Heard) (place : List Item) (e : Ends) : Type 0 where
+  pub client : e.client.queued ≡ drop h.client.took (client_output place)
+  pub server : e.server.queued ≡ drop (last_took h.connects) (server_output 1 place)
+
+-- the connection goes on with its trace from where it stands
 pub record Continues (C : Config) (z : Seen) (conn : Conn) : Type 0 where
   pub not_failed : z.heard.failed ≡ false
   pub holds : Holds (setup_of C z.heard) (around z.heard) (stand_of C z.heard z.place) conn
-  pub queue : queue_of conn ≡ drop z.heard.client.took (client_output z.place)
+  pub queues : HoldsQueues z.heard z.place conn.ends
 
--- It found no memory for bytes that came: nothing of it runs any more, and its queue is kept until its
--- Run.
-pub record Lacks (z : Seen) (conn : Conn) : Type 0 where
+-- It found no memory for bytes that came, or for a reply: nothing of it runs any more, and its queues
+-- are kept until its Run.
+pub record Lacks (C : Config) (z : Seen) (conn : Conn) : Type 0 where
   pub failed : z.heard.failed ≡ true
   pub finished : z.heard.finished ≡ true
   pub there : conn.stage ≡ OutOfMemory
-  pub reset : conn.client.reset ≡ z.heard.client.reset
-  pub queue : queue_of conn ≡ drop z.heard.client.took (client_output z.place)
+  pub ends : HoldsEnds (around z.heard) (stand_of C z.heard z.place) conn.ends
+  pub queues : HoldsQueues z.heard z.place conn.ends
 
 -- no memory was found for it when it was accepted
 pub record NeverBegan (z : Seen) : Type 0 where
@@ -50,7 +58,7 @@ pub record NeverBegan (z : Seen) : Type 0 where
 
 abbrev pub ConnectionContinues : Config → Seen → Option Conn → Type 0
 ConnectionContinues C z None = NeverBegan z
-ConnectionContinues C z (Some conn) = Continues C z conn ⊎ Lacks z conn
+ConnectionContinues C z (Some conn) = Continues C z conn ⊎ Lacks C z conn
 
 -- a live connection goes on, its rules are those of its virtual server, its ends stand where what was
 -- heard put them, and it waits for a reply where a call of it waits

@@ -1,12 +1,11 @@
 -- Where the scheduler stands: which connections are ready to run, which shared calls wait, and how far
 -- each connection came in its trace; and all of it that concerns one connection.
-use Rattle.std.specs.Prelude.{ℕ, ◌+◌, ◌-◌, length, List, [], Bool, nat_eq, if◌then◌else◌}
+use Rattle.std.specs.Prelude.{ℕ, ◌+◌, ◌-◌, length, List, [], ◌∷◌, Bool, Option, Some, None, nat_eq, if◌then◌else◌}
 use Rattle.std.specs.List.{filter}
 use Rattle.px_bytes.specs.declared.addr.Side.{Side}
-use Rattle.px_bytes.specs.declared.addr.Side.TheVariants.{Client, Server}
 use Rattle.connection_model.specs.declared.note.Note.{Note}
 use Rattle.connection_model.specs.Gates.{no_bytes, sent_from, to_take}
-use Rattle.connection_model.specs.Heard.{EventKind, Heard, taken, hears}
+use Rattle.connection_model.specs.Heard.{EventKind, SideHeard, Heard, has_made, taken, hears}
 use Rattle.connection_model.specs.Item.{Item, client_output}
 use Rattle.proxy_core.specs.Calls.{calls_of}
 use Rattle.proxy_core.specs.Past.{Past, heard, shared, shared_after}
@@ -61,11 +60,18 @@ seen_after past v group s c =
 abbrev pub untaken_of : Heard → List Item → Side → ℕ
 untaken_of h place side = to_take (sent_from no_bytes place) (taken h) side
 
--- what a client was told to have taken is missing of what was sent, also behind its reset; and what a
--- server is to take
+-- what the last server connection was told to have taken
+abbrev pub last_took : List (Option SideHeard) → ℕ
+last_took [] = 0
+last_took (None ∷ more) = last_took more
+last_took (Some s ∷ more) = if has_made more then last_took more else s.took
+
+-- what a side was told to have taken is missing of what was sent to it, also behind its reset; to the
+-- server's, of its present connection
 abbrev pub untaken_all : Heard → List Item → ℕ
 untaken_all h place =
-    (length (client_output place) - h.client.took) + untaken_of h place Server
+    (length (client_output place) - h.client.took)
+    + ((sent_from no_bytes place).server - last_took h.connects)
 
 -- the bytes that are pending to a side of connection c
 abbrev pub pending : Past → State → ℕ → Side → ℕ

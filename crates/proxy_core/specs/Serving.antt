@@ -5,13 +5,14 @@ use Rattle.event_order.specs.declared.event.EventName.{EventName}
 use Rattle.connection_model.specs.Setup.{Setup}
 use Rattle.conn.specs.declared.setup.Place.{Place}
 use Rattle.conn.specs.declared.setup.Setup as code
-use Rattle.proxy_core.specs.Setup.{port_of, handlers_in}
+use Rattle.proxy_core.specs.Setup.{handlers_in, name_at, pool_at, port_of}
 use Rattle.proxy_core.specs.declared.config.Config.{Config}
 
 -- it is the setup of a trace, of the virtual server at a place
 pub record Serves (C : Config) (level : Level) (vs : ℕ) (g : Setup) : Type 0 where
+  pub name : g.name ≡ name_at C vs
   pub port : g.port ≡ port_of C vs
-  pub pool : g.pool ≡ []
+  pub pool : g.pool ≡ pool_at C vs
   pub http : g.http ≡ false
   pub budget : g.budget ≡ C.budget
   pub statics : g.statics ≡ level
@@ -21,7 +22,9 @@ pub record Serves (C : Config) (level : Level) (vs : ℕ) (g : Setup) : Type 0 w
 -- it is what the code's connections of that virtual server run on, where the bodies of all stand there
 pub record IsSetup (C : Config) (level : Level) (all : List (List (List Place))) (vs : ℕ)
     (s : code.Setup) : Type 0 where
+  pub name : s.name.now ≡ name_at C vs
   pub port : s.port ≡ port_of C vs
+  pub pool : s.pool.now ≡ pool_at C vs
   pub budget : s.budget ≡ C.budget
   pub statics : s.statics.now.statics ≡ level
   pub groups : s.groups.now ≡ C.groups

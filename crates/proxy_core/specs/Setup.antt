@@ -23,6 +23,22 @@ abbrev pub numbers_in : Option Virtual → List ℕ
 numbers_in None = []
 numbers_in (Some v) = v.rules
 
+-- its name
+abbrev pub name_in : Option Virtual → List ℕ
+name_in None = []
+name_in (Some v) = v.name
+
+abbrev pub name_at : Config → ℕ → List ℕ
+name_at C place = name_in (slice_get C.virtuals place)
+
+-- its default pool, empty where it has none
+abbrev pub pool_in : Option Virtual → List ℕ
+pool_in None = []
+pool_in (Some v) = v.pool
+
+abbrev pub pool_at : Config → ℕ → List ℕ
+pool_at C place = pool_in (slice_get C.virtuals place)
+
 -- its port
 abbrev pub port_in : Option Virtual → ℕ
 port_in None = 0
@@ -48,12 +64,12 @@ abbrev pub init_notes : Config → List Note
 init_notes C = map (λ line. Log 0 line) (init C).lines
 
 -- the setup of a connection that the virtual server of this name accepts from an address; those of
--- today have no pool and no HTTP
+-- today have no HTTP
 abbrev pub setup_for : Config → List ℕ → Addr → Setup
 setup_for C name from = record {
   name = name;
   port = port_in (virtual_named C name);
-  pool = [];
+  pool = pool_in (virtual_named C name);
   http = false;
   from = from;
   budget = C.budget;

@@ -1,23 +1,31 @@
 -- What holds of the states that a past leads to, without a word of the core.
-use Rattle.std.specs.Prelude.{◌≡◌, ℕ, ◌<◌, ◌≤◌, List, [], ◌∷◌, ◌++◌, length, Bool, true, false}
-use Rattle.std.specs.Prelude.{None, is_none, is_some, nat_eq, not}
+use Rattle.std.specs.Prelude.{◌≡◌, ℕ, ◌<◌, ◌≤◌, List, [], ◌∷◌, ◌++◌, length, map, Bool, true, false}
+use Rattle.std.specs.Prelude.{Some, is_some, nat_eq}
 use Rattle.std.specs.Bool.{MatchBool}
-use Rattle.std.specs.List.{IsDistinct, filter}
-use Rattle.connection_model.specs.declared.note.Cause.TheVariants.{Memory}
+use Rattle.std.specs.List.{IsDistinct, filter, list_any}
+use Rattle.px_bytes.specs.declared.addr.Side.{Side}
+use Rattle.px_bytes.specs.declared.addr.Side.TheVariants.{Client, Server}
 use Rattle.connection_model.specs.declared.note.Note.{Note}
-use Rattle.connection_model.specs.declared.note.Note.TheVariants.{Finish}
 use Rattle.connection_model.specs.declared.note.Note.TheVariants as note
 use Rattle.connection_model.specs.Gates.{TakenCounts, no_bytes, Met}
 use Rattle.connection_model.specs.Heard.{Heard, nothing_heard, taken, start_of}
-use Rattle.connection_model.specs.Item.{Item, calls_in, client_output, notes_of}
+use Rattle.connection_model.specs.declared.edges.Edges.{Edges}
+use Rattle.connection_model.specs.declared.edges.EdgeState.{EdgeState}
+use Rattle.connection_model.specs.declared.edges.EdgeState.TheVariants as state
+use Rattle.connection_model.specs.Item.{Item, calls_in, cause_of, client_output, notes_of}
+use Rattle.connection_model.specs.Item.{reasons_in, server_output}
 use Rattle.connection_model.specs.Setup.{Setup}
-use Rattle.connection_model.specs.State.{ForReply, TraceState, Waits}
+use Rattle.connection_model.specs.Edges.{edge_of}
+use Rattle.connection_model.specs.State.{Cut, ForReply, Over, TraceState, Waits}
 use Rattle.connection_model.specs.Trace.{next_item, Unfolds, GivesNoMore}
-use Rattle.conn.specs.RunsItems.{closing, is_drained}
+use Rattle.conn.specs.RunsItems.{is_cut}
+use Rattle.conn.specs.Settling.{is_drained, is_there, resting}
 use Rattle.proxy_core.specs.History.{called_in}
 use Rattle.proxy_core.specs.Moves.{Leads}
 use Rattle.proxy_core.specs.Past.{Past, heard, shared}
-use Rattle.proxy_core.specs.Scheduler.{State, Seen, seen, untaken_all}
+use Rattle.proxy_core.specs.Scheduler.{State, Seen, seen, untaken_all, untaken_of}
+use Rattle.proxy_core.specs.Shown.{shows, closes, ends_it, causes_told, causes_behind}
+use Rattle.proxy_core.specs.Servers.{Linked, licenses, took_of}
 use Rattle.proxy_core.specs.Setup.{setup_of, stand_of}
 use Rattle.proxy_core.specs.declared.config.Config.{Config}
 
@@ -25,48 +33,52 @@ use Rattle.proxy_core.specs.declared.config.Config.{Config}
 abbrev pub unseen : Seen
 unseen = record { heard = nothing_heard; live = false; ready = []; asked = []; place = [] }
 
--- nothing is heard yet of a server or of a cut
-pub record IsPlain (h : Heard) : Type 0 where
-  pub connects : h.connects ≡ []
-  pub cut : h.cut ≡ None
-
--- a note that is an entry of the history
-abbrev pub is_entry : Note → Bool
-is_entry (note.History c moment call r) = true
-is_entry other = false
-
--- the other notes
-abbrev pub besides : List Note → List Note
-besides notes = filter (λ n. not (is_entry n)) notes
-
--- the last notes are those that it is closed and over, with so many bytes dropped
-pub record EndsClosed (c dropped : ℕ) (notes : List Note) : Type 0 where
+-- it is over: its last note tells so, with so many bytes dropped, and both ends are closed
+pub record EndsClosed (c dropped : ℕ) (h : Heard) : Type 0 where
   pub before : List Note
-  pub notes_are : notes ≡ before ++ closing c dropped
+  pub notes_are : h.notes ≡ before ++ note.Ended c dropped ∷ []
+  pub once : list_any ends_it before ≡ false
+  pub client : is_there h.edges.client.state ≡ false
+  pub server : is_there h.edges.server.state ≡ false
 
--- The notes behind those of its trace, by whether it found no memory and whether it is live: none
--- while it goes on, its last notes once all was taken, and a Finish for want of memory, after which
--- so many bytes are dropped.
-abbrev pub last_notes : ℕ → (failed live : Bool) → (dropped : ℕ) → List Note
-last_notes c false true dropped = []
-last_notes c false false dropped = closing c dropped
-last_notes c true true dropped = Finish c Memory ∷ []
-last_notes c true false dropped = Finish c Memory ∷ closing c dropped
+abbrev pub is_closed : EdgeState → Bool
+is_closed state.Closed = true
+is_closed other = false
+
+-- What is told of its ends, by whether it is live: it isn't over while it is, and nothing of it is closed
+-- before it has finished; an end that is closed took all, unless it found no memory.
+pub record EndsTold (c : ℕ) (z : Seen) : Type 0 where
+  pub while_live : z.live ≡ true → list_any ends_it z.heard.notes ≡ false
+  pub over : z.live ≡ false → EndsClosed c (untaken_all z.heard z.place) z.heard
+  pub closed_has_finished : list_any closes z.heard.notes ≡ true → z.heard.finished ≡ true
+  pub client_took_all : z.heard.failed ≡ false → is_closed z.heard.edges.client.state ≡ true
+      → untaken_of z.heard z.place Client ≡ 0
+  pub server_took_all : z.heard.failed ≡ false → is_closed z.heard.edges.server.state ≡ true
+      → untaken_of z.heard z.place Server ≡ 0
+
+-- what its client and each server connection took is within what was sent to them
+pub record TookWithin (h : Heard) (place : List Item) : Type 0 where
+  pub client : h.client.took ≤ length (client_output place)
+  pub servers : (k : ℕ) → took_of h.connects k ≤ length (server_output k place)
+
+-- it rests: no more may be given, no cut is due, it isn't over, and nothing is due to be told
+pub record Rested (g : Setup) (took : TakenCounts) (at : TraceState) (e : Edges) : Type 0 where
+  pub gives_no_more : GivesNoMore false at.sent took (next_item g at)
+  pub no_cut : is_cut took at ≡ false
+  pub not_over : is_drained g took at ≡ false
+  pub told : (c dropped : ℕ) → resting g took at c e dropped ≡ []
 
 -- By whether it found no memory, whether it is live, its entries in the ready queue and its calls that
--- wait: it ended, its trace over and all of it taken, or its client reset; or it rests, wasn't reset and
--- isn't over; or it waits for the reply to its one call; or it is ready, once. One that found no memory is
--- ready until it ends.
+-- wait: it ended, its trace over and all of it taken, or its sides reset; or it rests; or it waits for the
+-- reply to its one call; or it is ready, once. One that found no memory is ready until it ends.
 abbrev pub Spot : (failed live : Bool) → (ready : List ℕ) → (asked : List (List (List ℕ)))
-    → Setup → TakenCounts → TraceState → Type 0
-Spot false false [] [] g took at = is_drained g took at ≡ true
-Spot false true [] [] g took at =
-    (is_drained g took at ≡ false)
-    × (GivesNoMore false at.sent took (next_item g at) × (is_none took.client ≡ false))
-Spot false true [] (call ∷ []) g took at = next_item g at ≡ Waits (ForReply call)
-Spot failed true (n ∷ []) [] g took at = Unit {0}
-Spot true false [] [] g took at = Unit {0}
-Spot failed live ready asked g took at = ⊥
+    → Setup → TakenCounts → TraceState → Edges → Type 0
+Spot false false [] [] g took at e = is_drained g took at ≡ true
+Spot false true [] [] g took at e = Rested g took at e
+Spot false true [] (call ∷ []) g took at e = next_item g at ≡ Waits (ForReply call)
+Spot failed true (n ∷ []) [] g took at e = Unit {0}
+Spot true false [] [] g took at e = Unit {0}
+Spot failed live ready asked g took at e = ⊥
 
 -- The calls of these items are those of its entries in the history, in their order, and then the one
 -- that has no entry, if there is one: it waits, or found no memory.
@@ -77,18 +89,23 @@ pub record CallsTold (failed : Bool) (asked : List (List (List ℕ))) (place : L
   pub few : length unanswered ≤ 1
   pub open_now : failed ≡ false → unanswered ≡ asked
 
--- a connection that was accepted, by the state where it stands
+-- A connection that was accepted, by the state where it stands. While nothing failed an end is closed
+-- where its trace is over alone; its server's end stands where the trace says; a cut was allowed.
 pub record ServedAt (g : Setup) (c : ℕ) (z : Seen) (at : TraceState) : Type 0 where
   pub stands : Unfolds g (start_of g z.heard) z.place at
   pub met : Met no_bytes (taken z.heard) z.place
-  pub within : z.heard.client.took ≤ length (client_output z.place)
-  pub noted : besides z.heard.notes ≡ notes_of c z.place
-      ++ last_notes c z.heard.failed z.live (untaken_all z.heard z.place)
-  pub closed : z.live ≡ false → EndsClosed c (untaken_all z.heard z.place) z.heard.notes
+  pub within : TookWithin z.heard z.place
+  pub shown : filter shows z.heard.notes ≡ notes_of c z.place
+  pub causes : causes_told z.heard.notes
+      ≡ map cause_of (reasons_in z.place) ++ causes_behind z.heard.failed
+  pub ends : EndsTold c z
+  pub closed_over : z.heard.failed ≡ false → (side : Side)
+      → is_closed (edge_of side z.heard.edges).state ≡ true
+      → (next_item g at ≡ Over) × (at.finished ≡ true)
+  pub linked : Linked z.heard.finished at z.heard.edges.server.state
+  pub licensed : (cut : Cut) → z.heard.cut ≡ Some cut → licenses z.heard cut.reason ≡ true
   pub told : CallsTold z.heard.failed z.asked z.place z.heard.notes
-  pub plain : IsPlain z.heard
-  pub no_server : at.sent.server ≡ 0
-  pub spot : Spot z.heard.failed z.live z.ready z.asked g (taken z.heard) at
+  pub spot : Spot z.heard.failed z.live z.ready z.asked g (taken z.heard) at z.heard.edges
 
 abbrev pub Served : Config → ℕ → Seen → Type 0
 Served C c z = ServedAt (setup_of C z.heard) c z (stand_of C z.heard z.place)

@@ -7,19 +7,21 @@ ghost use Rattle.connection_model.specs.Heard.{Accepts as Accepted};
 ghost use Rattle.proxy_core.specs.Refusal.{refusal_of};
 ghost use Rattle.proxy_core.specs.Refusals.{virtual_place};
 ghost use Rattle.connection_model.specs.declared.note.Note.{Note};
-ghost use Rattle.proxy_core.specs.Changes.{Accepts};
+ghost use Rattle.proxy_core.specs.Changes.{Accepts, Begun};
 
 use crate::config::{Config, Virtual};
 use crate::core_state::Core;
 use crate::event::BadEvent;
 use crate::live::Live;
 use crate::setup::setup_at;
-use conn::Conn;
-use connection_model::{Edge, EdgeState, Notes};
+use conn::{Conn, Setup};
+use connection_model::{Cause, Edges, Note, Notes};
 use px_bytes::Addr;
+use std::alloc::Global;
 
 impl Core {
-    /// Accepts a connection, which gets the number and goes to the back of the ring.
+    /// Accepts a connection, which gets the number and goes to the back of the ring. Where it finds no
+    /// memory it has finished with that cause.
     pub(crate) fn accept(
         &mut self,
         number: u32,
@@ -47,17 +49,42 @@ impl Core {
             return Err(BadEvent::Full);
         }
         let setup = setup_at(&self.config, &self.statics, &self.places, place);
-        let conn = Some(Conn::new(self.alloc, &setup, from));
+        let conn = begin(self.alloc, &setup, number, from, notes);
         self.last = number;
         let live = Live {
             number,
             vs: place,
             from,
-            client: Edge::new(EdgeState::Open),
             conn,
+            edges: Edges::accepted(),
         };
         self.live.push(number, live);
         Ok(())
+    }
+}
+
+// A connection that begins, for which there may be no memory.
+fn begin(
+    alloc: Global,
+    setup: &Setup<'_>,
+    number: u32,
+    from: Addr,
+    notes: &mut Notes,
+) -> Option<Conn>
+    requires { 1 ≤ notes.old.spare }
+    ensures begins { (group : List Note) × (notes.new.items ≡ notes.old.items ++ group)
+        × Begun setup.now number from result group }
+    ensures few_notes { length notes.new.items ≤ length notes.old.items + 1 }
+{
+    match Conn::new(alloc, setup, from) {
+        Ok(conn) => Some(conn),
+        Err(_) => {
+            notes.push_reserved(Note::Finish {
+                conn: number,
+                cause: Cause::Memory,
+            });
+            None
+        }
     }
 }
 

@@ -1,4 +1,4 @@
-// Something comes of a client.
+// Something comes of a connection.
 
 ghost use Rattle.std.specs.Prelude.{◌≡◌, ◌≤◌, ◌+◌, ◌++◌, Some, None, OnOk, OnErr, IfErr, List, length};
 ghost use Rattle.connection_model.specs.Heard.{Comes};
@@ -9,17 +9,17 @@ ghost use Rattle.proxy_core.specs.Refusal.{refusal_of};
 
 use crate::core_state::Core;
 use crate::event::BadEvent;
-use crate::input::ClientInput;
+use crate::input::Incoming;
 use crate::ring::{find, wake};
 use connection_model::Notes;
 
 impl Core {
-    /// This comes of the client of a connection, which ends, waits on for the reply to its call, or gets
+    /// This comes of a connection, which ends, waits on for the reply to its call, or gets
     /// ready. One that waited and finds no memory waits no more.
     pub(crate) fn comes(
         &mut self,
         number: u32,
-        input: ClientInput<'_>,
+        input: Incoming<'_>,
         notes: &mut Notes,
     ) -> Result<(), BadEvent>
         requires { 68 ≤ notes.old.spare }

@@ -10,6 +10,8 @@ use shared_store::Pools;
 pub struct Virtual {
     pub name: Text,
     pub listen: Addr,
+    /// The name of its default pool, empty where it has none.
+    pub pool: Text,
     pub rules: Seq<usize>,
 }
 

@@ -11,7 +11,6 @@ mod event;
 mod init;
 mod init_host;
 mod input;
-mod late;
 mod laws;
 mod live;
 mod mark;

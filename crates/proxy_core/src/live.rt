@@ -1,26 +1,26 @@
 // The place of a live connection.
 
-ghost use Rattle.std.specs.Prelude.{◌≡◌, ◌≤◌, ◌+◌, ◌-◌, ◌++◌, List, Bool, true, false, Some, length};
+ghost use Rattle.std.specs.Prelude.{◌≡◌, ◌≤◌, ◌+◌, ◌-◌, ◌++◌, ℕ, List, Bool, true, false, Some, length};
 ghost use Rattle.std.specs.Prelude.{OnOk, OnErr};
-ghost use Rattle.px_bytes.specs.declared.addr.Side.TheVariants.{Client};
 ghost use Rattle.connection_model.specs.declared.note.Note.{Note};
-ghost use Rattle.connection_model.specs.Heard.{Bytes, Ends, Resets, Takes};
-ghost use Rattle.conn.specs.Queues.{queue_in};
+ghost use Rattle.connection_model.specs.Edges.{edges_noted};
+ghost use Rattle.connection_model.specs.Heard.{Bytes, Connects, Ends, Resets, Takes, edges_met};
 ghost use Rattle.conn.specs.Stages.{has_finished};
 ghost use Rattle.conn.specs.Runs.{IsBounded, IsWhole};
-ghost use Rattle.conn.specs.RunsItems.{closing};
-ghost use Rattle.proxy_core.specs.Refusal.{client_refusal};
-ghost use Rattle.proxy_core.specs.Live.{ConnHears, KeepsPlace, LiveComes, LiveRuns, SamePlace};
+ghost use Rattle.conn.specs.RunsItems.{ends};
+ghost use Rattle.conn.specs.Settling.{closing};
+ghost use Rattle.proxy_core.specs.Refusal.{input_refusal};
+ghost use Rattle.proxy_core.specs.Live.{ConnHears, ConnMay, KeepsPlace, LiveComes, LiveRuns, MayCome};
+ghost use Rattle.proxy_core.specs.Live.{SamePlace, edges_in};
 ghost use Rattle.proxy_core.specs.Live.{LiveAnswers, LiveFails, LiveReplies, LiveTakes, asks_in};
-ghost use Rattle.proxy_core.specs.Live.{client_met, comes_notes, input_of, left_in, pending_in};
-ghost use Rattle.proxy_core.specs.Live.{taken_more, takes_memory, wanted_of};
+ghost use Rattle.proxy_core.specs.Live.{input_of, pending_in, takes_memory, wanted_of};
 
 use crate::call::Asked;
 use crate::event::BadEvent;
-use crate::input::ClientInput;
-use conn::{Conn, ConnTurn, Setup};
-use connection_model::{Cause, Edge, Note, Notes};
-use px_bytes::{Addr, M, Reply, Steps};
+use crate::input::Incoming;
+use conn::{Conn, ConnTurn, Setup, close};
+use connection_model::{Cause, EdgeState, Edges, Note, Notes};
+use px_bytes::{Addr, M, Reply, Side, Steps};
 use shared_store::Store;
 use std::alloc::Global;
 use std::sync::ledger::Ledger;
@@ -30,35 +30,45 @@ const UNREAD_LIMIT: usize = 65_536;
 
 /// A connection without its Ended note, with the place of its virtual server in the configuration.
 /// Where no memory was found for it, there is no connection behind the number, and the next Run ends
-/// it.
+/// it; its ends stand here then.
 #[derive(Drop)]
 pub struct Live {
     pub number: u32,
     pub vs: usize,
     pub from: Addr,
-    /// The client's end. There is no server connection yet.
-    pub client: Edge,
     pub conn: Option<Conn>,
+    /// Where the ends of one stand for which no memory was found.
+    pub edges: Edges,
 }
 
 impl Live {
-    /// How many bytes the client is to take.
-    pub fn pending(&self) -> usize
-        ensures { result ≡ pending_in self.now.conn }
+    /// How many bytes a side is to take.
+    pub fn pending(&self, side: Side) -> usize
+        ensures { result ≡ pending_in side self.now.conn }
     {
         match &self.conn {
-            Some(conn) => conn.pending(),
+            Some(conn) => conn.pending(side),
             None => 0,
         }
     }
 
-    /// How many bytes of its client may come.
-    pub fn wants(&self) -> usize
-        ensures { result ≡ wanted_of self.now.conn }
+    /// How many bytes of a side may come.
+    pub fn wants(&self, side: Side) -> usize
+        ensures { result ≡ wanted_of side self.now.conn }
     {
         match &self.conn {
-            Some(conn) => conn.wants(),
+            Some(conn) => conn.wants(side),
             None => UNREAD_LIMIT,
+        }
+    }
+
+    /// Where its ends stand.
+    pub fn ends(&self) -> Edges
+        ensures { result ≡ edges_in self.now }
+    {
+        match &self.conn {
+            Some(conn) => conn.edges(),
+            None => self.edges,
         }
     }
 
@@ -72,82 +82,89 @@ impl Live {
         }
     }
 
-    /// Why what comes of its client is refused.
-    pub fn refuses(&self, input: &ClientInput<'_>) -> Option<BadEvent>
-        ensures { result ≡ client_refusal self.now (input_of input.now) }
+    /// Why what comes of it is refused.
+    pub fn refuses(&self, input: &Incoming<'_>) -> Option<BadEvent>
+        ensures { result ≡ input_refusal self.now (input_of input.now) }
     {
         match input {
-            ClientInput::Bytes(bytes) => self.refuses_bytes(bytes),
-            ClientInput::End => self.refuses_end(),
-            ClientInput::Reset => self.refuses_reset(),
-            ClientInput::Took(n) => self.refuses_took(*n),
+            Incoming::Bytes(side, bytes) => self.refuses_bytes(*side, bytes),
+            Incoming::End(side) => self.refuses_end(*side),
+            Incoming::Reset(side) => self.refuses_reset(*side),
+            Incoming::Took(side, n) => self.refuses_took(*side, *n),
+            Incoming::Connected(made) => self.refuses_answer(*made),
         }
     }
 
-    fn refuses_bytes(&self, bytes: &[u8]) -> Option<BadEvent>
-        ensures { result ≡ client_refusal self.now (Bytes Client bytes.now) }
+    fn refuses_bytes(&self, side: Side, bytes: &[u8]) -> Option<BadEvent>
+        ensures { result ≡ input_refusal self.now (Bytes side bytes.now) }
     {
-        if !self.client.may_send() {
+        if !self.ends().of(side).may_send() {
             return Some(BadEvent::AfterEnd);
         }
-        if self.wants() < bytes.len() {
+        if self.wants(side) < bytes.len() {
             return Some(BadEvent::TooMuch);
         }
         None
     }
 
-    fn refuses_end(&self) -> Option<BadEvent>
-        ensures { result ≡ client_refusal self.now (Ends Client) }
+    fn refuses_end(&self, side: Side) -> Option<BadEvent>
+        ensures { result ≡ input_refusal self.now (Ends side) }
     {
-        if self.client.may_send() {
+        if self.ends().of(side).may_send() {
             None
         } else {
             Some(BadEvent::AfterEnd)
         }
     }
 
-    fn refuses_reset(&self) -> Option<BadEvent>
-        ensures { result ≡ client_refusal self.now (Resets Client) }
+    fn refuses_reset(&self, side: Side) -> Option<BadEvent>
+        ensures { result ≡ input_refusal self.now (Resets side) }
     {
-        if self.client.may_take() {
+        if self.ends().of(side).may_take() {
             None
         } else {
             Some(BadEvent::AfterEnd)
         }
     }
 
-    fn refuses_took(&self, n: usize) -> Option<BadEvent>
-        ensures { result ≡ client_refusal self.now (Takes Client n) }
+    fn refuses_took(&self, side: Side, n: usize) -> Option<BadEvent>
+        ensures { result ≡ input_refusal self.now (Takes side n) }
     {
-        if !self.client.may_take() {
+        if !self.ends().of(side).may_take() {
             return Some(BadEvent::AfterEnd);
         }
-        if self.pending() < n {
+        if self.pending(side) < n {
             return Some(BadEvent::TookTooMuch);
         }
         None
     }
 
-    /// This comes of its client. Says whether the connection is over, and gives its last notes then.
+    fn refuses_answer(&self, made: bool) -> Option<BadEvent>
+        ensures { result ≡ input_refusal self.now (Connects made) }
+    {
+        match self.ends().of(Side::Server).state {
+            EdgeState::Connecting => None,
+            _ => Some(BadEvent::NotConnecting),
+        }
+    }
+
+    /// This comes of it. Says whether the connection is over, and gives the notes that are due then.
     /// Where bytes find no memory, it has finished with that cause.
-    pub fn comes(&mut self, input: ClientInput<'_>, notes: &mut Notes) -> bool
-        requires within { taken_more (input_of input) ≤ pending_in self.old.conn }
-        requires spare { 2 ≤ notes.old.spare }
+    pub fn comes(&mut self, input: Incoming<'_>, notes: &mut Notes) -> bool
+        requires may { MayCome (input_of input) self.old }
+        requires spare { 3 ≤ notes.old.spare }
         ensures place { KeepsPlace self.old self.new }
-        ensures client { self.new.client ≡ client_met (input_of input.entry) self.old.client }
-        ensures comes { (lacks : Bool)
-            × (notes.new.items ≡ notes.old.items ++ comes_notes lacks result self.old.number (left_in self.new.conn))
-            × LiveComes (input_of input.entry) self.old.conn self.new.conn lacks result }
+        ensures comes { (group : List Note) × (notes.new.items ≡ notes.old.items ++ group)
+            × LiveComes (input_of input.entry) self.old.number self.old.conn self.new.conn group result
+            × (edges_in self.new ≡ edges_noted group (edges_met (input_of input.entry) (edges_in self.old))) }
         ensures few_notes { length notes.new.items ≤ length notes.old.items + 68 }
     {
-        match input {
-            ClientInput::End => self.client.ended = true,
-            ClientInput::Reset => self.client.reset = true,
-            ClientInput::Bytes(_) | ClientInput::Took(_) => {}
-        }
         match &mut self.conn {
             Some(conn) => tell(conn, input, self.number, notes),
-            None => false,
+            None => {
+                self.edges = met(self.edges, &input);
+                false
+            }
         }
     }
 
@@ -243,9 +260,10 @@ impl Live {
         notes: &mut Notes,
     ) -> ConnTurn
         requires { 68 ≤ notes.old.spare }
-        ensures same { SamePlace self.old self.new }
+        ensures same { KeepsPlace self.old self.new }
         ensures runs { (group : List Note) × (notes.new.items ≡ notes.old.items ++ group)
-            × LiveRuns setup.now self.old.number self.old.conn self.new.conn group result }
+            × LiveRuns setup.now self.old.number self.old.edges self.old.conn self.new.conn group result
+            × (ends result ≡ false → edges_in self.new ≡ edges_noted group (edges_in self.old)) }
         ensures slice { let given = length notes.new.items - length notes.old.items in
             IsWhole result (steps.new - steps.old) given }
         ensures bounded { IsBounded result (steps.new - steps.old) }
@@ -254,33 +272,44 @@ impl Live {
         match &mut self.conn {
             Some(conn) => conn.run(alloc, setup, self.number, steps, notes),
             None => {
-                close(self.number, 0, notes);
+                end(self.number, &mut self.edges, notes);
                 ConnTurn::Over
             }
         }
     }
 }
 
-// The last notes of a connection, on which so many bytes were dropped.
-fn close(number: u32, dropped: usize, notes: &mut Notes)
-    requires { 2 ≤ notes.old.spare }
-    ensures { notes.new.items ≡ notes.old.items ++ closing number dropped }
+// The last notes of a connection for which no memory was found.
+fn end(number: u32, edges: &mut Edges, notes: &mut Notes)
+    requires { 3 ≤ notes.old.spare }
+    ensures { notes.new.items ≡ notes.old.items ++ closing number edges.old 0 }
 {
-    notes.push_reserved(Note::CloseClient { conn: number });
+    close(edges, number, true, true, notes);
     notes.push_reserved(Note::Ended {
         conn: number,
-        dropped,
+        dropped: 0,
     });
 }
 
-// This comes of the client of a connection, which may find no memory for it. Says whether the
-// connection is over.
-fn tell(conn: &mut Conn, input: ClientInput<'_>, number: u32, notes: &mut Notes) -> bool
-    requires within { taken_more (input_of input) ≤ length (queue_in conn.old) }
-    requires spare { 2 ≤ notes.old.spare }
-    ensures comes { (lacks : Bool)
-        × (notes.new.items ≡ notes.old.items ++ comes_notes lacks result number (left_in (Some conn.new)))
-        × LiveComes (input_of input.entry) (Some conn.old) (Some conn.new) lacks result }
+// Where it puts the ends of a connection.
+fn met(edges: Edges, input: &Incoming<'_>) -> Edges
+    ensures { result ≡ edges_met (input_of input.now) edges }
+{
+    match input {
+        Incoming::Bytes(..) | Incoming::Took(..) => edges,
+        Incoming::End(side) => edges.ends(*side),
+        Incoming::Reset(side) => edges.resets(*side),
+        Incoming::Connected(made) => edges.connects(*made),
+    }
+}
+
+// This comes of a connection, which may find no memory for it. Says whether the connection is over.
+fn tell(conn: &mut Conn, input: Incoming<'_>, number: u32, notes: &mut Notes) -> bool
+    requires may { ConnMay (input_of input) conn.old }
+    requires spare { 3 ≤ notes.old.spare }
+    ensures comes { (group : List Note) × (notes.new.items ≡ notes.old.items ++ group)
+        × LiveComes (input_of input.entry) number (Some conn.old) (Some conn.new) group result
+        × (conn.new.ends.edges ≡ edges_noted group (edges_met (input_of input.entry) conn.old.ends.edges)) }
     ensures few_notes { length notes.new.items ≤ length notes.old.items + 68 }
 {
     match hear(conn, &input) {
@@ -296,26 +325,29 @@ fn tell(conn: &mut Conn, input: ClientInput<'_>, number: u32, notes: &mut Notes)
     }
 }
 
-#[tactic(auto, using(crate::proofs::Coming::bytes_heard, crate::proofs::Coming::end_heard, crate::proofs::Coming::reset_heard, crate::proofs::Coming::took_heard))]
-fn hear(conn: &mut Conn, input: &ClientInput<'_>) -> M<()>
-    requires { taken_more (input_of input.now) ≤ length (queue_in conn.old) }
+fn hear(conn: &mut Conn, input: &Incoming<'_>) -> M<()>
+    requires { ConnMay (input_of input.now) conn.old }
     ensures hears { OnOk result (ConnHears (input_of input.now) conn.old conn.new) }
     ensures memory { OnErr result (takes_memory (input_of input.now) ≡ true) }
     ensures goes_on { OnErr result (has_finished conn.old.stage ≡ false) }
     ensures same { OnErr result (conn.new ≡ conn.old) }
 {
     match input {
-        ClientInput::Bytes(bytes) => conn.arrive(bytes),
-        ClientInput::End => {
-            conn.end();
+        Incoming::Bytes(side, bytes) => conn.arrive(*side, bytes),
+        Incoming::End(side) => {
+            conn.end(*side);
             Ok(())
         }
-        ClientInput::Reset => {
-            conn.reset();
+        Incoming::Reset(side) => {
+            conn.reset(*side);
             Ok(())
         }
-        ClientInput::Took(n) => {
-            conn.took(*n);
+        Incoming::Took(side, n) => {
+            conn.took(*side, *n);
+            Ok(())
+        }
+        Incoming::Connected(made) => {
+            conn.connected(*made);
             Ok(())
         }
     }

@@ -2,7 +2,7 @@
 
 ghost use Rattle.std.specs.Prelude.{◌≡◌, [], slice_index_or};
 ghost use Rattle.proxy_core.specs.Serving.{IsSetup};
-ghost use Rattle.proxy_core.specs.Setup.{port_of};
+ghost use Rattle.proxy_core.specs.Setup.{name_at, pool_at, port_of};
 
 use crate::config::Config;
 use crate::server_bodies::EventPlaces;
@@ -20,12 +20,32 @@ pub fn setup_at<'a>(
     ensures { IsSetup config.now statics.now.statics places.now place result }
 {
     Setup {
+        name: name_at(config, place),
         port: port_at(config, place),
+        pool: pool_at(config, place),
         budget: config.budget,
         statics,
         groups: &config.groups,
         rules: config.rules.as_slice(),
         places: places_at(places, place),
+    }
+}
+
+fn name_at(config: &Config, place: usize) -> &[u8]
+    ensures { result.now ≡ name_at config.now place }
+{
+    match config.virtuals.get(place) {
+        Some(server) => server.name.as_bytes(),
+        None => &[],
+    }
+}
+
+fn pool_at(config: &Config, place: usize) -> &[u8]
+    ensures { result.now ≡ pool_at config.now place }
+{
+    match config.virtuals.get(place) {
+        Some(server) => server.pool.as_bytes(),
+        None => &[],
     }
 }
 

@@ -8,8 +8,9 @@ ghost use Rattle.proxy_core.specs.Steps.{Steps, IsRefused};
 
 use crate::core_state::Core;
 use crate::event::{BadEvent, Event};
-use crate::input::ClientInput;
+use crate::input::Incoming;
 use connection_model::Notes;
+use px_bytes::Side;
 use std::sync::ledger::Ledger;
 
 impl Core {
@@ -58,18 +59,23 @@ impl Core {
         match event {
             Event::Accept { conn, vs, from } => self.accept(conn, vs.as_bytes(), from, notes),
             Event::FromClient { conn, bytes } => {
-                self.comes(conn, ClientInput::Bytes(bytes.as_bytes()), notes)
+                self.comes(conn, Incoming::Bytes(Side::Client, bytes.as_bytes()), notes)
             }
-            Event::ClientEnd { conn } => self.comes(conn, ClientInput::End, notes),
-            Event::ClientReset { conn } => self.comes(conn, ClientInput::Reset, notes),
-            Event::ClientTook { conn, n } => self.comes(conn, ClientInput::Took(n), notes),
-            Event::Connected { conn } | Event::Refused { conn } => {
-                Err(self.not_connecting(conn))
+            Event::ClientEnd { conn } => self.comes(conn, Incoming::End(Side::Client), notes),
+            Event::ClientReset { conn } => self.comes(conn, Incoming::Reset(Side::Client), notes),
+            Event::ClientTook { conn, n } => {
+                self.comes(conn, Incoming::Took(Side::Client, n), notes)
             }
-            Event::FromServer { conn, .. }
-            | Event::ServerEnd { conn }
-            | Event::ServerReset { conn }
-            | Event::ServerTook { conn, .. } => Err(self.after_end(conn)),
+            Event::Connected { conn } => self.comes(conn, Incoming::Connected(true), notes),
+            Event::Refused { conn } => self.comes(conn, Incoming::Connected(false), notes),
+            Event::FromServer { conn, bytes } => {
+                self.comes(conn, Incoming::Bytes(Side::Server, bytes.as_bytes()), notes)
+            }
+            Event::ServerEnd { conn } => self.comes(conn, Incoming::End(Side::Server), notes),
+            Event::ServerReset { conn } => self.comes(conn, Incoming::Reset(Side::Server), notes),
+            Event::ServerTook { conn, n } => {
+                self.comes(conn, Incoming::Took(Side::Server, n), notes)
+            }
             Event::Tick { moment } => self.tick(moment),
             Event::Turn => {
                 self.turn(notes);

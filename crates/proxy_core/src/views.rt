@@ -1,18 +1,15 @@
 // What a core's fields tell of its connections.
 
 ghost use Rattle.std.specs.Prelude.{◌≡◌, ◌↔◌, [], IsTrue, IfOk, length, option_map};
-ghost use Rattle.proxy_core.specs.Queries.{front_of, pending_on, queue_on, wanted_on};
-ghost use Rattle.proxy_core.specs.Refusal.{edges_in};
+ghost use Rattle.proxy_core.specs.Queries.{front_of, pending_on, queue_on};
+ghost use Rattle.proxy_core.specs.Live.{edges_in, wanted_of};
 ghost use Rattle.proxy_core.specs.Refusals.{live_at};
 
 use crate::core_state::Core;
 use crate::live::Live;
 use crate::ring::find;
-use connection_model::{Edge, EdgeState, Edges};
+use connection_model::Edges;
 use px_bytes::{M, Side, Text};
-
-/// How many bytes of a server may come, where there is none.
-const UNREAD_LIMIT: usize = 65_536;
 
 impl Core {
     pub(crate) fn is_settled(&self) -> bool
@@ -55,16 +52,16 @@ impl Core {
     }
 
     pub(crate) fn wants_at(&self, conn: u32, side: Side) -> Option<usize>
-        ensures { result ≡ option_map (λ l. wanted_on side l.conn)
+        ensures { result ≡ option_map (λ l. wanted_of side l.conn)
             (live_at self.now.live.items conn) }
     {
-        Some(self.at(conn)?.wanted(side))
+        Some(self.at(conn)?.wants(side))
     }
 
     pub(crate) fn edges_at(&self, conn: u32) -> Option<Edges>
         ensures { result ≡ option_map edges_in (live_at self.now.live.items conn) }
     {
-        Some(self.at(conn)?.edges())
+        Some(self.at(conn)?.ends())
     }
 
     // The live connection of a number.
@@ -77,33 +74,13 @@ impl Core {
 }
 
 impl Live {
-    // How many bytes of a side may come. There is no server connection.
-    fn wanted(&self, side: Side) -> usize
-        ensures { result ≡ wanted_on side self.now.conn }
-    {
-        match side {
-            Side::Client => self.wants(),
-            Side::Server => UNREAD_LIMIT,
-        }
-    }
-
     // The bytes that a side is to take.
     fn queued(&self, side: Side) -> &[u8]
         ensures { result.now ≡ queue_on side self.now.conn }
     {
-        match (side, &self.conn) {
-            (Side::Client, Some(conn)) => conn.front(),
-            _ => &[],
-        }
-    }
-
-    // Where its ends stand. There is no server connection.
-    fn edges(&self) -> Edges
-        ensures { result ≡ edges_in self.now }
-    {
-        Edges {
-            client: self.client,
-            server: Edge::new(EdgeState::Absent),
+        match &self.conn {
+            Some(conn) => conn.front(side),
+            None => &[],
         }
     }
 }

@@ -1,5 +1,5 @@
 use Rattle.std.proofs.Common.{◌∙◌}
-use Rattle.conn.proofs.Resting.{drops_reset}
+use Rattle.conn.proofs.Settling.{drops_reset}
 use Rattle.conn.proofs.connection.Conn.dropped.Goals as goal
 
 pub returns-clause-reset : goal.returns-clause-reset

@@ -1,9 +1,12 @@
-use Rattle.std.proofs.Common.{sym, ◌∙◌}
-use Rattle.conn.proofs.Arriving.{hears_finished, hears_more}
+use Rattle.std.proofs.Common.{Bool, [], true, sym, ap, ◌∙◌, subst}
+use Rattle.conn.specs.Calls.{Hears, ended_ends}
+use Rattle.conn.specs.declared.ends.Ends.{Ends}
+use Rattle.conn.proofs.Arriving.{hears_end, with_ends}
 use Rattle.conn.proofs.connection.Conn.end.Goals as goal
 
-pub returns-then-not-has_finished-clause-hears : goal.returns-then-not-has_finished-clause-hears
-returns-then-not-has_finished-clause-hears c = hears_more _ c.args.self.now c.end.new.self (sym c.has_finished.ensures ∙ c.if-not-has_finished.true) c.end.ensures.ended c.end.ensures.reset
-
-pub returns-else-not-has_finished-clause-hears : goal.returns-else-not-has_finished-clause-hears
-returns-else-not-has_finished-clause-hears c = hears_finished _ c.args.self.now (sym c.has_finished.ensures ∙ c.if-not-has_finished.false)
+pub returns-clause-hears : goal.returns-clause-hears
+returns-clause-hears c =
+    let old = c.args.self.now in
+    let P : Ends → Type 0 = λ e. Hears c.args.side (record { bytes = []; ended = true }) old (with_ends e old) in
+    let E : Bool → Ends = λ b. ended_ends b c.args.side old.ends in
+    subst P (sym (c.end.ensures ∙ ap E c.has_finished-finished.ensures)) (hears_end c.args.side old)

@@ -7,5 +7,5 @@ use Rattle.conn.proofs.connection.Conn.hear.Goals as goal
 pub returns-clause-replies : goal.returns-clause-replies
 returns-clause-replies c =
     let old = c.args.self.now in
-    let new : Conn = record { stage = stage.Running c.args.at c.args.number; body = c.resume.new.self; vars = old.vars; host = old.host; client = old.client } in
+    let new : Conn = record { stage = stage.Running c.args.at c.args.number; body = c.resume.new.self; vars = old.vars; host = old.host; ends = old.ends } in
     replies c.args.reply.now old new c.args.at c.args.number c.requires refl c.in_ok-resume.ensures refl refl refl

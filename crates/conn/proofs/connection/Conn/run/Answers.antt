@@ -1,8 +1,8 @@
-use Rattle.std.proofs.Common.{◌≡◌, sym, ap, subst, ◌∙◌, [], ◌∷◌, ◌++◌, arith}
+use Rattle.std.proofs.Common.{◌≡◌, sym, ap, subst, [], ◌∷◌, ◌++◌, arith}
 use Rattle.connection_model.specs.declared.note.Note.TheVariants.{Finish}
 use Rattle.connection_model.specs.declared.note.Cause.TheVariants.{Memory}
 use Rattle.conn.specs.Acts.{Acted}
-use Rattle.conn.specs.RunsItems.{closing}
+use Rattle.conn.specs.Runs.{DropsQueued}
 use Rattle.conn.specs.declared.turn.Act.TheVariants as done
 use Rattle.conn.specs.declared.turn.ConnTurn.{ConnTurn}
 use Rattle.conn.proofs.Running.{drops_told, RunsBy, at_first, one_more, runs_more, runs_asks, runs_rests, runs_out, rests_whole, rests_bounded}
@@ -40,22 +40,22 @@ returns-in-Ok-Asks-clause-ran g c =
 pub returns-in-Ok-Rests-clause-ran : goal.returns-in-Ok-Rests-clause-ran
 returns-in-Ok-Rests-clause-ran g c =
     let acted : Acted c.args.setup.now c.args.number c.loop-moved.self c.advance.new.self c.loop-moved.notes.items c.advance.new.notes.items done.Rests = rw c.in-Ok-Rests.field-0-is at c.in-Ok-Rests.ensures.ok in
-    runs_rests c.args.setup.now c.args.number c.args.self.now c.loop-moved.self c.advance.new.self c.args.notes.now.items c.loop-moved.notes.items c.advance.new.notes.items c.rest.new.notes.items c.rest.result c.loop-moved.invariant.0 acted c.rest.ensures.rested
+    runs_rests c.args.setup.now c.args.number c.args.self.now c.loop-moved.self c.advance.new.self c.comes_to_rest.new.self c.args.notes.now.items c.loop-moved.notes.items c.advance.new.notes.items c.comes_to_rest.new.notes.items c.comes_to_rest.result c.loop-moved.invariant.0 acted c.comes_to_rest.ensures.rested
 
 pub returns-in-Err-clause-ran : goal.returns-in-Err-clause-ran
 returns-in-Err-clause-ran g c =
     let same : c.advance.new.notes.items ≡ c.loop-moved.notes.items = ap (λ n. n.items) c.in-Err.ensures.err in
-    let noted : c.fail.new.notes.items ≡ (c.loop-moved.notes.items ++ Finish c.args.number Memory ∷ []) ++ closing c.args.number c.queued-pending.result =
-    c.fail.ensures.noted ∙ ap (λ x. (x ++ Finish c.args.number Memory ∷ []) ++ closing c.args.number c.queued-pending.result) same in
+    let drops : DropsQueued c.args.number c.queued-pending.result c.advance.new.self c.fail.new.self (c.loop-moved.notes.items ++ Finish c.args.number Memory ∷ []) c.fail.new.notes.items c.fail.result =
+    subst (λ x. DropsQueued c.args.number c.queued-pending.result c.advance.new.self c.fail.new.self (x ++ Finish c.args.number Memory ∷ []) c.fail.new.notes.items c.fail.result) same c.fail.ensures in
     let P : ConnTurn → Type 0 = λ t. RunsBy c.args.setup.now c.args.number c.args.self.now c.fail.new.self c.args.notes.now.items c.fail.new.notes.items t in
-    subst P (sym c.fail.ensures.over)
-    (runs_out c.args.setup.now c.args.number c.queued-pending.result c.args.self.now c.loop-moved.self c.fail.new.self c.args.notes.now.items c.loop-moved.notes.items c.fail.new.notes.items c.loop-moved.invariant.0 c.queued-pending.ensures noted)
+    subst P (sym drops.over)
+    (runs_out c.args.setup.now c.args.number c.queued-pending.result c.args.self.now c.loop-moved.self c.advance.new.self c.fail.new.self c.args.notes.now.items c.loop-moved.notes.items c.fail.new.notes.items c.fail.result c.loop-moved.invariant.0 c.queued-pending.ensures c.in-Err.ensures.kept drops)
 
 pub returns-clause-ran : goal.returns-clause-ran
 returns-clause-ran g c = runs_more c.args.setup.now c.args.number c.args.self.now c.loop-moved.self c.args.notes.now.items c.loop-moved.notes.items c.loop-moved.invariant.0
 
 pub returns-in-Ok-Rests-clause-slice : goal.returns-in-Ok-Rests-clause-slice
-returns-in-Ok-Rests-clause-slice g c = rests_whole c.args.number c.advance.new.self c.advance.new.notes.items c.rest.new.notes.items c.rest.result _ _ c.rest.ensures.rested
+returns-in-Ok-Rests-clause-slice g c = rests_whole c.args.number c.advance.new.self c.comes_to_rest.new.self c.advance.new.notes.items c.comes_to_rest.new.notes.items c.comes_to_rest.result _ _ c.comes_to_rest.ensures.rested
 
 pub returns-in-Err-clause-slice : goal.returns-in-Err-clause-slice
 returns-in-Err-clause-slice g c = rw c.fail.ensures.over tt
@@ -66,15 +66,15 @@ returns-then-spent-gt-MOST_STEPS-clause-ran g c = runs_more c.args.setup.now c.a
 pub returns-in-Ok-Rests-clause-bounded : goal.returns-in-Ok-Rests-clause-bounded
 returns-in-Ok-Rests-clause-bounded g c =
     let k = c.loop-moved.invariant in
-    rests_bounded c.args.number c.advance.new.self c.advance.new.notes.items c.rest.new.notes.items c.rest.result _ c.rest.ensures.rested (omega (arith, k.4, c.if-spent-gt-MOST_STEPS.false, c.in-Ok-Rests.ensures.few))
+    rests_bounded c.args.number c.advance.new.self c.comes_to_rest.new.self c.advance.new.notes.items c.comes_to_rest.new.notes.items c.comes_to_rest.result _ c.comes_to_rest.ensures.rested (omega (arith, k.4, c.if-spent-gt-MOST_STEPS.false, c.in-Ok-Rests.ensures.few))
 
 pub returns-in-Err-clause-bounded : goal.returns-in-Err-clause-bounded
 returns-in-Err-clause-bounded g c = rw c.fail.ensures.over tt
 
 pub returns-in-OutOfMemory-clause-dropped : goal.returns-in-OutOfMemory-clause-dropped
 returns-in-OutOfMemory-clause-dropped g c =
-    drops_told c.args.number c.queued-dropped.result c.drop_queued.new.self c.args.notes.now.items c.drop_queued.new.notes.items c.drop_queued.result c.drop_queued.ensures
+    drops_told c.args.number c.queued-dropped.result c.args.self.now c.drop_queued.new.self c.args.notes.now.items c.drop_queued.new.notes.items c.drop_queued.result c.drop_queued.ensures
 
 pub returns-in-Err-clause-dropped : goal.returns-in-Err-clause-dropped
 returns-in-Err-clause-dropped g c =
-    drops_told c.args.number c.queued-pending.result c.fail.new.self (c.advance.new.notes.items ++ Finish c.args.number Memory ∷ []) c.fail.new.notes.items c.fail.result c.fail.ensures
+    drops_told c.args.number c.queued-pending.result c.advance.new.self c.fail.new.self (c.advance.new.notes.items ++ Finish c.args.number Memory ∷ []) c.fail.new.notes.items c.fail.result c.fail.ensures

@@ -1,9 +1,12 @@
-use Rattle.std.proofs.Common.{◌≤◌, length}
-use Rattle.conn.specs.Queues.{queue_in}
+use Rattle.std.proofs.Common.{sym, subst}
+use Rattle.conn.specs.Calls.{Takes}
+use Rattle.conn.specs.declared.ends.Ends.{Ends}
+use Rattle.conn.proofs.Arriving.{with_ends}
 use Rattle.conn.proofs.Taking.{takes}
 use Rattle.conn.proofs.connection.Conn.took.Goals as goal
 
 pub returns-clause-takes : goal.returns-clause-takes
 returns-clause-takes c =
-    let within : c.args.n ≤ length (queue_in c.args.self.now) = c.requires in
-    takes c.args.n c.args.self.now c.drop_front.new.self within c.drop_front.ensures
+    let old = c.args.self.now in
+    let P : Ends → Type 0 = λ e. Takes c.args.side c.args.n old (with_ends e old) in
+    subst P (sym c.took.ensures) (takes c.args.side c.args.n old c.requires)

@@ -1,4 +1,4 @@
-use Rattle.std.proofs.Common.{◌∷◌, ◌++◌, ◌∙◌, [], Some, ap, append-nil, arith, refl, sym}
+use Rattle.std.proofs.Common.{◌∷◌, ◌++◌, ◌∙◌, [], ap, arith, refl, sym}
 use Rattle.proxy_core.specs.Ready.{numbers}
 use Rattle.proxy_core.proofs.ReadyRing.{accept_known, numbers_push}
 use Rattle.proxy_core.proofs.core_state.Core.accept.Goals as goal
@@ -20,20 +20,21 @@ pub invariant_of-self-clause-live_room : goal.invariant_of-self-clause-live_room
 invariant_of-self-clause-live_room c = omega (arith, c.push.ensures.room, c.args.self.now.live_room)
 
 pub returns-clause-accepts : goal.returns-clause-accepts
-returns-clause-accepts c = (
-  [],
-  sym (append-nil _),
-  record {
-    keeps = record { config = refl; statics = refl; places = refl };
-    last = refl;
-    moment = refl;
-    place = c.in-Some.place;
-    virtual = sym c.in-Some.ensures;
-    conn = Some c.new.result;
-    begins = ((c.setup_at-setup.result, c.setup_at-setup.ensures, c.new.ensures.begins), c.new.ensures.queue, refl, c.new.ensures.awake);
-    live = c.push.ensures.items ∙ ap (λ e. c.args.self.now.live.items ++ record { number = c.args.number; vs = c.in-Some.place; from = c.args.from; client = e; conn = Some c.new.result } ∷ []) c.new-2.ensures;
-    ring = c.push.ensures.ring;
-    queue = refl;
-    store = refl;
-  },
-)
+returns-clause-accepts c =
+    let b = c.begin-conn.ensures.begins in (
+      b.0,
+      b.1,
+      record {
+        keeps = record { config = refl; statics = refl; places = refl };
+        last = refl;
+        moment = refl;
+        place = c.in-Some.place;
+        virtual = sym c.in-Some.ensures;
+        conn = c.begin-conn.result;
+        begins = (c.setup_at-setup.result, c.setup_at-setup.ensures, b.2);
+        live = c.push.ensures.items ∙ ap (λ e. c.args.self.now.live.items ++ record { number = c.args.number; vs = c.in-Some.place; from = c.args.from; conn = c.begin-conn.result; edges = e } ∷ []) c.accepted.ensures;
+        ring = c.push.ensures.ring;
+        queue = refl;
+        store = refl;
+      },
+    )

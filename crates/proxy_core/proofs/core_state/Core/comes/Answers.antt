@@ -1,10 +1,11 @@
-use Rattle.std.proofs.Common.{◌≡◌, ◌∙◌, ◌++◌, [], ap, arith, false, get_or, refl, set, sym, true}
+use Rattle.std.proofs.Common.{◌≡◌, ◌∙◌, ap, arith, false, get_or, refl, set, sym, true}
 use Rattle.proxy_core.specs.Calls.{kept_calls, without_calls, woken}
-use Rattle.proxy_core.specs.Live.{asks_in, comes_notes, input_of, left_in}
+use Rattle.proxy_core.specs.Live.{asks_in, input_of}
 use Rattle.proxy_core.specs.Ready.{without}
 use Rattle.proxy_core.proofs.FrontRuns.{kept_same}
 use Rattle.proxy_core.proofs.Places.{number_at, number_in, read_again, read_set, remove_set, live_there}
-use Rattle.proxy_core.proofs.Refusing.{of_client, client_judged}
+use Rattle.proxy_core.specs.Refusal.{input_refusal}
+use Rattle.proxy_core.proofs.Refusing.{input_judged, may_come}
 use Rattle.proxy_core.proofs.Tables.{gone, kept}
 use Rattle.proxy_core.proofs.core_state.Core.comes.Goals as goal
 
@@ -59,12 +60,12 @@ invariant_of-self-else-comes-clause-live_limit c =
 pub returns-then-comes-clause-accepted : goal.returns-then-comes-clause-accepted
 returns-then-comes-clause-accepted c =
     let s = c.args.self.now in
-    client_judged s c.args.number (input_of c.args.input) c.index.result.now (of_client c.args.input) (live_there c.args.number c.in-Some.at s.live.items c.index.result.now (sym c.in-Some.ensures.place) c.index.ensures) ∙ (sym c.refuses.ensures ∙ c.in_default-refuses.is)
+    input_judged s c.args.number (input_of c.args.input) c.index.result.now (live_there c.args.number c.in-Some.at s.live.items c.index.result.now (sym c.in-Some.ensures.place) c.index.ensures) ∙ (sym c.refuses.ensures ∙ c.in_default-refuses.is)
 
 pub returns-else-comes-clause-accepted : goal.returns-else-comes-clause-accepted
 returns-else-comes-clause-accepted c =
     let s = c.args.self.now in
-    client_judged s c.args.number (input_of c.args.input) c.index.result.now (of_client c.args.input) (live_there c.args.number c.in-Some.at s.live.items c.index.result.now (sym c.in-Some.ensures.place) c.index.ensures) ∙ (sym c.refuses.ensures ∙ c.in_default-refuses.is)
+    input_judged s c.args.number (input_of c.args.input) c.index.result.now (live_there c.args.number c.in-Some.at s.live.items c.index.result.now (sym c.in-Some.ensures.place) c.index.ensures) ∙ (sym c.refuses.ensures ∙ c.in_default-refuses.is)
 
 pub returns-then-comes-clause-comes : goal.returns-then-comes-clause-comes
 returns-then-comes-clause-comes c =
@@ -74,10 +75,9 @@ returns-then-comes-clause-comes c =
     let at = c.in-Some.at in
     let place = sym c.in-Some.ensures.place in
     let number = number_at c.args.number at s.live.items l place h in
-    let before = c.args.notes.now.items in
     let came = c.comes.ensures.comes in (
-      comes_notes came.0 c.comes.result c.args.number (left_in c.comes.new.self.conn),
-      came.1 ∙ ap (λ n. before ++ comes_notes came.0 c.comes.result n (left_in c.comes.new.self.conn)) number,
+      came.0,
+      came.1,
       record {
         keeps = record { config = refl; statics = refl; places = refl };
         last = refl;
@@ -88,12 +88,11 @@ returns-then-comes-clause-comes c =
         found = h;
         after = c.comes.new.self;
         same = c.comes.ensures.place;
-        client = c.comes.ensures.client;
+        may = may_come l (input_of c.args.input) (ap (λ x. input_refusal x (input_of c.args.input)) (sym (read_again s.live.items at c.index.result.now l c.index.ensures h)) ∙ sym c.refuses.ensures ∙ c.in_default-refuses.is);
         store = refl;
-        lacks = came.0;
         over = c.comes.result;
-        came = came.2;
-        notes = refl;
+        came = rw number at came.2;
+        edges = came.3;
         goes_on = λ e. let t : true ≡ false = sym c.if-comes.true ∙ e in (cc);
         ends = λ e. record {
           live = c.remove.ensures.items ∙ remove_set at s.live.items c.comes.new.self;
@@ -111,15 +110,14 @@ returns-else-comes-clause-comes c =
     let at = c.in-Some.at in
     let place = sym c.in-Some.ensures.place in
     let number = number_at c.args.number at s.live.items l place h in
-    let before = c.args.notes.now.items in
     let m = c.comes.new.self in
     let waits_is : c.is_asking-waits.result ≡ asks_in m.conn = c.is_asking-waits.ensures ∙ ap (λ x. asks_in x.conn) (read_again (set s.live.items at m) at c.index-else-comes.result.now m c.index-else-comes.ensures (read_set at s.live.items l m h)) in
     let waited_is : c.is_asking-waited.result ≡ asks_in l.conn = c.is_asking-waited.ensures ∙ ap (λ x. asks_in x.conn) (read_again s.live.items at c.index-2.result.now l c.index-2.ensures h) in
     let kept : c.forget.new.self.items ≡ kept_calls (asks_in l.conn) (asks_in m.conn) c.args.number s.queue.items =
     c.forget.ensures.items ∙ ap (λ b. kept_calls b c.is_asking-waits.result c.args.number s.queue.items) waited_is ∙ ap (λ b. kept_calls (asks_in l.conn) b c.args.number s.queue.items) waits_is in
     let came = c.comes.ensures.comes in (
-      comes_notes came.0 c.comes.result c.args.number (left_in c.comes.new.self.conn),
-      came.1 ∙ ap (λ n. before ++ comes_notes came.0 c.comes.result n (left_in c.comes.new.self.conn)) number,
+      came.0,
+      came.1,
       record {
         keeps = record { config = refl; statics = refl; places = refl };
         last = refl;
@@ -130,12 +128,11 @@ returns-else-comes-clause-comes c =
         found = h;
         after = c.comes.new.self;
         same = c.comes.ensures.place;
-        client = c.comes.ensures.client;
+        may = may_come l (input_of c.args.input) (ap (λ x. input_refusal x (input_of c.args.input)) (sym (read_again s.live.items at c.index.result.now l c.index.ensures h)) ∙ sym c.refuses.ensures ∙ c.in_default-refuses.is);
         store = refl;
-        lacks = came.0;
         over = c.comes.result;
-        came = came.2;
-        notes = refl;
+        came = rw number at came.2;
+        edges = came.3;
         goes_on = λ e. record {
           live = c.wake.ensures.items;
           ring = c.wake.ensures.ring ∙ ap (λ b. woken b (get_or s.live.numbers at 0) s.live.ring) waits_is ∙ ap (λ n. woken (asks_in m.conn) n s.live.ring) (number_in at s.live.numbers s.live.items l s.numbered h ∙ sym c.comes.ensures.place.number);

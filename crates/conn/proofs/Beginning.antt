@@ -1,0 +1,57 @@
+-- A connection that begins stands where its trace does.
+use Rattle.std.proofs.Common.{◌≡◌, refl, sym, ap, subst, ◌∙◌, ℕ, List, Bool, false}
+use Rattle.px_bytes.specs.declared.addr.Addr.{Addr}
+use Rattle.event_order.specs.declared.event.EventName.TheVariants.{ClientAccepted}
+use Rattle.tcl_vars.specs.Scopes.{no_scopes}
+use Rattle.irule_net.specs.State.{new_state}
+use Rattle.irule_net.specs.declared.state.NetState.{NetState}
+use Rattle.connection_model.specs.Gates.{no_bytes}
+use Rattle.connection_model.specs.Host.{HostState, first_host}
+use Rattle.connection_model.specs.Places.{at as put, enter}
+use Rattle.connection_model.specs.Setup.{Setup}
+use Rattle.connection_model.specs.State.{Absent, Draining, NoServer, TraceState, no_stream, no_answers}
+use Rattle.conn.specs.Calls.{Begins}
+use Rattle.conn.specs.Ends.{fresh_ends}
+use Rattle.conn.specs.Holds.{Holds, HoldsEnds, fresh}
+use Rattle.conn.specs.Hosts.{CollectsNothing, begun_host, fresh_host, seen_host}
+use Rattle.conn.specs.Stages.{entered_stage}
+use Rattle.conn.specs.declared.connection.Conn.{Conn}
+use Rattle.conn.specs.declared.events.At.TheVariants.{Accepted}
+use Rattle.conn.specs.declared.setup.Setup as code
+use Rattle.conn.proofs.Acting.{gone_holds}
+use Rattle.conn.proofs.Places.{enters_gone}
+
+-- where its trace begins before its first event
+abbrev before_start : Setup → TraceState
+before_start g = record { phase = Draining; vars = no_scopes; host = first_host g; finished = false; client = no_stream; server = NoServer; sent = no_bytes; answers = no_answers }
+
+first_ends : (g : Setup) (h : HostState) → HoldsEnds fresh (put (enter g ClientAccepted Absent h) (before_start g)) fresh_ends
+first_ends g h = record {
+  client = refl;
+  client_took = refl;
+  client_untaken = refl;
+  server = refl;
+  connects = refl;
+  number = refl;
+  servers_took = refl;
+  server_untaken = refl;
+  unsent = λ e. refl;
+  nothing_came = λ e. refl;
+  connecting = λ e. absurd (cc);
+}
+
+pub begins : (s : code.Setup) (from : Addr) (net : NetState) (new : Conn) → net ≡ new_state from s.port s.pool.now false → new.stage ≡ entered_stage s Accepted net → new.vars ≡ no_scopes → new.host ≡ fresh_host net → new.ends ≡ fresh_ends → Begins s from new
+begins s from net new made there vars host ends g serves came =
+    let S : Addr → ℕ → List ℕ → Bool → HostState = λ a n p b. record { event = ClientAccepted; net = new_state a n p b } in
+    let first : seen_host (fresh_host net) ≡ first_host g =
+    ap (λ n. seen_host (fresh_host n)) made
+    ∙ sym (ap (λ a. S a g.port g.pool g.http) came ∙ ap (λ n. S from n g.pool g.http) serves.port ∙ ap (λ p. S from s.port p g.http) serves.pool ∙ ap (λ b. S from s.port s.pool.now b) serves.http) in
+    let Q : NetState → Type 0 = λ n. CollectsNothing g n in
+    let same : new.host.net ≡ net = ap (λ h. h.net) host in
+    let collects : CollectsNothing g net = subst Q (sym made) (record { from = sym came; client = refl; server = refl; loose = refl }) in
+    let k = enters_gone g (before_start g) s serves Accepted (fresh_host net) fresh_ends new new (record { there = there ∙ ap (entered_stage s Accepted) (sym same); vars = refl; host = begins_so; ends = ends }) (sym vars) refl collects refl refl (λ e. absurd (cc)) in
+    let P : HostState → Type 0 = λ h. Holds g fresh (put (enter g ClientAccepted Absent h) (before_start g)) new in
+    subst P first (gone_holds g fresh false (enter g ClientAccepted Absent (seen_host (fresh_host net))) (before_start g) fresh_ends new k refl (first_ends g (seen_host (fresh_host net))) refl refl)
+  where
+    begins_so : new.host ≡ begun_host Accepted false (fresh_host net)
+    begins_so = host ∙ ap fresh_host made ∙ sym (ap (λ n. begun_host Accepted false (fresh_host n)) made)

@@ -1,0 +1,32 @@
+-- How a connection finishes, and a cut at a rest, by the fields of a trace's state.
+use Rattle.std.proofs.Common.{◌≡◌, ap, ◌∙◌, ⊎_elim, [], true, false, Some, None}
+use Rattle.connection_model.specs.declared.note.CutReason.{CutReason}
+use Rattle.connection_model.specs.Further.{choosing, longer}
+use Rattle.connection_model.specs.Gates.{TakenCounts}
+use Rattle.connection_model.specs.Item.{CutBy, Finished, Reason}
+use Rattle.connection_model.specs.Laws.{takes_cut}
+use Rattle.connection_model.specs.Host.{HostState}
+use Rattle.connection_model.specs.Places.{at as put, closed}
+use Rattle.connection_model.specs.Setup.{Setup}
+use Rattle.connection_model.specs.State.{Cut, Link, link_of, TraceState, Does, Over}
+use Rattle.connection_model.specs.Trace.{finish, next_item, GivesNoMore}
+use Rattle.connection_model.proofs.Cutting.{rest_is_cut}
+use Rattle.connection_model.proofs.Furthering.{cut_ends}
+use Rattle.connection_model.proofs.Given.{only_cut_is}
+
+abbrev pub cut_by : CutReason → TakenCounts → Cut
+cut_by reason took = record { reason = reason; took = took }
+
+-- it finishes, with this host and this link
+pub finish_is : (g : Setup) (reason : Reason) (h : HostState) (k : Link) (l : TraceState) → l.host ≡ h → link_of l.server ≡ k → finish g reason l ≡ Does (Finished reason) (put (closed g k h) (record l { finished = true }))
+finish_is g reason h k l host link =
+    ap (λ x. Does (Finished reason) (put (closed g x l.host) (record l { finished = true }))) link
+    ∙ ap (λ x. Does (Finished reason) (put (closed g k x) (record l { finished = true }))) host
+
+-- At a rest of one that hasn't finished, where its trace isn't over, a cut on these counts ends it.
+pub rest_cut : (g : Setup) (l : TraceState) (reason : CutReason) (took : TakenCounts) → g.http ≡ false → l.answers.cut ≡ None → l.finished ≡ false
+    → GivesNoMore false l.sent took (next_item g l) → (next_item g l ≡ Over → ⊥) → next_item g (longer (choosing [] (Some (cut_by reason took))) l) ≡ finish g (CutBy reason) l
+rest_cut g l reason took plain none going rest not_over =
+    let c = cut_by reason took in
+    let takes : takes_cut g c l.sent (next_item g l) ≡ true = ⊎_elim (λ t. t) (λ o. absurd (not_over o)) (rest_is_cut g c l.sent (next_item g l) plain rest) in
+    ap (next_item g) (only_cut_is c l none) ∙ cut_ends g l c none going takes

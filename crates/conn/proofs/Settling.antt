@@ -1,0 +1,377 @@
+-- What a connection owes the outside where it can't go on, by its fields and by its trace.
+use Rattle.std.proofs.Common.{◌≡◌, refl, sym, ap, subst, ◌∙◌, ℕ, zero, suc, ◌+◌, ◌-◌, List, [], ◌∷◌, ◌++◌, drop, length, Bool, true, false, ◌&&◌, not, Option, Some, None, nat_eq, arith, if◌then◌else◌}
+use Rattle.std.specs.Prelude.{slice_get}
+use Rattle.px_bytes.specs.declared.addr.Addr.{Addr}
+use Rattle.px_bytes.specs.declared.addr.Side.{Side}
+use Rattle.px_bytes.specs.declared.addr.Side.TheVariants.{Client, Server}
+use Rattle.px_bytes.specs.declared.fault.Reply.{Reply}
+use Rattle.px_bytes.specs.declared.fault.Reply.TheVariants as reply
+use Rattle.seg_buffer.specs.Bytes.{is_empty}
+use Rattle.event_order.specs.declared.event.EventName.{EventName}
+use Rattle.irule_net.specs.State.{collected}
+use Rattle.irule_net.specs.declared.state.Asks.{Asks}
+use Rattle.irule_net.specs.declared.state.Asks.TheVariants.{NotAsked, Stated}
+use Rattle.irule_net.specs.declared.state.Target.{Target}
+use Rattle.irule_net.specs.declared.state.Target.TheVariants.{Default, PoolOf, MemberOf, NodeAt}
+use Rattle.rule_model.specs.Laws.{state_after}
+use Rattle.rule_model.specs.Outcome.{Act, Outcome, Ends, Waits as Stops}
+use Rattle.connection_model.specs.Bodies.{act_next, bodies_next, ended_next, run_body}
+use Rattle.connection_model.specs.Edges.{edge_of}
+use Rattle.connection_model.specs.Gates.{other, taken_of, to_take}
+use Rattle.connection_model.specs.Heard.{taken_by}
+use Rattle.connection_model.specs.Host.{HostState, with_selected}
+use Rattle.connection_model.specs.Queries.{half_close_due, is_reset, relays_at}
+use Rattle.connection_model.specs.Queries as query
+use Rattle.connection_model.specs.Relay.{RelayAct, BothDone, Passing, Firing, Resting, behind_fires, collect_act, incoming, relay_act}
+use Rattle.connection_model.specs.Selected.{addr_of}
+use Rattle.connection_model.specs.Setup.{Handler, Setup}
+use Rattle.connection_model.specs.State.{Bodies, Gated, Running, Failing, Carrying, Fate, Phase, InEvent, Choosing, Selecting, Connecting, Answering, Releasing, Relaying, Collecting, Finishing, Draining, Link, Next, ServerSide, Stream, There, TraceState, link_of, server_stream, stream_of}
+use Rattle.connection_model.specs.State as next
+use Rattle.connection_model.specs.Trace.{answering_next, carrying_next, choosing_next, collect_next, collecting_next, counted, default_next, next_item, phase_next, relay_next, selected_next, selecting_next, unit_next}
+use Rattle.connection_model.proofs.Longer.{plain_next}
+use Rattle.conn.specs.Ends.{arrived, end_of, is_done, is_up, lost_at, number_by, queued_in, server_by, servers_by}
+use Rattle.conn.specs.Events.{event_of}
+use Rattle.conn.specs.Holds.{Around, GatedBefore, Holds, RunsFirst, Stands}
+use Rattle.conn.specs.Queues.{dropped_at, dropped_by, queue_in}
+use Rattle.connection_model.specs.declared.note.Note.TheVariants.{HalfClose}
+use Rattle.conn.specs.Settling as settle
+use Rattle.conn.specs.Settling.{DropsReset, RestsWith, Settles, SettlesNotes, half_close, half_due, half_notes, is_drained, is_over, lost_by, lost_of, note_if, over_in, rest_notes, settle_notes, settling, settling_at}
+use Rattle.conn.specs.Stages.{fits, has_finished, is_draining, is_relaying, reason_for}
+use Rattle.conn.specs.declared.connection.Conn.{Conn}
+use Rattle.conn.specs.declared.ends.End.{End}
+use Rattle.conn.specs.declared.ends.Ends.{Ends as BothEnds}
+use Rattle.conn.specs.declared.ends.Link.{Link as CodeLink}
+use Rattle.conn.specs.declared.ends.Link.TheVariants as link
+use Rattle.conn.specs.declared.events.At.{At}
+use Rattle.conn.specs.declared.events.At.TheVariants as at
+use Rattle.conn.specs.declared.stage.Stage.{Stage}
+use Rattle.conn.specs.declared.stage.Stage.TheVariants as stage
+use Rattle.conn.proofs.Untaken.{took_all, client_reset, server_reset}
+
+-- a trace is over in its last phase alone
+abbrev is_last : Phase → Bool
+is_last Draining = true
+is_last other = false
+
+body_goes : (g : Setup) (e : EventName) (b : Handler) (bs : List Handler) (n : ℕ) (l : TraceState) (v : Option Act) (o : Outcome HostState) → is_over (act_next e b bs n l v (ended_next g e b bs l o)) ≡ false
+body_goes g e b bs n l (Some x) o = refl
+body_goes g e b bs n l None (Ends code st) = refl
+body_goes g e b bs n l None (Stops path call st) = refl
+
+bodies_go : (g : Setup) (e : EventName) (bodies : Bodies) (l : TraceState) → is_over (bodies_next g e bodies l) ≡ false
+bodies_go g e (Gated b bs) l = refl
+bodies_go g e (Running b bs n) l = body_goes g e b bs n l (slice_get (state_after (run_body g b l)).acts n) (run_body g b l)
+bodies_go g e (Failing kind line bs) l = refl
+
+default_goes : (g : Setup) (l : TraceState) (h : HostState) (pool : List ℕ) → is_over (default_next g l h pool) ≡ false
+default_goes g l h [] = refl
+default_goes g l h (b ∷ bs) = refl
+
+choosing_goes : (g : Setup) (l : TraceState) (h : HostState) (t : Target) → is_over (choosing_next g l h t) ≡ false
+choosing_goes g l h Default = default_goes g l h h.net.pool
+choosing_goes g l h (PoolOf pool) = refl
+choosing_goes g l h (MemberOf pool a) = refl
+choosing_goes g l h (NodeAt a) = refl
+
+selected_goes : (g : Setup) (l : TraceState) (more : List Reply) (o : Option Addr) → is_over (selected_next g l more o) ≡ false
+selected_goes g l more None = refl
+selected_goes g l more (Some a) = refl
+
+selecting_goes : (g : Setup) (call : List (List ℕ)) (l : TraceState) (rs : List Reply) → is_over (selecting_next g call l rs) ≡ false
+selecting_goes g call l [] = refl
+selecting_goes g call l (reply.Ok v ∷ more) = selected_goes g l more (addr_of v)
+selecting_goes g call l (reply.Fault f ∷ more) = refl
+
+answering_goes : (g : Setup) (l : TraceState) (ks : List (Option Stream)) → is_over (answering_next g l ks) ≡ false
+answering_goes g l [] = refl
+answering_goes g l (Some s ∷ more) = refl
+answering_goes g l (None ∷ more) = refl
+
+relay_goes : (g : Setup) (l : TraceState) (act : RelayAct) → is_over (relay_next g l act) ≡ false
+relay_goes g l BothDone = refl
+relay_goes g l (Passing side n more) = refl
+relay_goes g l (Firing side n more) = refl
+relay_goes g l Resting = refl
+
+collect_goes : (g : Setup) (l : TraceState) (act : RelayAct) → is_over (collect_next g l act) ≡ false
+collect_goes g l BothDone = refl
+collect_goes g l (Passing side n more) = refl
+collect_goes g l (Firing side n more) = refl
+collect_goes g l Resting = refl
+
+collecting_goes : (g : Setup) (l : TraceState) (asks : Asks) → is_over (collecting_next g l asks) ≡ false
+collecting_goes g l NotAsked = refl
+collecting_goes g l (Stated n) = collect_goes g l (collect_act n l.client.unread (behind_fires l.answers.choices))
+
+unit_goes : (g : Setup) (l : TraceState) (fate : Fate) (side : Side) (left : ℕ) (ended : Bool) (bytes : List ℕ) → is_over (unit_next g l fate side left ended bytes) ≡ false
+unit_goes g l fate side left true [] = refl
+unit_goes g l fate side left false [] = refl
+unit_goes g l fate side left ended (b ∷ bs) = refl
+
+carrying_goes : (g : Setup) (l : TraceState) (fate : Fate) (side : Side) (left : ℕ) (s : Stream) → is_over (carrying_next g l fate side left s) ≡ false
+carrying_goes g l fate side zero s = refl
+carrying_goes g l fate side (suc left) s = unit_goes g l fate side left s.ended s.unread
+
+phase_goes : (g : Setup) (p : Phase) (l : TraceState) → is_over (phase_next g p l) ≡ is_last p
+phase_goes g (Carrying fate side left) l = carrying_goes g l fate side left (stream_of side l)
+phase_goes g (InEvent e bodies) l = bodies_go g e bodies l
+phase_goes g Choosing l = choosing_goes g l (with_selected None l.host) l.host.net.target
+phase_goes g (Selecting call) l = selecting_goes g call l l.answers.replies
+phase_goes g (Connecting a) l = refl
+phase_goes g (Answering a) l = answering_goes g l l.answers.connects
+phase_goes g Releasing l = refl
+phase_goes g Relaying l = relay_goes g l (relay_act (incoming Client l) (incoming Server l) l.answers.choices)
+phase_goes g Collecting l = collecting_goes g l l.host.net.client.asks
+phase_goes g (Finishing r) l = refl
+phase_goes g Draining l = refl
+
+over_counted : (sent : _) (o : Next) → is_over (counted sent o) ≡ is_over o
+over_counted sent (next.Does i m) = refl
+over_counted sent (next.Waits k) = refl
+over_counted sent next.Over = refl
+
+-- so is a connection
+gated_last : (e : EventName) (hs : List Handler) (p : Phase) → GatedBefore e hs p → is_last p ≡ false
+gated_last e [] p k = absurd k
+gated_last e (b ∷ bs) p k = ap is_last k
+
+first_last : (g : Setup) (e : EventName) (hs : List Handler) (n : ℕ) (l : TraceState) (c : Conn) → RunsFirst g e hs n l c → is_last l.phase ≡ false
+first_last g e [] n l c k = absurd k
+first_last g e (b ∷ bs) n l c k = ap is_last k.phase
+
+stage_last : (g : Setup) (st : Stage) (l : TraceState) (c : Conn) → Stands g st l c → is_last l.phase ≡ is_draining st
+stage_last g (stage.Gated at) l c k = gated_last (event_of at) (g.handlers (event_of at)) l.phase k.0
+stage_last g (stage.Running at n) l c k = first_last g (event_of at) (drop n (g.handlers (event_of at))) 0 l c k.0
+stage_last g (stage.Asking at n) l c k = first_last g (event_of at) (drop n (g.handlers (event_of at))) 1 l c k.0
+stage_last g (stage.Failing at n kind line) l c k = ap is_last k.0
+stage_last g stage.Choosing l c k = ap is_last k.0
+stage_last g stage.Selecting l c k = ap is_last k.0
+stage_last g (stage.Chosen addr) l c k = ap is_last k.0
+stage_last g (stage.Connecting to) l c k = ap is_last k.0
+stage_last g (stage.Answering to) l c k = ap is_last k.0
+stage_last g stage.Relaying l c k = ap is_last k.0
+stage_last g (stage.Finishing f) l c k = ap is_last k.0
+stage_last g stage.Draining l c k = ap is_last k.0
+stage_last g stage.OutOfMemory l c k = absurd k
+stage_last g (stage.Dropped n) l c k = absurd k
+
+pub over_at : (g : Setup) (a : Around) (l : TraceState) (c : Conn) → Holds g a l c → is_over (next_item g l) ≡ is_draining c.stage
+over_at g a l c h = ap is_over (plain_next g l h.no_cut) ∙ over_counted l.sent (phase_next g l.phase l) ∙ phase_goes g l.phase l ∙ stage_last g c.stage l c h.stage
+
+-- it is over exactly where its fields say so
+pub settles : (c : Conn) (over : Bool) → over ≡ over_in c → Settles c over
+settles c over e g a l h =
+    e ∙ ap (λ x. x && (is_empty (queue_in Client c) && is_empty (queue_in Server c))) (sym (over_at g a l c h))
+    ∙ ap (λ x. is_over (next_item g l) && (x && is_empty (queue_in Server c))) (sym (took_all a l c.ends h.ends Client))
+    ∙ ap (λ x. is_over (next_item g l) && (settle.took_all l a.took Client && x)) (sym (took_all a l c.ends h.ends Server))
+
+pub settles_notes : (number : ℕ) (c : Conn) → SettlesNotes number c
+settles_notes number c g a l h =
+    let e = c.ends.edges in
+    let d = queued_in c.ends in
+    ap (λ x. settling x number e (is_empty (queue_in Server c)) (is_empty (queue_in Client c)) d) (sym (over_at g a l c h))
+    ∙ ap (λ x. settling (is_over (next_item g l)) number e x (is_empty (queue_in Client c)) d) (sym (took_all a l c.ends h.ends Server))
+    ∙ ap (λ x. settling (is_over (next_item g l)) number e (settle.took_all l a.took Server) x d) (sym (took_all a l c.ends h.ends Client))
+
+-- bytes are passed on where it relays alone
+at_relays : (at : At) (bodies : Bodies) (k : Link) → relays_at (InEvent (event_of at) bodies) k ≡ false
+at_relays at.Accepted bodies k = refl
+at_relays at.Selected bodies k = refl
+at_relays at.Failed bodies k = refl
+at_relays at.Connected bodies k = refl
+at_relays at.ServerClosed bodies k = refl
+at_relays at.Closed bodies k = refl
+
+abbrev NoRelay : Phase → Link → Type 0
+NoRelay p k = relays_at p k ≡ false
+
+moved_relay : (p q : Phase) (k : Link) → p ≡ q → NoRelay q k → NoRelay p k
+moved_relay p q k is n = ap (λ x. relays_at x k) is ∙ n
+
+gated_relay : (at : At) (hs : List Handler) (p : Phase) (k : Link) → GatedBefore (event_of at) hs p → NoRelay p k
+gated_relay at [] p k r = absurd r
+gated_relay at (b ∷ bs) p k r = moved_relay p (InEvent (event_of at) (Gated b bs)) k r (at_relays at (Gated b bs) k)
+
+first_relay : (g : Setup) (at : At) (hs : List Handler) (n : ℕ) (l : TraceState) (c : Conn) (k : Link) → RunsFirst g (event_of at) hs n l c → NoRelay l.phase k
+first_relay g at [] n l c k r = absurd r
+first_relay g at (b ∷ bs) n l c k r = moved_relay l.phase (InEvent (event_of at) (Running b bs (length r.acts + n))) k r.phase (at_relays at (Running b bs (length r.acts + n)) k)
+
+no_relay : (g : Setup) (st : Stage) (l : TraceState) (c : Conn) (k : Link) → Stands g st l c → is_relaying st ≡ false → NoRelay l.phase k
+no_relay g (stage.Gated at) l c k r e = gated_relay at (g.handlers (event_of at)) l.phase k r.0
+no_relay g (stage.Running at n) l c k r e = first_relay g at (drop n (g.handlers (event_of at))) 0 l c k r.0
+no_relay g (stage.Asking at n) l c k r e = first_relay g at (drop n (g.handlers (event_of at))) 1 l c k r.0
+no_relay g (stage.Failing at n kind line) l c k r e = moved_relay l.phase _ k r.0 (at_relays at (Failing kind line (drop n (g.handlers (event_of at)))) k)
+no_relay g stage.Choosing l c k r e = moved_relay l.phase Choosing k r.0 refl
+no_relay g stage.Selecting l c k r e = moved_relay l.phase _ k r.0 refl
+no_relay g (stage.Chosen addr) l c k r e = moved_relay l.phase _ k r.0 refl
+no_relay g (stage.Connecting to) l c k r e = moved_relay l.phase (Connecting to) k r.0 refl
+no_relay g (stage.Answering to) l c k r e = moved_relay l.phase (Answering to) k r.0 refl
+no_relay g stage.Relaying l c k r e = absurd (let t : true ≡ false = e in cc)
+no_relay g (stage.Finishing f) l c k r e = moved_relay l.phase (Finishing (reason_for f)) k r.0 refl
+no_relay g stage.Draining l c k r e = moved_relay l.phase Draining k r.0 refl
+no_relay g stage.OutOfMemory l c k r e = absurd r
+no_relay g (stage.Dropped n) l c k r e = absurd r
+
+-- it relays where there is a server connection
+up_is : (k : CodeLink) → is_up k ≡ true → k ≡ link.Up
+up_is link.Absent e = absurd (let t : false ≡ true = e in cc)
+up_is link.Asked e = absurd (let t : false ≡ true = e in cc)
+up_is link.Refused e = absurd (let t : false ≡ true = e in cc)
+up_is link.Made e = absurd (let t : false ≡ true = e in cc)
+up_is link.Up e = refl
+
+relaying_is : (st : Stage) → is_relaying st ≡ true → st ≡ stage.Relaying
+relaying_is (stage.Gated at) e = absurd (let t : false ≡ true = e in cc)
+relaying_is (stage.Running at n) e = absurd (let t : false ≡ true = e in cc)
+relaying_is (stage.Asking at n) e = absurd (let t : false ≡ true = e in cc)
+relaying_is (stage.Failing at n kind line) e = absurd (let t : false ≡ true = e in cc)
+relaying_is stage.Choosing e = absurd (let t : false ≡ true = e in cc)
+relaying_is stage.Selecting e = absurd (let t : false ≡ true = e in cc)
+relaying_is (stage.Chosen addr) e = absurd (let t : false ≡ true = e in cc)
+relaying_is (stage.Connecting to) e = absurd (let t : false ≡ true = e in cc)
+relaying_is (stage.Answering to) e = absurd (let t : false ≡ true = e in cc)
+relaying_is stage.Relaying e = refl
+relaying_is (stage.Finishing f) e = absurd (let t : false ≡ true = e in cc)
+relaying_is stage.Draining e = absurd (let t : false ≡ true = e in cc)
+relaying_is stage.OutOfMemory e = absurd (let t : false ≡ true = e in cc)
+relaying_is (stage.Dropped n) e = absurd (let t : false ≡ true = e in cc)
+
+same_empty : (q : List ℕ) → query.is_empty q ≡ is_empty q
+same_empty [] = refl
+same_empty (b ∷ q) = refl
+
+-- the tests of a half-close
+abbrev tests : (relays finished : Bool) → Stream → (held loose : List ℕ) → (took reset : Bool) → Bool
+tests relays finished s held loose took reset =
+    (relays && not finished) && (((s.ended && query.is_empty s.unread) && (query.is_empty held && query.is_empty loose)) && (took && not reset))
+
+test_values : (done took reset half : Bool) → (done && (took && (not reset && not half))) ≡ (((true && true) && ((done && (true && true)) && (took && not reset))) && not half)
+test_values true true true half = refl
+test_values true true false half = refl
+test_values true false reset half = refl
+test_values false took reset half = refl
+
+by_values : (e : End) (took reset half : Bool) → (is_done e && (took && (not reset && not half))) ≡ (tests true false (arrived e) [] [] took reset && not half)
+by_values e took reset half =
+    ap (λ x. (e.ended && x) && (took && (not reset && not half))) (sym (same_empty e.unread))
+    ∙ test_values (e.ended && query.is_empty e.unread) took reset half
+
+module _ (g : Setup) (a : Around) (l : TraceState) (c : Conn) (h : Holds g a l c) where
+  -- where it relays
+  module _ (is : c.stage ≡ stage.Relaying) where
+    up : c.ends.link ≡ link.Up
+    up = up_is c.ends.link (sym (ap (λ st. fits st c.ends.link) is) ∙ h.fits)
+
+    here : Stands g stage.Relaying l c
+    here = let S : Stage → Type 0 = λ st. Stands g st l c in subst S is h.stage
+
+    server : l.server ≡ There (arrived c.ends.server)
+    server = h.ends.server ∙ ap (λ k. server_by k c.ends.server) up
+
+    relays : relays_at l.phase (link_of l.server) ≡ true
+    relays = ap (λ p. relays_at p (link_of l.server)) here.0 ∙ ap (λ v. relays_at Relaying (link_of v)) server
+
+    unfinished : l.finished ≡ false
+    unfinished = h.finished ∙ ap has_finished is
+
+    stream_is : (side : Side) → stream_of side l ≡ arrived (end_of side c.ends)
+    stream_is Client = h.ends.client
+    stream_is Server = ap server_stream server
+
+    nothing_held : (side : Side) → (collected side l.host.net).held ≡ []
+    nothing_held Client = ap (λ x. x.net.client.held) here.1.host ∙ ap (λ x. x.held) h.no_collect.client
+    nothing_held Server = ap (λ x. x.net.server.held) here.1.host ∙ ap (λ x. x.held) h.no_collect.server
+
+    nothing_loose : l.host.net.loose ≡ []
+    nothing_loose = ap (λ x. x.net.loose) here.1.host ∙ h.no_collect.loose
+
+    reset_is : (side : Side) → is_reset l.sent a.took side ≡ (end_of side c.ends).reset
+    reset_is Client = client_reset a l c.ends h.ends
+    reset_is Server = server_reset a l c.ends h.ends up
+
+    due_is : (side : Side) → half_close_due l a.took side ≡ tests true false (arrived (end_of (other side) c.ends)) [] [] (is_empty (queue_in side c)) (end_of side c.ends).reset
+    due_is side =
+        let o = other side in
+        let s = stream_of o l in
+        let held = (collected o l.host.net).held in
+        let loose = l.host.net.loose in
+        let t = nat_eq (to_take l.sent a.took side) 0 in
+        let z = is_reset l.sent a.took side in
+        ap (λ x. tests x l.finished s held loose t z) relays
+        ∙ ap (λ x. tests true x s held loose t z) unfinished
+        ∙ ap (λ x. tests true false x held loose t z) (stream_is o)
+        ∙ ap (λ x. tests true false (arrived (end_of o c.ends)) x loose t z) (nothing_held o)
+        ∙ ap (λ x. tests true false (arrived (end_of o c.ends)) [] x t z) nothing_loose
+        ∙ ap (λ x. tests true false (arrived (end_of o c.ends)) [] [] x z) (took_all a l c.ends h.ends side)
+        ∙ ap (λ x. tests true false (arrived (end_of o c.ends)) [] [] (is_empty (queue_in side c)) x) (reset_is side)
+
+  abbrev rest_of : Bool → Side → Bool
+  rest_of r side = r && (is_done (end_of (other side) c.ends) && (is_empty (queue_in side c) && (not (end_of side c.ends).reset && not (edge_of side c.ends.edges).half)))
+
+  half_is : (side : Side) → half_due side c ≡ (half_close_due l a.took side && not (edge_of side c.ends.edges).half)
+  half_is side = by_stage (is_relaying c.stage) refl
+    where
+      half : Bool
+      half = (edge_of side c.ends.edges).half
+
+      by_stage : (b : Bool) → is_relaying c.stage ≡ b → rest_of b side ≡ (half_close_due l a.took side && not half)
+      by_stage true e =
+          by_values (end_of (other side) c.ends) (is_empty (queue_in side c)) (end_of side c.ends).reset half
+          ∙ ap (λ x. x && not half) (sym (due_is (relaying_is c.stage e) side))
+      by_stage false e =
+          let due : half_close_due l a.took side ≡ false = ap (λ x. tests x l.finished (stream_of (other side) l) (collected (other side) l.host.net).held l.host.net.loose (nat_eq (to_take l.sent a.took side) 0) (is_reset l.sent a.took side)) (no_relay g c.stage l c (link_of l.server) h.stage e) in
+          sym (ap (λ x. x && not half) due)
+
+pub rests_with : (number : ℕ) (c : Conn) → RestsWith number c
+rests_with number c g a l h =
+    let e = c.ends.edges in
+    let d = queued_in c.ends in
+    ap (λ x. note_if x (HalfClose number Client) ++ (half_notes number Server c ++ settle_notes number c)) (half_is g a l c h Client)
+    ∙ ap (λ x. half_close a.took l number e Client ++ (note_if x (HalfClose number Server) ++ settle_notes number c)) (half_is g a l c h Server)
+    ∙ ap (λ x. half_close a.took l number e Client ++ (half_close a.took l number e Server ++ x)) (settles_notes number c g a l h)
+
+-- what was dropped, where it stands for a state
+lost_client : (b : Bool) (q : List ℕ) (counted sent : ℕ) → length q + counted ≡ sent → (if b then length q else 0) ≡ lost_by (taken_by b counted) (sent - counted)
+lost_client true q counted sent is = omega (arith, is)
+lost_client false q counted sent is = refl
+
+none_lost : (b : Bool) (q : List ℕ) (counted sent : ℕ) → length q + counted ≡ sent → sent ≡ 0 → (if b then length q else 0) ≡ lost_by (Some 0) (sent - counted)
+none_lost true q counted sent is none = omega (arith, is, none)
+none_lost false q counted sent is none = refl
+
+lost_server : (k : CodeLink) (b : Bool) (q : List ℕ) (counted sent : ℕ) → length q + counted ≡ sent → (is_up k ≡ false → sent ≡ 0) → (if b then length q else 0) ≡ lost_by (taken_of (servers_by k b counted) (number_by k)) (sent - counted)
+lost_server link.Absent b q counted sent is none = none_lost b q counted sent is (none refl)
+lost_server link.Asked b q counted sent is none = none_lost b q counted sent is (none refl)
+lost_server link.Refused b q counted sent is none = none_lost b q counted sent is (none refl)
+lost_server link.Made b q counted sent is none = none_lost b q counted sent is (none refl)
+lost_server link.Up b q counted sent is none = lost_client b q counted sent is
+
+pub drops_reset : (c : Conn) → DropsReset c (dropped_by c)
+drops_reset c g a l h = by_stage c.stage h.stage
+  where
+    e : BothEnds
+    e = c.ends
+
+    lost_is : (lost_at e.client + lost_at e.server) ≡ lost_of a l.sent
+    lost_is =
+        ap (λ n. n + lost_at e.server) (lost_client e.client.reset e.client.queued a.counted l.sent.client h.ends.client_untaken)
+        ∙ ap (λ o. lost_by o (l.sent.client - a.counted) + lost_at e.server) (sym h.ends.client_took)
+        ∙ ap (λ n. lost_by a.took.client (l.sent.client - a.counted) + n) (lost_server e.link e.server.reset e.server.queued a.counted_server l.sent.server h.ends.server_untaken h.ends.unsent)
+        ∙ ap (λ s. lost_by a.took.client (l.sent.client - a.counted) + lost_by (taken_of s (number_by e.link)) (l.sent.server - a.counted_server)) (sym h.ends.servers_took)
+        ∙ ap (λ n. lost_by a.took.client (l.sent.client - a.counted) + lost_by (taken_of a.took.servers n) (l.sent.server - a.counted_server)) (sym h.ends.number)
+
+    by_stage : (st : Stage) → Stands g st l c → dropped_at st (lost_at e.client + lost_at e.server) ≡ lost_of a l.sent
+    by_stage (stage.Dropped n) k = absurd k
+    by_stage stage.OutOfMemory k = absurd k
+    by_stage (stage.Gated at) k = lost_is
+    by_stage (stage.Running at n) k = lost_is
+    by_stage (stage.Asking at n) k = lost_is
+    by_stage (stage.Failing at n kind line) k = lost_is
+    by_stage stage.Choosing k = lost_is
+    by_stage stage.Selecting k = lost_is
+    by_stage (stage.Chosen addr) k = lost_is
+    by_stage (stage.Connecting to) k = lost_is
+    by_stage (stage.Answering to) k = lost_is
+    by_stage stage.Relaying k = lost_is
+    by_stage (stage.Finishing f) k = lost_is
+    by_stage stage.Draining k = lost_is

@@ -1,0 +1,9 @@
+use Rattle.std.proofs.Common.{sym, subst, ◌∙◌}
+use Rattle.conn.specs.Acts.{RelaysBy}
+use Rattle.conn.specs.declared.relay.Relay.{Relay}
+use Rattle.conn.proofs.connection.Conn.relay.Goals as goal
+
+pub returns-in-Rest-clause-ok : goal.returns-in-Rest-clause-ok
+returns-in-Rest-clause-ok c =
+    let P : Relay → Type 0 = λ plan. RelaysBy plan c.args.setup.now c.args.number c.args.self.now c.rest_or_cut.new.self c.args.notes.now.items c.rest_or_cut.new.notes.items c.rest_or_cut.result in
+    subst P (sym c.in-Rest.is ∙ c.plan.ensures) c.rest_or_cut.ensures.rests

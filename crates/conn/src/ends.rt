@@ -1,0 +1,278 @@
+// The two ends of a connection.
+
+ghost use Rattle.std.specs.Prelude.{◌≡◌, ◌≤◌, ◌<◌, ◌^◌, [], true, false, length, take, drop, IfOk, OnOk, OnErr};
+ghost use Rattle.conn.specs.Calls.{connected_ends, ended_ends, reset_ends, took_ends};
+ghost use Rattle.conn.specs.Ends.{end_of, fresh_end, fresh_ends, has_stream, heard_end, hears_at, is_done};
+ghost use Rattle.conn.specs.Ends.{is_sought, is_up, lost_at, queue_of, queued_in, room_left};
+
+use connection_model::{Edge, EdgeState, Edges};
+use px_bytes::{M, Side, Text};
+use seg_buffer::Held;
+use std::alloc::Global;
+
+/// Bytes are moved on to an end while fewer than these wait for it.
+pub(crate) const ROOM: usize = 65_536;
+
+/// The most bytes of an end that may lie unread.
+pub(crate) const UNREAD_LIMIT: usize = 65_536;
+
+/// An end of a connection: what came of it and wasn't read, whether no more follows, and what is
+/// queued to it.
+#[derive(Drop)]
+pub struct End {
+    pub(crate) unread: Held,
+    pub(crate) ended: bool,
+    /// Whether it was reset. What is queued to it then is dropped.
+    pub(crate) reset: bool,
+    pub(crate) queued: Held,
+}
+
+impl End {
+    pub(crate) fn new(alloc: Global) -> End
+        ensures { result ≡ fresh_end }
+    {
+        End {
+            unread: Held::new(alloc),
+            ended: false,
+            reset: false,
+            queued: Held::new(alloc),
+        }
+    }
+
+    /// Bytes come behind the others; behind the end nothing does.
+    pub(crate) fn push(&mut self, bytes: &[u8]) -> M<()>
+        ensures ok { OnOk result (self.new
+            ≡ heard_end (record { bytes = bytes.now; ended = false }) self.old) }
+        ensures err { OnErr result (self.new ≡ self.old) }
+    {
+        if self.ended {
+            return Ok(());
+        }
+        self.unread.push(bytes)
+    }
+
+    /// No more follows.
+    pub(crate) fn end(&mut self)
+        ensures { self.new ≡ heard_end (record { bytes = []; ended = true }) self.old }
+    {
+        if !self.ended {
+            self.ended = true;
+        }
+    }
+
+    /// The first `n` bytes were taken.
+    pub(crate) fn took(&mut self, n: usize)
+        requires { n ≤ length (queue_of self.old) }
+        ensures { self.new ≡ record self.old { queued = drop n self.old.queued } }
+    {
+        self.queued.drop_front(n);
+    }
+
+    /// What is queued to it is dropped.
+    pub(crate) fn drop_queued(&mut self)
+        ensures { self.new ≡ record self.old { queued = [] } }
+    {
+        let queued = self.queued.len();
+        self.queued.drop_front(queued);
+    }
+
+    /// How many bytes it is to take.
+    pub(crate) fn pending(&self) -> usize
+        ensures { result ≡ length (queue_of self.now) }
+    {
+        if self.reset { 0 } else { self.queued.len() }
+    }
+
+    /// The bytes that it is to take.
+    pub(crate) fn front(&self) -> &[u8]
+        ensures { result.now ≡ queue_of self.now }
+    {
+        if self.reset { &[] } else { self.queued.front() }
+    }
+
+    /// The first `n` of them.
+    pub(crate) fn copy(&self, n: usize) -> M<Text>
+        requires { n ≤ length (queue_of self.now) }
+        ensures { IfOk result (λ text. text ≡ take n (queue_of self.now)) }
+    {
+        self.queued.copy(n)
+    }
+
+    /// How many bytes may be moved on to it.
+    pub(crate) fn room(&self) -> usize
+        ensures { result ≡ room_left self.now }
+    {
+        ROOM.saturating_sub(self.pending())
+    }
+
+    /// No more of it is to be read.
+    pub(crate) fn is_done(&self) -> bool
+        ensures { result ≡ is_done self.now }
+    {
+        self.ended && self.unread.is_empty()
+    }
+
+    /// How many bytes a reset left untaken.
+    pub(crate) fn lost(&self) -> usize
+        ensures exact { result ≡ lost_at self.now }
+        ensures small { result < 2 ^ 63 }
+    {
+        if self.reset { self.waiting() } else { 0 }
+    }
+
+    // How many bytes were queued to it and weren't taken, also behind a reset.
+    fn waiting(&self) -> usize
+        ensures exact { result ≡ length self.now.queued }
+        ensures small { result < 2 ^ 63 }
+    {
+        self.queued.front().len()
+    }
+}
+
+/// Whether there is a server connection. One is made at most.
+#[derive(Clone, Copy, Debug, PartialEq, Eq)]
+pub enum Link {
+    Absent,
+    /// It was asked for.
+    Asked,
+    /// It wasn't made, and nothing was done about that yet.
+    Refused,
+    /// It was made, and nothing was done about that yet.
+    Made,
+    Up,
+}
+
+impl Link {
+    pub fn is_up(self) -> bool
+        ensures { result ≡ is_up self }
+    {
+        matches!(self, Link::Up)
+    }
+
+    /// A server was asked for or is there.
+    pub fn is_sought(self) -> bool
+        ensures { result ≡ is_sought self }
+    {
+        !matches!(self, Link::Absent)
+    }
+
+    /// Bytes of a server may come.
+    pub fn has_stream(self) -> bool
+        ensures { result ≡ has_stream self }
+    {
+        matches!(self, Link::Made | Link::Up)
+    }
+}
+
+/// Both ends of a connection, whether there is a server connection, and what the outside was told
+/// of them.
+#[derive(Drop)]
+pub struct Ends {
+    pub(crate) client: End,
+    pub(crate) server: End,
+    pub(crate) link: Link,
+    pub(crate) edges: Edges,
+}
+
+impl Ends {
+    /// A client was accepted, and nothing came of it.
+    pub(crate) fn new(alloc: Global) -> Ends
+        ensures { result ≡ fresh_ends }
+    {
+        Ends {
+            client: End::new(alloc),
+            server: End::new(alloc),
+            link: Link::Absent,
+            edges: Edges {
+                client: Edge::new(EdgeState::Open),
+                server: Edge::new(EdgeState::Absent),
+            },
+        }
+    }
+
+    /// Bytes come of a side, where there is one.
+    pub(crate) fn arrive(&mut self, side: Side, bytes: &[u8]) -> M<()>
+        ensures ok { OnOk result (self.new
+            ≡ hears_at side (record { bytes = bytes.now; ended = false }) self.old) }
+        ensures err { OnErr result (self.new ≡ self.old) }
+    {
+        match side {
+            Side::Client => self.client.push(bytes),
+            Side::Server if self.link.has_stream() => self.server.push(bytes),
+            Side::Server => Ok(()),
+        }
+    }
+
+    /// A side sends no more, also where nothing of it is heard any more.
+    pub(crate) fn end(&mut self, side: Side, finished: bool)
+        ensures { self.new ≡ ended_ends finished side self.old }
+    {
+        if !finished {
+            self.hear_end(side);
+        }
+        match side {
+            Side::Client => self.edges.client.ended = true,
+            Side::Server => self.edges.server.ended = true,
+        }
+    }
+
+    fn hear_end(&mut self, side: Side)
+        ensures { self.new ≡ hears_at side (record { bytes = []; ended = true }) self.old }
+    {
+        match side {
+            Side::Client => self.client.end(),
+            Side::Server if self.link.has_stream() => self.server.end(),
+            Side::Server => {}
+        }
+    }
+
+    /// A side took the first `n` bytes.
+    pub(crate) fn took(&mut self, side: Side, n: usize)
+        requires { n ≤ length (queue_of (end_of side self.old)) }
+        ensures { self.new ≡ took_ends side n self.old }
+    {
+        match side {
+            Side::Client => self.client.took(n),
+            Side::Server => self.server.took(n),
+        }
+    }
+
+    /// A side was reset.
+    pub(crate) fn reset(&mut self, side: Side)
+        ensures { self.new ≡ reset_ends side self.old }
+    {
+        match side {
+            Side::Client => {
+                self.client.reset = true;
+                self.edges.client.reset = true;
+            }
+            Side::Server => {
+                if self.link.has_stream() {
+                    self.server.reset = true;
+                }
+                self.edges.server.reset = true;
+            }
+        }
+    }
+
+    /// Whether the server took the connection, also where nothing of it is heard any more.
+    pub(crate) fn connected(&mut self, made: bool, finished: bool)
+        ensures { self.new ≡ connected_ends finished made self.old }
+    {
+        self.edges.server = if made {
+            Edge::new(EdgeState::Open)
+        } else {
+            Edge::new(EdgeState::Absent)
+        };
+        if !finished {
+            self.link = if made { Link::Made } else { Link::Refused };
+        }
+    }
+
+    /// How many bytes were queued to both and weren't taken, also behind a reset.
+    pub(crate) fn queued(&self) -> usize
+        ensures { result ≡ queued_in self.now }
+    {
+        self.client.waiting() + self.server.waiting()
+    }
+}

@@ -1,0 +1,134 @@
+// What a connection owes the outside where it can't go on.
+
+ghost use Rattle.std.specs.Prelude.{◌≡◌, ◌+◌, ◌≤◌, ◌++◌, length};
+ghost use Rattle.conn.specs.Settling.{Settles, SettlesNotes, half_due, half_notes, noted_in, over_in};
+ghost use Rattle.conn.specs.Settling.{client_notes, close_notes, is_there, rest_notes};
+ghost use Rattle.conn.specs.Settling.{server_notes, settle_notes};
+ghost use Rattle.connection_model.specs.Edges.{edges_noted};
+
+use crate::connection::Conn;
+use connection_model::{EdgeState, Edges, Note, Notes};
+use px_bytes::Side;
+
+impl Conn {
+    /// Gives the notes that are due where it stands, once it has finished: that its server is closed,
+    /// that its client is, and that it is over where both took all. It says whether it is over.
+    pub fn settle(&mut self, number: u32, notes: &mut Notes) -> bool
+        requires { 3 ≤ notes.old.spare }
+        ensures settles { Settles self.old result }
+        ensures told { SettlesNotes number self.old }
+        ensures over { result ≡ over_in self.old }
+        ensures noted { notes.new.items ≡ notes.old.items ++ settle_notes number self.old }
+        ensures ends { self.new ≡ noted_in (settle_notes number self.old) self.old }
+    {
+        self.settle_now(number, notes)
+    }
+
+    fn settle_now(&mut self, number: u32, notes: &mut Notes) -> bool
+        requires { 3 ≤ notes.old.spare }
+        ensures over { result ≡ over_in self.old }
+        ensures noted { notes.new.items ≡ notes.old.items ++ settle_notes number self.old }
+        ensures ends { self.new ≡ noted_in (settle_notes number self.old) self.old }
+    {
+        if !self.stage.is_draining() {
+            return false;
+        }
+        let server = self.ends.server.pending() == 0;
+        let client = self.ends.client.pending() == 0;
+        close(&mut self.ends.edges, number, server, client, notes);
+        if !server || !client {
+            return false;
+        }
+        notes.push_reserved(Note::Ended {
+            conn: number,
+            dropped: self.ends.queued(),
+        });
+        true
+    }
+
+    /// Gives the notes that are due at a rest, and says whether it is over.
+    pub(crate) fn rest(&mut self, number: u32, notes: &mut Notes) -> bool
+        requires { 5 ≤ notes.old.spare }
+        ensures over { result ≡ over_in self.old }
+        ensures noted { notes.new.items ≡ notes.old.items ++ rest_notes number self.old }
+        ensures ends { self.new ≡ noted_in (rest_notes number self.old) self.old }
+    {
+        self.half_close(number, Side::Client, notes);
+        self.half_close(number, Side::Server, notes);
+        self.settle_now(number, notes)
+    }
+
+    // Nothing more comes for a side that took all: what is sent to it ends.
+    fn half_close(&mut self, number: u32, side: Side, notes: &mut Notes)
+        requires { 1 ≤ notes.old.spare }
+        ensures noted { notes.new.items ≡ notes.old.items ++ half_notes number side self.old }
+        ensures ends { self.new ≡ noted_in (half_notes number side self.old) self.old }
+        ensures spare { notes.old.spare ≤ notes.new.spare + 1 }
+    {
+        if !self.half_due(side) {
+            return;
+        }
+        notes.push_reserved(Note::HalfClose { conn: number, side });
+        match side {
+            Side::Client => self.ends.edges.client.half = true,
+            Side::Server => self.ends.edges.server.half = true,
+        }
+    }
+
+    fn half_due(&self, side: Side) -> bool
+        ensures { result ≡ half_due side self.now }
+    {
+        if !self.stage.is_relaying() {
+            return false;
+        }
+        let ends = &self.ends;
+        let (from, to, edge) = match side {
+            Side::Client => (&ends.server, &ends.client, ends.edges.client),
+            Side::Server => (&ends.client, &ends.server, ends.edges.server),
+        };
+        from.is_done() && to.pending() == 0 && !to.reset && !edge.half
+    }
+}
+
+/// Gives the notes that an end is closed, for the server and the client where they are told to be, if
+/// they are there.
+pub fn close(edges: &mut Edges, number: u32, server: bool, client: bool, notes: &mut Notes)
+    requires { 2 ≤ notes.old.spare }
+    ensures noted { notes.new.items ≡ notes.old.items ++ close_notes number server client edges.old }
+    ensures edges { edges.new ≡ edges_noted (close_notes number server client edges.old) edges.old }
+    ensures spare { notes.old.spare ≤ notes.new.spare + 2 }
+{
+    close_server(edges, number, server, notes);
+    close_client(edges, number, client, notes);
+}
+
+fn close_server(edges: &mut Edges, number: u32, told: bool, notes: &mut Notes)
+    requires { 1 ≤ notes.old.spare }
+    ensures noted { notes.new.items ≡ notes.old.items ++ server_notes number told edges.old }
+    ensures edges { edges.new ≡ edges_noted (server_notes number told edges.old) edges.old }
+    ensures spare { notes.old.spare ≤ notes.new.spare + 1 }
+{
+    if told && is_there(edges.server.state) {
+        notes.push_reserved(Note::CloseServer { conn: number });
+        edges.server.state = EdgeState::Closed;
+    }
+}
+
+fn close_client(edges: &mut Edges, number: u32, told: bool, notes: &mut Notes)
+    requires { 1 ≤ notes.old.spare }
+    ensures noted { notes.new.items ≡ notes.old.items ++ client_notes number told edges.old }
+    ensures edges { edges.new ≡ edges_noted (client_notes number told edges.old) edges.old }
+    ensures spare { notes.old.spare ≤ notes.new.spare + 1 }
+{
+    if told && is_there(edges.client.state) {
+        notes.push_reserved(Note::CloseClient { conn: number });
+        edges.client.state = EdgeState::Closed;
+    }
+}
+
+// An end is open, or was asked for.
+fn is_there(state: EdgeState) -> bool
+    ensures { result ≡ is_there state }
+{
+    matches!(state, EdgeState::Connecting | EdgeState::Open)
+}

@@ -1,0 +1,256 @@
+-- A connection of the code that runs: what it goes on with, for what was heard then.
+use Rattle.std.proofs.Common.{◌≡◌, ◌⊎◌, inl, inr, refl, sym, ap, subst, ◌∙◌, ℕ, ◌+◌, ◌-◌, ◌≤◌, List, [], ◌∷◌, ◌++◌, length, drop, Bool, true, false, ◌||◌, Option, Some, None, nat_eq, if◌then◌else◌, arith, length-append}
+use Rattle.std.specs.Bool.{MatchBool}
+use Rattle.std.proofs.lemmas.List.{length-drop, drop-append-le}
+use Rattle.std.proofs.lemmas.Grind.{flat_map-append}
+use Rattle.connection_model.specs.declared.edges.Edges.{Edges}
+use Rattle.connection_model.specs.declared.note.Cause.TheVariants.{Memory}
+use Rattle.connection_model.specs.declared.note.Note.{Note}
+use Rattle.connection_model.specs.declared.note.Note.TheVariants.{Finish}
+use Rattle.connection_model.specs.Edges.{edges_noted}
+use Rattle.connection_model.specs.Further.{longer}
+use Rattle.connection_model.specs.Gates.{Counts, TakenCounts, no_bytes, sent_after, sent_from}
+use Rattle.connection_model.specs.Heard.{Runs, Heard, taken, hears, start_of}
+use Rattle.connection_model.specs.HeardLaws.{TellsNothing, taken_by_items}
+use Rattle.connection_model.specs.Item.{Item, to_client, to_server, client_output, server_output, notes_of}
+use Rattle.connection_model.specs.Setup.{Setup}
+use Rattle.connection_model.specs.State.{TraceState}
+use Rattle.connection_model.specs.Tellings.{notes_about, failure_told}
+use Rattle.connection_model.specs.Trace.{Unfolds}
+use Rattle.connection_model.proofs.Given.{sent_counted, sent_output}
+use Rattle.connection_model.proofs.Sending.{sent_to_server}
+use Rattle.conn.specs.Ends.{is_up, number_by, queued_in}
+use Rattle.conn.specs.Holds.{Around, Holds, HoldsEnds}
+use Rattle.conn.specs.Runs.{GoesOnWith, StopsWithout}
+use Rattle.conn.specs.RunsItems.{Passes, StopsAt, asks, ends, is_resting, out_of_memory, told_behind}
+use Rattle.conn.specs.Settling.{closing, resting}
+use Rattle.conn.specs.Setups as conn
+use Rattle.conn.specs.declared.connection.Conn.{Conn}
+use Rattle.conn.specs.declared.ends.Ends.{Ends}
+use Rattle.conn.specs.declared.ends.Link.{Link}
+use Rattle.conn.specs.declared.ends.Link.TheVariants as link
+use Rattle.conn.specs.declared.setup.Setup as given
+use Rattle.conn.specs.declared.turn.ConnTurn.{ConnTurn}
+use Rattle.conn.specs.declared.turn.ConnTurn.TheVariants as turn
+use Rattle.proxy_core.specs.Calls.{calls_of, is_any, queue_behind}
+use Rattle.proxy_core.specs.Live.{LiveRuns, asks_in, edges_by_conn}
+use Rattle.proxy_core.specs.Moves.{MovesFront, RunsFailed, RunsOn, RunsOut, ran}
+use Rattle.proxy_core.specs.Past.{Past, ended_in, heard}
+use Rattle.proxy_core.specs.Ready.{ring_behind}
+use Rattle.proxy_core.specs.Represents.{ConnectionContinues, Continues, HoldsQueues, around}
+use Rattle.proxy_core.specs.Scheduler.{State, last_took, seen, seen_after, untaken_all}
+use Rattle.proxy_core.specs.Setup.{setup_of, stand_of}
+use Rattle.proxy_core.specs.declared.config.Config.{Config}
+use Rattle.proxy_core.proofs.CameOn.{Stood, queued_untaken, to_standing}
+use Rattle.proxy_core.proofs.Entries.{asked_behind, calls_behind_self}
+use Rattle.proxy_core.proofs.GroupNotes.{About, AreDue, about_items, about_joined, closing_due, due_about, due_failure, due_quiet, ended_behind, ended_closing, ended_resting, failure_behind, of_items, resting_due, tells_all}
+use Rattle.proxy_core.proofs.Meeting.{around_quiet}
+use Rattle.proxy_core.proofs.Members.{eq_self}
+use Rattle.proxy_core.proofs.Standing.{sent_at}
+
+-- ---- what is told behind its items
+
+pub told_due : (t : ConnTurn) (g : Setup) (took : TakenCounts) (at : TraceState) (c : ℕ) (e : Edges) (d : ℕ) → AreDue c (told_behind t g took at c e d)
+told_due t g took at c e d = by_rest (is_resting t)
+  where
+    by_rest : (b : Bool) → AreDue c (if b then resting g took at c e d else [])
+    by_rest true = resting_due g took at c e d
+    by_rest false = tt
+
+pub told_ends : (t : ConnTurn) (g : Setup) (took : TakenCounts) (at : TraceState) (c : ℕ) (e : Edges) (d : ℕ) → StopsAt g took at t → ended_in (told_behind t g took at c e d) ≡ (if ends t then c ∷ [] else [])
+told_ends turn.More g took at c e d stops = refl
+told_ends (turn.Asks call) g took at c e d stops = refl
+told_ends turn.NotYet g took at c e d stops = ended_resting g took at c e d ∙ ap (λ (b : Bool). if b then c ∷ [] else []) stops.1.0
+told_ends turn.Over g took at c e d stops = ended_resting g took at c e d ∙ ap (λ (b : Bool). if b then c ∷ [] else []) stops
+
+-- ---- what was sent
+
+pub sent_joined : (s : Counts) (some more : List Item) → sent_from s (some ++ more) ≡ sent_from (sent_from s some) more
+sent_joined s [] more = refl
+sent_joined s (i ∷ some) more = sent_joined (sent_after i s) some more
+
+up_number : (k : Link) → is_up k ≡ true → number_by k ≡ 1
+up_number link.Up e = refl
+up_number link.Absent e = cc
+up_number link.Asked e = cc
+up_number link.Refused e = cc
+up_number link.Made e = cc
+
+module _ (g : Setup) (h : Heard) (place : List Item) (l : TraceState) (e : Ends) (k : HoldsEnds (around h) l e) (u : Unfolds g (start_of g h) place l) where
+  client_within : h.client.took ≤ length (client_output place)
+  client_within =
+      let sent = ap (λ x. x.client) (sent_at g h place l u) in
+      let all = sent_output no_bytes place in
+      omega (arith, k.client_untaken, sent, all)
+
+  server_within : last_took h.connects ≤ length (server_output 1 place)
+  server_within = by_link (is_up e.link) refl
+    where
+      by_link : (b : Bool) → is_up e.link ≡ b → last_took h.connects ≤ length (server_output 1 place)
+      by_link true up =
+          let number : l.sent.number ≡ 1 = k.number ∙ up_number e.link up in
+          let sent : l.sent.server ≡ length (server_output 1 place) = sent_to_server g _ _ l place u ∙ ap (λ n. length (server_output n place)) number in
+          omega (arith, k.server_untaken, sent)
+      by_link false down = let none = k.unsent down in omega (arith, k.server_untaken, none)
+
+  pub queues_joined : (more : List Item) (new : Ends) → HoldsQueues h place e → new.client.queued ≡ e.client.queued ++ client_output more → new.server.queued ≡ e.server.queued ++ server_output 1 more → HoldsQueues h (place ++ more) new
+  queues_joined more new q client server = record {
+    client = client ∙ ap (λ x. x ++ client_output more) q.client ∙ sym (drop-append-le h.client.took (client_output place) (client_output more) client_within) ∙ ap (drop h.client.took) (sym (flat_map-append to_client place more));
+    server = server ∙ ap (λ x. x ++ server_output 1 more) q.server ∙ sym (drop-append-le (last_took h.connects) (server_output 1 place) (server_output 1 more) server_within)
+        ∙ ap (drop (last_took h.connects)) (sym (flat_map-append (to_server 1) place more));
+  }
+
+  pub sent_behind : (more : List Item) (at : TraceState) → Unfolds g (longer (taken_by_items (taken h) more) l) more at → at.sent ≡ sent_from no_bytes (place ++ more)
+  sent_behind more at on = sent_counted g (longer (taken_by_items (taken h) more) l) at more on ∙ ap (λ s. sent_from s more) (sent_at g h place l u) ∙ sym (sent_joined no_bytes place more)
+
+  -- what is queued and what was given beside
+  pub out_untaken : (more : List Item) (at : TraceState) → HoldsQueues h place e → Unfolds g (longer (taken_by_items (taken h) more) l) more at → at.sent.server ≡ l.sent.server + length (server_output 1 more)
+      → queued_in e + (length (client_output more) + length (server_output 1 more)) ≡ untaken_all h (place ++ more)
+  out_untaken more at q on sent =
+      let client : length e.client.queued ≡ length (client_output place) - h.client.took = ap length q.client ∙ length-drop h.client.took (client_output place) in
+      let all : length (client_output (place ++ more)) ≡ length (client_output place) + length (client_output more) = ap length (flat_map-append to_client place more) ∙ length-append (client_output place) (client_output more) in
+      let now = ap (λ x. x.server) (sent_behind more at on) in
+      omega (arith, client, all, client_within, k.server_untaken, sent, now)
+
+-- ---- a Run
+
+-- what the front comes to
+pub record RanConn (C : Config) (past : Past) (s : State) (c : ℕ) (rest : List ℕ) (group : List Note) (t : ConnTurn) (o : Option Conn) : Type 0 where
+  pub next : State
+  pub ring : next.ring ≡ ring_behind t c rest
+  pub queue : next.queue ≡ queue_behind t c s.queue
+  pub asking : ends t ≡ false → asks_in o ≡ is_any (calls_of c next.queue)
+  pub moves : MovesFront C (heard c past) c rest group s next
+  pub about : About c group
+  pub ended : ended_in group ≡ (if ends t then c ∷ [] else [])
+  pub setup : ends t ≡ false → setup_of C (hears c (heard c past) Runs group) ≡ setup_of C (heard c past)
+  pub goes_on : ends t ≡ false → ConnectionContinues C (seen_after past Runs group next c) o
+
+-- the place with more items stands on what is heard then
+abbrev pub RunStood : Config → ℕ → Heard → List Item → Type 0
+RunStood C c h place =
+    h.failed ≡ false → (more : List Item) (at : TraceState) (behind : List Note) → TellsNothing c behind → Passes (setup_of C h) (taken h) (stand_of C h place) more at
+    → Unfolds (setup_of C h) (start_of (setup_of C h) (hears c h Runs (notes_of c more ++ behind))) (place ++ more) at
+
+asks_behind : (t : ConnTurn) → asks t ≡ is_any (asked_behind t)
+asks_behind turn.More = refl
+asks_behind (turn.Asks call) = refl
+asks_behind turn.NotYet = refl
+asks_behind turn.Over = refl
+
+-- one that is over doesn't go on
+over_stays : (t : ConnTurn) → t ≡ turn.Over → ends t ≡ false → ⊥
+over_stays t e f = let y : true ≡ false = sym (ap ends e) ∙ f in cc
+
+module _ (C : Config) (past : Past) (s : State) (c : ℕ) (rest : List ℕ) where
+  abbrev h : Heard
+  h = heard c past
+
+  abbrev place : List Item
+  place = s.places c
+
+  front_failed : (group : List Note) (t : ConnTurn) (o : Option Conn) (dropped : ℕ) → h.failed ≡ true → dropped ≡ untaken_all h place → group ≡ closing c h.edges dropped → t ≡ turn.Over → RanConn C past s c rest group t o
+  front_failed group t o dropped failed left e f =
+      let next : State = record s { ring = rest } in
+      let M : Bool → Type 0 = λ b. MatchBool b (RunsFailed h c rest group s next) (RunsOn C h c rest group s next ⊎ RunsOut C h c rest group s next) in
+      let A : List Note → Type 0 = λ x. About c x in
+      record {
+        next = next;
+        ring = ap (λ x. ring_behind x c rest) (sym f);
+        queue = ap (λ x. queue_behind x c s.queue) (sym f);
+        asking = λ x. absurd (over_stays t f x);
+        moves = subst M (sym failed) (record { notes = e ∙ ap (closing c h.edges) left; state = refl });
+        about = subst A (sym e) (due_about c (closing c h.edges dropped) (closing_due c h.edges dropped));
+        ended = ap ended_in e ∙ ended_closing c h.edges dropped ∙ ap (λ x. if ends x then c ∷ [] else []) (sym f);
+        setup = λ x. absurd (over_stays t f x);
+        goes_on = λ x. absurd (over_stays t f x);
+      }
+
+  module _ (k : Stood C (heard c past) (s.places c)) (ran_on : RunStood C c (heard c past) (s.places c)) where
+    front_goes : (group : List Note) (t : ConnTurn) (old new : Conn) → Continues C (seen past s c) old → h.edges ≡ old.ends.edges → calls_of c s.queue ≡ []
+        → GoesOnWith (setup_of C h) (around h) (stand_of C h place) c old new group t → RanConn C past s c rest group t (Some new)
+    front_goes group t old new z edges none w =
+        let g = setup_of C h in
+        let l = stand_of C h place in
+        let all = place ++ w.more in
+        let next = ran c (ring_behind t c rest) (queue_behind t c s.queue) w.more s in
+        let queues = queues_joined g h place l old.ends z.holds.ends k.stands w.more new.ends z.queues w.client_queue w.server_queue in
+        let sent = sent_behind g h place l old.ends z.holds.ends k.stands w.more w.at w.items.passes.passed in
+        let left : queued_in new.ends ≡ untaken_all h all = queued_untaken h w.at all new.ends w.holds.ends queues sent in
+        let items = notes_of c w.more in
+        let told : Edges → ℕ → List Note = λ e d. told_behind t g (taken h) w.at c (edges_noted items e) d in
+        let behind = told h.edges (untaken_all h all) in
+        let noted : group ≡ items ++ behind = w.items.noted ∙ ap (λ e. items ++ told e (queued_in new.ends)) (sym edges) ∙ ap (λ d. items ++ told h.edges d) left in
+        let due : AreDue c behind = told_due t g (taken h) w.at c (edges_noted items h.edges) (untaken_all h all) in
+        let ofs = of_items c w.more in
+        let about_all : About c (items ++ behind) = about_joined c items behind (about_items c items ofs) (due_about c behind due) in
+        let h' = hears c h Runs (items ++ behind) in
+        let around_same : around h' ≡ around h = around_quiet c h Runs (items ++ behind) refl refl in
+        let stands = ran_on z.not_failed w.more w.at behind (due_quiet c behind due) w.items.passes in
+        let T : Around → Type 0 = λ x. Holds g x w.at new in
+        let P : (if nat_eq c c then all else place) ≡ all = ap (λ (b : Bool). if b then all else place) (eq_self c) in
+        let M : Bool → Type 0 = λ b. MatchBool b (RunsFailed h c rest group s next) (RunsOn C h c rest group s next ⊎ RunsOut C h c rest group s next) in
+        let G : List Note → Type 0 = λ x. Continues C (seen_after past Runs x next c) new in
+        let Z : List Item → Type 0 = λ p. Continues C (record (seen_after past Runs (items ++ behind) next c) { place = p }) new in
+        let A : List Note → Type 0 = λ x. About c x in
+        record {
+          next = next;
+          ring = refl;
+          queue = refl;
+          asking = λ x. w.asking ∙ asks_behind t ∙ ap is_any (sym (calls_behind_self t c s.queue none));
+          moves = subst M (sym z.not_failed) (inl (record { more = w.more; at = w.at; turn = t; items = record { passes = w.items.passes; noted = noted; stops = w.items.stops; calls = w.items.calls }; state = refl }));
+          about = subst A (sym noted) about_all;
+          ended = ap ended_in noted ∙ ended_behind c items behind ofs ∙ told_ends t g (taken h) w.at c (edges_noted items h.edges) (untaken_all h all) w.items.stops;
+          setup = λ x. refl;
+          goes_on = λ x. inl (subst G (sym noted) (subst Z (sym P) (record {
+            not_failed = ap (λ b. b || failure_told (notes_about c (items ++ behind))) z.not_failed ∙ ap failure_told (tells_all c (items ++ behind) about_all) ∙ failure_behind c items behind ofs ∙ due_failure c behind due;
+            holds = to_standing C h' g all w.at new refl stands (subst T (sym around_same) w.holds);
+            queues = record {
+              client = queues.client ∙ ap (λ a. drop a.counted (client_output all)) (sym around_same);
+              server = queues.server ∙ ap (λ a. drop a.counted_server (server_output 1 all)) (sym around_same);
+            };
+          })));
+        }
+
+    front_stops : (group : List Note) (t : ConnTurn) (old : Conn) (o : Option Conn) → Continues C (seen past s c) old → h.edges ≡ old.ends.edges
+        → StopsWithout (setup_of C h) (around h) (stand_of C h place) c old group t → RanConn C past s c rest group t o
+    front_stops group t old o z edges w =
+        let g = setup_of C h in
+        let l = stand_of C h place in
+        let all = place ++ w.more in
+        let next = ran c rest s.queue w.more s in
+        let items = notes_of c w.more in
+        let given = queued_in old.ends + (length (client_output w.more) + length (server_output 1 w.more)) in
+        let left : given ≡ untaken_all h all = out_untaken g h place l old.ends z.holds.ends k.stands w.more w.at z.queues w.passes.passed w.sent in
+        let out : Edges → ℕ → List Note = λ e d. out_of_memory c e w.more d in
+        let noted : group ≡ out h.edges (untaken_all h all) = w.noted ∙ ap (λ e. out e given) (sym edges) ∙ ap (out h.edges) left in
+        let last = closing c (edges_noted items h.edges) (untaken_all h all) in
+        let due = closing_due c (edges_noted items h.edges) (untaken_all h all) in
+        let ofs = of_items c w.more in
+        let M : Bool → Type 0 = λ b. MatchBool b (RunsFailed h c rest group s next) (RunsOn C h c rest group s next ⊎ RunsOut C h c rest group s next) in
+        let A : List Note → Type 0 = λ x. About c x in
+        record {
+          next = next;
+          ring = ap (λ x. ring_behind x c rest) (sym w.over);
+          queue = ap (λ x. queue_behind x c s.queue) (sym w.over);
+          asking = λ x. absurd (over_stays t w.over x);
+          moves = subst M (sym z.not_failed) (inr (record { more = w.more; at = w.at; passes = w.passes; no_call = w.no_call; notes = noted; state = refl }));
+          about = subst A (sym noted) (about_joined c items (Finish c Memory ∷ last) (about_items c items ofs) (refl, due_about c last due));
+          ended = ap ended_in noted ∙ ended_behind c items (Finish c Memory ∷ last) ofs ∙ ended_closing c (edges_noted items h.edges) (untaken_all h all) ∙ ap (λ x. if ends x then c ∷ [] else []) (sym w.over);
+          setup = λ x. absurd (over_stays t w.over x);
+          goes_on = λ x. absurd (over_stays t w.over x);
+        }
+
+    pub front_runs : (group : List Note) (t : ConnTurn) (S : given.Setup) (edges : Edges) (o o' : Option Conn) → ConnectionContinues C (seen past s c) o → h.edges ≡ edges_by_conn o edges → calls_of c s.queue ≡ [] → asks_in o ≡ is_any (calls_of c s.queue)
+        → conn.Serves S (setup_of C h) → LiveRuns S c edges o o' group t → RanConn C past s c rest group t o'
+    front_runs group t S edges None o' z e none asks serves r =
+        front_failed group t o' 0 z.failed (let n : untaken_all h [] ≡ 0 = omega arith in sym (ap (untaken_all h) z.no_items ∙ n)) (r.0 ∙ ap (λ x. closing c x 0) (sym e)) r.1
+    front_runs group t S edges (Some old) None z e none asks serves r = absurd r
+    front_runs group t S edges (Some old) (Some new) (inr z) e none asks serves r =
+        let x = r.failed z.there in
+        front_failed group t (Some new) (queued_in old.ends) z.failed (queued_untaken h (stand_of C h place) place old.ends z.ends z.queues (sent_at (setup_of C h) h place (stand_of C h place) k.stands)) (x.0 ∙ ap (λ y. closing c y (queued_in old.ends)) (sym e)) x.1
+    front_runs group t S edges (Some old) (Some new) (inl z) e none asks serves r = by_end (r.runs (setup_of C h) (around h) (stand_of C h place) serves z.holds (asks ∙ ap is_any none))
+      where
+        by_end : GoesOnWith (setup_of C h) (around h) (stand_of C h place) c old new group t ⊎ StopsWithout (setup_of C h) (around h) (stand_of C h place) c old group t → RanConn C past s c rest group t (Some new)
+        by_end (inl w) = front_goes group t old new z e none w
+        by_end (inr w) = front_stops group t old (Some new) z e w

@@ -1,0 +1,207 @@
+-- The server connections along items: the made ones are those that were answered and those that wait; while there is none its number is 0; a server is asked for where the one before took all; and to a later one nothing was sent.
+use Rattle.std.proofs.Common.{◌≡◌, refl, sym, ap, subst, ◌∙◌, ℕ, ◌+◌, ◌<◌, ◌≤◌, List, [], ◌∷◌, ◌++◌, length, Bool, true, false, ◌||◌, not, true≢false, if◌then◌else◌, Option, Some, None, is_some, arith, eqb-true, ne_eqb}
+use Rattle.px_bytes.specs.declared.addr.Side.TheVariants.{Server}
+use Rattle.connection_model.specs.Further.{Further, longer}
+use Rattle.connection_model.specs.Gates.{Counts, no_bytes, TakenCounts, to_take, may_give, sent_to, sent_part, renewed, sent_after, Met}
+use Rattle.connection_model.specs.Item.{Item, Answered, Connected, CutBy, Peer, ToClient, ToServer, Sending, shown, bytes_to_server, server_part, server_output}
+use Rattle.connection_model.specs.Phases.{finishes, Orderly, Steps}
+use Rattle.connection_model.specs.Places.{is_up}
+use Rattle.connection_model.specs.Setup.{Setup}
+use Rattle.connection_model.specs.State.{Answers, link_of, Cut, Stream, TraceState, Next, Does, Waits, Over}
+use Rattle.connection_model.specs.Trace.{finish, uncut, phase_next, cut_takes, cut_open, cut_next, counted, next_item, Unfolds, start}
+use Rattle.connection_model.proofs.Fair.{PeerIs, SendsTo, FairNext, phase_fair}
+use Rattle.connection_model.proofs.Given.{sent_step}
+use Rattle.connection_model.proofs.Stepping.{start_orderly, steps}
+use Rattle.connection_model.proofs.Streams.{link_same}
+use Rattle.proxy_core.specs.Servers.{awaits, made}
+use Rattle.proxy_core.proofs.Drains.{longer_orderly}
+use Rattle.proxy_core.proofs.ServerGone.{never, unlinked, NotUp}
+use Rattle.proxy_core.proofs.ServerPhases.{SideBy}
+use Rattle.proxy_core.proofs.ServerSteps.{item_side}
+
+or_right : (a b : Bool) → (a || b) ≡ false → b ≡ false
+or_right true b e = absurd (true≢false e)
+or_right false b e = e
+
+-- ---- where there is no server
+
+-- Of a trace that hasn't finished: in its first phases there is no server connection, and where there is none
+-- there was none.
+pub record Unserved (l : TraceState) : Type 0 where
+  pub orderly : Orderly l
+  pub not_up : NotUp l
+  pub first : l.finished ≡ false → is_up (link_of l.server) ≡ false → l.sent.number ≡ 0
+
+pub start_unserved : (g : Setup) (client : Stream) (answers : Answers) → Unserved (start g client answers)
+start_unserved g client answers = record { orderly = start_orderly g client answers; not_up = λ x e. refl; first = λ x e. refl }
+
+-- what is sent doesn't change the number
+part_number : (s : Option Sending) (sent : Counts) → (sent_part s sent).number ≡ sent.number
+part_number None sent = refl
+part_number (Some s) sent = by_peer s.peer
+  where
+    by_peer : (p : Peer) → (sent_to p (length s.bytes) sent).number ≡ sent.number
+    by_peer ToClient = refl
+    by_peer (ToServer k) = refl
+
+same_number : (i : Item) (sent : Counts) → (shown i).renews ≡ false → (sent_after i sent).number ≡ sent.number
+same_number i sent e = part_number (shown i).sends (renewed (shown i).renews sent) ∙ ap (λ b. (renewed b sent).number) e
+
+-- whether it had finished
+pub went_on : (l m : TraceState) (i : Item) → Steps l i m → m.finished ≡ false → l.finished ≡ false
+went_on l m i s e = or_right (finishes i) l.finished (sym s.finished ∙ e)
+
+unserved_by : (l m : TraceState) (i : Item) → Unserved l → Steps l i m → m.sent ≡ sent_after i l.sent → SideBy i l.phase l m → Unserved m
+unserved_by l m (Connected to) h s sent k = record {
+  orderly = s.orderly;
+  not_up = λ x e. ap (λ v. is_up (link_of v)) k.server;
+  first = λ x e. ap (λ c. c.number) sent ∙ h.first (went_on l m (Connected to) s x) (h.not_up (went_on l m (Connected to) s x) (ap unlinked k.was));
+}
+unserved_by l m (Answered true) h s sent k = record {
+  orderly = s.orderly;
+  not_up = k.not_up;
+  first = λ x e. never (sym e ∙ ap is_up k.link);
+}
+unserved_by l m (Answered false) h s sent k = record {
+  orderly = s.orderly;
+  not_up = k.not_up;
+  first = λ x e. ap (λ c. c.number) sent ∙ h.first (went_on l m (Answered false) s x) (h.not_up (went_on l m (Answered false) s x) (ap unlinked k.was));
+}
+unserved_by l m other h s sent k = record {
+  orderly = s.orderly;
+  not_up = k.not_up;
+  first = λ x e. ap (λ c. c.number) sent ∙ same_number other l.sent refl ∙ h.first (went_on l m other s x) (ap is_up (sym k.link) ∙ e);
+}
+
+pub unserved_step : (g : Setup) (l m : TraceState) (i : Item) → Unserved l → next_item g l ≡ Does i m → Unserved m
+unserved_step g l m i h is = unserved_by l m i h (steps g l m i h.orderly is) (sent_step g l m i is) (item_side g l m i h.orderly h.not_up is)
+
+pub unserved : (g : Setup) (l m : TraceState) (items : List Item) → Unserved l → Unfolds g l items m → Unserved m
+unserved g l m [] h is = subst Unserved is h
+unserved g l m (i ∷ items) h (mid, step, rest) = unserved g mid m items (unserved_step g l mid i h step) rest
+
+-- where more comes
+pub unserved_longer : (f : Further) (l : TraceState) → Unserved l → Unserved (longer f l)
+unserved_longer f l h = record {
+  orderly = longer_orderly f l h.orderly;
+  not_up = λ x e. ap is_up (link_same f l) ∙ h.not_up x e;
+  first = λ x e. h.first x (ap is_up (sym (link_same f l)) ∙ e);
+}
+
+-- ---- how many were made
+
+abbrev all_made : TraceState → ℕ
+all_made l = made l.answers.connects + l.sent.number
+
+answered_made : (o : Option Stream) (more : List (Option Stream)) (b : Bool) (sent : Counts) → is_some o ≡ b → made (o ∷ more) + sent.number ≡ made more + (renewed b sent).number
+answered_made (Some s) more true sent e = omega arith
+answered_made None more false sent e = refl
+answered_made (Some s) more false sent e = absurd (true≢false e)
+answered_made None more true sent e = never e
+
+made_by : (l m : TraceState) (i : Item) → m.sent ≡ sent_after i l.sent → SideBy i l.phase l m → all_made l ≡ all_made m
+made_by l m (Connected to) sent k = ap (λ cs. made cs + l.sent.number) (sym k.connects) ∙ ap (λ c. made m.answers.connects + c.number) (sym sent)
+made_by l m (Answered b) sent k =
+    ap (λ cs. made cs + l.sent.number) k.is ∙ answered_made k.answer k.more b l.sent k.made_is
+    ∙ ap (λ cs. made cs + (renewed b l.sent).number) (sym k.connects) ∙ ap (λ c. made m.answers.connects + c.number) (sym sent)
+made_by l m other sent k =
+    ap (λ cs. made cs + l.sent.number) (sym k.connects) ∙ ap (λ n. made m.answers.connects + n) (sym (same_number other l.sent refl)) ∙ ap (λ c. made m.answers.connects + c.number) (sym sent)
+
+pub made_along : (g : Setup) (l m : TraceState) (items : List Item) → Unserved l → Unfolds g l items m → made l.answers.connects + l.sent.number ≡ made m.answers.connects + m.sent.number
+made_along g l m [] h is = ap all_made is
+made_along g l m (i ∷ items) h (mid, step, rest) =
+    made_by l mid i (sent_step g l mid i step) (item_side g l mid i h.orderly h.not_up step) ∙ made_along g mid m items (unserved_step g l mid i h step) rest
+
+-- ---- while an answer is awaited the server before took all
+
+abbrev TookAll : TakenCounts → TraceState → Type 0
+TookAll took l = awaits l.phase ≡ true → to_take l.sent took Server ≡ 0
+
+took_by : (took : TakenCounts) (l m : TraceState) (i : Item) → m.sent ≡ sent_after i l.sent → may_give i l.sent took ≡ true → SideBy i l.phase l m → TookAll took m
+took_by took l m (Connected to) sent may k = λ e. ap (λ s. to_take s took Server) sent ∙ eqb-true (to_take l.sent took Server) 0 may
+took_by took l m (Answered b) sent may k = λ e. never (sym k.waits ∙ e)
+took_by took l m other sent may k = λ e. never (sym k.waits ∙ e)
+
+took_along : (g : Setup) (took : TakenCounts) (l m : TraceState) (items : List Item) → Unserved l → TookAll took l → Met l.sent took items → Unfolds g l items m → TookAll took m
+took_along g took l m [] h k met is = subst (TookAll took) is k
+took_along g took l m (i ∷ items) h k met (mid, step, rest) =
+    let sent = sent_step g l mid i step in
+    took_along g took mid m items (unserved_step g l mid i h step) (took_by took l mid i sent met.0 (item_side g l mid i h.orderly h.not_up step)) (subst (λ s. Met s took items) (sym sent) met.1) rest
+
+pub awaits_taken : (g : Setup) (took : TakenCounts) (client : Stream) (answers : Answers) (m : TraceState) (items : List Item) → Met no_bytes took items → Unfolds g (start g client answers) items m → awaits m.phase ≡ true → to_take m.sent took Server ≡ 0
+awaits_taken g took client answers m items met is = took_along g took (start g client answers) m items (start_unserved g client answers) (λ e. refl) met is
+
+-- ---- nothing is sent to a server connection that isn't there yet
+
+abbrev SendsNext : ℕ → Next → Type 0
+SendsNext number (Does i m) = SendsTo number (shown i).sends
+SendsNext number (Waits k) = Unit {0}
+SendsNext number Over = Unit {0}
+
+plain_sends : (cut : Option Cut) (number : ℕ) (client : Stream) (o : Next) → FairNext cut number client o → SendsNext number o
+plain_sends cut number client (Does i m) fair = fair.sends
+plain_sends cut number client (Waits k) fair = tt
+plain_sends cut number client Over fair = tt
+
+cut_sends : (g : Setup) (number : ℕ) (l : TraceState) (cut : Option Cut) (o : Next) → SendsNext number o → SendsNext number (cut_next g cut l o)
+cut_sends g number l None o is = is
+cut_sends g number l (Some c) o is = by_end l.finished
+  where
+    by_place : (o : Next) → SendsNext number o → SendsNext number (cut_open g c l o)
+    by_place (Does i m) is = by_test (may_give i l.sent c.took || not (cut_takes g.http c.reason None))
+      where
+        by_test : (b : Bool) → SendsNext number (if b then Does i m else finish g (CutBy c.reason) (uncut l))
+        by_test true = is
+        by_test false = tt
+    by_place (Waits k) is = by_test (cut_takes g.http c.reason (Some k))
+      where
+        by_test : (b : Bool) → SendsNext number (if b then finish g (CutBy c.reason) (uncut l) else Waits k)
+        by_test true = tt
+        by_test false = tt
+    by_place Over is = tt
+
+    by_end : (b : Bool) → SendsNext number (if b then o else cut_open g c l o)
+    by_end true = is
+    by_end false = by_place o is
+
+counted_sends : (number : ℕ) (sent : Counts) (o : Next) → SendsNext number o → SendsNext number (counted sent o)
+counted_sends number sent (Does i m) is = is
+counted_sends number sent (Waits k) is = tt
+counted_sends number sent Over is = tt
+
+item_sends : (g : Setup) (l m : TraceState) (i : Item) → next_item g l ≡ Does i m → SendsTo l.sent.number (shown i).sends
+unfolding next_item
+item_sends g l m i is =
+    let o = phase_next g l.phase l in
+    subst (SendsNext l.sent.number) is (counted_sends l.sent.number l.sent _ (cut_sends g l.sent.number l l.answers.cut o (plain_sends l.answers.cut l.sent.number l.client o (phase_fair g l.phase l))))
+
+peer_apart : (number k : ℕ) (peer : Peer) (bytes : List ℕ) → number < k → PeerIs number peer → bytes_to_server k peer bytes ≡ []
+peer_apart number k ToClient bytes below is = refl
+peer_apart number k (ToServer j) bytes below is = ap (λ b. if b then bytes else []) (ne_eqb j k (λ e. absurd (omega (arith, below, is, e))))
+
+part_apart : (number k : ℕ) (s : Option Sending) → number < k → SendsTo number s → server_part k s ≡ []
+part_apart number k None below is = refl
+part_apart number k (Some s) below is = peer_apart number k s.peer s.bytes below is
+
+-- the number doesn't fall
+renewed_number : (b : Bool) (sent : Counts) → sent.number ≤ (renewed b sent).number
+renewed_number true sent = omega arith
+renewed_number false sent = omega arith
+
+number_grows : (g : Setup) (l m : TraceState) (i : Item) → next_item g l ≡ Does i m → l.sent.number ≤ m.sent.number
+number_grows g l m i is =
+    let sent = ap (λ c. c.number) (sent_step g l m i is) in
+    let part = part_number (shown i).sends (renewed (shown i).renews l.sent) in
+    let grows = renewed_number (shown i).renews l.sent in
+    omega (arith, sent, part, grows)
+
+number_along : (g : Setup) (l m : TraceState) (items : List Item) → Unfolds g l items m → l.sent.number ≤ m.sent.number
+number_along g l m [] is = let e = ap (λ x. x.sent.number) is in omega (arith, e)
+number_along g l m (i ∷ items) (mid, step, rest) = let a = number_grows g l mid i step in let b = number_along g mid m items rest in omega (arith, a, b)
+
+pub none_sent : (g : Setup) (l m : TraceState) (items : List Item) (k : ℕ) → Unfolds g l items m → m.sent.number < k → server_output k items ≡ []
+none_sent g l m [] k is below = refl
+none_sent g l m (i ∷ items) k (mid, step, rest) below =
+    let a = number_grows g l mid i step in
+    let b = number_along g mid m items rest in
+    ap (λ x. x ++ server_output k items) (part_apart l.sent.number k (shown i).sends (omega (arith, a, b, below)) (item_sends g l mid i step)) ∙ none_sent g mid m items k rest below

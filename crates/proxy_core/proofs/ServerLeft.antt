@@ -1,0 +1,138 @@
+-- What was told of a server connection agrees with what was sent to it: what it took, what is pending, and its reset.
+use Rattle.std.proofs.Common.{◌≡◌, refl, sym, ap, subst, ◌∙◌, ℕ, zero, suc, ◌+◌, ◌-◌, ◌≤◌, ◌<◌, List, [], ◌∷◌, length, map, Bool, true, false, Option, is_none, arith, zero-add}
+use Rattle.px_bytes.specs.declared.addr.Side.TheVariants.{Server}
+use Rattle.connection_model.specs.declared.note.CutReason.TheVariants.{ServerReset}
+use Rattle.connection_model.specs.Gates.{no_bytes, sent_from, to_take, taken_of, untaken}
+use Rattle.connection_model.specs.Heard.{Heard, taken, taken_by, servers_taken, as_answer, start_of}
+use Rattle.connection_model.specs.Item.{Item, server_output}
+use Rattle.connection_model.specs.Phases.{OrderlyIn}
+use Rattle.connection_model.specs.Setup.{Setup}
+use Rattle.connection_model.specs.State.{Phase, Answering, Link, Stream, TraceState, link_of}
+use Rattle.connection_model.specs.Trace.{next_item, Unfolds, GivesNoMore}
+use Rattle.connection_model.proofs.Sending.{sent_to_server}
+use Rattle.conn.specs.RunsItems.{licenses as licensed_at}
+use Rattle.proxy_core.specs.Scheduler.{Seen, last_took, untaken_of}
+use Rattle.proxy_core.specs.Servers.{made, took_of, last_reset, awaits}
+use Rattle.proxy_core.specs.Sound.{ServedAt}
+use Rattle.proxy_core.proofs.Linking.{must_wait}
+use Rattle.proxy_core.proofs.ServerCounts.{made_as, most_untaken, taken_last, took_last}
+use Rattle.proxy_core.proofs.ServerLaws.{Unserved, start_unserved, unserved, made_along, awaits_taken, none_sent}
+use Rattle.proxy_core.proofs.ServerGone.{never, unlinked}
+use Rattle.proxy_core.proofs.ServerSteps.{rest_side}
+use Rattle.proxy_core.proofs.Standing.{sent_at}
+
+pub unserved_at : (g : Setup) (h : Heard) (place : List Item) (at : TraceState) → Unfolds g (start_of g h) place at → Unserved at
+unserved_at g h place at u = let s = start_of g h in unserved g s at place (start_unserved g s.client s.answers) u
+
+-- the made ones are those that the trace took, and those that wait
+pub all_made : (g : Setup) (h : Heard) (place : List Item) (at : TraceState) → Unfolds g (start_of g h) place at → made h.connects ≡ made at.answers.connects + at.sent.number
+all_made g h place at u =
+    let s = start_of g h in
+    let e : made (map as_answer h.connects) + 0 ≡ made at.answers.connects + at.sent.number = made_along g s at place (start_unserved g s.client s.answers) u in
+    let m = made_as h.connects in omega (arith, e, m)
+
+-- where none waits the last is the present one
+pub last_is_present : (g : Setup) (h : Heard) (place : List Item) (at : TraceState) → Unfolds g (start_of g h) place at → at.answers.connects ≡ [] → made h.connects ≡ at.sent.number
+last_is_present g h place at u none = all_made g h place at u ∙ ap (λ cs. made cs + at.sent.number) none ∙ zero-add at.sent.number
+
+awaits_going : (p : Phase) (f : Bool) (k : Link) → OrderlyIn p f k → awaits p ≡ true → f ≡ false
+awaits_going (Answering a) f k o e = o
+awaits_going other f k o e = never e
+
+awaits_unlinked : (p : Phase) → awaits p ≡ true → unlinked p ≡ true
+awaits_unlinked (Answering a) e = refl
+awaits_unlinked other e = never e
+
+-- What holds of the server connection that was heard of last. Its reset licenses a cut where no more may be
+-- given: before that its answer may wait.
+pub record FactsAt (g : Setup) (h : Heard) (place : List Item) (at : TraceState) : Type 0 where
+  pub kept : last_reset h.connects ≡ false → last_took h.connects + untaken_of h place Server ≡ (sent_from no_bytes place).server
+  pub gone : last_reset h.connects ≡ true → untaken_of h place Server ≡ 0
+  pub within : last_took h.connects ≤ (sent_from no_bytes place).server
+  pub license : GivesNoMore false at.sent (taken h) (next_item g at) → last_reset h.connects ≡ true → licensed_at ServerReset at.sent (taken h) ≡ true
+
+module _ (g : Setup) (c : ℕ) (z : Seen) (at : TraceState) (k : ServedAt g c z at) where
+  sent : at.sent ≡ sent_from no_bytes z.place
+  sent = sent_at g z.heard z.place at k.stands
+
+  server : (sent_from no_bytes z.place).server ≡ at.sent.server
+  server = ap (λ s. s.server) (sym sent)
+
+  left : untaken_of z.heard z.place Server ≡ untaken at.sent.server (taken_of (servers_taken z.heard.connects) at.sent.number)
+  left = ap (λ s. to_take s (taken z.heard) Server) (sym sent)
+
+  -- to the present one so much was sent
+  all_sent : at.sent.server ≡ length (server_output at.sent.number z.place)
+  all_sent = let s = start_of g z.heard in sent_to_server g s.client s.answers at z.place k.stands
+
+  -- where an answer waits the one before took all
+  none_left : awaits at.phase ≡ true → untaken at.sent.server (taken_of (servers_taken z.heard.connects) at.sent.number) ≡ 0
+  none_left waits = let s = start_of g z.heard in awaits_taken g (taken z.heard) s.client s.answers at z.place k.met k.stands waits
+
+  -- what the last took and what is pending were sent to it
+  pub server_left : took_of z.heard.connects (made z.heard.connects) + untaken_of z.heard z.place Server ≤ length (server_output (made z.heard.connects) z.place)
+  server_left = by_waiting at.answers.connects refl
+    where
+      L : ℕ → Type 0
+      L n = took_of z.heard.connects n + untaken_of z.heard z.place Server ≤ length (server_output n z.place)
+
+      by_waiting : (cs : List (Option Stream)) → at.answers.connects ≡ cs → L (made z.heard.connects)
+      by_waiting [] e =
+          let number = last_is_present g z.heard z.place at k.stands e in
+          let most = most_untaken z.heard.connects at.sent.number at.sent.server in
+          let within = k.within.servers at.sent.number in
+          subst L (sym number) (omega (arith, left, most, all_sent, within))
+      by_waiting (o ∷ more) e =
+          let none = none_left (must_wait z.heard.finished at z.heard.edges.server.state o more k.linked e) in
+          let within = k.within.servers (made z.heard.connects) in
+          omega (arith, left, none, within)
+
+  -- while none waits
+  present_facts : at.answers.connects ≡ [] → FactsAt g z.heard z.place at
+  present_facts e =
+      let cs = z.heard.connects in
+      let number = last_is_present g z.heard z.place at k.stands e in
+      let last : took_of cs at.sent.number ≡ last_took cs = ap (took_of cs) (sym number) ∙ took_last cs in
+      let took = k.within.servers at.sent.number in
+      let fits : last_took cs ≤ at.sent.server = omega (arith, last, took, all_sent) in
+      let is : taken_of (servers_taken cs) at.sent.number ≡ taken_by (last_reset cs) (last_took cs) = ap (taken_of (servers_taken cs)) (sym number) ∙ taken_last cs in
+      let by : untaken_of z.heard z.place Server ≡ untaken at.sent.server (taken_by (last_reset cs) (last_took cs)) = left ∙ ap (untaken at.sent.server) is in
+      record {
+        kept = λ r. (let b : untaken_of z.heard z.place Server ≡ at.sent.server - last_took cs = by ∙ ap (λ x. untaken at.sent.server (taken_by x (last_took cs))) r in omega (arith, b, fits, server));
+        gone = λ r. by ∙ ap (λ x. untaken at.sent.server (taken_by x (last_took cs))) r;
+        within = omega (arith, fits, server);
+        license = λ rests r. ap is_none is ∙ ap (λ x. is_none (taken_by x (last_took cs))) r;
+      }
+
+  -- while an answer waits there was no server before, and the new one took nothing
+  waiting_facts : awaits at.phase ≡ true → (at.answers.connects ≡ [] → ⊥) → FactsAt g z.heard z.place at
+  waiting_facts waits some =
+      let cs = z.heard.connects in
+      let un = unserved_at g z.heard z.place at k.stands in
+      let going = awaits_going at.phase at.finished (link_of at.server) un.orderly waits in
+      let number = un.first going (un.not_up going (awaits_unlinked at.phase waits)) in
+      let none = none_left waits in
+      let empty : at.sent.server - 0 ≡ 0 = sym (ap (λ i. untaken at.sent.server (taken_of (servers_taken cs) i)) number) ∙ none in
+      let nothing : last_took cs ≡ 0 = sym (took_last cs) ∙ took_none number (made cs) in
+      record {
+        kept = λ r. omega (arith, left, none, empty, nothing, server);
+        gone = λ r. left ∙ none;
+        within = omega (arith, nothing);
+        license = λ rests r. absurd (some (rest_side g at (taken z.heard) un.orderly un.not_up rests waits));
+      }
+    where
+      took_none : at.sent.number ≡ 0 → (i : ℕ) → took_of z.heard.connects i ≡ 0
+      took_none number zero = refl
+      took_none number (suc i) =
+          let s = start_of g z.heard in
+          let below : at.sent.number < suc i = omega (arith, number) in
+          let out = ap length (none_sent g s at z.place (suc i) k.stands below) in
+          let within = k.within.servers (suc i) in
+          omega (arith, out, within)
+
+  pub server_facts : FactsAt g z.heard z.place at
+  server_facts = by_waiting at.answers.connects refl
+    where
+      by_waiting : (cs : List (Option Stream)) → at.answers.connects ≡ cs → FactsAt g z.heard z.place at
+      by_waiting [] e = present_facts e
+      by_waiting (o ∷ more) e = waiting_facts (must_wait z.heard.finished at z.heard.edges.server.state o more k.linked e) (λ n. (let x : [] ≡ o ∷ more = sym n ∙ e in cc))
