@@ -10,11 +10,11 @@ use Rattle.px_bytes.specs.declared.addr.Side.TheVariants.{Client, Server}
 use Rattle.connection_model.specs.declared.note.Note.{Note}
 use Rattle.connection_model.specs.Further.{Coming}
 use Rattle.connection_model.specs.Heard.{Input, Bytes, Ends, Resets, Connects, Takes, EventKind, Accepts, Comes, Ticks, Turns, Runs, Marks}
-use Rattle.connection_model.specs.Heard.{Heard, SideHeard, hears, hears_by, marks, accepts, event_marks, brought}
+use Rattle.connection_model.specs.Heard.{Heard, SideHeard, edges_met, hears, hears_by, marks, accepts, event_marks, brought}
 use Rattle.connection_model.specs.Item.{Item, to_client, client_output}
 use Rattle.shared_store.specs.Store.{StoreState}
 use Rattle.proxy_core.specs.History.{store_of}
-use Rattle.proxy_core.specs.Moves.{MovesBy, MovesCome, MovesFailed, MovesOn, MovesLacks, MovesRing, MovesFront, MovesQueue, RunsFailed, RunsOn, RunsOut, may_come, ran}
+use Rattle.proxy_core.specs.Moves.{MovesBy, MovesFailed, MovesOn, MovesLacks, MovesRing, MovesQueue, RunsFailed, RunsOn, RunsOut, ran}
 use Rattle.proxy_core.specs.Past.{Past, heard, shared}
 use Rattle.proxy_core.specs.Refusal.{refused}
 use Rattle.proxy_core.specs.Represents.{Represents}
@@ -23,7 +23,7 @@ use Rattle.proxy_core.specs.Sound.{Served, SoundAt, unseen}
 use Rattle.proxy_core.specs.declared.call.Asked.{Asked}
 use Rattle.proxy_core.specs.declared.config.Config.{Config}
 use Rattle.proxy_core.specs.declared.core_state.Core.{Core}
-use Rattle.proxy_core.proofs.Members.{eq_same}
+use Rattle.proxy_core.proofs.Members.{eq_same, eq_self}
 use Rattle.proxy_core.proofs.SoundPast.{may_come_at}
 
 -- ---- items
@@ -47,15 +47,10 @@ ran_grows old new d ring queue more e c false is =
     stays old new c (ap (λ (y : State). y.places c) e ∙ ap (λ (b : Bool). if b then old.places d ++ more else old.places c) is)
 
 failed_grows : (C : Config) (input : Input) (before now : Heard) (d : ℕ) (group : List Note) (old new : State) (c : ℕ) → (b : Bool)
-    → MatchBool b (MovesFailed d group old new) (MovesOn C now d group old new ⊎ MovesLacks input d group old new) → Grows old new c
+    → MatchBool b (MovesFailed d group old new) (MovesOn C now d (edges_met input before.edges) group old new ⊎ MovesLacks input d group old new) → Grows old new c
 failed_grows C input before now d group old new c true k = stays old new c (ap (λ (y : State). y.places c) k.state)
 failed_grows C input before now d group old new c false (inl k) = stays old new c (ap (λ (y : State). y.places c) k.state)
 failed_grows C input before now d group old new c false (inr k) = stays old new c (ap (λ (y : State). y.places c) k.state)
-
-come_grows : (C : Config) (input : Input) (before now : Heard) (d : ℕ) (group : List Note) (old new : State) (c : ℕ) → (b : Bool)
-    → MatchBool b (MovesCome C input before now d group old new) ⊥ → Grows old new c
-come_grows C input before now d group old new c true k = failed_grows C input before now d group old new c before.failed k
-come_grows C input before now d group old new c false k = absurd k
 
 front_grows : (C : Config) (h : Heard) (d : ℕ) (rest : List ℕ) (group : List Note) (old new : State) (c : ℕ) → (b : Bool)
     → MatchBool b (RunsFailed h d rest group old new) (RunsOn C h d rest group old new ⊎ RunsOut C h d rest group old new) → Grows old new c
@@ -75,7 +70,7 @@ queue_grows store moment (a ∷ rest) group old new c k = stays old new c (ap (�
 pub grows : (C : Config) (past : Past) (v : EventKind) (group : List Note) (old new : State) → MovesBy C past v group old new → (c : ℕ) → Grows old new c
 grows C past (Accepts d vs from) group old new m c = stays old new c (ap (λ (y : State). y.places c) m.state)
 grows C past (Comes d input) group old new m c =
-    come_grows C input (heard d past) (hears d (heard d past) (Comes d input) group) d group old new c (may_come input) m
+    failed_grows C input (heard d past) (hears d (heard d past) (Comes d input) group) d group old new c (heard d past).failed m
 grows C past (Ticks moment) group old new m c = stays old new c (ap (λ (y : State). y.places c) m.1)
 grows C past Turns group old new m c = queue_grows (store_of C past) (shared past).moment old.queue group old new c m
 grows C past Runs group old new m c = ring_grows C past old.ring group old new c m
@@ -123,7 +118,7 @@ heard_took c h v group =
 
 -- no client took more than was sent to it
 within_by : (C : Config) (c : ℕ) (z : Seen) → (b : Bool) → MatchBool b (Served C c z) (z ≡ unseen) → z.heard.client.took ≤ length (client_output z.place)
-within_by C c z true k = k.within
+within_by C c z true k = k.within.client
 within_by C c z false k =
     let P : Seen → Type 0 = λ y. y.heard.client.took ≤ length (client_output y.place) in
     let none : P unseen = omega arith in subst P (sym k) none
@@ -140,7 +135,9 @@ took_fits : (C : Config) (past : Past) (s : State) (core : Core) (d n c : ℕ) �
     → (b : Bool) → nat_eq d c ≡ b → (heard c past).client.took + (if b then n else 0) ≤ length (client_output (s.places c))
 took_fits C past s core d n c r fine true is =
     let P : ℕ → Type 0 = λ k. (heard k past).client.took + n ≤ length (client_output (s.places k)) in
-    subst P (eq_same d c is) (may_come_at C past s d (Takes Client n) (r.sound.each d) fine).within
+    let sum = heard_took d (heard d past) (Comes d (Takes Client n)) [] ∙ ap (λ (b : Bool). (heard d past).client.took + (if b then n else 0)) (eq_self d) in
+    let there : P d = subst (λ k. k ≤ length (client_output (s.places d))) sum ((may_come_at C past s d (Takes Client n) (r.sound.each d) fine).within []).client in
+    subst P (eq_same d c is) there
 took_fits C past s core d n c r fine false is = plain_fits C past s core c r
 
 -- nor does it where an event isn't refused
