@@ -15,7 +15,7 @@ use Rattle.serve_loop.proofs.Compose.{calls_append, text_append, walks_append, o
 use Rattle.serve_loop.proofs.Fresh.{once_none, owners_same, owners_then}
 use Rattle.serve_loop.proofs.Walking.{rounds_walk}
 
-told_nothing : (o : Option (List ℕ)) → o ≡ told_more o []
+pub told_nothing : (o : Option (List ℕ)) → o ≡ told_more o []
 told_nothing None = refl
 told_nothing (Some text) = ap Some (sym (append-nil text))
 

@@ -55,14 +55,12 @@ impl<C: Core + Drop> Server<C> {
         let links = due_links(alloc, self.links.as_slice(), self.listed.as_slice())?;
         self.slots.clear();
         self.links.clear();
-        self.serving
-            .each(net, Work::Listener, &slots, &mut self.room, &mut self.slots)?;
+        self.serving.each(net, Work::Listener, &slots, &mut self.room, &mut self.slots)?;
         self.serving
             .each(net, Work::Link, &links, &mut self.room, &mut self.links)?;
         self.serving.run_pairs(net, &mut self.writers)?;
         let mut later = Seq::new(alloc);
-        self.serving
-            .each(net, Work::Writer, &self.writers, &mut self.room, &mut later)?;
+        self.serving.each(net, Work::Writer, &self.writers, &mut self.room, &mut later)?;
         self.writers.clear();
         self.writers.add_all(later.as_slice())?;
         Ok(())
