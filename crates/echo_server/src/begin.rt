@@ -43,5 +43,4 @@ impl Echo {
     {
         self.closed
     }
-
 }

@@ -12,7 +12,6 @@ use Rattle.connection_model.specs.Further.{Coming}
 use Rattle.connection_model.specs.Heard.{Input, Bytes, Ends, Resets, Connects, Takes, EventKind, Accepts, Comes, Ticks, Turns, Runs, Marks}
 use Rattle.connection_model.specs.Heard.{Heard, SideHeard, edges_met, hears, hears_by, marks, accepts, event_marks, brought}
 use Rattle.connection_model.specs.Item.{Item, to_client, client_output}
-use Rattle.shared_store.specs.Store.{StoreState}
 use Rattle.proxy_core.specs.History.{store_of}
 use Rattle.proxy_core.specs.Moves.{MovesBy, MovesFailed, MovesOn, MovesLacks, MovesRing, MovesQueue, RunsFailed, RunsOn, RunsOut, ran}
 use Rattle.proxy_core.specs.Past.{Past, heard, shared}
@@ -62,17 +61,17 @@ ring_grows : (C : Config) (past : Past) (ring : List ℕ) (group : List Note) (o
 ring_grows C past [] group old new c k = stays old new c (ap (λ (y : State). y.places c) k.1)
 ring_grows C past (d ∷ rest) group old new c k = front_grows C (heard d past) d rest group old new c (heard d past).failed k
 
-queue_grows : (store : StoreState) (moment : ℕ) (queue : List Asked) (group : List Note) (old new : State) (c : ℕ) → MovesQueue store moment queue group old new
-    → Grows old new c
-queue_grows store moment [] group old new c k = stays old new c (ap (λ (y : State). y.places c) k.1)
-queue_grows store moment (a ∷ rest) group old new c k = stays old new c (ap (λ (y : State). y.places c) k.state)
+queue_grows : (C : Config) (past : Past) (queue : List Asked) (group : List Note) (old new : State) (c : ℕ)
+    → MovesQueue (store_of C past) (shared past).moment queue group old new → Grows old new c
+queue_grows C past [] group old new c k = stays old new c (ap (λ (y : State). y.places c) k.1)
+queue_grows C past (a ∷ rest) group old new c k = stays old new c (ap (λ (y : State). y.places c) k.state)
 
 pub grows : (C : Config) (past : Past) (v : EventKind) (group : List Note) (old new : State) → MovesBy C past v group old new → (c : ℕ) → Grows old new c
 grows C past (Accepts d vs from) group old new m c = stays old new c (ap (λ (y : State). y.places c) m.state)
 grows C past (Comes d input) group old new m c =
     failed_grows C input (heard d past) (hears d (heard d past) (Comes d input) group) d group old new c (heard d past).failed m
 grows C past (Ticks moment) group old new m c = stays old new c (ap (λ (y : State). y.places c) m.1)
-grows C past Turns group old new m c = queue_grows (store_of C past) (shared past).moment old.queue group old new c m
+grows C past Turns group old new m c = queue_grows C past old.queue group old new c m
 grows C past Runs group old new m c = ring_grows C past old.ring group old new c m
 grows C past (Marks pool member up) group old new m c = stays old new c (ap (λ (y : State). y.places c) m.1)
 

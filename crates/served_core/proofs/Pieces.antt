@@ -35,7 +35,7 @@ use Rattle.served_core.proofs.Growing.{took_in}
 no_byte : (bytes : List ℕ) → bytes ≡ [] → 0 < length bytes → ⊥
 no_byte bytes e some = let n : length bytes ≡ 0 = ap length e in omega (arith, some, n)
 
-queued_by : (open live reset : Bool) (t : ℕ) (out bytes : List ℕ) → bytes ≡ (if open then unwrap_or (if live then Some (left_of (taken_by reset t) out) else None) [] else [])
+queued_by : (opened live reset : Bool) (t : ℕ) (out bytes : List ℕ) → bytes ≡ (if opened then unwrap_or (if live then Some (left_of (taken_by reset t) out) else None) [] else [])
     → 0 < length bytes → bytes ≡ drop t out
 queued_by true true false t out bytes e some = e
 queued_by true true true t out bytes e some = absurd (no_byte bytes e some)

@@ -98,11 +98,10 @@ none_is_some : (r : Row) → None ≡ Some r → ⊥
 none_is_some r e = cc
 
 pub kept : {S T : Type 0} {did : S → Call → S → Type 0} {gave : S → ℕ → Type 0} (C : Config) (core : Core)
-    {conns : ℕ} {net begun : S} {old new : Running Served S T}
-    → Represents C [] no_connections core → Begins served_face did (record { core = core }) conns net begun old.server
+    (old new : Running Served S T) {conns : ℕ} {net begun : S} → Represents C [] no_connections core → Begins served_face did (record { core = core }) conns net begun old.server
     → Walked served_face did gave old new
     → ServedEvents did C conns old.server new.server old.net new.net old.written new.written
-kept C core {conns = conns} {old = old} {new = new} stands begins walked =
+kept C core old new {conns} stands begins walked =
     let same : old.server.serving.core.core ≡ core = ap (λ (x : Served). x.core) begins.core_is in
     let here : Represents C [] no_connections old.server.serving.core.core = subst (λ (x : Core). Represents C [] no_connections x) (sym same) stands in
     let done = walked (record {
