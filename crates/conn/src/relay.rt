@@ -11,6 +11,7 @@ use crate::stage::Finish;
 use crate::turn::Act;
 use connection_model::{Note, Notes};
 use px_bytes::{M, Side};
+use std::mem;
 
 /// What a relay does next.
 #[derive(Clone, Copy, Debug, PartialEq, Eq)]
@@ -95,12 +96,17 @@ fn passable(from: &End, to: &End) -> usize
     from.unread.len().min(to.room())
 }
 
+// All that came goes to an end that waits for nothing without a copy.
 fn pass(from: &mut End, to: &mut End, n: usize) -> M<()>
     requires { n ≤ length from.old.unread }
     ensures from { OnOk result (from.new ≡ record from.old { unread = drop n from.old.unread }) }
     ensures to { OnOk result (to.new
         ≡ record to.old { queued = to.old.queued ++ take n from.old.unread }) }
 {
+    if to.queued.is_empty() && n == from.unread.len() {
+        mem::swap(&mut from.unread, &mut to.queued);
+        return Ok(());
+    }
     to.queued.push(&from.unread.front()[..n])?;
     from.unread.drop_front(n);
     Ok(())

@@ -1,6 +1,6 @@
 -- The lines of the connections, as the program writes them, are those of the past and the state.
 use Rattle.std.proofs.Common.{◌≡◌, refl, sym, ap, ◌∙◌, ℕ, List, [], ◌∷◌, ◌++◌}
-use Rattle.std.proofs.Common.{Bool, true, false, Option, Some, None, option_map, if◌then◌else◌}
+use Rattle.std.proofs.Common.{Bool, true, false, Some, None, option_map, if◌then◌else◌}
 use Rattle.px_bytes.specs.declared.addr.Side.{Side}
 use Rattle.px_bytes.specs.declared.addr.Side.TheVariants.{Client, Server}
 use Rattle.proxy_core.specs.Past.{Past, shared}

@@ -1,132 +1,36 @@
 -- The server connections of a connection: how many were made, and what the first of them took.
-use Rattle.std.proofs.Common.{◌≡◌, ◌⊎◌, inl, inr, refl, sym, ap, subst, ◌∙◌, ℕ, zero, suc, ◌+◌, ◌≤◌, List, [], ◌∷◌, ◌++◌, length, take, map, Bool, true, false, ◌||◌, Option, Some, None, nat_eq, arith, if◌then◌else◌}
+use Rattle.std.proofs.Common.{◌≡◌, ◌⊎◌, inl, inr, refl, sym, ap, subst, ◌∙◌, ℕ, zero, suc, ◌≤◌, List, [], ◌∷◌, take, map, Bool, true, false, Option, Some, None, nat_eq, arith, if◌then◌else◌}
 use Rattle.std.specs.Prelude.{is_some}
 use Rattle.px_bytes.specs.declared.addr.Side.TheVariants.{Client, Server}
 use Rattle.connection_model.specs.declared.note.Note.{Note}
-use Rattle.connection_model.specs.Heard.{Input, Bytes, Ends, Resets, Connects, Takes, EventKind, Accepts, Comes, Ticks, Turns, Runs, Marks, SideHeard, Heard, brought_nothing, brings_in, event_brings, brought, has_made, at_last, hears_more, marks, event_marks, hears}
+use Rattle.connection_model.specs.Heard.{Input, Bytes, Ends, Resets, Connects, Takes, EventKind, Accepts, Comes, Ticks, Turns, Runs, Marks, SideHeard, Heard, has_made, marks, hears}
 use Rattle.connection_model.specs.Item.{server_output}
-use Rattle.connection_model.specs.Tellings.{finish_told, notes_about}
 use Rattle.proxy_core.specs.Moves.{Leads}
 use Rattle.proxy_core.specs.Others.{about}
-use Rattle.proxy_core.specs.Past.{Happened, Past, kind_of, heard}
+use Rattle.proxy_core.specs.Past.{Past, kind_of, heard}
 use Rattle.proxy_core.specs.Refusal.{refused}
 use Rattle.proxy_core.specs.Scheduler.{State, Seen, last_took, seen}
-use Rattle.proxy_core.specs.Servers.{made, took_of}
+use Rattle.proxy_core.specs.Servers.{made, makes, servers_made, took_of}
 use Rattle.proxy_core.specs.declared.config.Config.{Config}
+use Rattle.proxy_core.proofs.HeardServers.{heard_servers}
 use Rattle.proxy_core.proofs.Members.{eq_same}
 use Rattle.proxy_core.proofs.SoundPast.{leads_sound, may_come_at}
-use Rattle.proxy.specs.Replay.{makes, servers_made, server_bytes, numbers_to, servers_bytes}
-
--- ---- as many are heard as were made, but behind the finish
-
-last_counts : (f : SideHeard → SideHeard) (cs : List (Option SideHeard)) → made (at_last f cs) ≡ made cs
-last_counts f [] = refl
-last_counts f (None ∷ more) = last_counts f more
-last_counts f (Some s ∷ more) = ap suc (last_counts f more)
-
-joined_count : (cs ds : List (Option SideHeard)) → made (cs ++ ds) ≡ made cs + made ds
-joined_count [] ds = omega arith
-joined_count (None ∷ more) ds = joined_count more ds
-joined_count (Some s ∷ more) ds = let k = joined_count more ds in omega (arith, k)
-
-input_counts : (i : Input) (h : Heard) → made (marks i h).connects ≡ made h.connects
-input_counts (Bytes side bytes) h = refl
-input_counts (Ends side) h = refl
-input_counts (Connects answer) h = refl
-input_counts (Resets Client) h = refl
-input_counts (Resets Server) h = last_counts (λ s. record s { reset = true }) h.connects
-input_counts (Takes Client n) h = refl
-input_counts (Takes Server n) h = last_counts (λ s. record s { took = s.took + n }) h.connects
-
-marks_count : (c : ℕ) (v : EventKind) (h : Heard) → made (event_marks c v h).connects ≡ made h.connects
-marks_count c (Accepts d vs from) h = by_number (nat_eq d c)
-  where
-    by_number : (b : Bool) → made (if b then record h { accepted = Some (record { virtual = vs; from = from }) } else h).connects ≡ made h.connects
-    by_number true = refl
-    by_number false = refl
-marks_count c (Comes d i) h = by_number (nat_eq d c)
-  where
-    by_number : (b : Bool) → made (if b then marks i h else h).connects ≡ made h.connects
-    by_number true = input_counts i h
-    by_number false = refl
-marks_count c (Ticks moment) h = refl
-marks_count c Turns h = refl
-marks_count c Runs h = refl
-marks_count c (Marks pool member up) h = refl
-
--- what an event brings is what it makes
-input_made : (i : Input) (c d : ℕ) (b : Bool) → nat_eq d c ≡ b → made (if b then brings_in i else brought_nothing).connects ≡ makes c (Comes d i)
-input_made (Bytes Client bytes) c d true e = refl
-input_made (Bytes Server bytes) c d true e = refl
-input_made (Ends Client) c d true e = refl
-input_made (Ends Server) c d true e = refl
-input_made (Resets side) c d true e = refl
-input_made (Takes side n) c d true e = refl
-input_made (Connects true) c d true e = rw e refl
-input_made (Connects false) c d true e = refl
-input_made (Bytes side bytes) c d false e = refl
-input_made (Ends side) c d false e = refl
-input_made (Resets side) c d false e = refl
-input_made (Takes side n) c d false e = refl
-input_made (Connects true) c d false e = rw e refl
-input_made (Connects false) c d false e = refl
-
-event_made : (c : ℕ) (v : EventKind) → made (event_brings c v).connects ≡ makes c v
-event_made c (Accepts d vs from) = refl
-event_made c (Comes d i) = input_made i c d (nat_eq d c) refl
-event_made c (Ticks moment) = refl
-event_made c Turns = refl
-event_made c Runs = refl
-event_made c (Marks pool member up) = refl
-
-hears_made : (c : ℕ) (h : Heard) (v : EventKind) (group : List Note) → made (hears c h v group).connects ≡ made h.connects + made (brought c h v group).connects
-hears_made c h v group =
-    let b = brought c h v group in
-    joined_count (at_last (hears_more b.server) (event_marks c v h).connects) b.connects
-    ∙ ap (λ n. n + made b.connects) (last_counts (hears_more b.server) (event_marks c v h).connects ∙ marks_count c v h)
-
--- before its finish all of them are heard, and none behind it
-pub hears_all : (c : ℕ) (h : Heard) (v : EventKind) (group : List Note) → (h.finished || finish_told (notes_about c group)) ≡ false → made (hears c h v group).connects ≡ made h.connects + makes c v
-hears_all c h v group e =
-    hears_made c h v group ∙ ap (λ b. made h.connects + made (if b then brought_nothing else event_brings c v).connects) e ∙ ap (λ n. made h.connects + n) (event_made c v)
-
-hears_few : (c : ℕ) (h : Heard) (v : EventKind) (group : List Note) → made (brought c h v group).connects ≤ makes c v
-hears_few c h v group = by_finish (h.finished || finish_told (notes_about c group))
-  where
-    by_finish : (b : Bool) → made (if b then brought_nothing else event_brings c v).connects ≤ makes c v
-    by_finish true = omega arith
-    by_finish false = let e = event_made c v in omega (arith, e)
-
-pub heard_few : (c : ℕ) (past : Past) → made (heard c past).connects ≤ servers_made c past
-heard_few c [] = omega arith
-heard_few c (x ∷ past) =
-    let h = heard c past in
-    let k = heard_few c past in
-    let e = hears_made c h (kind_of x.event) x.group in
-    let f = hears_few c h (kind_of x.event) x.group in
-    omega (arith, k, e, f)
+use Rattle.proxy.specs.Replay.{server_bytes, numbers_to, servers_bytes}
 
 -- ---- the first of them, where no more are made
 
-pub none_has : (cs : List (Option SideHeard)) → made cs ≤ 0 → has_made cs ≡ false
+none_has : (cs : List (Option SideHeard)) → made cs ≤ 0 → has_made cs ≡ false
 none_has [] few = refl
 none_has (None ∷ more) few = none_has more few
 none_has (Some s ∷ more) few = absurd (omega (arith, few))
 
 pub unmade : (c : ℕ) (past : Past) → servers_made c past ≡ 0 → has_made (heard c past).connects ≡ false
-unmade c past e = let f = heard_few c past in none_has (heard c past).connects (omega (arith, e, f))
+unmade c past e = let f = (heard_servers c past).few in none_has (heard c past).connects (omega (arith, e, f))
 
-pub first_took : (cs : List (Option SideHeard)) → made cs ≤ 1 → took_of cs 1 ≡ last_took cs
+first_took : (cs : List (Option SideHeard)) → made cs ≤ 1 → took_of cs 1 ≡ last_took cs
 first_took [] few = refl
 first_took (None ∷ more) few = first_took more few
 first_took (Some s ∷ more) few = ap (λ b. if b then last_took more else s.took) (sym (none_has more (omega (arith, few))))
-
--- at most one is made, and what it took is within what was sent to it; where none was heard nothing was
--- sent to one
-pub record OneServer (past : Past) (s : State) (c : ℕ) : Type 0 where
-  pub once : servers_made c past ≤ 1
-  pub unsent : has_made (heard c past).connects ≡ false → server_output 1 (s.places c) ≡ []
-  pub within : last_took (heard c past).connects ≤ length (server_output 1 (s.places c))
 
 -- the bytes that it took, by what is seen of the connection
 abbrev pub server_seen : Seen → List ℕ
@@ -143,7 +47,7 @@ servers_are past s c few = by_number (servers_made c past) refl
     by_number : (n : ℕ) → servers_made c past ≡ n → map (server_bytes past s c) (numbers_to n) ≡ servers_seen n (server_seen (seen past s c))
     by_number zero e = refl
     by_number (suc zero) e =
-        let f = heard_few c past in
+        let f = (heard_servers c past).few in
         ap (λ t. take t (server_output 1 (s.places c)) ∷ []) (first_took (heard c past).connects (omega (arith, few, f)))
     by_number (suc (suc n)) e = absurd (omega (arith, few, e))
 

@@ -1,5 +1,5 @@
 -- What serving comes to, and when it is what was asked for.
-use Rattle.std.proofs.Common.{◌≡◌, ◌⊎◌, ℕ, Bool, true, false, List, Option, Some, None, inl, inr, refl, sym, subst, ◌∙◌}
+use Rattle.std.proofs.Common.{◌≡◌, ℕ, Bool, true, false, List, Option, Some, None, inl, inr, refl, subst}
 use Rattle.std.specs.Prelude.{Result, Ok, Err, IfOk, IfErr, OnErr}
 use Rattle.config.specs.Outcomes.{Answers}
 use Rattle.config.specs.declared.fault.ConfigFault.{ConfigFault}
@@ -7,7 +7,6 @@ use Rattle.config.specs.declared.fault.ConfigFault.TheVariants as config
 use Rattle.config.specs.declared.fault.Fault.{Fault}
 use Rattle.config.specs.declared.reader.Config as loaded
 use Rattle.px_outside.specs.Net.{Call}
-use Rattle.px_outside.specs.Outside.{Rose}
 use Rattle.proxy_core.specs.declared.config.Config as core
 use Rattle.serve_loop.specs.Faults.{FromNetOrSink}
 use Rattle.serve_loop.specs.declared.fault.ServeEnd.{ServeEnd}
@@ -19,9 +18,8 @@ use Rattle.serve_words.specs.declared.serve.Serve.{Serve}
 use Rattle.served_core.specs.Serves.{ServesConfig, StopsConfig}
 use Rattle.proxy.specs.declared.outcome.Outcome.{Outcome}
 use Rattle.proxy.specs.declared.outcome.Outcome.TheVariants as is
-use Rattle.proxy.specs.Complete.{MayLoad}
-use Rattle.proxy.specs.Loads.{Loads, is_read_fault}
-use Rattle.proxy.specs.Offline.{IsNotBuilt, IsRefusal}
+use Rattle.proxy.specs.Loads.{is_read_fault}
+use Rattle.proxy.specs.Offline.{IsRefusal}
 use Rattle.proxy.specs.Runnable.{IsRun, run_of}
 use Rattle.proxy.specs.Says.{fault_text}
 use Rattle.proxy.specs.Serving.{MayServe, OfServe, OfWords, Outside, ServeCompletes, ServesTo, Untouched, end_of, read_end, refused_end}

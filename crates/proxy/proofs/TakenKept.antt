@@ -26,7 +26,7 @@ use Rattle.conn.specs.Queues.{queue_in}
 use Rattle.proxy_core.specs.Calls.{asker}
 use Rattle.proxy_core.specs.History.{store_of}
 use Rattle.proxy_core.specs.Live.{met_by, pending_in}
-use Rattle.proxy_core.specs.Moves.{Leads, Moves, MovesBy, MovesCome, Rests, MovesFailed, MovesLacks, MovesOn}
+use Rattle.proxy_core.specs.Moves.{Leads, Moves, MovesBy, Rests, MovesFailed, MovesLacks, MovesOn}
 use Rattle.proxy_core.specs.Moves.{MovesRing, MovesQueue, RunsOn, RunsOut, RunsFailed}
 use Rattle.proxy_core.specs.Past.{Happened, Past, kind_of, heard, with_accepted, shared}
 use Rattle.proxy_core.specs.Queries.{front_of, front_in, queue_on}
@@ -56,12 +56,13 @@ use Rattle.proxy_core.proofs.SoundPast.{none_holds, not_accepted, front_served, 
 use Rattle.connection_table.specs.Table.{Rises}
 use Rattle.connection_table.proofs.Numbers.{rises_push}
 use Rattle.proxy.specs.declared.taken.Taken.{Taken}
-use Rattle.proxy_core.specs.Servers.{took_of as took_of_number}
-use Rattle.proxy.specs.Replay.{accepted, makes, servers_made, server_bytes, numbers_to, servers_bytes, taken_bytes, taken_by, taken_of}
+use Rattle.proxy_core.specs.OneServer.{OneServer}
+use Rattle.proxy_core.specs.Servers.{makes, servers_made, took_of as took_of_number}
+use Rattle.proxy_core.proofs.OneServer.{one_server}
+use Rattle.proxy.specs.Replay.{accepted, numbers_to, taken_bytes, taken_by, taken_of}
 use Rattle.proxy.specs.ServerBytes.{on_last}
 use Rattle.proxy.specs.Taken.{AreRising, more_of, took_of, none_taken, begins_server, took_on, changed, with_took}
-use Rattle.proxy.proofs.MadeServers.{OneServer, none_made, other_makes, servers_are, servers_seen, unmade}
-use Rattle.proxy.proofs.OneServer.{one_server}
+use Rattle.proxy.proofs.MadeServers.{none_made, other_makes, servers_are, servers_seen, unmade}
 
 -- accepted numbers rise
 pub record Rising (past : Past) : Type 0 where

@@ -1,15 +1,14 @@
 -- The report of a past, in this project's own format.
-use Rattle.std.specs.Prelude.{ℕ, zero, suc, ◌+◌, nat_eq, List, [], ◌∷◌, ◌++◌, take, map}
-use Rattle.std.specs.Prelude.{true, Option, Some, None, if◌then◌else◌}
+use Rattle.std.specs.Prelude.{ℕ, zero, suc, ◌+◌, List, [], ◌∷◌, ◌++◌, take, map}
+use Rattle.std.specs.Prelude.{Option, Some, None, if◌then◌else◌}
 use Rattle.px_bytes.specs.declared.addr.Side.TheVariants.{Client, Server}
-use Rattle.connection_model.specs.Heard.{Connects, EventKind, Comes}
 use Rattle.connection_model.specs.Item.{client_output, server_output}
 use Rattle.proxy_core.specs.Past.{Past, kind_of, heard, with_accepted, shared}
 use Rattle.proxy_core.specs.Queries.{pending_on}
 use Rattle.proxy_core.specs.Ready.{is_in}
 use Rattle.proxy_core.specs.Refusals.{live_at}
 use Rattle.proxy_core.specs.Scheduler.{State, pending}
-use Rattle.proxy_core.specs.Servers.{took_of}
+use Rattle.proxy_core.specs.Servers.{servers_made, took_of}
 use Rattle.proxy_core.specs.Setup.{init_notes}
 use Rattle.proxy_core.specs.declared.config.Config.{Config}
 use Rattle.proxy_core.specs.declared.core_state.Core.{Core}
@@ -35,16 +34,6 @@ accepted (x ∷ past) = with_accepted (kind_of x.event) (accepted past)
 -- the bytes that the client of connection c took: so many as it took, of those that were sent
 abbrev pub taken_bytes : Past → State → ℕ → List ℕ
 taken_bytes past s c = take (heard c past).client.took (client_output (s.places c))
-
--- a server connection of c is made
-abbrev pub makes : ℕ → EventKind → ℕ
-makes c (Comes d (Connects true)) = if nat_eq d c then 1 else 0
-makes c other = 0
-
--- how many server connections of c were made
-abbrev pub servers_made : ℕ → Past → ℕ
-servers_made c [] = 0
-servers_made c (x ∷ past) = servers_made c past + makes c (kind_of x.event)
 
 -- The bytes that the server connection of this number took, the first being 1: so many as it took, of
 -- those that were sent to it. To one that was made behind the finish nothing was sent.

@@ -6,8 +6,12 @@ mod end;
 mod finish;
 mod groups;
 mod lines;
+#[cfg(test)]
+mod mem_serving;
 mod offline;
 mod outcome;
+#[cfg(test)]
+mod relay_tests;
 mod replay;
 mod report;
 mod run_schedule;

@@ -39,6 +39,8 @@ pub mod Others
 pub mod Answering
 pub mod DueFits
 pub mod Fitting
+pub mod HeardServers
+pub mod OneServer
 pub mod Promises
 pub mod Order
 pub mod Ordering

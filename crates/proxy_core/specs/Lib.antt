@@ -23,6 +23,7 @@ pub mod Sound
 pub mod Asked
 pub mod Others
 pub mod Fitting
+pub mod OneServer
 pub mod Represents
 pub mod Steps
 pub mod Headline

@@ -1,7 +1,7 @@
 -- The server connections of one connection: what each was told to have taken, what was heard of the
 -- last, and where the server's end stands while the trace stands somewhere.
 use Rattle.std.specs.Prelude.{◌≡◌, ◌≤◌, ℕ, zero, suc, List, [], ◌∷◌, length, Bool, true, false}
-use Rattle.std.specs.Prelude.{Option, Some, None, if◌then◌else◌}
+use Rattle.std.specs.Prelude.{◌+◌, Option, Some, None, nat_eq, if◌then◌else◌}
 use Rattle.std.specs.Bool.{MatchBool}
 use Rattle.connection_model.specs.declared.edges.EdgeState.{EdgeState}
 use Rattle.connection_model.specs.declared.edges.EdgeState.TheVariants.{Absent, Connecting}
@@ -9,15 +9,26 @@ use Rattle.connection_model.specs.declared.edges.EdgeState.TheVariants.{Open, Cl
 use Rattle.connection_model.specs.declared.note.CutReason.{CutReason}
 use Rattle.connection_model.specs.declared.note.CutReason.TheVariants.{ClientReset, ServerReset}
 use Rattle.connection_model.specs.declared.note.CutReason.TheVariants.{Idle}
-use Rattle.connection_model.specs.Heard.{SideHeard, Heard, has_made}
+use Rattle.connection_model.specs.Heard.{Connects, EventKind, Comes, SideHeard, Heard, has_made}
 use Rattle.connection_model.specs.Places.{is_up}
 use Rattle.connection_model.specs.State.{Stream, Phase, Answering, TraceState, link_of}
+use Rattle.proxy_core.specs.Past.{Past, kind_of}
 
 -- how many of these answers are connections that were made
 abbrev pub made : {A : Type 0} → List (Option A) → ℕ
 made [] = 0
 made (None ∷ more) = made more
 made (Some a ∷ more) = suc (made more)
+
+-- a server connection of c is made
+abbrev pub makes : ℕ → EventKind → ℕ
+makes c (Comes d (Connects true)) = if nat_eq d c then 1 else 0
+makes c other = 0
+
+-- how many of c were made, also behind its finish, where none is heard any more
+abbrev pub servers_made : ℕ → Past → ℕ
+servers_made c [] = 0
+servers_made c (x ∷ past) = servers_made c past + makes c (kind_of x.event)
 
 -- what the connection that was made behind k others was told to have taken
 abbrev pub took_behind : ℕ → List (Option SideHeard) → ℕ

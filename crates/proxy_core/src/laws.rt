@@ -3,6 +3,7 @@
 ghost use Rattle.proxy_core.specs.Fitting.{NotesFitEdges};
 ghost use Rattle.proxy_core.specs.Headline.{EveryPastMatches};
 ghost use Rattle.proxy_core.specs.Laws.{BodiesRunInOrder, StaticsStay};
+ghost use Rattle.proxy_core.specs.OneServer.{OneServerIsMade};
 ghost use Rattle.proxy_core.specs.Others.{OnlyItsOwnChanges};
 
 /// For every configuration and every past that leads to a state of the scheduler: the bytes that each
@@ -33,4 +34,10 @@ pub fn only_changed()
 /// a server is asked for where there is none, and what is half closed or closed is there.
 pub fn notes_fit_edges()
     ensures { NotesFitEdges }
+{}
+
+/// Behind every past, at most one server connection of a connection was made; what it took is within what
+/// was sent to it, and to one that wasn't heard of nothing was sent.
+pub fn one_server_is_made()
+    ensures { OneServerIsMade }
 {}

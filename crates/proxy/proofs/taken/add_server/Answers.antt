@@ -1,6 +1,5 @@
 use Rattle.std.proofs.Common.{ap}
 use Rattle.proxy.specs.Taken.{begins_server}
-use Rattle.proxy.specs.declared.taken.Taken.{Taken}
 use Rattle.proxy.proofs.TakenBytes.{changed_there, none_there, on_ok}
 use Rattle.proxy.proofs.taken.add_server.Goals as goal
 

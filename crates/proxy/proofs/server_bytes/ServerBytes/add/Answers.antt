@@ -1,4 +1,4 @@
-use Rattle.std.proofs.Common.{◌≡◌, ℕ, List, ◌++◌, ◌-◌, suc, length, arith, ap, sym, ◌∙◌}
+use Rattle.std.proofs.Common.{◌≡◌, ℕ, List, ◌++◌, ◌-◌, suc, length, arith, ap, ◌∙◌}
 use Rattle.proxy.specs.ServerBytes.{on_last}
 use Rattle.proxy.proofs.TakenBytes.{last_there, on_ok}
 use Rattle.proxy.proofs.server_bytes.ServerBytes.add.Goals as goal
