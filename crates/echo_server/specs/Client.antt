@@ -15,7 +15,9 @@ heard_of n [] = n
 heard_of n (own ∷ links) = heard_of (min (n + own.heard) (2 ^ 64 - 1)) links
 
 -- a link was made, and stands behind the others
-pub record Connects {S : Type 0} (did : S → Call → S → Type 0) (to : Addr) (old new : List Own) (net net' : S) : Type 0 where
+pub record Connects {S : Type 0} (did : S → Call → S → Type 0) (to : Addr) (old new : List Own)
+    (net net' : S) : Type 0 where
   pub link : ℕ
   pub made : did net (Connect to (Ok link)) net'
-  pub behind : new ≡ old ++ record { link = link; connected = false; sent = 0; heard = 0; over = false } ∷ []
+  pub behind : new ≡ old
+      ++ record { link = link; connected = false; sent = 0; heard = 0; over = false } ∷ []

@@ -54,9 +54,10 @@ closed_by (call ∷ calls) n = closed_by calls (closed_after call n)
 abbrev pub owed_in : Echo → ℕ → List ℕ
 owed_in e link = unwrap_or (option_map (λ v. v.items) (get nat_eq e.rests link)) []
 
--- These calls were made on the net. Each write was of all that was owed to its link then, and what is kept for a link
--- in the end is what is owed to it; accepts and closes are counted.
-pub record Gives {S : Type 0} (did : S → Call → S → Type 0) (old new : Echo) (net net' : S) : Type 0 where
+-- These calls were made on the net. Each write was of all that was owed to its link then, and what is
+-- kept for a link in the end is what is owed to it; accepts and closes are counted.
+pub record Gives {S : Type 0} (did : S → Call → S → Type 0) (old new : Echo) (net net' : S)
+    : Type 0 where
   pub calls : List Call
   pub chain : Chain did net calls net'
   pub writes : WritesOwed calls (owed_in old)
