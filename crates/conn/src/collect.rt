@@ -89,7 +89,8 @@ impl Conn {
         if self.ends.server.pending() >= ROOM {
             return Ok(self.rest_or_cut(setup, number, notes));
         }
-        self.ends.server.queued.push(self.host.net.loose.as_bytes())?;
+        let loose = self.host.net.loose.as_bytes();
+        self.ends.server.queued.push(loose)?;
         self.host.released(alloc);
         self.stage = Stage::Relaying(Side::Client);
         Ok(Act::Goes)

@@ -94,7 +94,9 @@ impl Conn {
         ensures { result ≡ is_spent side self.now }
     {
         let held = self.host.collected(side).held.as_bytes();
-        self.ends.end_of(side).is_done() && held.is_empty() && self.host.net.loose.as_bytes().is_empty()
+        self.ends.end_of(side).is_done()
+            && held.is_empty()
+            && self.host.net.loose.as_bytes().is_empty()
     }
 }
 
