@@ -17,7 +17,9 @@ record Rows : Type 0 where
   -- table p
   host : is_built (call Named (codes "table")) ≡ false
   -- TCP::collect p
-  collect : is_built (call Named (codes "TCP::collect")) ≡ false
+  collect : is_built (call Named (codes "TCP::collect")) ≡ true
+  -- HTTP::uri p
+  uri : is_built (call Named (codes "HTTP::uri")) ≡ false
   -- pool p
   pool : is_built (call Named (codes "pool")) ≡ true
   -- TCP::respond p
@@ -31,4 +33,4 @@ record Rows : Type 0 where
 
 rows : Rows
 unfolding is_host_name is_built_name
-rows = record { host = refl; collect = refl; pool = refl; respond = refl; members = refl; pure = refl; backslash = refl }
+rows = record { host = refl; collect = refl; uri = refl; pool = refl; respond = refl; members = refl; pure = refl; backslash = refl }
