@@ -40,16 +40,16 @@ side_plan side (Stated n) from to later =
 abbrev pub incoming_of : Asks → End → Incoming
 incoming_of asks e = record { asks = asks; stream = arrived e }
 
-abbrev pub turn_plan : Side → NetState → Ends → Relay → Relay
-turn_plan Client net e later = side_plan Client net.client.asks e.client e.server later
-turn_plan Server net e later = side_plan Server net.server.asks e.server e.client later
+abbrev pub plan_of : Side → NetState → Ends → Relay → Relay
+plan_of Client net e later = side_plan Client net.client.asks e.client e.server later
+plan_of Server net e later = side_plan Server net.server.asks e.server e.client later
 
 -- it is done where both ends are; the bytes of the side whose turn it is go first
 abbrev pub relay_plan : (first : Side) → NetState → Ends → Relay
 relay_plan first net e =
     if is_done (incoming_of net.client.asks e.client) && is_done (incoming_of net.server.asks e.server)
     then relay.Done
-    else turn_plan first net e (turn_plan (other first) net e relay.Rest)
+    else plan_of first net e (plan_of (other first) net e relay.Rest)
 
 -- where it rests the next turn is the client's
 abbrev pub round_begun : Conn → Conn
