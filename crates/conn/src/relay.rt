@@ -4,8 +4,8 @@ ghost use Rattle.std.specs.Prelude.{◌≡◌, ◌+◌, ◌≤◌, ◌++◌, len
 ghost use Rattle.conn.specs.Acts.{Relays};
 ghost use Rattle.connection_model.specs.Gates.{other};
 ghost use Rattle.connection_model.specs.Relay.{is_done};
-ghost use Rattle.conn.specs.Relaying.{incoming_of, moved, passes_now, plan_of, relay_plan, side_plan};
-ghost use Rattle.conn.specs.Relaying.{to_pass};
+ghost use Rattle.conn.specs.Relaying.{incoming_of, moved, passes_now, plan_of, relay_plan};
+ghost use Rattle.conn.specs.Relaying.{side_plan, to_pass};
 
 use crate::connection::Conn;
 use crate::ends::{End, Ends};
