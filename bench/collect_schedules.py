@@ -87,7 +87,7 @@ class Collecting(Connection):
     def refusal(self, word, side, n):
         if word != "bytes" or self.finished():
             return super().refusal(word, side, n)
-        why = super().refusal(word, side, 0)
+        why = super().refusal("end", side, 0)
         unread, asked = len(self.sides[side].unread), self.asked[side]
         counts = unread if asked is None else unread - min(asked, unread)
         return why if why is not None else 3 if n > LIMIT - counts else None
