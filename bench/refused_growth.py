@@ -1,10 +1,11 @@
 #!/usr/bin/env python3
-"""Refuses each allocation of three replays in turn, and says what the program then wrote.
+"""Refuses each allocation of four replays in turn, and says what the program then wrote.
 
 usage: bench/refused_growth.py [PROXY]    without PROXY after `./ciravogu` has built the program once
 
 The replays are the first example, that of two services with a RULE_INIT, and one of two virtual servers, each with a
-rule and a connection: one spends its whole budget, the other answers its client. A small shim, compiled into a temporary folder, counts the C library's
+rule and a connection: one spends its whole budget, the other answers its client; and a relay between a client and a
+server of a pool, which a rule of its own answers too. A small shim, compiled into a temporary folder, counts the C library's
 allocations and fails one of them. A run must end with status 7 and a prefix of the report, or note `> finish C memory`
 of one connection and go on: then the notes of that one are a front of its own in the whole report up to there, its
 client took a front of the same bytes, and whatever the report says of the other is untouched. Where it stops at a line
@@ -45,6 +46,44 @@ name = "b"
 text = "when CLIENT_ACCEPTED { TCP::respond ok }"
 """
 TWO_CONNECTIONS = "accept 1 a 10.0.0.9 1\naccept 2 b 10.0.0.9 2\n" + 16 * "run\n" + "client-took 2 2\n"
+RELAY = """version = 1
+
+[[virtual]]
+name = "v"
+listen = "127.0.0.1:9000"
+pool = "p"
+rules = ["r"]
+
+[[pool]]
+name = "p"
+members = [{ addr = "10.0.0.1:80" }]
+
+[[rule]]
+name = "r"
+text = '''
+when CLIENT_ACCEPTED { TCP::respond "[active_members p] up\\n" }
+when SERVER_CONNECTED { TCP::respond "from [IP::client_addr]\\n" }
+when SERVER_CLOSED { log "over" }
+'''
+"""
+RELAYED = """accept 1 v 10.0.0.9 4000
+client 1 61736b
+run
+turn
+run
+turn
+run
+connected 1
+run
+server 1 746f6c64
+run
+client-took 1 9
+server-took 1 17
+client-end 1
+run
+server-end 1
+run
+"""
 # for each replay its configuration, its schedule, and the last lines of its whole report
 REPLAYS = {
     "the first example": (
@@ -57,6 +96,7 @@ REPLAYS = {
         (TOP / "examples/services.txt").read_text(),
         b"> end 6\n",
     ),
+    "a relay": (RELAY, RELAYED, b"> client 1 312075700a746f6c64\n> server 1 1 66726f6d2031302e302e302e390a61736b\n> end 17\n"),
     "two rules": (TWO_RULES, TWO_CONNECTIONS, b"> client 1 -\n> client 2 6f6b\n> end 19\n"),
 }
 SHIM = r"""

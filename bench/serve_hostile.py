@@ -11,11 +11,16 @@ PROGRAM is crates/proxy/out/proxy. Four runs, each with a program of its own:
   scarce  the program may have 64 descriptors, and 100 clients stay: those above the limit wait, and are answered once
           others have gone; with 5 descriptors it can't listen, which is status 8
 
+All run in a network of their own (so as root), in which the system keeps 32,768 bytes at most of what a client doesn't
+read: by itself it would keep all of such an answer, and nothing would be left to the program.
+
 Beside the first three, 16 clients connect to another virtual server again and again, and each answer is compared.
 Prints for each run the right and wrong answers, the resident memory, and whether the program still runs. The record
 of `scarce` is replayed, and must give each client its bytes.
 """
 import argparse
+import ctypes
+import fcntl
 import os
 import resource
 import socket
@@ -70,6 +75,15 @@ class Program:
     def end(self):
         self.process.terminate()
         return self.process.wait()
+
+
+def own_network():
+    """Goes into a network of its own, of a loopback alone, with small buffers for what is sent."""
+    if ctypes.CDLL(None, use_errno=True).unshare(0x40000000):
+        raise OSError(ctypes.get_errno(), "a network of its own can't be made")
+    up = struct.pack("16sh22x", b"lo", 0x41)
+    fcntl.ioctl(socket.socket(), 0x8914, up)
+    open("/proc/sys/net/ipv4/tcp_wmem", "w").write("4096 16384 32768")
 
 
 def never_reads(port):
@@ -198,6 +212,7 @@ def main():
     words.add_argument("--seconds", type=float, default=20)
     words = words.parse_args()
     words.program = os.path.abspath(words.program)
+    own_network()
     most = resource.getrlimit(resource.RLIMIT_NOFILE)[1]
     resource.setrlimit(resource.RLIMIT_NOFILE, (min(most, 8300), most))
     good = True

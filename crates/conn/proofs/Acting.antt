@@ -24,10 +24,10 @@ use Rattle.conn.specs.Acts.{Rests, RestsBy, cut_of}
 use Rattle.conn.specs.Changes.{Closes}
 use Rattle.conn.specs.Ends.{connects_by, has_stream, is_up, link_by, number_by, server_by}
 use Rattle.conn.specs.Holds.{Around, Between, Holds, HoldsEnds, Stands}
-use Rattle.conn.specs.Hosts.{CollectsNothing, SendsToFirst, client_bytes, logs_of, seen_host, server_bytes}
+use Rattle.conn.specs.Hosts.{SendsToFirst, Told, client_bytes, logs_of, seen_host, server_bytes}
 use Rattle.conn.specs.RunsItems.{is_cut, licenses}
 use Rattle.conn.specs.Setups.{Serves}
-use Rattle.conn.specs.Stages.{InEvent as HostIn, cause_for, fits, has_finished, is_asking, reason_for}
+use Rattle.conn.specs.Stages.{InEvent as HostIn, cause_for, fits, has_finished, is_asking, is_in_body, reason_for}
 use Rattle.conn.specs.Relaying.{queue_end}
 use Rattle.conn.specs.Steps.{queue_both}
 use Rattle.conn.specs.declared.connection.Conn.{Conn}
@@ -51,7 +51,7 @@ use Rattle.conn.proofs.Places.{GoneTo, closes_gone, link_is}
 abbrev pub ActStops : Setup → Around → TraceState → Conn → code.Act → Type 0
 ActStops g a at new done.Goes = is_asking new.stage ≡ false
 ActStops g a at new (done.Asks call) = next_item g at ≡ Waits (ForReply call)
-ActStops g a at new done.Rests = GivesNoMore false at.sent a.took (next_item g at) × (is_cut a.took at ≡ false)
+ActStops g a at new done.Rests = GivesNoMore false at.sent a.took (next_item g at) × ((is_cut a.took at ≡ false) × (is_in_body new.stage ≡ false))
 
 -- the call that it made
 abbrev pub asked_by : code.Act → List (List (List ℕ))
@@ -70,16 +70,16 @@ gone_holds g a fin p l ends new k is h no_choice no_cut = record {
   finished = is ∙ k.finished;
   fits = k.fits;
   event = k.event;
-  no_collect = k.collects;
+  told = k.told;
   ends = subst (λ e. HoldsEnds a (put p l) e) (sym k.ends) h;
   no_choice = no_choice;
   no_cut = no_cut;
 }
 
 -- nothing is given
-pub stays : (g : Setup) (a : Around) (l : TraceState) (c : ℕ) (old new : Conn) (did : code.Act) → Holds g a l old → did ≡ done.Rests → new ≡ old → GivesNoMore false l.sent a.took (next_item g l) → is_cut a.took l ≡ false → ActGave g a l c old new [] did
-stays g a l c old new did h rests same stops kept =
-    subst (λ x. ActGave g a l c old x [] did) (sym same) (subst (λ x. ActGave g a l c old old [] x) (sym rests) (record { at = l; gave = gave_none g a l c old h; stops = (stops, kept) }))
+pub stays : (g : Setup) (a : Around) (l : TraceState) (c : ℕ) (old new : Conn) (did : code.Act) → Holds g a l old → is_in_body old.stage ≡ false → did ≡ done.Rests → new ≡ old → GivesNoMore false l.sent a.took (next_item g l) → is_cut a.took l ≡ false → ActGave g a l c old new [] did
+stays g a l c old new did h quiet rests same stops kept =
+    subst (λ x. ActGave g a l c old x [] did) (sym same) (subst (λ x. ActGave g a l c old old [] x) (sym rests) (record { at = l; gave = gave_none g a l c old h; stops = (stops, (kept, quiet)) }))
 
 -- a reason that isn't a cut
 abbrev pub IsPlain : Finish → Type 0
@@ -139,7 +139,7 @@ module _ (s : code_setup.Setup) (g : Setup) (serves : Serves s g) (a : Around) (
   closed_at = put (closed g (link_by old.ends.link) (seen_host old.host)) (record l { finished = true })
 
   closing : Closes s old new → GoneTo g true (closed g (link_by old.ends.link) (seen_host old.host)) (record l { finished = true }) old.ends new
-  closing k = closes_gone g (record l { finished = true }) s serves old new k (record { vars = b.vars; replies = b.replies; collects = h.no_collect })
+  closing k = closes_gone g (record l { finished = true }) s serves old new k (record { vars = b.vars; replies = b.replies; told = h.told })
 
   closed_holds : Closes s old new → Holds g a closed_at new
   closed_holds k =
@@ -210,11 +210,11 @@ module _ (s : code_setup.Setup) (g : Setup) (serves : Serves s g) (a : Around) (
   licensed_by taken_up Idle r = absurd r
 
   -- where nothing may be given a reset that was told cuts it, or it rests
-  pub rests_gave : (before after : List Note) (did : code.Act) → (old.ends.link ≡ link.Made → ⊥) → GivesNoMore false l.sent a.took (next_item g l) → (next_item g l ≡ Over → ⊥) → Rests s c old new before after did → ActGave g a l c old new (rest_group c (cut_of old)) did
-  rests_gave before after did taken_up rest not_over k = by_cut (cut_of old) refl k
+  pub rests_gave : (before after : List Note) (did : code.Act) → is_in_body old.stage ≡ false → (old.ends.link ≡ link.Made → ⊥) → GivesNoMore false l.sent a.took (next_item g l) → (next_item g l ≡ Over → ⊥) → Rests s c old new before after did → ActGave g a l c old new (rest_group c (cut_of old)) did
+  rests_gave before after did quiet taken_up rest not_over k = by_cut (cut_of old) refl k
     where
       by_cut : (o : Option CutReason) → cut_of old ≡ o → RestsBy o s c old new before after did → ActGave g a l c old new (rest_group c o) did
-      by_cut None is (rests, same, none) = stays g a l c old new did h rests same rest (resets_are taken_up ∙ none_due (has_finished old.stage) old.ends.client.reset old.ends.server.reset is)
+      by_cut None is (rests, same, none) = stays g a l c old new did h quiet rests same rest (resets_are taken_up ∙ none_due (has_finished old.stage) old.ends.client.reset old.ends.server.reset is)
       by_cut (Some reason) is (goes, k) =
           let due = some_due (has_finished old.stage) old.ends.client.reset old.ends.server.reset reason is in
           subst (λ d. ActGave g a l c old new (rest_group c (Some reason)) d) (sym goes) (cut_gave reason k.0 (h.finished ∙ due.0) rest not_over (licensed_by taken_up reason due.1))
@@ -224,7 +224,7 @@ pub record DoesActs (g : Setup) (number : ℕ) (xs : List Act) (old new : Conn) 
   pub calls : calls_made xs ≡ called
   pub first : SendsToFirst number (effects_in xs)
   pub ends : new.ends ≡ queue_both (client_bytes (effects_in xs)) (server_bytes (effects_in xs)) old.ends
-  pub collects : CollectsNothing g new.host.net
+  pub told : Told g new.ends.link new.host.net
 
 -- logged lines tell nothing of the ends
 pub logs_keep : (c : ℕ) (es : List Effect) (e : Edges) → edges_noted (logs_of c es) e ≡ e
@@ -305,7 +305,7 @@ acts_gave g a l at c old new xs tail t h made u stands finished fit ev same =
         finished = same.finished ∙ finished;
         fits = fit;
         event = ev;
-        no_collect = made.collects;
+        told = made.told;
         ends = subst (HoldsEnds a at) (sym made.ends) (queued_ends a l at old.ends (effects_in xs) h.ends made.first same.client same.server same.connects
             (ap (λ x. x.client) sent ∙ acts_sent_client c number a.took tail t xs l.sent) (ap (λ x. x.server) sent ∙ acts_sent_server c number a.took tail t xs l.sent) (ap (λ x. x.number) sent ∙ acts_number c number a.took tail t xs l.sent));
         no_choice = same.choices ∙ h.no_choice;

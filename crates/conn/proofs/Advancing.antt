@@ -11,14 +11,15 @@ use Rattle.connection_model.specs.State.{TraceState}
 use Rattle.connection_model.specs.declared.note.CutReason.{CutReason}
 use Rattle.connection_model.specs.declared.note.Note.{Note}
 use Rattle.connection_model.specs.declared.note.Note.TheVariants as note
-use Rattle.conn.specs.Acts.{ActedAt, Acted, AnswersBy, BehindFault, PassesGate, RelaysBy, Rests, RestsBy, cut_of, has_room}
+use Rattle.connection_model.specs.Relay.{meets}
+use Rattle.conn.specs.Acts.{ActedAt, Acted, AnswersBy, BehindFault, CollectsBy, PassesGate, PassesReleased, RelaysBy, Rests, RestsBy, cut_of, has_room}
 use Rattle.conn.specs.Changes.{Closes, ClosesClient, ClosesServer, GoesTo, Leaves, NextBody, StartsBody}
 use Rattle.conn.specs.Choosing.{ChoosesBy, TakesChosen, plan_of}
 use Rattle.conn.specs.Ends.{is_sought}
 use Rattle.conn.specs.Events.{event_of, is_closed}
 use Rattle.conn.specs.Holds.{Around, Holds, RunsFirst, Stands}
 use Rattle.conn.specs.Hosts.{client_bytes, server_bytes}
-use Rattle.conn.specs.Relaying.{moved, relay_plan}
+use Rattle.conn.specs.Relaying.{Releases, moved, read_ends, relay_plan, round_begun}
 use Rattle.conn.specs.Setups.{body_at, places_at, Serves}
 use Rattle.conn.specs.Stages.{cause_for, is_asking}
 use Rattle.conn.specs.Steps.{BodyMovedBy, BodySteps, GoesOn, one_of, queue_both, said_of}
@@ -46,6 +47,8 @@ use Rattle.conn.specs.declared.turn.Act.TheVariants as done
 use Rattle.conn.proofs.Acting.{ActGave, logs_keep, rest_group}
 use Rattle.conn.proofs.BodyMoves.{body_gives, step_notes}
 use Rattle.conn.proofs.Choosing.{chooses, chosen}
+use Rattle.conn.proofs.Collecting.{collect_group, collect_noted, collects}
+use Rattle.conn.proofs.Releasing.{release_noted, releases, server_room}
 use Rattle.conn.proofs.Gating.{drains, finishing, gate, gate_group, gate_noted, logs}
 use Rattle.conn.proofs.Linking.{answer_group, answer_noted, answers, connects}
 use Rattle.conn.proofs.Passing.{relay_group, relay_noted, relays}
@@ -68,9 +71,11 @@ client_ends s old new k = by_test (nat_lt 0 (length (places_at s event.Closed)))
 
 leaves_ends : (s : code_setup.Setup) (at : At) (old new : Conn) → Leaves s at old new → new.ends ≡ old.ends
 leaves_ends s event.Accepted old new k = k.ends
+leaves_ends s event.ClientData old new k = k.ends
 leaves_ends s event.Selected old new k = k.ends
 leaves_ends s event.Failed old new k = k.ends
 leaves_ends s event.Connected old new k = k.ends
+leaves_ends s event.ServerData old new k = k.ends
 leaves_ends s event.ServerClosed old new k = client_ends s old new k
 leaves_ends s event.Closed old new k = k.ends
 
@@ -117,10 +122,26 @@ moved_edges : (side : Side) (n : ℕ) (e : Ends) → (moved side n e).edges ≡ 
 moved_edges Client n e = refl
 moved_edges Server n e = refl
 
-relay_tells : (s : code_setup.Setup) (c : ℕ) (p : Relay) (old new : Conn) (before after : List Note) (did : step_act.Act) → RelaysBy p s c old new before after did → Tells (relay_group p c (cut_of old)) old new
+fired_edges : (side : Side) (n : ℕ) (e : Ends) → (read_ends side n e).edges ≡ e.edges
+fired_edges Client n e = refl
+fired_edges Server n e = refl
+
+relay_tells : (s : code_setup.Setup) (c : ℕ) (p : Relay) (old new : Conn) (before after : List Note) (did : step_act.Act) → RelaysBy p s c old new before after did → Tells (relay_group p c (cut_of (round_begun old))) old new
 relay_tells s c relay.Done old new before after did k = ends_tell old new (closes_ends s old new k.1.0)
 relay_tells s c (relay.Pass side n) old new before after did k = ap (λ e. e.edges) k.1.ends ∙ moved_edges side n old.ends
-relay_tells s c relay.Rest old new before after did k = rest_tells s c old new before after did (cut_of old) k
+relay_tells s c (relay.Fire side n) old new before after did k = ap (λ e. e.edges) k.1.enters.ends ∙ fired_edges side n old.ends
+relay_tells s c relay.Rest old new before after did k = rest_tells s c (round_begun old) new before after did (cut_of (round_begun old)) k
+
+collect_tells : (s : code_setup.Setup) (c : ℕ) (o : Option ℕ) (old new : Conn) (before after : List Note) (did : step_act.Act) → CollectsBy o s c old new before after did → Tells (collect_group o c (cut_of old)) old new
+collect_tells s c None old new before after did k = rest_tells s c old new before after did (cut_of old) k
+collect_tells s c (Some n) old new before after did k = ap (λ e. e.edges) k.1.enters.ends
+
+release_tells : (s : code_setup.Setup) (c : ℕ) (old new : Conn) (before after : List Note) (did : step_act.Act) → PassesReleased s c old new before after did → Tells (gate_group (server_room old) c (cut_of old)) old new
+release_tells s c old new before after did k = by_test (server_room old) k
+  where
+    by_test : (b : Bool) → MatchBool b ((did ≡ done.Goes) × Releases old new × (after ≡ before)) (Rests s c old new before after did) → Tells (gate_group b c (cut_of old)) old new
+    by_test true k = ap (λ e. e.edges) k.1.ends
+    by_test false k = rest_tells s c old new before after did (cut_of old) k
 
 chooses_tells : (s : code_setup.Setup) (p : Plan) (old new : Conn) (did : step_act.Act) → ChoosesBy p s old new did → Tells [] old new
 chooses_tells s plan.Nothing old new did k = ends_tell old new k.1.ends
@@ -222,11 +243,23 @@ acted_well s c old new before after did k = by_stage old.stage refl k
       tells = answer_tells s c old.ends.link old new before after did k;
       along = λ g a l serves h awake. answers s g serves a l c old new h to before after did is (here (stage.Answering to) is g a l h) k;
     }
-    by_stage stage.Relaying is k = record {
-      group = relay_group (relay_plan old.ends) c (cut_of old);
-      notes = relay_noted s c (relay_plan old.ends) old new before after did k;
-      tells = relay_tells s c (relay_plan old.ends) old new before after did k;
-      along = λ g a l serves h awake. relays s g serves a l c old new h is (here stage.Relaying is g a l h) before after did k;
+    by_stage stage.Collecting is k = record {
+      group = collect_group (meets old.host.net.client.asks old.ends.client.unread) c (cut_of old);
+      notes = collect_noted s c (meets old.host.net.client.asks old.ends.client.unread) old new before after did k;
+      tells = collect_tells s c (meets old.host.net.client.asks old.ends.client.unread) old new before after did k;
+      along = λ g a l serves h awake. collects s g serves a l c old new h is (here stage.Collecting is g a l h) before after did k;
+    }
+    by_stage stage.Releasing is k = record {
+      group = gate_group (server_room old) c (cut_of old);
+      notes = release_noted s c old new before after did k;
+      tells = release_tells s c old new before after did k;
+      along = λ g a l serves h awake. releases s g serves a l c old new h is (here stage.Releasing is g a l h) before after did k;
+    }
+    by_stage (stage.Relaying first) is k = record {
+      group = relay_group (relay_plan first old.host.net old.ends) c (cut_of (round_begun old));
+      notes = relay_noted s c (relay_plan first old.host.net old.ends) old new before after did k;
+      tells = relay_tells s c (relay_plan first old.host.net old.ends) old new before after did k;
+      along = λ g a l serves h awake. relays s g serves a l c old new h first is (here (stage.Relaying first) is g a l h) before after did k;
     }
     by_stage (stage.Finishing f) is (e, k) = record {
       group = note.Finish c (cause_for f) ∷ [];
@@ -258,7 +291,19 @@ answer_quiet s c link.Up old new before after k = rest_quiet s c old new before 
 relay_quiet : (s : code_setup.Setup) (c : ℕ) (p : Relay) (old new : Conn) (before after : List Note) → RelaysBy p s c old new before after done.Rests → after ≡ before
 relay_quiet s c relay.Done old new before after k = absurd (let e = k.0 in cc)
 relay_quiet s c (relay.Pass side n) old new before after k = absurd (let e = k.0 in cc)
-relay_quiet s c relay.Rest old new before after k = rest_quiet s c old new before after (cut_of old) k
+relay_quiet s c (relay.Fire side n) old new before after k = absurd (let e = k.0 in cc)
+relay_quiet s c relay.Rest old new before after k = rest_quiet s c (round_begun old) new before after (cut_of (round_begun old)) k
+
+collect_quiet : (s : code_setup.Setup) (c : ℕ) (o : Option ℕ) (old new : Conn) (before after : List Note) → CollectsBy o s c old new before after done.Rests → after ≡ before
+collect_quiet s c None old new before after k = rest_quiet s c old new before after (cut_of old) k
+collect_quiet s c (Some n) old new before after k = absurd (let e = k.0 in cc)
+
+release_quiet : (s : code_setup.Setup) (c : ℕ) (old new : Conn) (before after : List Note) → PassesReleased s c old new before after done.Rests → after ≡ before
+release_quiet s c old new before after k = by_test (server_room old) k
+  where
+    by_test : (b : Bool) → MatchBool b ((done.Rests ≡ done.Goes) × Releases old new × (after ≡ before)) (Rests s c old new before after done.Rests) → after ≡ before
+    by_test true k = k.2
+    by_test false k = rest_quiet s c old new before after (cut_of old) k
 
 gate_quiet : (s : code_setup.Setup) (c : ℕ) (at : At) (old new : Conn) (before after : List Note) → PassesGate s c at old new before after done.Rests → after ≡ before
 gate_quiet s c at old new before after k = by_test (has_room old) k
@@ -290,13 +335,15 @@ rests_quiet s c old new before after k = by_stage old.stage k
     by_stage (stage.Chosen addr) k = k.2
     by_stage (stage.Connecting to) k = absurd (let e = k.0 in cc)
     by_stage (stage.Answering to) k = answer_quiet s c old.ends.link old new before after k
-    by_stage stage.Relaying k = relay_quiet s c (relay_plan old.ends) old new before after k
+    by_stage stage.Collecting k = collect_quiet s c (meets old.host.net.client.asks old.ends.client.unread) old new before after k
+    by_stage stage.Releasing k = release_quiet s c old new before after k
+    by_stage (stage.Relaying first) k = relay_quiet s c (relay_plan first old.host.net old.ends) old new before after k
     by_stage (stage.Finishing f) k = absurd (let e = k.0 in cc)
     by_stage stage.Draining k = k.2
     by_stage stage.OutOfMemory k = k.2
     by_stage (stage.Dropped n) k = k.2
 
--- and changes nothing
+-- and nothing changes
 rest_same : (s : code_setup.Setup) (c : ℕ) (old new : Conn) (before after : List Note) (o : Option CutReason) → RestsBy o s c old new before after done.Rests → new ≡ old
 rest_same s c old new before after None k = k.1
 rest_same s c old new before after (Some reason) k = absurd (let e = k.0 in cc)
@@ -308,10 +355,23 @@ answer_same s c link.Absent old new before after k = rest_same s c old new befor
 answer_same s c link.Asked old new before after k = rest_same s c old new before after (cut_of old) k
 answer_same s c link.Up old new before after k = rest_same s c old new before after (cut_of old) k
 
-relay_same : (s : code_setup.Setup) (c : ℕ) (p : Relay) (old new : Conn) (before after : List Note) → RelaysBy p s c old new before after done.Rests → new ≡ old
+-- but the turn of a relay
+relay_same : (s : code_setup.Setup) (c : ℕ) (p : Relay) (old new : Conn) (before after : List Note) → RelaysBy p s c old new before after done.Rests → new ≡ round_begun old
 relay_same s c relay.Done old new before after k = absurd (let e = k.0 in cc)
 relay_same s c (relay.Pass side n) old new before after k = absurd (let e = k.0 in cc)
-relay_same s c relay.Rest old new before after k = rest_same s c old new before after (cut_of old) k
+relay_same s c (relay.Fire side n) old new before after k = absurd (let e = k.0 in cc)
+relay_same s c relay.Rest old new before after k = rest_same s c (round_begun old) new before after (cut_of (round_begun old)) k
+
+collect_same : (s : code_setup.Setup) (c : ℕ) (o : Option ℕ) (old new : Conn) (before after : List Note) → CollectsBy o s c old new before after done.Rests → new ≡ old
+collect_same s c None old new before after k = rest_same s c old new before after (cut_of old) k
+collect_same s c (Some n) old new before after k = absurd (let e = k.0 in cc)
+
+release_same : (s : code_setup.Setup) (c : ℕ) (old new : Conn) (before after : List Note) → PassesReleased s c old new before after done.Rests → new ≡ old
+release_same s c old new before after k = by_test (server_room old) k
+  where
+    by_test : (b : Bool) → MatchBool b ((done.Rests ≡ done.Goes) × Releases old new × (after ≡ before)) (Rests s c old new before after done.Rests) → new ≡ old
+    by_test true k = absurd (let e = k.0 in cc)
+    by_test false k = rest_same s c old new before after (cut_of old) k
 
 gate_same : (s : code_setup.Setup) (c : ℕ) (at : At) (old new : Conn) (before after : List Note) → PassesGate s c at old new before after done.Rests → new ≡ old
 gate_same s c at old new before after k = by_test (has_room old) k
@@ -320,9 +380,13 @@ gate_same s c at old new before after k = by_test (has_room old) k
     by_test true k = absurd (let e = k.0 in cc)
     by_test false k = rest_same s c old new before after (cut_of old) k
 
-pub rests_same : (s : code_setup.Setup) (c : ℕ) (old new : Conn) (before after : List Note) → Acted s c old new before after done.Rests → new ≡ old
-rests_same s c old new before after k = by_stage old.stage k
+-- so no call is opened
+pub rests_asking : (s : code_setup.Setup) (c : ℕ) (old new : Conn) (before after : List Note) → Acted s c old new before after done.Rests → is_asking new.stage ≡ is_asking old.stage
+rests_asking s c old new before after k = by_stage old.stage refl k
   where
+    as_before : new ≡ old → is_asking new.stage ≡ is_asking old.stage
+    as_before same = ap (λ x. is_asking x.stage) same
+
     choose_goes : (p : Plan) → ChoosesBy p s old new done.Rests → ⊥
     choose_goes plan.Nothing k = let e = k.0 in cc
     choose_goes (plan.Node addr) k = let e = k.0 in cc
@@ -332,21 +396,23 @@ rests_same s c old new before after k = by_stage old.stage k
     by_handler at n None m = m.1
     by_handler at n (Some b) m = absurd (said_quiet s at n (said_of b at m.turned) m.mid new m.goes_on)
 
-    by_stage : (st : Stage) → ActedAt st s c old new before after done.Rests → new ≡ old
-    by_stage (stage.Gated at) k = gate_same s c at old new before after k
-    by_stage (stage.Running at n) k = by_handler at n (body_at s at n) k
-    by_stage (stage.Asking at n) k = k.1
-    by_stage stage.Selecting k = k.1
-    by_stage (stage.Failing at n kind line) k = absurd (let e = k.0 in cc)
-    by_stage stage.Choosing k = absurd (choose_goes (plan_of old.host.net) k.0)
-    by_stage (stage.Chosen addr) k = absurd (let e = k.0 in cc)
-    by_stage (stage.Connecting to) k = absurd (let e = k.0 in cc)
-    by_stage (stage.Answering to) k = answer_same s c old.ends.link old new before after k
-    by_stage stage.Relaying k = relay_same s c (relay_plan old.ends) old new before after k
-    by_stage (stage.Finishing f) k = absurd (let e = k.0 in cc)
-    by_stage stage.Draining k = k.1
-    by_stage stage.OutOfMemory k = k.1
-    by_stage (stage.Dropped n) k = k.1
+    by_stage : (st : Stage) → old.stage ≡ st → ActedAt st s c old new before after done.Rests → is_asking new.stage ≡ is_asking old.stage
+    by_stage (stage.Gated at) is k = as_before (gate_same s c at old new before after k)
+    by_stage (stage.Running at n) is k = as_before (by_handler at n (body_at s at n) k)
+    by_stage (stage.Asking at n) is k = as_before k.1
+    by_stage stage.Selecting is k = as_before k.1
+    by_stage (stage.Failing at n kind line) is k = absurd (let e = k.0 in cc)
+    by_stage stage.Choosing is k = absurd (choose_goes (plan_of old.host.net) k.0)
+    by_stage (stage.Chosen addr) is k = absurd (let e = k.0 in cc)
+    by_stage (stage.Connecting to) is k = absurd (let e = k.0 in cc)
+    by_stage (stage.Answering to) is k = as_before (answer_same s c old.ends.link old new before after k)
+    by_stage stage.Collecting is k = as_before (collect_same s c (meets old.host.net.client.asks old.ends.client.unread) old new before after k)
+    by_stage stage.Releasing is k = as_before (release_same s c old new before after k)
+    by_stage (stage.Relaying first) is k = ap (λ x. is_asking x.stage) (relay_same s c (relay_plan first old.host.net old.ends) old new before after k) ∙ sym (ap is_asking is)
+    by_stage (stage.Finishing f) is k = absurd (let e = k.0 in cc)
+    by_stage stage.Draining is k = as_before k.1
+    by_stage stage.OutOfMemory is k = as_before k.1
+    by_stage (stage.Dropped n) is k = as_before k.1
 
 -- an action that makes a call waits for its reply
 rest_asks_not : (s : code_setup.Setup) (c : ℕ) (old new : Conn) (before after : List Note) (call : List (List ℕ)) (o : Option CutReason) → RestsBy o s c old new before after (done.Asks call) → ⊥
@@ -363,7 +429,19 @@ answer_asks_not s c link.Up old new before after call k = rest_asks_not s c old 
 relay_asks_not : (s : code_setup.Setup) (c : ℕ) (p : Relay) (old new : Conn) (before after : List Note) (call : List (List ℕ)) → RelaysBy p s c old new before after (done.Asks call) → ⊥
 relay_asks_not s c relay.Done old new before after call k = let e = k.0 in cc
 relay_asks_not s c (relay.Pass side n) old new before after call k = let e = k.0 in cc
-relay_asks_not s c relay.Rest old new before after call k = rest_asks_not s c old new before after call (cut_of old) k
+relay_asks_not s c (relay.Fire side n) old new before after call k = let e = k.0 in cc
+relay_asks_not s c relay.Rest old new before after call k = rest_asks_not s c (round_begun old) new before after call (cut_of (round_begun old)) k
+
+collect_asks_not : (s : code_setup.Setup) (c : ℕ) (o : Option ℕ) (old new : Conn) (before after : List Note) (call : List (List ℕ)) → CollectsBy o s c old new before after (done.Asks call) → ⊥
+collect_asks_not s c None old new before after call k = rest_asks_not s c old new before after call (cut_of old) k
+collect_asks_not s c (Some n) old new before after call k = let e = k.0 in cc
+
+release_asks_not : (s : code_setup.Setup) (c : ℕ) (old new : Conn) (before after : List Note) (call : List (List ℕ)) → PassesReleased s c old new before after (done.Asks call) → ⊥
+release_asks_not s c old new before after call k = by_test (server_room old) k
+  where
+    by_test : (b : Bool) → MatchBool b ((done.Asks call ≡ done.Goes) × Releases old new × (after ≡ before)) (Rests s c old new before after (done.Asks call)) → ⊥
+    by_test true k = let e = k.0 in cc
+    by_test false k = rest_asks_not s c old new before after call (cut_of old) k
 
 gate_asks_not : (s : code_setup.Setup) (c : ℕ) (at : At) (old new : Conn) (before after : List Note) (call : List (List ℕ)) → PassesGate s c at old new before after (done.Asks call) → ⊥
 gate_asks_not s c at old new before after call k = by_test (has_room old) k
@@ -400,7 +478,9 @@ asks_there s c old new before after call k = by_stage old.stage k
     by_stage (stage.Chosen addr) k = absurd (let e = k.0 in cc)
     by_stage (stage.Connecting to) k = absurd (let e = k.0 in cc)
     by_stage (stage.Answering to) k = absurd (answer_asks_not s c old.ends.link old new before after call k)
-    by_stage stage.Relaying k = absurd (relay_asks_not s c (relay_plan old.ends) old new before after call k)
+    by_stage stage.Collecting k = absurd (collect_asks_not s c (meets old.host.net.client.asks old.ends.client.unread) old new before after call k)
+    by_stage stage.Releasing k = absurd (release_asks_not s c old new before after call k)
+    by_stage (stage.Relaying first) k = absurd (relay_asks_not s c (relay_plan first old.host.net old.ends) old new before after call k)
     by_stage (stage.Finishing f) k = absurd (let e = k.0 in cc)
     by_stage stage.Draining k = absurd (let e = k.0 in cc)
     by_stage stage.OutOfMemory k = absurd (let e = k.0 in cc)

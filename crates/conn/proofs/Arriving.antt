@@ -13,7 +13,7 @@ use Rattle.connection_model.specs.Setup.{Handler, Setup}
 use Rattle.connection_model.specs.State.{Cut, ServerSide, Stream, There, TraceState}
 use Rattle.connection_model.proofs.Streams.{nothing_stream, nothing_server, nothing_on_last}
 use Rattle.conn.specs.Calls.{Hears, Resets, coming_of, ended_ends, heard_ends, none_at_last, reset_end, reset_ends, reset_in, unless_finished}
-use Rattle.conn.specs.Ends.{arrived, connects_by, fresh_end, has_stream, heard_by, heard_end, hears_at, server_by, servers_by}
+use Rattle.conn.specs.Ends.{arrived, connects_by, fresh_end, has_stream, heard_by, heard_end, hears_at, is_up, server_by, servers_by}
 use Rattle.conn.specs.Events.{event_of}
 use Rattle.conn.specs.Holds.{Around, Between, Holds, HoldsEnds, RunsFirst, Stands}
 use Rattle.conn.specs.Stages.{fits, has_finished}
@@ -36,7 +36,7 @@ with_ends e c = record c { ends = e }
 -- where it stands reads nothing of them
 first_stands : (g : Setup) (e : EventName) (hs : List Handler) (n : ℕ) (l : TraceState) (s : Stream) (v : ServerSide) (k : List (Option Stream)) (c : Conn) (x : Ends) → RunsFirst g e hs n l c → RunsFirst g e hs n (changed s v k l) (with_ends x c)
 first_stands g e [] n l s v k c x r = r
-first_stands g e (b ∷ bs) n l s v k c x r = record { acts = r.acts; cost = r.cost; phase = r.phase; no_collect = r.no_collect; same = r.same }
+first_stands g e (b ∷ bs) n l s v k c x r = record { acts = r.acts; cost = r.cost; phase = r.phase; kept = r.kept; same = r.same }
 
 between : (l : TraceState) (s : Stream) (v : ServerSide) (k : List (Option Stream)) (c : Conn) (x : Ends) → Between l c → Between (changed s v k l) (with_ends x c)
 between l s v k c x b = record { vars = b.vars; host = b.host; replies = b.replies }
@@ -51,19 +51,21 @@ stands g stage.Selecting l s v k c x r = (r.0, between l s v k c x r.1)
 stands g (stage.Chosen addr) l s v k c x r = (r.0, record { vars = r.1.vars; host = r.1.host; reply = r.1.reply; replies = r.1.replies; selects = r.1.selects })
 stands g (stage.Connecting to) l s v k c x r = (r.0, between l s v k c x r.1)
 stands g (stage.Answering to) l s v k c x r = (r.0, between l s v k c x r.1)
-stands g stage.Relaying l s v k c x r = (r.0, between l s v k c x r.1)
+stands g stage.Collecting l s v k c x r = (r.0, between l s v k c x r.1)
+stands g stage.Releasing l s v k c x r = (r.0, between l s v k c x r.1)
+stands g (stage.Relaying first) l s v k c x r = (r.0, between l s v k c x r.1)
 stands g (stage.Finishing f) l s v k c x r = (r.0, between l s v k c x r.1)
 stands g stage.Draining l s v k c x r = (r.0, between l s v k c x r.1)
 stands g stage.OutOfMemory l s v k c x r = r
 stands g (stage.Dropped n) l s v k c x r = r
 
-pub holds : (g : Setup) (a b : Around) (l : TraceState) (s : Stream) (v : ServerSide) (k : List (Option Stream)) (c : Conn) (x : Ends) → Holds g a l c → HoldsEnds b (changed s v k l) x → fits c.stage x.link ≡ true → Holds g b (changed s v k l) (with_ends x c)
-holds g a b l s v k c x h e f = record {
+pub holds : (g : Setup) (a b : Around) (l : TraceState) (s : Stream) (v : ServerSide) (k : List (Option Stream)) (c : Conn) (x : Ends) → Holds g a l c → HoldsEnds b (changed s v k l) x → fits c.stage x.link ≡ true → (is_up c.ends.link ≡ true → is_up x.link ≡ true) → Holds g b (changed s v k l) (with_ends x c)
+holds g a b l s v k c x h e f up = record {
   stage = stands g c.stage l s v k c x h.stage;
   finished = h.finished;
   fits = f;
   event = h.event;
-  no_collect = h.no_collect;
+  told = record { from = h.told.from; relays = λ r. up (h.told.relays r) };
   ends = e;
   no_choice = h.no_choice;
   no_cut = h.no_cut;
@@ -246,7 +248,7 @@ hears_with side c old f same g a l h order = by_finish (has_finished old.stage) 
         let P : Bool → Type 0 = λ y. Holds g a (longer (unless_finished y (coming_of side c)) l) (with_ends x old) in
         let Q : TraceState → Type 0 = λ y. Holds g a y (with_ends x old) in
         let R : TraceState → Type 0 = λ y. HoldsEnds a y x in
-        subst P (sym e) (subst Q (sym (is_changed b)) (holds g a a l m.client m.server m.answers.connects old x h (subst R (is_changed b) (told m (heard_ends b side c old.ends) (grown b) (same_edges b side c old.ends))) (ap (fits old.stage) (same_link b side c old.ends) ∙ h.fits)))
+        subst P (sym e) (subst Q (sym (is_changed b)) (holds g a a l m.client m.server m.answers.connects old x h (subst R (is_changed b) (told m (heard_ends b side c old.ends) (grown b) (same_edges b side c old.ends))) (ap (fits old.stage) (same_link b side c old.ends) ∙ h.fits) (λ u. ap is_up (same_link b side c old.ends) ∙ u)))
 
 pub hears : (side : Side) (c : Coming) (old : Conn) → Hears side c old (with_ends (heard_ends (has_finished old.stage) side c old.ends) old)
 hears side c old =
@@ -324,4 +326,4 @@ reset_link Client e = refl
 reset_link Server e = refl
 
 pub resets : (side : Side) (old : Conn) → Resets side old (with_ends (reset_ends side old.ends) old)
-resets side old g a l h = holds g a (reset_in side a) l l.client l.server l.answers.connects old (reset_ends side old.ends) h (resets_ends a l side old.ends h.ends) (ap (fits old.stage) (reset_link side old.ends) ∙ h.fits)
+resets side old g a l h = holds g a (reset_in side a) l l.client l.server l.answers.connects old (reset_ends side old.ends) h (resets_ends a l side old.ends h.ends) (ap (fits old.stage) (reset_link side old.ends) ∙ h.fits) (λ u. ap is_up (reset_link side old.ends) ∙ u)

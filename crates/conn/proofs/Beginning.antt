@@ -13,9 +13,10 @@ use Rattle.connection_model.specs.State.{Absent, Draining, NoServer, TraceState,
 use Rattle.conn.specs.Calls.{Begins}
 use Rattle.conn.specs.Ends.{fresh_ends}
 use Rattle.conn.specs.Holds.{Holds, HoldsEnds, fresh}
-use Rattle.conn.specs.Hosts.{CollectsNothing, begun_host, fresh_host, seen_host}
+use Rattle.conn.specs.Hosts.{begun_host, fresh_host, seen_host}
 use Rattle.conn.specs.Stages.{entered_stage}
 use Rattle.conn.specs.declared.connection.Conn.{Conn}
+use Rattle.conn.specs.declared.ends.Link.TheVariants as link
 use Rattle.conn.specs.declared.events.At.TheVariants.{Accepted}
 use Rattle.conn.specs.declared.setup.Setup as code
 use Rattle.conn.proofs.Acting.{gone_holds}
@@ -40,16 +41,15 @@ first_ends g h = record {
   connecting = λ e. absurd (cc);
 }
 
-pub begins : (s : code.Setup) (from : Addr) (net : NetState) (new : Conn) → net ≡ new_state from s.port s.pool.now false → new.stage ≡ entered_stage s Accepted net → new.vars ≡ no_scopes → new.host ≡ fresh_host net → new.ends ≡ fresh_ends → Begins s from new
+pub begins : (s : code.Setup) (from : Addr) (net : NetState) (new : Conn) → net ≡ new_state from s.port s.pool.now false → new.stage ≡ entered_stage s Accepted link.Absent net → new.vars ≡ no_scopes → new.host ≡ fresh_host net → new.ends ≡ fresh_ends → Begins s from new
 begins s from net new made there vars host ends g serves came =
     let S : Addr → ℕ → List ℕ → Bool → HostState = λ a n p b. record { event = ClientAccepted; net = new_state a n p b } in
     let first : seen_host (fresh_host net) ≡ first_host g =
     ap (λ n. seen_host (fresh_host n)) made
     ∙ sym (ap (λ a. S a g.port g.pool g.http) came ∙ ap (λ n. S from n g.pool g.http) serves.port ∙ ap (λ p. S from s.port p g.http) serves.pool ∙ ap (λ b. S from s.port s.pool.now b) serves.http) in
-    let Q : NetState → Type 0 = λ n. CollectsNothing g n in
     let same : new.host.net ≡ net = ap (λ h. h.net) host in
-    let collects : CollectsNothing g net = subst Q (sym made) (record { from = sym came; client = refl; server = refl; loose = refl }) in
-    let k = enters_gone g (before_start g) s serves Accepted (fresh_host net) fresh_ends new new (record { there = there ∙ ap (entered_stage s Accepted) (sym same); vars = refl; host = begins_so; ends = ends }) (sym vars) refl collects refl refl (λ e. absurd (cc)) in
+    let is_from : net.from ≡ g.from = ap (λ n. n.from) made ∙ sym came in
+    let k = enters_gone g (before_start g) s serves Accepted (fresh_host net) fresh_ends new new (record { there = there ∙ ap (entered_stage s Accepted link.Absent) (sym same); vars = refl; host = begins_so; ends = ends }) (sym vars) refl is_from refl refl (λ e. absurd (cc)) in
     let P : HostState → Type 0 = λ h. Holds g fresh (put (enter g ClientAccepted Absent h) (before_start g)) new in
     subst P first (gone_holds g fresh false (enter g ClientAccepted Absent (seen_host (fresh_host net))) (before_start g) fresh_ends new k refl (first_ends g (seen_host (fresh_host net))) refl refl)
   where

@@ -36,7 +36,7 @@ use Rattle.conn.specs.Steps.{BodySteps, GoesOn, ended_of, one_of, said_of}
 use Rattle.conn.specs.Bodies.{SaidIs}
 use Rattle.conn.specs.Events.{event_of, is_closed}
 use Rattle.conn.specs.Holds.{Around, BodyGoesOn, RunsFirst, Stands, Holds}
-use Rattle.conn.specs.Hosts.{CollectsNothing, Made, cleared_host, logs_of, seen_host}
+use Rattle.conn.specs.Hosts.{KeepsCollects, Made, cleared_host, logs_of, seen_host}
 use Rattle.conn.specs.Setups.{body_at, Serves}
 use Rattle.conn.specs.Stages.{InEvent as HostIn, at_fits, fits, has_finished, is_asking}
 use Rattle.conn.specs.declared.connection.Conn.{Conn}
@@ -56,14 +56,16 @@ use Rattle.conn.proofs.Asking.{asking_waits}
 use Rattle.conn.proofs.BodyActs.{acts_come, end_comes}
 use Rattle.conn.proofs.FramesKeep.{acts_stay}
 use Rattle.conn.proofs.Passing.{up_is}
-use Rattle.conn.proofs.Places.{GoneTo, first_left, link_is, next_gone}
+use Rattle.conn.proofs.Places.{GoneTo, first_left, link_is, next_gone, same_told}
 
 -- bytes go to a server only in the event of the first connection
 first_by : (at : At) (k : code.Link) → at_fits at k ≡ true → side_of (event_of at) ≡ Server → number_by k ≡ 1
 first_by event.Accepted k fit to = absurd (cc)
+first_by event.ClientData k fit to = absurd (cc)
 first_by event.Selected k fit to = absurd (cc)
 first_by event.Failed k fit to = absurd (cc)
 first_by event.Connected k fit to = ap number_by (up_is k fit)
+first_by event.ServerData k fit to = ap number_by (up_is k fit)
 first_by event.ServerClosed k fit to = absurd (cc)
 first_by event.Closed k fit to = absurd (cc)
 
@@ -71,7 +73,7 @@ first_by event.Closed k fit to = absurd (cc)
 module _ (s : code_setup.Setup) (g : Setup) (serves : Serves s g) (a : Around) (l : TraceState) (c : ℕ) (old mid : Conn) (at : At) (number : ℕ) (h : Handler) (bs : List Handler)
     (holds : Holds g a l old) (k : BodyGoesOn g (event_of at) h bs 0 l old) (said : Turn) (ticks : ℕ) (made : List Effect → Type 0)
     (w : Went (body_setting g h.procedures) h.body (place old.body.machine.at old.vars (seen_host old.host)) (place mid.body.machine.at mid.vars (seen_host mid.host)) said made ticks)
-    (is_here : old.stage ≡ stage.Running at number) (done_acts : DoesActs g l.sent.number w.acts old mid []) (same_event : event_of mid.host.event ≡ event_of old.host.event) where
+    (is_here : old.stage ≡ stage.Running at number) (done_acts : DoesActs g l.sent.number w.acts old mid []) (same_event : event_of mid.host.event ≡ event_of old.host.event) (keeps : KeepsCollects (event_of at) old.host.net mid.host.net) where
   abbrev group : List Note
   group = logs_of c (effects_in w.acts)
 
@@ -131,7 +133,7 @@ module _ (s : code_setup.Setup) (g : Setup) (serves : Serves s g) (a : Around) (
       let kept = (acts_stay S b.body mid.body.machine.at mid.vars (seen_host mid.host) [] (k.cost + w.spent) acts) in
       let at' = running e b bs (length acts + 0) (sent_by w.acts) l in
       let u = come o w.acts kept.0 (length acts + 0) is (kept.1 ∙ append_assoc k.acts w.acts kept.0) (omega (arith, length-append k.acts w.acts)) in
-      let now : BodyGoesOn g e b bs 0 at' mid = record { acts = acts; cost = k.cost + w.spent; phase = refl; no_collect = k.no_collect; same = subst T more same } in
+      let now : BodyGoesOn g e b bs 0 at' mid = record { acts = acts; cost = k.cost + w.spent; phase = refl; kept = λ side free. keeps.kept side free ∙ k.kept side free; same = subst T more same } in
       let P : List Handler → Type 0 = λ hs. RunsFirst g e hs 0 at' mid in
       let R : Stage → Type 0 = λ st. Stands g st at' mid in
       record {
@@ -157,12 +159,12 @@ module _ (s : code_setup.Setup) (g : Setup) (serves : Serves s g) (a : Around) (
       let all : acts ++ calls ≡ k.acts ++ (xs ++ []) = append_assoc k.acts w.acts calls ∙ ap (λ x. k.acts ++ x) (sym (append-nil xs)) in
       let at' = running e b bs (length acts + 1) (sent_by xs) l in
       let u = come o xs [] (length acts + 1) is all (omega (arith, length-append k.acts w.acts, length-append w.acts calls)) in
-      let now : BodyGoesOn g e b bs 1 at' asked = record { acts = acts; cost = k.cost + w.spent; phase = refl; no_collect = k.no_collect; same = subst T is_ask same } in
+      let now : BodyGoesOn g e b bs 1 at' asked = record { acts = acts; cost = k.cost + w.spent; phase = refl; kept = λ side free. keeps.kept side free ∙ k.kept side free; same = subst T is_ask same } in
       let R : List Handler → Type 0 = λ hs. RunsFirst g e hs 1 at' asked in
       let G : List Effect → Type 0 = λ es. Gave g a l at' c old asked (logs_of c es) (call ∷ []) in
       record {
         at = at';
-        gave = subst G (called_is_none w.acts path call) (acts_gave g a l at' c old asked xs [] (no_tail c a.took) holds (calls_too g l.sent.number w.acts path call old asked (record { calls = done_acts.calls; first = done_acts.first; ends = done_acts.ends; collects = done_acts.collects })) (with_tail xs at' u) (subst R (sym left) now, waits) fin fit ev (same_beside (length acts + 1) xs));
+        gave = subst G (called_is_none w.acts path call) (acts_gave g a l at' c old asked xs [] (no_tail c a.took) holds (calls_too g l.sent.number w.acts path call old asked (record { calls = done_acts.calls; first = done_acts.first; ends = done_acts.ends; told = done_acts.told })) (with_tail xs at' u) (subst R (sym left) now, waits) fin fit ev (same_beside (length acts + 1) xs));
         stops = ap (λ n. next_item g (running e b bs n (sent_by xs) l)) (sym (length-append acts calls))
             ∙ body_waits g e b bs l path call (state mid.vars (seen_host mid.host) [] m.budget (k.cost + w.spent) (acts ++ calls)) (sent_by xs) holds.no_cut is;
       }
@@ -172,7 +174,7 @@ module _ (s : code_setup.Setup) (g : Setup) (serves : Serves s g) (a : Around) (
       → GoneTo g l.finished (after_body g e l.finished (link_by mid.ends.link) b bs f (seen_host mid.host)) L mid.ends new × (did ≡ done.Goes)
   ended_gone L vars none behind new None did (goes, n) = (
     subst (λ hs. GoneTo g l.finished (next_body g e l.finished (link_by mid.ends.link) hs (seen_host mid.host)) L mid.ends new) behind
-        (next_gone g L s serves at (number + 1) l.finished mid new n (record { vars = vars; replies = none; collects = done_acts.collects }) ev fit fin),
+        (next_gone g L s serves at (number + 1) l.finished mid new n (record { vars = vars; replies = none; told = done_acts.told }) ev fit fin),
     goes,
   )
   ended_gone L vars none behind new (Some fault) did (goes, n) =
@@ -184,7 +186,7 @@ module _ (s : code_setup.Setup) (g : Setup) (serves : Serves s g) (a : Around) (
           stands = subst (λ st. Stands g st (put p L) new) (sym n.there) there;
           finished = fin ∙ ap has_finished (sym n.there);
           fits = ap (λ st. fits st new.ends.link) n.there ∙ ap (λ x. at_fits at x.link) n.ends ∙ fit;
-          collects = subst (λ x. CollectsNothing g x.net) (sym n.host) done_acts.collects;
+          told = same_told g mid new n.host n.ends done_acts.told;
           ends = n.ends;
           awake = ap is_asking n.there;
           event = subst (λ st. HostIn st new.host.event) (sym n.there) (ap (λ x. event_of x.event) n.host ∙ ev);
@@ -207,7 +209,7 @@ module _ (s : code_setup.Setup) (g : Setup) (serves : Serves s g) (a : Around) (
       let gone = ended_gone L refl refl behind new (uncaught_of code) did n in
       let same_link : link_by mid.ends.link ≡ link_of l.server = ap (λ x. link_by x.link) done_acts.ends ∙ sym (link_is a l old.ends holds.ends) in
       let stands : Stands g new.stage at2 new = subst (λ k'. Stands g new.stage (put (after_body g e l.finished k' b bs (uncaught_of code) (seen_host mid.host)) L) new) same_link gone.0.stands in
-      let made : DoesActs g l.sent.number w.acts old new [] = record { calls = done_acts.calls; first = done_acts.first; ends = gone.0.ends ∙ done_acts.ends; collects = gone.0.collects } in
+      let made : DoesActs g l.sent.number w.acts old new [] = record { calls = done_acts.calls; first = done_acts.first; ends = gone.0.ends ∙ done_acts.ends; told = gone.0.told } in
       subst (λ d. ActGave g a l c old new group d) (sym gone.1) (record {
         at = at2;
         gave = acts_gave g a l at2 c old new w.acts (Ran e st.cost ∷ []) (end_tail c a.took e st.cost) holds made
@@ -221,16 +223,16 @@ module _ (s : code_setup.Setup) (g : Setup) (serves : Serves s g) (a : Around) (
     (holds : Holds g a l old) (k : BodyGoesOn g (event_of at) h bs 0 l old) (left : drop number (g.handlers (event_of at)) ≡ h ∷ bs) (behind : drop (number + 1) (g.handlers (event_of at)) ≡ bs)
     (is_here : old.stage ≡ stage.Running at number) (there : mid.stage ≡ stage.Running at number) (ticks : ℕ) (made : List Effect → Type 0) where
   said_gives : (said : Turn) (w : Went (body_setting g h.procedures) h.body (place old.body.machine.at old.vars (seen_host old.host)) (place mid.body.machine.at mid.vars (seen_host mid.host)) said made ticks)
-      → DoesActs g l.sent.number w.acts old mid [] → event_of mid.host.event ≡ event_of old.host.event → SaidIs said mid.body → (did : step_act.Act) → GoesOn s at number (said_of h at said) mid new did → ActGave g a l c old new (logs_of c (effects_in w.acts)) did
-  said_gives turn.More w d ev is did t =
+      → DoesActs g l.sent.number w.acts old mid [] → event_of mid.host.event ≡ event_of old.host.event → KeepsCollects (event_of at) old.host.net mid.host.net → SaidIs said mid.body → (did : step_act.Act) → GoesOn s at number (said_of h at said) mid new did → ActGave g a l c old new (logs_of c (effects_in w.acts)) did
+  said_gives turn.More w d ev keeps is did t =
       let P : Conn → Type 0 = λ x. ActGave g a l c old x (logs_of c (effects_in w.acts)) did in
       let Q : step_act.Act → Type 0 = λ x. ActGave g a l c old mid (logs_of c (effects_in w.acts)) x in
-      subst P (sym t.1) (subst Q (sym t.0) (goes_on s g serves a l c old mid at number h bs holds k turn.More ticks made w is_here d ev refl is left there))
-  said_gives (turn.Asks call) w d ev is did t =
+      subst P (sym t.1) (subst Q (sym t.0) (goes_on s g serves a l c old mid at number h bs holds k turn.More ticks made w is_here d ev keeps refl is left there))
+  said_gives (turn.Asks call) w d ev keeps is did t =
       let P : Conn → Type 0 = λ x. ActGave g a l c old x (logs_of c (effects_in w.acts)) did in
       let Q : step_act.Act → Type 0 = λ x. ActGave g a l c old (record mid { stage = stage.Asking at number }) (logs_of c (effects_in w.acts)) x in
-      subst P (sym t.1) (subst Q (sym t.0) (asks s g serves a l c old mid at number h bs holds k (turn.Asks call) ticks made w is_here d ev call refl is left))
-  said_gives (turn.Done code) w d ev is did t = over s g serves a l c old mid at number h bs holds k (turn.Done code) ticks made w is_here d ev code refl new did t behind
+      subst P (sym t.1) (subst Q (sym t.0) (asks s g serves a l c old mid at number h bs holds k (turn.Asks call) ticks made w is_here d ev keeps call refl is left))
+  said_gives (turn.Done code) w d ev keeps is did t = over s g serves a l c old mid at number h bs holds k (turn.Done code) ticks made w is_here d ev keeps code refl new did t behind
 
 -- the notes of a body's step
 abbrev pub step_notes : {s : code_setup.Setup} {h : Handler} {c : ℕ} {at : At} {number : ℕ} {old new : Conn} {before after : List Note} {did : step_act.Act} → BodySteps s h c at number old new before after did → List Note
@@ -256,6 +258,8 @@ body_gives s g serves a l c old new at number h before after did got k is holds 
     let w : W (body_setting g h.procedures) k.mid = went_same (body_setting g h.procedures) h.body (place old.body.machine.at old.vars (seen_host old.host)) k.stepped k.mid k.turned made k.ticks moved w0 in
     let to_server : side_of (event_of old.host.event) ≡ Server → l.sent.number ≡ 1 =
     λ to. holds.ends.number ∙ first_by at old.ends.link (sym (ap (λ x. fits x old.ends.link) is) ∙ holds.fits) (sym (ap side_of (subst (λ x. HostIn x old.host.event) is holds.event)) ∙ to) in
-    let acted = acts_done g l.sent.number (body_setting g h.procedures) refl c old k.stepped k.mid before after k.does k.ends holds.no_collect to_server w.acts w.called w.once w.by in
+    let relays_to : old.host.net.relays ≡ true → l.sent.number ≡ 1 = λ r. holds.ends.number ∙ ap number_by (up_is old.ends.link (holds.told.relays r)) in
+    let same_at : event_of old.host.event ≡ event_of at = subst (λ x. HostIn x old.host.event) is holds.event in
+    let acted = acts_done g l.sent.number (body_setting g h.procedures) refl c old k.stepped k.mid before after k.does k.ends holds.told to_server relays_to w.acts w.called w.once w.by in
     let N : List Effect → Type 0 = λ es. ActGave g a l c old new (logs_of c es) did in
-    subst N acted.taken (said_gives s g serves a l c old k.mid new at number h bs holds goes left behind is (k.does.there ∙ k.there ∙ is) k.ticks made k.turned w acted.acts acted.event (said_same k.turned k.stepped.body k.mid.body (sym k.does.body) (k.said_is here.1)) did k.goes_on)
+    subst N acted.taken (said_gives s g serves a l c old k.mid new at number h bs holds goes left behind is (k.does.there ∙ k.there ∙ is) k.ticks made k.turned w acted.acts acted.event (subst (λ x. KeepsCollects x old.host.net k.mid.host.net) same_at acted.keeps) (said_same k.turned k.stepped.body k.mid.body (sym k.does.body) (k.said_is here.1)) did k.goes_on)

@@ -26,9 +26,11 @@ module _ (s : Setup) (from : Stage) (old new : Conn) where
 
   leaves : (at : At) → Leaves s at mid new → Leaves s at old new
   leaves event.Accepted k = goes _ k
+  leaves event.ClientData k = goes _ k
   leaves event.Selected k = goes _ k
   leaves event.Failed k = goes _ k
   leaves event.Connected k = goes _ k
+  leaves event.ServerData k = goes _ k
   leaves event.ServerClosed k = record { mid = k.mid; begins = record { vars = k.begins.vars; host = k.begins.host; ends = k.begins.ends }; goes = k.goes }
   leaves event.Closed k = goes _ k
 

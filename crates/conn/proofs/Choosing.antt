@@ -14,10 +14,10 @@ use Rattle.connection_model.specs.State.{Choosing, ForReply, Selecting, TraceSta
 use Rattle.connection_model.specs.Trace.{next_item}
 use Rattle.conn.specs.Changes.{Enters}
 use Rattle.conn.specs.Choosing.{AsksFor, Chooses, ChoosesBy, TakesChosen, asked_call, default_plan, plan_by, wanted_of}
-use Rattle.conn.specs.Ends.{is_sought, link_by}
+use Rattle.conn.specs.Ends.{is_sought, is_up, link_by}
 use Rattle.conn.specs.Events.{event_of, is_closed}
 use Rattle.conn.specs.Holds.{Around, Between, Holds, Stands, call_by, call_of}
-use Rattle.conn.specs.Hosts.{CollectsNothing, seen_host, selected_host}
+use Rattle.conn.specs.Hosts.{seen_host, selected_host}
 use Rattle.conn.specs.Setups.{Serves}
 use Rattle.conn.specs.Stages.{InEvent as HostIn, at_fits, fits, has_finished}
 use Rattle.conn.specs.declared.connection.Conn.{Conn}
@@ -34,16 +34,13 @@ use Rattle.conn.proofs.Giving.{ends_kept, gave_one}
 use Rattle.conn.proofs.Places.{enters_gone, link_is}
 use Rattle.conn.proofs.SelectItems.{asking, choosing_item, node, picked, selected_by, selecting_item, default_leads, target_leads, unreplied}
 
-selected_collects : (g : Setup) (h : RuleHost) (o : Option Selected) → CollectsNothing g h.net → CollectsNothing g (selected_host o h).net
-selected_collects g h o k = record { from = k.from; client = k.client; server = k.server; loose = k.loose }
-
 module _ (s : code_setup.Setup) (g : Setup) (serves : Serves s g) (a : Around) (l : TraceState) (c : ℕ) (old new : Conn) (h : Holds g a l old) where
   -- an event is entered behind a reply or a choice, while there is no server connection
-  entered : (at : At) (host : RuleHost) (l' : TraceState) → Enters s at host old.ends old new → l'.vars ≡ old.vars → l'.answers.replies ≡ [] → CollectsNothing g host.net → at_fits at old.ends.link ≡ true → is_closed at ≡ false → (at ≡ event.ServerClosed → ⊥)
+  entered : (at : At) (host : RuleHost) (l' : TraceState) → Enters s at host old.ends old new → l'.vars ≡ old.vars → l'.answers.replies ≡ [] → host.net.from ≡ g.from → at_fits at old.ends.link ≡ true → is_closed at ≡ false → (at ≡ event.ServerClosed → ⊥)
       → SameBeside l l' → l'.sent ≡ l.sent → l.finished ≡ false → next_item g l ≡ Does Resumed (put (enter g (event_of at) (link_by old.ends.link) (seen_host host)) l') → ActGave g a l c old new [] done.Goes
-  entered at host l' k vars replies collects fit open_yet plain same sent going step =
+  entered at host l' k vars replies from fit open_yet plain same sent going step =
       let p = enter g (event_of at) (link_by old.ends.link) (seen_host host) in
-      let gone = enters_gone g l' s serves at host old.ends old new k vars replies collects fit open_yet plain in
+      let gone = enters_gone g l' s serves at host old.ends old new k vars replies from fit open_yet plain in
       record {
         at = put p l';
         gave = gave_one g a l (put p l') c old new Resumed h.no_cut (record { calls = refl; client = refl; server = refl; takes = (refl, λ t. refl) }) step refl
@@ -56,7 +53,7 @@ module _ (s : code_setup.Setup) (g : Setup) (serves : Serves s g) (a : Around) (
   call_is : (pool : List ℕ) (wanted : List (List ℕ)) → select_call g pool wanted ≡ asked_call s old.host.net.from pool wanted
   call_is pool wanted =
       ap (λ n. codes "select" ∷ n ∷ pool ∷ ip_text g.from.ip ∷ wanted) serves.name
-      ∙ ap (λ f. codes "select" ∷ s.name.now ∷ pool ∷ ip_text f.ip ∷ wanted) (sym h.no_collect.from)
+      ∙ ap (λ f. codes "select" ∷ s.name.now ∷ pool ∷ ip_text f.ip ∷ wanted) (sym h.told.from)
 
   -- it asks which member of a pool will do
   asks : (pool : List ℕ) (only : Option Addr) (did : step_act.Act) → Between l old → l.finished ≡ false → not (is_sought old.ends.link) ≡ true → AsksFor s pool only old new did → call_of g old.host.net ≡ select_call g pool (wanted_of only)
@@ -76,7 +73,7 @@ module _ (s : code_setup.Setup) (g : Setup) (serves : Serves s g) (a : Around) (
               finished = going ∙ ap has_finished (sym k.there);
               fits = ap (λ x. fits x new.ends.link) k.there ∙ ap (λ e. not (is_sought e.link)) k.ends ∙ fit;
               event = subst (λ x. HostIn x new.host.event) (sym k.there) tt;
-              no_collect = subst (λ x. CollectsNothing g x.net) (sym k.host) (selected_collects g old.host None h.no_collect);
+              told = record { from = ap (λ x. x.net.from) k.host ∙ h.told.from; relays = λ r. ap (λ e. is_up e.link) k.ends ∙ h.told.relays (ap (λ x. x.net.relays) (sym k.host) ∙ r) };
               ends = ends_kept a l at old.ends new.ends h.ends refl refl refl refl k.ends;
               no_choice = h.no_choice;
               no_cut = h.no_cut;
@@ -110,7 +107,7 @@ module _ (s : code_setup.Setup) (g : Setup) (serves : Serves s g) (a : Around) (
       by_pool : (pool : List ℕ) → old.host.net.pool ≡ pool → old.host.net.target ≡ Default → ChoosesBy (default_plan pool) s old new did → ActGave g a l c old new [] did
       by_pool [] p e (goes, k) =
           subst (λ d. ActGave g a l c old new [] d) (sym goes)
-          (entered event.Failed (selected_host None old.host) l k b.vars b.replies (selected_collects g old.host None h.no_collect) fit refl (λ x. cc) same refl going (leads Default e ∙ ap (default_leads g (link_by old.ends.link) l (seen_host old.host)) p))
+          (entered event.Failed (selected_host None old.host) l k b.vars b.replies h.told.from fit refl (λ x. cc) same refl going (leads Default e ∙ ap (default_leads g (link_by old.ends.link) l (seen_host old.host)) p))
       by_pool (x ∷ xs) p e k =
           asks (x ∷ xs) None did b going fit k (ap (call_by g old.host.net.pool) e ∙ ap (λ y. select_call g y any_member) p) (leads Default e ∙ ap (default_leads g (link_by old.ends.link) l (seen_host old.host)) p)
 
@@ -120,7 +117,7 @@ module _ (s : code_setup.Setup) (g : Setup) (serves : Serves s g) (a : Around) (
       by_target (MemberOf name addr) e k = asks name (Some addr) did b going fit k (ap (call_by g old.host.net.pool) e) (leads (MemberOf name addr) e)
       by_target (NodeAt addr) e (goes, k) =
           subst (λ d. ActGave g a l c old new [] d) (sym goes)
-          (entered event.Selected (selected_host (Some (node addr)) old.host) l k b.vars b.replies (selected_collects g old.host (Some (node addr)) h.no_collect) fit refl (λ x. cc) same refl going (leads (NodeAt addr) e))
+          (entered event.Selected (selected_host (Some (node addr)) old.host) l k b.vars b.replies h.told.from fit refl (λ x. cc) same refl going (leads (NodeAt addr) e))
 
   -- by the reply that came
   pub chosen : (addr : Option Addr) → old.stage ≡ stage.Chosen addr → Stands g (stage.Chosen addr) l old → TakesChosen s addr old new → ActGave g a l c old new [] done.Goes
@@ -144,7 +141,7 @@ module _ (s : code_setup.Setup) (g : Setup) (serves : Serves s g) (a : Around) (
       leads x e = step ∙ ap (λ y. Does Resumed (put (picked g (link_by old.ends.link) (seen_host old.host) (selected_by (seen_host old.host) y)) (with_replies [] l))) e
 
       by_addr : (x : Option Addr) → addr ≡ x → TakesChosen s x old new → ActGave g a l c old new [] done.Goes
-      by_addr None e k = entered event.Failed old.host (with_replies [] l) k r.vars refl h.no_collect fit refl (λ x. cc) same refl going (leads None e)
+      by_addr None e k = entered event.Failed old.host (with_replies [] l) k r.vars refl h.told.from fit refl (λ x. cc) same refl going (leads None e)
       by_addr (Some x) e k =
           let o = selected_by (seen_host old.host) (Some x) in
-          entered event.Selected (selected_host o old.host) (with_replies [] l) k r.vars refl (selected_collects g old.host o h.no_collect) fit refl (λ y. cc) same refl going (leads (Some x) e)
+          entered event.Selected (selected_host o old.host) (with_replies [] l) k r.vars refl h.told.from fit refl (λ y. cc) same refl going (leads (Some x) e)

@@ -1,5 +1,5 @@
 -- Whether the server took the connection is the next of each state that the connection may stand for.
-use Rattle.std.proofs.Common.{◌≡◌, refl, sym, ap, subst, ◌∙◌, ◌+◌, [], ◌∷◌, ◌++◌, length, Bool, true, false, ◌&&◌, not, Some, None, arith}
+use Rattle.std.proofs.Common.{◌≡◌, refl, sym, ap, subst, ◌∙◌, ◌+◌, [], ◌∷◌, ◌++◌, length, Bool, true, false, true≢false, ◌&&◌, not, Some, None, arith}
 use Rattle.connection_model.specs.Edges.{answered_edge, is_connecting}
 use Rattle.connection_model.specs.Further.{nothing_comes, longer_server, left_for, on_last, longer}
 use Rattle.connection_model.specs.State.{TraceState}
@@ -84,18 +84,22 @@ module _ (a : Around) (l : TraceState) (e : Ends) (h : HoldsEnds a l e) (asked :
 -- where a server was asked for, an answer fits as well
 at_answer : (at : At) (k : Link) → is_sought k ≡ true → at_fits at link.Asked ≡ true → at_fits at k ≡ true
 at_answer at.Accepted k s f = absurd (let t : false ≡ true = f in cc)
+at_answer at.ClientData k s f = absurd (let t : false ≡ true = f in cc)
 at_answer at.Selected k s f = absurd (let t : false ≡ true = f in cc)
 at_answer at.Failed k s f = absurd (let t : false ≡ true = f in cc)
 at_answer at.Connected k s f = absurd (let t : false ≡ true = f in cc)
+at_answer at.ServerData k s f = absurd (let t : false ≡ true = f in cc)
 at_answer at.ServerClosed k s f = refl
 at_answer at.Closed k s f = refl
 
 -- no gate of a closing event
 gate_answer : (at : At) (k : Link) → is_sought k ≡ true → fits (stage.Gated at) link.Asked ≡ true → fits (stage.Gated at) k ≡ true
 gate_answer at.Accepted k s f = absurd (let t : false ≡ true = f in cc)
+gate_answer at.ClientData k s f = absurd (let t : false ≡ true = f in cc)
 gate_answer at.Selected k s f = absurd (let t : false ≡ true = f in cc)
 gate_answer at.Failed k s f = absurd (let t : false ≡ true = f in cc)
 gate_answer at.Connected k s f = absurd (let t : false ≡ true = f in cc)
+gate_answer at.ServerData k s f = absurd (let t : false ≡ true = f in cc)
 gate_answer at.ServerClosed k s f = f
 gate_answer at.Closed k s f = f
 
@@ -109,7 +113,9 @@ answer_fits stage.Selecting k s u f = absurd (let t : false ≡ true = f in cc)
 answer_fits (stage.Chosen addr) k s u f = absurd (let t : false ≡ true = f in cc)
 answer_fits (stage.Connecting to) k s u f = absurd (let t : false ≡ true = f in cc)
 answer_fits (stage.Answering to) k s u f = ap (λ x. x && not (is_up k)) s ∙ ap not u
-answer_fits stage.Relaying k s u f = absurd (let t : false ≡ true = f in cc)
+answer_fits stage.Collecting k s u f = absurd (let t : false ≡ true = f in cc)
+answer_fits stage.Releasing k s u f = absurd (let t : false ≡ true = f in cc)
+answer_fits (stage.Relaying first) k s u f = absurd (let t : false ≡ true = f in cc)
 answer_fits (stage.Finishing finish.Closed) k s u f = refl
 answer_fits (stage.Finishing finish.Rejected) k s u f = refl
 answer_fits (stage.Finishing finish.Unselected) k s u f = refl
@@ -135,11 +141,11 @@ connects made old connecting g a l h order = by_finish (has_finished old.stage) 
         let P : Bool → Type 0 = λ y. Holds g (answered_in y made a) (longer (unless_finished y (answer_of made)) l) (with_ends x old) in
         let Q : TraceState → Type 0 = λ y. Holds g a y (with_ends x old) in
         let told = with_edges a l old.ends h.ends x.edges (λ c. absurd (let t = sym (not_connecting made) ∙ c in cc)) in
-        subst P (sym e) (subst Q (sym (longer_nothing l h.no_cut)) (holds g a a l l.client l.server l.answers.connects old x h told h.fits))
+        subst P (sym e) (subst Q (sym (longer_nothing l h.no_cut)) (holds g a a l l.client l.server l.answers.connects old x h told h.fits (λ u. u)))
     by_finish false e is =
         let x = connected_ends false made old.ends in
         let P : Bool → Type 0 = λ y. Holds g (answered_in y made a) (longer (unless_finished y (answer_of made)) l) (with_ends x old) in
         let Q : TraceState → Type 0 = λ y. Holds g (answered_by made a) y (with_ends x old) in
         let F : Link → Type 0 = λ k. fits old.stage (link_answered false made k) ≡ true in
         let fit = subst F (sym asked) (answered_fits old.stage made (subst (λ k. fits old.stage k ≡ true) asked h.fits)) in
-        subst P (sym e) (subst Q (sym (answer_is a l old.ends h.ends asked h.no_cut made)) (holds g a (answered_by made a) l l.client l.server (connect_answer made ∷ []) old x h (answers_ends a l old.ends h.ends asked h.no_cut made) fit))
+        subst P (sym e) (subst Q (sym (answer_is a l old.ends h.ends asked h.no_cut made)) (holds g a (answered_by made a) l l.client l.server (connect_answer made ∷ []) old x h (answers_ends a l old.ends h.ends asked h.no_cut made) fit (λ u. absurd (true≢false (sym u ∙ ap is_up asked)))))

@@ -1,5 +1,5 @@
 -- What a step's command made, done: it is what the acts of the step are to do.
-use Rattle.std.proofs.Common.{◌≡◌, refl, sym, ap, subst, ◌∙◌, ℕ, List, [], ◌∷◌, ◌++◌, map, Option, Some, None}
+use Rattle.std.proofs.Common.{◌≡◌, refl, sym, ap, subst, ◌∙◌, ℕ, List, [], ◌∷◌, ◌++◌, map, Bool, true, Option, Some, None}
 use Rattle.px_bytes.specs.Host.{Effect, HostStep, Gives, Faults, Asks, Logged, Sent}
 use Rattle.px_bytes.specs.declared.addr.Side.{Side}
 use Rattle.px_bytes.specs.declared.addr.Side.TheVariants.{Client, Server}
@@ -18,13 +18,14 @@ use Rattle.frame_machine.specs.Went.{CalledBy, IsCall, Place, Went, effects_in, 
 use Rattle.frame_machine.specs.declared.turn.Turn.{Turn}
 use Rattle.conn.specs.Bodies.{SaidIs}
 use Rattle.conn.specs.Events.{event_of}
-use Rattle.conn.specs.Hosts.{CollectsNothing, Made, OneAtMost, SameCollects, SendsToFirst, cleared_host, client_bytes, seen_host, server_bytes}
+use Rattle.conn.specs.Hosts.{KeepsCollects, Made, OneAtMost, SendsToFirst, Told, cleared_host, client_bytes, seen_host, server_bytes}
 use Rattle.conn.specs.Steps.{DoesMade, one_of, queue_both}
 use Rattle.conn.specs.declared.body.Body.{Body}
 use Rattle.conn.specs.declared.connection.Conn.{Conn}
+use Rattle.conn.specs.declared.ends.Link.{Link}
 use Rattle.conn.proofs.Acting.{DoesActs}
 use Rattle.conn.proofs.ActItems.{call_behind, called_is_none, calls_made, effects_call_none}
-use Rattle.conn.proofs.Quick.{OneTo, QuickHost, commands_quick}
+use Rattle.conn.proofs.Quick.{OneTo, QuickHost, commands_quick, keeps_all}
 
 -- the same machine, variables and seen host
 pub record SameStand (a b : Conn) : Type 0 where
@@ -47,45 +48,47 @@ pub said_same : (said : Turn) (a b : Body) → a ≡ b → SaidIs said a → Sai
 said_same said a b is k = let P : Body → Type 0 = λ x. SaidIs said x in subst P is k
 
 -- one effect at most, and to a server only where it is the first
-one_first : (number : ℕ) (side : Side) (es : List Effect) → (side ≡ Server → number ≡ 1) → OneTo side es → SendsToFirst number es × OneAtMost es
-one_first number side [] is k = (tt, tt)
-one_first number side (Logged text ∷ []) is k = (tt, tt)
-one_first number side (Sent Client bytes ∷ []) is k = (tt, tt)
-one_first number side (Sent Server bytes ∷ []) is k = ((is (sym k), tt), tt)
-one_first number side (Logged text ∷ (f ∷ es)) is k = absurd k
-one_first number side (Sent to bytes ∷ (f ∷ es)) is k = absurd k
+one_first : (number : ℕ) (side : Side) (relays : Bool) (es : List Effect) → (side ≡ Server → number ≡ 1) → (relays ≡ true → number ≡ 1) → OneTo side relays es → SendsToFirst number es × OneAtMost es
+one_first number side relays [] is up k = (tt, tt)
+one_first number side relays (Logged text ∷ []) is up k = (tt, tt)
+one_first number side relays (Sent Client bytes ∷ []) is up k = (tt, tt)
+one_first number Client relays (Sent Server bytes ∷ []) is up k = ((up k, tt), tt)
+one_first number Server relays (Sent Server bytes ∷ []) is up k = ((is refl, tt), tt)
+one_first number side relays (Logged text ∷ (f ∷ es)) is up k = absurd k
+one_first number side relays (Sent to bytes ∷ (f ∷ es)) is up k = absurd k
 
-collects_on : (g : Setup) (s t : NetState) → SameCollects s t → CollectsNothing g s → CollectsNothing g t
-collects_on g s t is k = record { from = is.from ∙ k.from; client = is.client ∙ k.client; server = is.server ∙ k.server; loose = is.loose ∙ k.loose }
+-- what the rules are told stays
+told_on : (g : Setup) (k : Link) (e : EventName) (s t : NetState) → KeepsCollects e s t → Told g k s → Told g k t
+told_on g k e s t is told = record { from = is.from ∙ told.from; relays = λ r. told.relays (sym is.relays ∙ r) }
 
 effects_of : (es : List Effect) → effects_in (map Did es) ≡ es
 effects_of [] = refl
 effects_of (e ∷ es) = ap (λ x. e ∷ x) (effects_of es)
 
 -- what one call of the host at most leaves, and what it made
-record Called (g : Setup) (number : ℕ) (e : EventName) (after : HostState) (acts : List Act) : Type 0 where
-  collects : CollectsNothing g after.net
+record Called (number : ℕ) (h after : HostState) (acts : List Act) : Type 0 where
+  keeps : KeepsCollects h.event h.net after.net
   first : SendsToFirst number (effects_in acts)
   one : OneAtMost (effects_in acts)
   calls : calls_made acts ≡ []
-  event : after.event ≡ e
+  event : after.event ≡ h.event
 
-module _ (g : Setup) (number : ℕ) (h : HostState) (q : CollectsNothing g h.net) (to_server : side_of h.event ≡ Server → number ≡ 1) where
-  answered : (t after : HostState) (acts : List Act) (es : List Effect) → (t.event ≡ h.event) × SameCollects h.net t.net × OneTo (side_of h.event) es → (after ≡ t) × (acts ≡ map Did es) → Called g number h.event after acts
+module _ (number : ℕ) (h : HostState) (to_server : side_of h.event ≡ Server → number ≡ 1) (relays : h.net.relays ≡ true → number ≡ 1) where
+  answered : (t after : HostState) (acts : List Act) (es : List Effect) → (t.event ≡ h.event) × KeepsCollects h.event h.net t.net × OneTo (side_of h.event) h.net.relays es → (after ≡ t) × (acts ≡ map Did es) → Called number h after acts
   answered t after acts es k is =
       let made : effects_in acts ≡ es = ap effects_in is.1 ∙ effects_of es in
-      let one = one_first number (side_of h.event) es to_server k.2 in
-      record { collects = subst (λ x. CollectsNothing g x.net) (sym is.0) (collects_on g h.net t.net k.1 q); first = subst (SendsToFirst number) (sym made) one.0; one = subst OneAtMost (sym made) one.1; calls = ap calls_made is.1 ∙ effects_call_none es; event = ap (λ x. x.event) is.0 ∙ k.0 }
+      let one = one_first number (side_of h.event) h.net.relays es to_server relays k.2 in
+      record { keeps = subst (λ x. KeepsCollects h.event h.net x.net) (sym is.0) k.1; first = subst (SendsToFirst number) (sym made) one.0; one = subst OneAtMost (sym made) one.1; calls = ap calls_made is.1 ∙ effects_call_none es; event = ap (λ x. x.event) is.0 ∙ k.0 }
 
-  call_answers : (step : HostStep HostState) (after : HostState) (acts : List Act) → QuickHost h step → IsCall step after acts → Called g number h.event after acts
+  call_answers : (step : HostStep HostState) (after : HostState) (acts : List Act) → QuickHost h step → IsCall step after acts → Called number h after acts
   call_answers (Gives v t es) after acts k is = answered t after acts es k is
   call_answers (Faults f t es) after acts k is = answered t after acts es k is
   call_answers (Asks call t) after acts k is = answered t after acts [] (k.0, k.1, tt) is
 
-  called_once : (groups : Groups) (setting : given.Setting HostState) → setting.table ≡ commands groups → (after : HostState) (called : Option (List (List ℕ))) (acts : List Act) → CalledBy setting h after called acts → Called g number h.event after acts
+  called_once : (groups : Groups) (setting : given.Setting HostState) → setting.table ≡ commands groups → (after : HostState) (called : Option (List (List ℕ))) (acts : List Act) → CalledBy setting h after called acts → Called number h after acts
   called_once groups setting is after None acts (same, none) =
       let made : SendsToFirst number (effects_in acts) × OneAtMost (effects_in acts) = subst (λ x. SendsToFirst number (effects_in x) × OneAtMost (effects_in x)) (sym none) (tt, tt) in
-      record { collects = subst (λ x. CollectsNothing g x.net) (sym same) q; first = made.0; one = made.1; calls = ap calls_made none; event = ap (λ x. x.event) same }
+      record { keeps = subst (λ x. KeepsCollects h.event h.net x.net) (sym same) (keeps_all h.event h.net); first = made.0; one = made.1; calls = ap calls_made none; event = ap (λ x. x.event) same }
   called_once groups setting is after (Some words) acts call =
       let T : (HostState → List (List ℕ) → HostStep HostState) → Type 0 = λ t. IsCall (t h words) after acts in
       call_answers (commands groups h words) after acts (commands_quick groups h words) (subst T is call)
@@ -101,12 +104,13 @@ pub record ActsDone (g : Setup) (number : ℕ) (old stepped mid : Conn) (xs : Li
   pub taken : effects_in xs ≡ one_of stepped.host.made
   pub acts : DoesActs g number xs old mid []
   pub event : event_of mid.host.event ≡ event_of old.host.event
+  pub keeps : KeepsCollects (event_of old.host.event) old.host.net mid.host.net
 
-pub acts_done : (g : Setup) (number : ℕ) (setting : given.Setting HostState) → setting.table ≡ commands g.groups → (c : ℕ) (old stepped mid : Conn) (before after : List Note) → DoesMade c stepped mid before after → stepped.ends ≡ old.ends → CollectsNothing g old.host.net
-    → (side_of (event_of old.host.event) ≡ Server → number ≡ 1) → (acts : List Act) (called : Option (List (List ℕ))) → CalledBy setting (seen_host old.host) (seen_host mid.host) called acts → Made (cleared_host old.host) (effects_in acts) stepped.host
+pub acts_done : (g : Setup) (number : ℕ) (setting : given.Setting HostState) → setting.table ≡ commands g.groups → (c : ℕ) (old stepped mid : Conn) (before after : List Note) → DoesMade c stepped mid before after → stepped.ends ≡ old.ends → Told g old.ends.link old.host.net
+    → (side_of (event_of old.host.event) ≡ Server → number ≡ 1) → (old.host.net.relays ≡ true → number ≡ 1) → (acts : List Act) (called : Option (List (List ℕ))) → CalledBy setting (seen_host old.host) (seen_host mid.host) called acts → Made (cleared_host old.host) (effects_in acts) stepped.host
     → ActsDone g number old stepped mid acts
-acts_done g number setting is c old stepped mid before after d ends q to_server acts called once by =
-    let one = called_once g number (seen_host old.host) q to_server g.groups setting is (seen_host mid.host) called acts once in
+acts_done g number setting is c old stepped mid before after d ends told to_server relays acts called once by =
+    let one = called_once number (seen_host old.host) to_server relays g.groups setting is (seen_host mid.host) called acts once in
     let taken : one_of stepped.host.made ≡ effects_in acts = ap one_of by ∙ all_of (effects_in acts) one.one in
     record {
       taken = sym taken;
@@ -114,9 +118,10 @@ acts_done g number setting is c old stepped mid before after d ends q to_server 
         calls = one.calls;
         first = one.first;
         ends = d.ends ∙ ap (queue_both (client_bytes (one_of stepped.host.made)) (server_bytes (one_of stepped.host.made))) ends ∙ ap (λ es. queue_both (client_bytes es) (server_bytes es) old.ends) taken;
-        collects = one.collects;
+        told = subst (λ k. Told g k mid.host.net) (sym (ap (λ e. e.link) (d.ends ∙ ap (queue_both (client_bytes (one_of stepped.host.made)) (server_bytes (one_of stepped.host.made))) ends))) (told_on g old.ends.link (event_of old.host.event) old.host.net mid.host.net one.keeps told);
       };
       event = one.event;
+      keeps = one.keeps;
     }
 
 -- a call that was asked does no more
@@ -127,5 +132,5 @@ calls_too g number acts path call old new d =
       calls = call_behind acts path call ∙ ap (λ cs. cs ++ call ∷ []) d.calls;
       first = subst (SendsToFirst number) (sym same) d.first;
       ends = d.ends ∙ ap (λ es. queue_both (client_bytes es) (server_bytes es) old.ends) (sym same);
-      collects = d.collects;
+      told = d.told;
     }

@@ -1,19 +1,25 @@
 -- Where a connection goes behind an event, or where one is entered: whether it has finished, and whether there may be a server connection.
-use Rattle.std.proofs.Common.{◌≡◌, refl, ap, ◌∙◌, not, ◌&&◌, List, [], ◌∷◌, Bool, true, false, Option, Some, None}
+use Rattle.std.proofs.Common.{◌≡◌, refl, sym, subst, ℕ, List, [], ◌∷◌, Bool, true, false, true≢false, Option, Some, None}
 use Rattle.std.specs.Prelude.{if◌then◌else◌}
+use Rattle.px_bytes.specs.declared.addr.Side.{Side}
+use Rattle.px_bytes.specs.declared.addr.Side.TheVariants.{Client, Server}
+use Rattle.irule_net.specs.declared.state.Asks.{Asks}
+use Rattle.irule_net.specs.declared.state.Asks.TheVariants.{NotAsked, Stated}
 use Rattle.irule_net.specs.declared.state.Ending.{Ending}
 use Rattle.irule_net.specs.declared.state.Ending.TheVariants.{Rejects, Closes}
 use Rattle.irule_net.specs.declared.state.NetState.{NetState}
 use Rattle.irule_net.specs.declared.state.Selected.{Selected}
 use Rattle.conn.specs.declared.ends.Link.{Link}
+use Rattle.conn.specs.declared.ends.Link.TheVariants as link
 use Rattle.conn.specs.declared.events.At.{At}
 use Rattle.conn.specs.declared.events.At.TheVariants as at
 use Rattle.conn.specs.declared.setup.Place.{Place}
 use Rattle.conn.specs.declared.stage.Finish.TheVariants as finish
 use Rattle.conn.specs.declared.stage.Stage.{Stage}
 use Rattle.conn.specs.declared.stage.Stage.TheVariants as stage
+use Rattle.conn.specs.Ends.{is_up}
 use Rattle.conn.specs.Events.{is_closed}
-use Rattle.conn.specs.Stages.{after_stage, at_fits, connecting_stage, entered_by, fits, has_finished, is_asking, unless_ended}
+use Rattle.conn.specs.Stages.{InEvent as HostIn, accepted_stage, after_stage, at_fits, connected_stage, connecting_stage, data_stage, entered_by, fits, goes_on_stage, has_finished, is_asking, unless_ended}
 
 -- what holds of a stage and of every stage that finishes holds however bodies end the connection
 ended_keeps : (P : Stage → Type 0) → P (stage.Finishing finish.Rejected) → P (stage.Finishing finish.Closed) → (o : Option Ending) (st : Stage) → P st → P (unless_ended o st)
@@ -25,59 +31,92 @@ choice_keeps : (P : Stage → Type 0) → P stage.Choosing → P (stage.Finishin
 choice_keeps P r c true = r
 choice_keeps P r c false = c
 
--- behind an event it hasn't finished, or runs the closing events
-abbrev HasNotFinished : Stage → Type 0
-HasNotFinished st = has_finished st ≡ false
+accepted_keeps : (P : Stage → Type 0) → P stage.Choosing → P stage.Collecting → (asks : Asks) → P (accepted_stage asks)
+accepted_keeps P r c NotAsked = r
+accepted_keeps P r c (Stated n) = c
 
-selected_goes_on : (o : Option Selected) → HasNotFinished (connecting_stage o)
-selected_goes_on None = refl
-selected_goes_on (Some s) = refl
+data_keeps : (P : Stage → Type 0) → P (stage.Relaying Server) → P stage.Choosing → P stage.Collecting → (up released : Bool) → P (data_stage up released)
+data_keeps P up r c true released = up
+data_keeps P up r c false true = r
+data_keeps P up r c false false = c
 
-pub after_finished : (at : At) (net : NetState) → has_finished (after_stage at net) ≡ is_closed at
-after_finished at.Accepted net = ended_keeps HasNotFinished refl refl net.wishes.ends stage.Choosing refl
-after_finished at.Selected net = ended_keeps HasNotFinished refl refl net.wishes.ends (connecting_stage net.selected) (selected_goes_on net.selected)
-after_finished at.Failed net =
-    ended_keeps HasNotFinished refl refl net.wishes.ends (if net.wishes.reselects then stage.Choosing else stage.Finishing finish.Unselected) (choice_keeps HasNotFinished refl refl net.wishes.reselects)
-after_finished at.Connected net = ended_keeps HasNotFinished refl refl net.wishes.ends stage.Relaying refl
-after_finished at.ServerClosed net = refl
-after_finished at.Closed net = refl
+connected_keeps : (P : Stage → Type 0) → P (stage.Relaying Client) → P stage.Releasing → (loose : List ℕ) → P (connected_stage loose)
+connected_keeps P r c [] = r
+connected_keeps P r c (b ∷ bs) = c
 
-selected_fits : (link : Link) (o : Option Selected) → at_fits at.Selected link ≡ true → fits (connecting_stage o) link ≡ true
-selected_fits link None k = refl
-selected_fits link (Some s) k = k
+selected_keeps : (P : Stage → Type 0) → P (stage.Finishing finish.Unselected) → ((s : Selected) → P (stage.Connecting s.addr)) → (o : Option Selected) → P (connecting_stage o)
+selected_keeps P r c None = r
+selected_keeps P r c (Some s) = c s
 
-pub after_fits : (at : At) (net : NetState) (link : Link) → at_fits at link ≡ true → fits (after_stage at net) link ≡ true
-after_fits at.Accepted net link k = ended_keeps (λ st. fits st link ≡ true) refl refl net.wishes.ends stage.Choosing k
-after_fits at.Selected net link k = ended_keeps (λ st. fits st link ≡ true) refl refl net.wishes.ends (connecting_stage net.selected) (selected_fits link net.selected k)
-after_fits at.Failed net link k =
-    ended_keeps (λ st. fits st link ≡ true) refl refl net.wishes.ends (if net.wishes.reselects then stage.Choosing else stage.Finishing finish.Unselected) (choice_keeps (λ st. fits st link ≡ true) k refl net.wishes.reselects)
-after_fits at.Connected net link k = ended_keeps (λ st. fits st link ≡ true) refl refl net.wishes.ends stage.Relaying k
-after_fits at.ServerClosed net link k = refl
-after_fits at.Closed net link k = refl
+-- what holds of every stage behind an event that doesn't close it, holds where it goes
+record Everywhere (P : Stage → Type 0) : Type 0 where
+  choosing : P stage.Choosing
+  collecting : P stage.Collecting
+  releasing : P stage.Releasing
+  relaying : (first : Side) → P (stage.Relaying first)
+  connecting : (s : Selected) → P (stage.Connecting s.addr)
+  unselected : P (stage.Finishing finish.Unselected)
+  rejected : P (stage.Finishing finish.Rejected)
+  closed : P (stage.Finishing finish.Closed)
 
--- no call is open there
-selected_awake : (o : Option Selected) → is_asking (connecting_stage o) ≡ false
-selected_awake None = refl
-selected_awake (Some s) = refl
+goes_keeps : (P : Stage → Type 0) → Everywhere P → (at : At) (k : Link) (net : NetState) → is_closed at ≡ false → P (after_stage at k net)
+goes_keeps P e at.Accepted k net open_yet = ended_keeps P e.rejected e.closed net.wishes.ends _ (accepted_keeps P e.choosing e.collecting net.client.asks)
+goes_keeps P e at.ClientData k net open_yet = ended_keeps P e.rejected e.closed net.wishes.ends _ (data_keeps P (e.relaying Server) e.choosing e.collecting (is_up k) net.wishes.released)
+goes_keeps P e at.Selected k net open_yet = ended_keeps P e.rejected e.closed net.wishes.ends _ (selected_keeps P e.unselected e.connecting net.selected)
+goes_keeps P e at.Failed k net open_yet = ended_keeps P e.rejected e.closed net.wishes.ends _ (choice_keeps P e.choosing e.unselected net.wishes.reselects)
+goes_keeps P e at.Connected k net open_yet = ended_keeps P e.rejected e.closed net.wishes.ends _ (connected_keeps P (e.relaying Client) e.releasing net.loose)
+goes_keeps P e at.ServerData k net open_yet = ended_keeps P e.rejected e.closed net.wishes.ends _ (e.relaying Client)
+goes_keeps P e at.ServerClosed k net open_yet = absurd (true≢false open_yet)
+goes_keeps P e at.Closed k net open_yet = absurd (true≢false open_yet)
 
-pub after_awake : (at : At) (net : NetState) → is_asking (after_stage at net) ≡ false
-after_awake at.Accepted net = ended_keeps (λ st. is_asking st ≡ false) refl refl net.wishes.ends stage.Choosing refl
-after_awake at.Selected net = ended_keeps (λ st. is_asking st ≡ false) refl refl net.wishes.ends (connecting_stage net.selected) (selected_awake net.selected)
-after_awake at.Failed net =
-    ended_keeps (λ st. is_asking st ≡ false) refl refl net.wishes.ends (if net.wishes.reselects then stage.Choosing else stage.Finishing finish.Unselected) (choice_keeps (λ st. is_asking st ≡ false) refl refl net.wishes.reselects)
-after_awake at.Connected net = ended_keeps (λ st. is_asking st ≡ false) refl refl net.wishes.ends stage.Relaying refl
-after_awake at.ServerClosed net = refl
-after_awake at.Closed net = refl
+-- a stage behind the bodies of an event: it has finished where the event is a closing one, and asks nothing
+pub record Plain (closed : Bool) (st : Stage) : Type 0 where
+  pub finished : closed ≡ has_finished st
+  pub awake : is_asking st ≡ false
+  pub event : (e : At) → HostIn st e
 
--- where an event is entered that doesn't close it
-pub entered_finished : (at : At) (net : NetState) (ps : List Place) → is_closed at ≡ false → has_finished (entered_by at net ps) ≡ false
-entered_finished at net [] open_yet = let k = after_finished at net in cc
-entered_finished at net (p ∷ ps) open_yet = refl
+plain : (st : Stage) → has_finished st ≡ false → is_asking st ≡ false → ((e : At) → HostIn st e) → Plain false st
+plain st f a e = record { finished = sym f; awake = a; event = e }
 
-pub entered_fits : (at : At) (net : NetState) (ps : List Place) (link : Link) → is_closed at ≡ false → at_fits at link ≡ true → fits (entered_by at net ps) link ≡ true
-entered_fits at net [] link open_yet k = after_fits at net link k
-entered_fits at net (p ∷ ps) link open_yet k = ap (λ b. not b && at_fits at link) open_yet ∙ k
+everywhere_plain : Everywhere (Plain false)
+everywhere_plain = record {
+  choosing = plain stage.Choosing refl refl (λ e. tt);
+  collecting = plain stage.Collecting refl refl (λ e. tt);
+  releasing = plain stage.Releasing refl refl (λ e. tt);
+  relaying = λ first. plain (stage.Relaying first) refl refl (λ e. tt);
+  connecting = λ s. plain (stage.Connecting s.addr) refl refl (λ e. tt);
+  unselected = plain (stage.Finishing finish.Unselected) refl refl (λ e. tt);
+  rejected = plain (stage.Finishing finish.Rejected) refl refl (λ e. tt);
+  closed = plain (stage.Finishing finish.Closed) refl refl (λ e. tt);
+}
 
-pub entered_awake : (at : At) (net : NetState) (ps : List Place) → is_asking (entered_by at net ps) ≡ false
-entered_awake at net [] = after_awake at net
-entered_awake at net (p ∷ ps) = refl
+pub after_plain : (at : At) (k : Link) (net : NetState) → Plain (is_closed at) (after_stage at k net)
+after_plain at k net = by_close (is_closed at) refl
+  where
+    by_close : (b : Bool) → is_closed at ≡ b → Plain b (after_stage at k net)
+    by_close true is = subst (λ b. Plain true (if b then stage.Draining else unless_ended net.wishes.ends (goes_on_stage at k net))) (sym is) (record { finished = refl; awake = refl; event = λ e. tt })
+    by_close false is = goes_keeps (Plain false) everywhere_plain at k net is
+
+-- behind CLIENT_DATA it relays where there is a server
+data_fits : (k : Link) (released : Bool) → at_fits at.ClientData k ≡ true → fits (data_stage (is_up k) released) k ≡ true
+data_fits link.Absent true fit = refl
+data_fits link.Absent false fit = refl
+data_fits link.Asked released fit = absurd (true≢false (sym fit))
+data_fits link.Refused released fit = absurd (true≢false (sym fit))
+data_fits link.Made released fit = absurd (true≢false (sym fit))
+data_fits link.Up released fit = refl
+
+pub after_fits : (at : At) (net : NetState) (k : Link) → at_fits at k ≡ true → fits (after_stage at k net) k ≡ true
+after_fits at.Accepted net k fit = ended_keeps (λ st. fits st k ≡ true) refl refl net.wishes.ends _ (accepted_keeps (λ st. fits st k ≡ true) fit fit net.client.asks)
+after_fits at.ClientData net k fit = ended_keeps (λ st. fits st k ≡ true) refl refl net.wishes.ends _ (data_fits k net.wishes.released fit)
+after_fits at.Selected net k fit = ended_keeps (λ st. fits st k ≡ true) refl refl net.wishes.ends _ (selected_keeps (λ st. fits st k ≡ true) refl (λ s. fit) net.selected)
+after_fits at.Failed net k fit = ended_keeps (λ st. fits st k ≡ true) refl refl net.wishes.ends _ (choice_keeps (λ st. fits st k ≡ true) fit refl net.wishes.reselects)
+after_fits at.Connected net k fit = ended_keeps (λ st. fits st k ≡ true) refl refl net.wishes.ends _ (connected_keeps (λ st. fits st k ≡ true) fit fit net.loose)
+after_fits at.ServerData net k fit = ended_keeps (λ st. fits st k ≡ true) refl refl net.wishes.ends (stage.Relaying Client) fit
+after_fits at.ServerClosed net k fit = refl
+after_fits at.Closed net k fit = refl
+
+-- no call is open where an event is entered
+pub entered_awake : (at : At) (k : Link) (net : NetState) (ps : List Place) → is_asking (entered_by at k net ps) ≡ false
+entered_awake at k net [] = (after_plain at k net).awake
+entered_awake at k net (p ∷ ps) = refl

@@ -20,7 +20,7 @@ use Rattle.conn.specs.Holds.{Around, Between, GatedBefore, Holds, Stands}
 use Rattle.conn.specs.Hosts.{seen_host}
 use Rattle.conn.specs.RunsItems.{licenses}
 use Rattle.conn.specs.Setups.{Serves}
-use Rattle.conn.specs.Stages.{InEvent as HostIn, at_fits, cause_for, fits, has_finished, is_asking, reason_for}
+use Rattle.conn.specs.Stages.{InEvent as HostIn, at_fits, cause_for, fits, has_finished, is_asking, is_in_body, reason_for}
 use Rattle.conn.specs.declared.connection.Conn.{Conn}
 use Rattle.conn.specs.declared.ends.Link as code
 use Rattle.conn.specs.declared.ends.Link.TheVariants as link
@@ -35,23 +35,27 @@ use Rattle.conn.specs.declared.turn.Act.TheVariants as done
 use Rattle.conn.proofs.Acting.{ActGave, IsPlain, finishes_gave, gone_holds, rest_group, rest_noted, rests_gave, stays}
 use Rattle.conn.proofs.Giving.{ends_kept, gave_one}
 use Rattle.conn.proofs.Pending.{gate_is}
-use Rattle.conn.proofs.Places.{From, GoneTo, link_is, next_gone, same_collects, starts_gone}
+use Rattle.conn.proofs.Places.{From, GoneTo, link_is, next_gone, same_told, starts_gone}
 use Rattle.conn.proofs.SelectItems.{StandsIn, next_in}
 
 -- a connection that was made and to which nothing was done yet stands at no gate
 gated_made : (at : At) (k : code.Link) → is_closed at ≡ false → at_fits at k ≡ true → k ≡ link.Made → ⊥
 gated_made event.Accepted k open_yet fit is = true≢false (sym fit ∙ ap (at_fits event.Accepted) is)
+gated_made event.ClientData k open_yet fit is = true≢false (sym fit ∙ ap (at_fits event.ClientData) is)
 gated_made event.Selected k open_yet fit is = true≢false (sym fit ∙ ap (at_fits event.Selected) is)
 gated_made event.Failed k open_yet fit is = true≢false (sym fit ∙ ap (at_fits event.Failed) is)
 gated_made event.Connected k open_yet fit is = true≢false (sym fit ∙ ap (at_fits event.Connected) is)
+gated_made event.ServerData k open_yet fit is = true≢false (sym fit ∙ ap (at_fits event.ServerData) is)
 gated_made event.ServerClosed k open_yet fit is = true≢false open_yet
 gated_made event.Closed k open_yet fit is = true≢false open_yet
 
 closing_is : (at : At) → is_closing (event_of at) ≡ is_closed at
 closing_is event.Accepted = refl
+closing_is event.ClientData = refl
 closing_is event.Selected = refl
 closing_is event.Failed = refl
 closing_is event.Connected = refl
+closing_is event.ServerData = refl
 closing_is event.ServerClosed = refl
 closing_is event.Closed = refl
 
@@ -67,6 +71,10 @@ gate_noted s c at old new before after did k = by_test (has_room old) k
     by_test true k = k.2 ∙ sym (append-nil before)
     by_test false k = rest_noted s c old new before after did (cut_of old) k
 
+-- a gate that is shut
+pub gate_rests : (s : code_setup.Setup) (c : ℕ) (at : At) (old new : Conn) (before after : List Note) (did : step_act.Act) → has_room old ≡ false → Rests s c old new before after did → PassesGate s c at old new before after did
+gate_rests s c at old new before after did shut k = subst (λ b. MatchBool b ((did ≡ done.Goes) × StartsBody s at 0 old new × (after ≡ before)) (Rests s c old new before after did)) (sym shut) k
+
 -- no cut is left to be finished
 pub fit_plain : (f : Finish) (k : code.Link) → fits (stage.Finishing f) k ≡ true → IsPlain f
 fit_plain finish.Closed k fit = tt
@@ -81,7 +89,7 @@ module _ (s : code_setup.Setup) (g : Setup) (serves : Serves s g) (a : Around) (
   stands_in p is b = record { phase = is; host = b.host; link = link_is a l old.ends h.ends; no_cut = h.no_cut }
 
   from_here : Between l old → From g l old
-  from_here b = record { vars = b.vars; replies = b.replies; collects = h.no_collect }
+  from_here b = record { vars = b.vars; replies = b.replies; told = h.told }
 
   -- the first body begins
   gate_opens : (at : At) (x : Handler) (xs : List Handler) → g.handlers (event_of at) ≡ x ∷ xs → l.phase ≡ InEvent (event_of at) (Gated x xs) → Between l old → is_closed at ≡ false → event_of old.host.event ≡ event_of at → at_fits at old.ends.link ≡ true → l.finished ≡ false → StartsBody s at 0 old new
@@ -120,7 +128,7 @@ module _ (s : code_setup.Setup) (g : Setup) (serves : Serves s g) (a : Around) (
       by_test x xs e p false room k =
           let step = next_in g (InEvent (event_of at) (Gated x xs)) (seen_host old.host) (link_by old.ends.link) l (stands_in _ p st.1) in
           let shut : GivesNoMore false l.sent a.took (next_item g l) = subst (λ o. GivesNoMore false l.sent a.took o) (sym step) (gate_is a l old.ends h.ends ∙ room) in
-          rests_gave s g serves a l c old new h st.1 before after did (gated_made at old.ends.link open_yet fit.1) shut (λ o. let e = sym step ∙ o in cc) k
+          rests_gave s g serves a l c old new h st.1 before after did (ap is_in_body is) (gated_made at old.ends.link open_yet fit.1) shut (λ o. let e = sym step ∙ o in cc) k
 
       by_bodies : (hs : List Handler) → g.handlers (event_of at) ≡ hs → GatedBefore (event_of at) hs l.phase → ActGave g a l c old new (gate_group (has_room old) c (cut_of old)) did
       by_bodies [] e p = absurd p
@@ -166,7 +174,7 @@ module _ (s : code_setup.Setup) (g : Setup) (serves : Serves s g) (a : Around) (
             stands = subst (λ x. Stands g x (put p l) new) (sym k.there) there;
             finished = fin ∙ e ∙ ap has_finished (sym k.there);
             fits = ap (λ x. fits x new.ends.link) k.there;
-            collects = same_collects g old.host new.host k.host h.no_collect;
+            told = same_told g old new k.host k.ends h.told;
             ends = k.ends;
             awake = ap is_asking k.there;
             event = subst (λ x. HostIn x new.host.event) (sym k.there) tt;
@@ -183,4 +191,4 @@ module _ (s : code_setup.Setup) (g : Setup) (serves : Serves s g) (a : Around) (
   pub drains : (did : step_act.Act) → old.stage ≡ stage.Draining → Stands g stage.Draining l old → did ≡ done.Rests → new ≡ old → ActGave g a l c old new [] did
   drains did is st rests same =
       let over : next_item g l ≡ Over = next_in g Draining (seen_host old.host) (link_by old.ends.link) l (stands_in _ st.0 st.1) in
-      stays g a l c old new did h rests same (subst (λ o. GivesNoMore false l.sent a.took o) (sym over) tt) (ap (λ b. if b then false else (if licenses ClientReset l.sent a.took then true else licenses ServerReset l.sent a.took)) (h.finished ∙ ap has_finished is))
+      stays g a l c old new did h (ap is_in_body is) rests same (subst (λ o. GivesNoMore false l.sent a.took o) (sym over) tt) (ap (λ b. if b then false else (if licenses ClientReset l.sent a.took then true else licenses ServerReset l.sent a.took)) (h.finished ∙ ap has_finished is))

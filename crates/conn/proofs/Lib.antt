@@ -33,5 +33,9 @@ pub mod Pending
 pub mod Gating
 pub mod Choosing
 pub mod Linking
+pub mod Planning
+pub mod Firing
+pub mod Collecting
+pub mod Releasing
 pub mod Passing
 pub mod Changing

@@ -17,7 +17,7 @@ use Rattle.conn.specs.Events.{event_of}
 use Rattle.conn.specs.Holds.{Around, Holds, HoldsEnds, Stands}
 use Rattle.conn.specs.Hosts.{seen_host}
 use Rattle.conn.specs.Setups.{Serves}
-use Rattle.conn.specs.Stages.{InEvent as HostIn, fits, has_finished, is_asking}
+use Rattle.conn.specs.Stages.{InEvent as HostIn, fits, has_finished, is_asking, is_in_body}
 use Rattle.conn.specs.declared.connection.Conn.{Conn}
 use Rattle.conn.specs.declared.ends.Ends.{Ends}
 use Rattle.conn.specs.declared.ends.Link.{Link}
@@ -31,7 +31,7 @@ use Rattle.conn.proofs.Acting.{ActGave, gone_holds, rest_group, rest_noted, rest
 use Rattle.conn.proofs.Gating.{stands_in}
 use Rattle.conn.proofs.Giving.{gave_one}
 use Rattle.conn.proofs.Pending.{connect_is}
-use Rattle.conn.proofs.Places.{enters_gone, same_collects}
+use Rattle.conn.proofs.Places.{enters_gone}
 use Rattle.conn.proofs.SelectItems.{StandsIn, connecting_item, made_item, refused_item, unanswered}
 
 -- no server was asked for
@@ -119,7 +119,7 @@ module _ (s : code_setup.Setup) (g : Setup) (serves : Serves s g) (a : Around) (
               finished = h.finished ∙ ap has_finished is ∙ ap has_finished (sym k.there);
               fits = ap (λ x. fits x new.ends.link) k.there ∙ ap (λ e. fits (stage.Answering to) e.link) k.ends;
               event = subst (λ x. HostIn x new.host.event) (sym k.there) tt;
-              no_collect = same_collects g old.host new.host k.host h.no_collect;
+              told = record { from = ap (λ x. x.net.from) k.host ∙ h.told.from; relays = λ r. absurd (true≢false (sym (h.told.relays (ap (λ x. x.net.relays) (sym k.host) ∙ r)) ∙ ap is_up absent)) };
               ends = subst (λ e. HoldsEnds a at e) (sym k.ends) (asked_holds a l to old.ends h.ends absent);
               no_choice = h.no_choice;
               no_cut = h.no_cut;
@@ -143,14 +143,14 @@ module _ (s : code_setup.Setup) (g : Setup) (serves : Serves s g) (a : Around) (
       rests : (k : Link) → old.ends.link ≡ k → (k ≡ link.Made → ⊥) → connects_by k old.ends.server ≡ [] → Rests s c old new before after did → ActGave g a l c old new (rest_group c (cut_of old)) did
       rests k e unmade none r =
           let waits = unanswered g (link_by old.ends.link) (seen_host old.host) l to here (h.ends.connects ∙ ap (λ x. connects_by x old.ends.server) e ∙ none) in
-          rests_gave s g serves a l c old new h b before after did (λ m. unmade (sym e ∙ m)) (subst (λ o. GivesNoMore false l.sent a.took o) (sym waits) refl) (λ o. let x = sym waits ∙ o in cc) r
+          rests_gave s g serves a l c old new h b before after did (ap is_in_body is) (λ m. unmade (sym e ∙ m)) (subst (λ o. GivesNoMore false l.sent a.took o) (sym waits) refl) (λ o. let x = sym waits ∙ o in cc) r
 
       by_link : (k : Link) → old.ends.link ≡ k → AnswersBy k s c old new before after did → ActGave g a l c old new (answer_group k c (cut_of old)) did
       by_link link.Made e (goes, enters, none) =
           let l' : TraceState = with_connects [] (record l { server = There (arrived old.ends.server); sent = sent_after (Answered true) l.sent }) in
           let ends = with_link link.Up old.ends in
           let p = enter g (event_of event.Connected) (link_by link.Up) (seen_host old.host) in
-          let gone = enters_gone g l' s serves event.Connected old.host ends old new enters b.vars b.replies h.no_collect refl refl (λ x. cc) in
+          let gone = enters_gone g l' s serves event.Connected old.host ends old new enters b.vars b.replies h.told.from refl refl (λ x. cc) in
           let step = made_item g (link_by old.ends.link) (seen_host old.host) l to (arrived old.ends.server) here (h.ends.connects ∙ ap (λ x. connects_by x old.ends.server) e) in
           subst (λ d. ActGave g a l c old new [] d) (sym goes) (record {
             at = put p l';
@@ -163,7 +163,7 @@ module _ (s : code_setup.Setup) (g : Setup) (serves : Serves s g) (a : Around) (
           let l' : TraceState = with_connects [] (record l { server = NoServer }) in
           let ends = with_link link.Absent old.ends in
           let p = enter g (event_of event.Failed) (link_by link.Absent) (seen_host old.host) in
-          let gone = enters_gone g l' s serves event.Failed old.host ends old new enters b.vars b.replies h.no_collect refl refl (λ x. cc) in
+          let gone = enters_gone g l' s serves event.Failed old.host ends old new enters b.vars b.replies h.told.from refl refl (λ x. cc) in
           let step = refused_item g (link_by old.ends.link) (seen_host old.host) l to here (h.ends.connects ∙ ap (λ x. connects_by x old.ends.server) e) in
           subst (λ d. ActGave g a l c old new [] d) (sym goes) (record {
             at = put p l';

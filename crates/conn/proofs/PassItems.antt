@@ -1,11 +1,12 @@
 -- What a relay passes on, by the fields of a trace's state.
-use Rattle.std.proofs.Common.{◌≡◌, refl, sym, ap, ◌∙◌, ℕ, ◌+◌, ◌≤◌, ◌<◌, List, [], ◌∷◌, length, take, ◌++◌, append-nil, Option, None}
+use Rattle.std.proofs.Common.{◌≡◌, refl, sym, ap, ◌∙◌, ℕ, ◌+◌, ◌≤◌, ◌<◌, List, [], ◌∷◌, length, take, ◌++◌, append-nil, Bool, false, ◌&&◌, Option, None}
 use Rattle.px_bytes.specs.declared.addr.Side.{Side}
 use Rattle.px_bytes.specs.declared.addr.Side.TheVariants.{Client, Server}
 use Rattle.px_bytes.specs.declared.fault.Reply.{Reply}
 use Rattle.connection_model.specs.Further.{choosing, first_cut, longer, nothing_comes}
 use Rattle.connection_model.specs.Item.{Choice, PassesOn, Passed, ToClient, ToServer}
-use Rattle.connection_model.specs.Relay.{Passing}
+use Rattle.irule_net.specs.declared.state.Asks.TheVariants.{NotAsked}
+use Rattle.connection_model.specs.Relay.{Incoming, Passing, is_done}
 use Rattle.connection_model.specs.Setup.{Setup}
 use Rattle.connection_model.specs.State.{Cut, Relaying, ServerSide, Stream, There, TraceState, Does, read, with_choices}
 use Rattle.connection_model.specs.Trace.{counted, next_item, relay_next}
@@ -47,7 +48,7 @@ passed_server n s l = record l {
   answers = record l.answers { choices = [] };
 }
 
-module _ (g : Setup) (c s : Stream) (l : TraceState) (n : ℕ) (r : InRelay c s l) (none : l.answers.choices ≡ []) (some : 0 < n) where
+module _ (g : Setup) (c s : Incoming) (l : TraceState) (n : ℕ) (r : InRelay c s l) (none : l.answers.choices ≡ []) (left : (is_done c && is_done s) ≡ false) (some : 0 < n) where
   -- on this choice
   abbrev chosen : Side → TraceState
   chosen side = with_choices (PassesOn side n ∷ []) l
@@ -55,16 +56,16 @@ module _ (g : Setup) (c s : Stream) (l : TraceState) (n : ℕ) (r : InRelay c s 
   relays_on : (side : Side) → InRelay c s (chosen side)
   relays_on side = record { no_cut = r.no_cut; phase = r.phase; client = r.client; server = r.server; client_asks = r.client_asks; server_asks = r.server_asks }
 
-  pub passes_client : n ≤ length c.unread → next_item g (longer (choosing (PassesOn Client n ∷ []) None) l) ≡ Does (Passed Client (ToServer l.sent.number) (take n c.unread)) (passed_client n c l)
-  passes_client within =
+  pub passes_client : c.asks ≡ NotAsked → n ≤ length c.stream.unread → next_item g (longer (choosing (PassesOn Client n ∷ []) None) l) ≡ Does (Passed Client (ToServer l.sent.number) (take n c.stream.unread)) (passed_client n c.stream l)
+  passes_client free within =
       ap (next_item g) (longer_choices (PassesOn Client n ∷ []) l none r.no_cut)
-      ∙ relay_passes g c s (chosen Client) (relays_on Client) Client n [] refl some within
+      ∙ relay_passes g c s (chosen Client) (relays_on Client) Client n [] refl left free some within
       ∙ ap (λ x. Does (Passed Client (ToServer l.sent.number) (take n x.unread)) (passed_client n x (record l { phase = Relaying }))) r.client
-      ∙ ap (λ p. Does (Passed Client (ToServer l.sent.number) (take n c.unread)) (passed_client n c (record l { phase = p }))) (sym r.phase)
+      ∙ ap (λ p. Does (Passed Client (ToServer l.sent.number) (take n c.stream.unread)) (passed_client n c.stream (record l { phase = p }))) (sym r.phase)
 
-  pub passes_server : n ≤ length s.unread → next_item g (longer (choosing (PassesOn Server n ∷ []) None) l) ≡ Does (Passed Server ToClient (take n s.unread)) (passed_server n s l)
-  passes_server within =
+  pub passes_server : s.asks ≡ NotAsked → n ≤ length s.stream.unread → next_item g (longer (choosing (PassesOn Server n ∷ []) None) l) ≡ Does (Passed Server ToClient (take n s.stream.unread)) (passed_server n s.stream l)
+  passes_server free within =
       ap (next_item g) (longer_choices (PassesOn Server n ∷ []) l none r.no_cut)
-      ∙ relay_passes g c s (chosen Server) (relays_on Server) Server n [] refl some within
+      ∙ relay_passes g c s (chosen Server) (relays_on Server) Server n [] refl left free some within
       ∙ ap (λ v. counted l.sent (relay_next g (record (chosen Server) { server = v }) (Passing Server n []))) r.server
-      ∙ ap (λ p. Does (Passed Server ToClient (take n s.unread)) (passed_server n s (record l { phase = p }))) (sym r.phase)
+      ∙ ap (λ p. Does (Passed Server ToClient (take n s.stream.unread)) (passed_server n s.stream (record l { phase = p }))) (sym r.phase)

@@ -1,27 +1,30 @@
 -- A relay passes bytes on, finishes or rests.
-use Rattle.std.proofs.Common.{◌≡◌, refl, sym, ap, subst, ◌∙◌, ℕ, ◌≤◌, ◌<◌, List, [], ◌∷◌, ◌++◌, append-nil, length, length-append, take, Bool, true, false, true≢false, ◌&&◌, nat_lt, Option, None, arith, eq-eqb, length-take-le, if◌then◌else◌}
-use Rattle.std.proofs.lemmas.Bool.{and_parts}
+use Rattle.std.proofs.Common.{◌≡◌, refl, sym, ap, subst, ◌∙◌, ℕ, ◌≤◌, ◌<◌, List, [], ◌∷◌, ◌++◌, append-nil, length, length-append, take, Bool, true, false, true≢false, ◌&&◌, ◌||◌, not, nat_le, nat_lt, Option, None, arith, eq-eqb, length-take-le, if◌then◌else◌}
 use Rattle.std.proofs.lemmas.Bool.Decides.{nat_tests}
 use Rattle.px_bytes.specs.declared.addr.Side.{Side}
 use Rattle.px_bytes.specs.declared.addr.Side.TheVariants.{Client, Server}
 use Rattle.connection_model.specs.Further.{choosing, longer}
-use Rattle.connection_model.specs.Gates.{may_give, room_limit, to_take}
+use Rattle.irule_net.specs.declared.state.Asks.{Asks}
+use Rattle.irule_net.specs.declared.state.Asks.TheVariants.{NotAsked, Stated}
+use Rattle.connection_model.specs.Gates.{has_room, may_give, other, room_limit}
 use Rattle.connection_model.specs.HeardLaws.{cut_in, taken_by_items}
-use Rattle.connection_model.specs.Item.{Item, PassesOn, Passed, ToClient, ToServer, choices_in, note_of, to_client, to_server, calls_in}
+use Rattle.connection_model.specs.Relay.{Incoming, is_done, ready, ready_of}
+use Rattle.connection_model.specs.Item.{Choice, Fires, Item, PassesOn, Passed, ToClient, ToServer, choices_in, note_of, to_client, to_server, calls_in}
 use Rattle.connection_model.specs.Setup.{Setup}
-use Rattle.connection_model.specs.State.{TraceState, Does}
-use Rattle.connection_model.specs.Trace.{GivesNoMore, next_item}
+use Rattle.connection_model.specs.State.{TraceState, Does, with_choices}
+use Rattle.connection_model.specs.Trace.{GivesNoMore, may_relay, next_item}
 use Rattle.connection_model.specs.declared.note.CutReason.{CutReason}
 use Rattle.connection_model.specs.declared.note.Note.{Note}
 use Rattle.connection_model.specs.declared.note.Note.TheVariants as note
-use Rattle.conn.specs.Acts.{Relays, RelaysBy, cut_of}
-use Rattle.conn.specs.Ends.{arrived, connects_by, has_stream, is_done, is_up, number_by, queue_of, server_by}
+use Rattle.conn.specs.Acts.{Relays, RelaysBy, Rests, cut_of}
+use Rattle.conn.specs.Ends.{arrived, connects_by, end_of, has_stream, is_sought, is_up, number_by, queue_of, server_by}
 use Rattle.conn.specs.Holds.{Around, Between, Holds, HoldsEnds, Stands}
 use Rattle.conn.specs.Hosts.{seen_host}
-use Rattle.conn.specs.Relaying.{PassesOn as PassesBytes, moved, passing, queue_end, read_end, relay_plan, to_pass}
+use Rattle.conn.specs.Relaying.{Fires as FiresBytes, PassesOn as PassesBytes, incoming_of, moved, turn_plan, queue_end, read_end, relay_plan, round_begun, side_plan, to_pass}
 use Rattle.conn.specs.Setups.{Serves}
 use Rattle.conn.specs.Stages.{InEvent as HostIn, cause_for, fits, has_finished, is_asking}
 use Rattle.conn.specs.declared.connection.Conn.{Conn}
+use Rattle.conn.specs.declared.ends.End.{End}
 use Rattle.conn.specs.declared.ends.Ends.{Ends}
 use Rattle.conn.specs.declared.ends.Link.{Link}
 use Rattle.conn.specs.declared.ends.Link.TheVariants as link
@@ -33,11 +36,11 @@ use Rattle.conn.specs.declared.stage.Stage.TheVariants as stage
 use Rattle.conn.specs.declared.turn.Act as step_act
 use Rattle.conn.specs.declared.turn.Act.TheVariants as done
 use Rattle.conn.proofs.Acting.{ActGave, finishes_gave, rest_group, rest_noted, rests_gave}
+use Rattle.conn.proofs.Firing.{fires_client, fires_server}
 use Rattle.conn.proofs.Joining.{TakesNoCut}
 use Rattle.conn.proofs.PassItems.{passed_client, passed_server, passes_client, passes_server}
 use Rattle.conn.proofs.Pending.{client_waits, server_waits}
-use Rattle.conn.proofs.Places.{same_collects}
-use Rattle.conn.proofs.RelayItems.{InRelay, may_pass, passes_within, relay_ends, relay_rests, relay_waits, some_passes}
+use Rattle.conn.proofs.RelayItems.{InRelay, none_passes, passes_within, relay_ends, relay_fires, relay_rests, relay_waits, some_passes, unmet_waits}
 
 taken_is : (n : ℕ) (bytes : List ℕ) → n ≤ length bytes → length (take n bytes) ≡ n
 taken_is n bytes within = length-take-le n bytes within
@@ -85,36 +88,66 @@ server_moved a l n e h up = record {
 abbrev pub relay_group : Relay → ℕ → Option CutReason → List Note
 relay_group relay.Done c cut = note.Finish c (cause_for finish.Closed) ∷ []
 relay_group (relay.Pass side n) c cut = note.Pass c side n ∷ []
+relay_group (relay.Fire side n) c cut = note.Fired c side ∷ []
 relay_group relay.Rest c cut = rest_group c cut
 
-pub relay_noted : (s : code_setup.Setup) (c : ℕ) (plan : Relay) (old new : Conn) (before after : List Note) (did : step_act.Act) → RelaysBy plan s c old new before after did → after ≡ before ++ relay_group plan c (cut_of old)
+pub relay_noted : (s : code_setup.Setup) (c : ℕ) (plan : Relay) (old new : Conn) (before after : List Note) (did : step_act.Act) → RelaysBy plan s c old new before after did → after ≡ before ++ relay_group plan c (cut_of (round_begun old))
 relay_noted s c relay.Done old new before after did (goes, k) = k.1
 relay_noted s c (relay.Pass side n) old new before after did (goes, k) = k.noted
-relay_noted s c relay.Rest old new before after did k = rest_noted s c old new before after did (cut_of old) k
+relay_noted s c (relay.Fire side n) old new before after did (goes, k) = k.noted
+relay_noted s c relay.Rest old new before after did k = rest_noted s c (round_begun old) new before after did (cut_of (round_begun old)) k
 
--- why a relay does what it does
-data Why (e : Ends) : Relay → Type 0 where
-  BothDone : (is_done e.client && is_done e.server) ≡ true → Why e relay.Done
-  OfClient : 0 < to_pass e.client e.server → Why e (relay.Pass Client (to_pass e.client e.server))
-  OfServer : 0 < to_pass e.server e.client → Why e (relay.Pass Server (to_pass e.server e.client))
-  NonePass : (is_done e.client && is_done e.server) ≡ false → to_pass e.client e.server ≡ 0 → to_pass e.server e.client ≡ 0 → Why e relay.Rest
+-- the collects in force, and what came of both sides and wasn't read
+abbrev of_client : Conn → Incoming
+of_client c = incoming_of c.host.net.client.asks c.ends.client
 
-why : (e : Ends) → Why e (relay_plan e)
-why e = by_end (is_done e.client && is_done e.server) refl
+abbrev of_server : Conn → Incoming
+of_server c = incoming_of c.host.net.server.asks c.ends.server
+
+abbrev pub asks_of : Side → Conn → Asks
+asks_of Client c = c.host.net.client.asks
+asks_of Server c = c.host.net.server.asks
+
+-- how many bytes of a side may be passed on
+abbrev pub passable : Side → Conn → ℕ
+passable Client c = to_pass c.ends.client c.ends.server
+passable Server c = to_pass c.ends.server c.ends.client
+
+-- what is done with the bytes of a side, and why
+data OfSide (side : Side) (c : Conn) (later : Relay) : Relay → Type 0 where
+  MayPass : asks_of side c ≡ NotAsked → 0 < passable side c → OfSide side c later (relay.Pass side (passable side c))
+  MayFire : (n : ℕ) → asks_of side c ≡ Stated n → n ≤ length (end_of side c.ends).unread → OfSide side c later (relay.Fire side n)
+  Waits : may_relay (ready (asks_of side c) (end_of side c.ends).unread) (nat_lt (length (queue_of (end_of (other side) c.ends))) room_limit) ≡ false → OfSide side c later later
+
+-- by its collect
+by_asks : (side : Side) (c : Conn) (later : Relay) (from to : End) → from ≡ end_of side c.ends → to ≡ end_of (other side) c.ends → passable side c ≡ to_pass from to → (asks : Asks) → asks_of side c ≡ asks → OfSide side c later (side_plan side asks from to later)
+by_asks side c later from to here there count NotAsked is = by_count (nat_lt 0 (to_pass from to)) refl
   where
-    of_server : (is_done e.client && is_done e.server) ≡ false → to_pass e.client e.server ≡ 0 → (b : Bool) → nat_lt 0 (to_pass e.server e.client) ≡ b → Why e (if b then relay.Pass Server (to_pass e.server e.client) else relay.Rest)
-    of_server left none true is = OfServer (grind (arith, nat_tests, is))
-    of_server left none false is = NonePass left none (grind (arith, nat_tests, is))
+    by_count : (b : Bool) → nat_lt 0 (to_pass from to) ≡ b → OfSide side c later (if b then relay.Pass side (to_pass from to) else later)
+    by_count true e =
+        let some : 0 < passable side c = (let k : 0 < to_pass from to = grind (arith, nat_tests, e) in subst (λ n. 0 < n) (sym count) k) in
+        subst (λ n. OfSide side c later (relay.Pass side n)) count (MayPass is some)
+    by_count false e =
+        let none : to_pass from to ≡ 0 = grind (arith, nat_tests, e) in
+        Waits (ap (λ x. may_relay (ready x (end_of side c.ends).unread) (nat_lt (length (queue_of (end_of (other side) c.ends))) room_limit)) is
+        ∙ ap (λ x. may_relay (ready NotAsked x.unread) (nat_lt (length (queue_of (end_of (other side) c.ends))) room_limit)) (sym here)
+        ∙ ap (λ x. may_relay (ready NotAsked from.unread) (nat_lt (length (queue_of x)) room_limit)) (sym there)
+        ∙ none_passes from.unread (length (queue_of to)) none)
+by_asks side c later from to here there count (Stated n) is = by_met (nat_le n (length from.unread)) refl
+  where
+    by_met : (b : Bool) → nat_le n (length from.unread) ≡ b → OfSide side c later (if b then relay.Fire side n else later)
+    by_met true e =
+        let met : n ≤ length from.unread = grind (arith, nat_tests, e) in
+        MayFire n is (subst (λ x. n ≤ length x.unread) here met)
+    by_met false e =
+        let room = nat_lt (length (queue_of (end_of (other side) c.ends))) room_limit in
+        Waits (ap (λ x. may_relay (ready x (end_of side c.ends).unread) room) is ∙ ap (λ x. may_relay (ready (Stated n) x.unread) room) (sym here) ∙ unmet_waits n from.unread room e)
 
-    of_client : (is_done e.client && is_done e.server) ≡ false → (b : Bool) → nat_lt 0 (to_pass e.client e.server) ≡ b → Why e (if b then relay.Pass Client (to_pass e.client e.server) else passing Server (to_pass e.server e.client) relay.Rest)
-    of_client left true is = OfClient (grind (arith, nat_tests, is))
-    of_client left false is = of_server left (grind (arith, nat_tests, is)) (nat_lt 0 (to_pass e.server e.client)) refl
+of_side : (side : Side) (c : Conn) (later : Relay) → OfSide side c later (turn_plan side c.host.net c.ends later)
+of_side Client c later = by_asks Client c later c.ends.client c.ends.server refl refl refl c.host.net.client.asks refl
+of_side Server c later = by_asks Server c later c.ends.server c.ends.client refl refl refl c.host.net.server.asks refl
 
-    by_end : (b : Bool) → (is_done e.client && is_done e.server) ≡ b → Why e (if b then relay.Done else passing Client (to_pass e.client e.server) (passing Server (to_pass e.server e.client) relay.Rest))
-    by_end true is = BothDone is
-    by_end false is = of_client is (nat_lt 0 (to_pass e.client e.server)) refl
-
-module _ (s : code_setup.Setup) (g : Setup) (serves : Serves s g) (a : Around) (l : TraceState) (c : ℕ) (old new : Conn) (h : Holds g a l old) (is : old.stage ≡ stage.Relaying) (st : Stands g stage.Relaying l old) where
+module _ (s : code_setup.Setup) (g : Setup) (serves : Serves s g) (a : Around) (l : TraceState) (c : ℕ) (old new : Conn) (h : Holds g a l old) (first : Side) (is : old.stage ≡ stage.Relaying first) (st : Stands g (stage.Relaying first) l old) where
   b : Between l old
   b = st.1
 
@@ -124,31 +157,34 @@ module _ (s : code_setup.Setup) (g : Setup) (serves : Serves s g) (a : Around) (
   going : l.finished ≡ false
   going = h.finished ∙ ap has_finished is
 
-  here : InRelay (arrived old.ends.client) (arrived old.ends.server) l
+  here : InRelay (of_client old) (of_server old) l
   here = record {
     no_cut = h.no_cut;
     phase = st.0;
     client = h.ends.client;
     server = h.ends.server ∙ ap (λ k. server_by k old.ends.server) up;
-    client_asks = ap (λ x. x.net.client.asks) b.host ∙ ap (λ x. x.asks) h.no_collect.client;
-    server_asks = ap (λ x. x.net.server.asks) b.host ∙ ap (λ x. x.asks) h.no_collect.server;
+    client_asks = ap (λ x. x.net.client.asks) b.host;
+    server_asks = ap (λ x. x.net.server.asks) b.host;
   }
+
+  on_choices : (choices : List Choice) → InRelay (of_client old) (of_server old) (with_choices choices l)
+  on_choices choices = record { no_cut = here.no_cut; phase = here.phase; client = here.client; server = here.server; client_asks = here.client_asks; server_asks = here.server_asks }
 
   number : l.sent.number ≡ 1
   number = h.ends.number ∙ ap number_by up
 
   relays_on : (at : TraceState) (side : Side) (n : ℕ) (before after : List Note) → PassesBytes c side n old new before after → at.phase ≡ l.phase → at.vars ≡ l.vars → at.host ≡ l.host → at.answers.replies ≡ l.answers.replies → Stands g new.stage at new
   relays_on at side n before after k phase vars host replies =
-      subst (λ x. Stands g x at new) (sym (k.there ∙ is)) (phase ∙ st.0, record { vars = vars ∙ b.vars ∙ sym k.vars; host = host ∙ b.host ∙ ap seen_host (sym k.host); replies = replies ∙ b.replies })
+      subst (λ x. Stands g x at new) (sym k.there) (phase ∙ st.0, record { vars = vars ∙ b.vars ∙ sym k.vars; host = host ∙ b.host ∙ ap seen_host (sym k.host); replies = replies ∙ b.replies })
 
   -- with these ends it holds what stands behind
   holds_on : (at : TraceState) (side : Side) (n : ℕ) (before after : List Note) → PassesBytes c side n old new before after → Stands g new.stage at new → at.finished ≡ l.finished → HoldsEnds a at (moved side n old.ends) → (moved side n old.ends).link ≡ old.ends.link → at.answers.choices ≡ [] → at.answers.cut ≡ None → Holds g a at new
   holds_on at side n before after k stands finished ends same no_choice no_cut = record {
     stage = stands;
-    finished = finished ∙ h.finished ∙ ap has_finished (sym k.there);
-    fits = ap (λ x. fits x new.ends.link) (k.there ∙ is) ∙ ap (λ e. is_up e.link) k.ends ∙ ap is_up (same ∙ up);
-    event = subst (λ x. HostIn x new.host.event) (sym (k.there ∙ is)) tt;
-    no_collect = same_collects g old.host new.host k.host h.no_collect;
+    finished = finished ∙ going ∙ ap has_finished (sym k.there);
+    fits = ap (λ x. fits x new.ends.link) k.there ∙ ap (λ e. is_up e.link) k.ends ∙ ap is_up (same ∙ up);
+    event = subst (λ x. HostIn x new.host.event) (sym k.there) tt;
+    told = record { from = ap (λ x. x.net.from) k.host ∙ h.told.from; relays = λ r. ap (λ e. is_up e.link) k.ends ∙ ap is_up (same ∙ up) };
     ends = subst (λ e. HoldsEnds a at e) (sym k.ends) ends;
     no_choice = no_choice;
     no_cut = no_cut;
@@ -175,11 +211,15 @@ module _ (s : code_setup.Setup) (g : Setup) (serves : Serves s g) (a : Around) (
           uncut = λ e. uncut;
           stays = λ e. absurd (true≢false (sym e ∙ going));
         };
-        stops = ap is_asking (k.there ∙ is);
+        stops = ap is_asking k.there;
       }
 
-  of_client : (before after : List Note) → 0 < to_pass old.ends.client old.ends.server → PassesBytes c Client (to_pass old.ends.client old.ends.server) old new before after → ActGave g a l c old new (note.Pass c Client (to_pass old.ends.client old.ends.server) ∷ []) done.Goes
-  of_client before after some k =
+  -- it isn't done yet
+  abbrev left : Type 0
+  left = (is_done (of_client old) && is_done (of_server old)) ≡ false
+
+  passes_side : (side : Side) (before after : List Note) → left → asks_of side old ≡ NotAsked → 0 < passable side old → PassesBytes c side (passable side old) old new before after → ActGave g a l c old new (note.Pass c side (passable side old) ∷ []) done.Goes
+  passes_side Client before after more free some k =
       let n = to_pass old.ends.client old.ends.server in
       let u = old.ends.client.unread in
       let within : n ≤ length u = passes_within u (length (queue_of old.ends.server)) in
@@ -189,11 +229,9 @@ module _ (s : code_setup.Setup) (g : Setup) (serves : Serves s g) (a : Around) (
       chosen_gave at i Client n before after k
       (holds_on at Client n before after k (relays_on at Client n before after k refl refl refl refl) refl (client_moved a l n old.ends h.ends up) refl refl h.no_cut)
       refl (ap (λ m. PassesOn Client m ∷ []) count) (λ t. refl) (ap (λ m. nat_lt m room_limit) (server_waits a l old.ends h.ends) ∙ some_passes u (length (queue_of old.ends.server)) some)
-      (passes_client g (arrived old.ends.client) (arrived old.ends.server) l n here h.no_choice some within) (ap (λ m. note.Pass c Client m ∷ []) count)
+      (passes_client g (of_client old) (of_server old) l n here h.no_choice more some free within) (ap (λ m. note.Pass c Client m ∷ []) count)
       (sym (append-nil old.ends.client.queued)) (ap (λ x. old.ends.server.queued ++ (if x then take n u else [])) (sym (eq-eqb l.sent.number 1 number))) refl
-
-  of_server : (before after : List Note) → 0 < to_pass old.ends.server old.ends.client → PassesBytes c Server (to_pass old.ends.server old.ends.client) old new before after → ActGave g a l c old new (note.Pass c Server (to_pass old.ends.server old.ends.client) ∷ []) done.Goes
-  of_server before after some k =
+  passes_side Server before after more free some k =
       let n = to_pass old.ends.server old.ends.client in
       let u = old.ends.server.unread in
       let within : n ≤ length u = passes_within u (length (queue_of old.ends.client)) in
@@ -203,22 +241,80 @@ module _ (s : code_setup.Setup) (g : Setup) (serves : Serves s g) (a : Around) (
       chosen_gave at i Server n before after k
       (holds_on at Server n before after k (relays_on at Server n before after k refl refl refl refl) refl (server_moved a l n old.ends h.ends up) refl refl h.no_cut)
       refl (ap (λ m. PassesOn Server m ∷ []) count) (λ t. refl) (ap (λ m. nat_lt m room_limit) (client_waits a l old.ends h.ends) ∙ some_passes u (length (queue_of old.ends.client)) some)
-      (passes_server g (arrived old.ends.client) (arrived old.ends.server) l n here h.no_choice some within) (ap (λ m. note.Pass c Server m ∷ []) count)
+      (passes_server g (of_client old) (of_server old) l n here h.no_choice more some free within) (ap (λ m. note.Pass c Server m ∷ []) count)
       refl (sym (append-nil old.ends.server.queued)) refl
 
-  pub relays : (before after : List Note) (did : step_act.Act) → Relays s c old new before after did → ActGave g a l c old new (relay_group (relay_plan old.ends) c (cut_of old)) did
-  relays before after did k = by_plan (relay_plan old.ends) (why old.ends) k
+  fires_side : (side : Side) (n : ℕ) (before after : List Note) → left → asks_of side old ≡ Stated n → n ≤ length (end_of side old.ends).unread → FiresBytes s c side n old new before after → ActGave g a l c old new (note.Fired c side ∷ []) done.Goes
+  fires_side Client n before after more asked met k =
+      fires_client s g serves a l c old new h b going n before after (ap (λ x. is_up x || not (is_sought x)) up)
+      (relay_fires g (of_client old) (of_server old) (with_choices (Fires Client ∷ []) l) (on_choices (Fires Client ∷ [])) Client n [] refl more asked met) k
+  fires_side Server n before after more asked met k =
+      fires_server s g serves a l c old new h b going n before after up
+      (relay_fires g (of_client old) (of_server old) (with_choices (Fires Server ∷ []) l) (on_choices (Fires Server ∷ [])) Server n [] refl more asked met) k
+
+  -- where nothing may be given the client's turn is next
+  between_round : Between l (round_begun old)
+  between_round = record { vars = b.vars; host = b.host; replies = b.replies }
+
+  round : Holds g a l (round_begun old)
+  round = record { stage = (st.0, between_round); finished = going; fits = ap is_up up; event = tt; told = h.told; ends = h.ends; no_choice = h.no_choice; no_cut = h.no_cut }
+
+  abbrev waits : Side → Type 0
+  waits side = may_relay (ready (asks_of side old) (end_of side old.ends).unread) (nat_lt (length (queue_of (end_of (other side) old.ends))) room_limit) ≡ false
+
+  rests : (before after : List Note) (did : step_act.Act) → left → waits Client → waits Server → Rests s c (round_begun old) new before after did → ActGave g a l c old new (rest_group c (cut_of (round_begun old))) did
+  rests before after did more client server k =
+      let waiting = relay_waits g (of_client old) (of_server old) l here h.no_choice more in
+      let of_c : may_relay (ready_of (of_client old)) (has_room l.sent a.took Server) ≡ false = ap (λ m. may_relay (ready_of (of_client old)) (nat_lt m room_limit)) (server_waits a l old.ends h.ends) ∙ client in
+      let of_s : may_relay (ready_of (of_server old)) (has_room l.sent a.took Client) ≡ false = ap (λ m. may_relay (ready_of (of_server old)) (nat_lt m room_limit)) (client_waits a l old.ends h.ends) ∙ server in
+      let stop : GivesNoMore false l.sent a.took (next_item g l) = subst (λ o. GivesNoMore false l.sent a.took o) (sym waiting) (relay_rests (of_client old) (of_server old) l.sent a.took of_c of_s) in
+      let gave = rests_gave s g serves a l c (round_begun old) new round between_round before after did refl (λ m. let x = sym up ∙ m in cc) stop (λ o. let x = sym waiting ∙ o in cc) k in
+      record {
+        at = gave.at;
+        gave = record {
+          more = gave.gave.more;
+          passes = gave.gave.passes;
+          holds = gave.gave.holds;
+          client_queue = gave.gave.client_queue;
+          server_queue = gave.gave.server_queue;
+          edges = gave.gave.edges;
+          noted = gave.gave.noted;
+          calls = gave.gave.calls;
+          still = gave.gave.still;
+          uncut = gave.gave.uncut;
+          stays = gave.gave.stays;
+        };
+        stops = gave.stops;
+      }
+
+  pub relays : (before after : List Note) (did : step_act.Act) → Relays s c first old new before after did → ActGave g a l c old new (relay_group (relay_plan first old.host.net old.ends) c (cut_of (round_begun old))) did
+  relays before after did k = by_end (is_done (of_client old) && is_done (of_server old)) refl k
     where
-      by_plan : (plan : Relay) → Why old.ends plan → RelaysBy plan s c old new before after did → ActGave g a l c old new (relay_group plan c (cut_of old)) did
-      by_plan _ (BothDone over) (goes, k) =
-          let both = and_parts (is_done old.ends.client) (is_done old.ends.server) over in
-          subst (λ d. ActGave g a l c old new (note.Finish c (cause_for finish.Closed) ∷ []) d) (sym goes)
-          (finishes_gave s g serves a l c old new h b finish.Closed tt k.0 (relay_ends g (arrived old.ends.client) (arrived old.ends.server) l here both.0 both.1))
-      by_plan _ (OfClient some) (goes, k) = subst (λ d. ActGave g a l c old new (note.Pass c Client (to_pass old.ends.client old.ends.server) ∷ []) d) (sym goes) (of_client before after some k)
-      by_plan _ (OfServer some) (goes, k) = subst (λ d. ActGave g a l c old new (note.Pass c Server (to_pass old.ends.server old.ends.client) ∷ []) d) (sym goes) (of_server before after some k)
-      by_plan _ (NonePass left first second) k =
-          let waits = relay_waits g (arrived old.ends.client) (arrived old.ends.server) l here h.no_choice left in
-          let none_of_client : may_pass old.ends.client.unread (to_take l.sent a.took Server) ≡ 0 = ap (may_pass old.ends.client.unread) (server_waits a l old.ends h.ends) ∙ first in
-          let none_of_server : may_pass old.ends.server.unread (to_take l.sent a.took Client) ≡ 0 = ap (may_pass old.ends.server.unread) (client_waits a l old.ends h.ends) ∙ second in
-          let stop : GivesNoMore false l.sent a.took (next_item g l) = subst (λ o. GivesNoMore false l.sent a.took o) (sym waits) (relay_rests old.ends.client.unread old.ends.server.unread l.sent a.took none_of_client none_of_server) in
-          rests_gave s g serves a l c old new h b before after did (λ m. let x = sym up ∙ m in cc) stop (λ o. let x = sym waits ∙ o in cc) k
+      cut : Option CutReason
+      cut = cut_of (round_begun old)
+
+      Gives : Relay → Type 0
+      Gives p = ActGave g a l c old new (relay_group p c cut) did
+
+      going_on : (group : List Note) → did ≡ done.Goes → ActGave g a l c old new group done.Goes → ActGave g a l c old new group did
+      going_on group goes x = subst (λ d. ActGave g a l c old new group d) (sym goes) x
+
+      both : (side : Side) → waits side → waits (other side) → waits Client × waits Server
+      both Client x y = (x, y)
+      both Server x y = (y, x)
+
+      -- the other side's turn
+      by_second : (p : Relay) → left → waits first → OfSide (other first) old relay.Rest p → RelaysBy p s c old new before after did → Gives p
+      by_second _ more w (MayPass free some) (goes, k) = going_on _ goes (passes_side (other first) before after more free some k)
+      by_second _ more w (MayFire n asked met) (goes, k) = going_on _ goes (fires_side (other first) n before after more asked met k)
+      by_second _ more w (Waits v) k = let ws = both first w v in rests before after did more ws.0 ws.1 k
+
+      by_first : (p : Relay) → left → OfSide first old (turn_plan (other first) old.host.net old.ends relay.Rest) p → RelaysBy p s c old new before after did → Gives p
+      by_first _ more (MayPass free some) (goes, k) = going_on _ goes (passes_side first before after more free some k)
+      by_first _ more (MayFire n asked met) (goes, k) = going_on _ goes (fires_side first n before after more asked met k)
+      by_first _ more (Waits w) k = by_second _ more w (of_side (other first) old relay.Rest) k
+
+      by_end : (o : Bool) → (is_done (of_client old) && is_done (of_server old)) ≡ o → RelaysBy (if o then relay.Done else turn_plan first old.host.net old.ends (turn_plan (other first) old.host.net old.ends relay.Rest)) s c old new before after did
+          → Gives (if o then relay.Done else turn_plan first old.host.net old.ends (turn_plan (other first) old.host.net old.ends relay.Rest))
+      by_end true over (goes, k) = going_on _ goes (finishes_gave s g serves a l c old new h b finish.Closed tt k.0 (relay_ends g (of_client old) (of_server old) l here over))
+      by_end false more k = by_first _ more (of_side first old (turn_plan (other first) old.host.net old.ends relay.Rest)) k

@@ -3,6 +3,7 @@ use Rattle.std.proofs.Common.{◌≡◌, refl, sym, ap, subst, ◌∙◌, ℕ, z
 use Rattle.std.specs.Bool.{MatchBool}
 use Rattle.std.specs.Prelude.{option_and_then, slice_get}
 use Rattle.std.proofs.lemmas.Bool.Decides.{nat_tests}
+use Rattle.px_bytes.specs.declared.addr.Side.TheVariants.{Client}
 use Rattle.px_bytes.specs.declared.fault.Reply.{Reply}
 use Rattle.tcl_compile.specs.Tree.{Tree}
 use Rattle.tcl_vars.specs.Scopes.{Scopes}
@@ -10,6 +11,9 @@ use Rattle.event_order.specs.declared.event.EventName.{EventName}
 use Rattle.rule_model.specs.Evaluator.{evaluate}
 use Rattle.rule_model.specs.Outcome.{Outcome, state}
 use Rattle.rule_model.specs.Setting as given
+use Rattle.irule_net.specs.State.{collected}
+use Rattle.irule_net.specs.declared.state.Asks.{Asks}
+use Rattle.irule_net.specs.declared.state.Asks.TheVariants.{NotAsked, Stated}
 use Rattle.irule_net.specs.declared.state.Ending.{Ending}
 use Rattle.irule_net.specs.declared.state.Ending.TheVariants.{Rejects, Closes}
 use Rattle.irule_net.specs.declared.state.NetState.{NetState}
@@ -17,22 +21,22 @@ use Rattle.irule_net.specs.declared.state.Selected.{Selected}
 use Rattle.connection_model.specs.Host.{body_setting}
 use Rattle.connection_model.specs.Item.{Unselected}
 use Rattle.connection_model.specs.Places as model
-use Rattle.connection_model.specs.Places.{Place, place, at as put, after_event, begun, behind_accepted, behind_connected, bodies_left, closed, closed_client, closed_server, connecting, enter, entered, next_body}
+use Rattle.connection_model.specs.Places.{Place, place, at as put, after_event, begun, behind_accepted, behind_connected, behind_data, bodies_left, closed, closed_client, closed_server, connecting, enter, entered, next_body}
 use Rattle.connection_model.specs.Setup.{Handler, Setup}
-use Rattle.connection_model.specs.State.{Choosing, Finishing, Gated, Running, InEvent, Phase, Stream, TraceState, link_of}
+use Rattle.connection_model.specs.State.{Choosing, Collecting, Finishing, Gated, Relaying, Running, InEvent, Phase, Stream, TraceState, link_of}
 use Rattle.connection_model.specs.State as state
 use Rattle.frame_machine.specs.Frames.{full_room, meaning, comes_to}
 use Rattle.frame_machine.specs.declared.frame.Frame.{Frame}
 use Rattle.frame_machine.specs.declared.frame.Mode.{Mode}
 use Rattle.frame_machine.specs.declared.frame.Mode.TheVariants as mode
 use Rattle.frame_machine.specs.declared.frame.Standing.{Standing}
-use Rattle.conn.specs.Changes.{ClosesClient, ClosesServer, Closes as ClosesAll, Enters, GoesTo, Leaves, NextBody, StartsBody}
+use Rattle.conn.specs.Changes.{Begins, ClosesClient, ClosesServer, Closes as ClosesAll, Enters, GoesTo, Leaves, NextBody, StartsBody, left_stage}
 use Rattle.conn.specs.Ends.{is_sought, is_up, link_by, server_by}
 use Rattle.conn.specs.Events.{event_of, is_closed}
 use Rattle.conn.specs.Holds.{Around, Between, BodyGoesOn, GatedBefore, HoldsEnds, RunsFirst, Stands}
-use Rattle.conn.specs.Hosts.{CollectsNothing, begun_host, seen_host}
+use Rattle.conn.specs.Hosts.{Told, begun_host, seen_host}
 use Rattle.conn.specs.Setups.{body_at, body_in, places_at, Serves}
-use Rattle.conn.specs.Stages.{InEvent as HostIn, after_stage, at_fits, connecting_stage, entered_by, fits, has_finished, is_asking, unless_ended}
+use Rattle.conn.specs.Stages.{InEvent as HostIn, accepted_stage, after_stage, at_fits, connected_stage, connecting_stage, data_stage, entered_by, fits, has_finished, is_asking, unless_ended}
 use Rattle.conn.specs.declared.connection.Conn.{Conn}
 use Rattle.conn.specs.declared.ends.End.{End}
 use Rattle.conn.specs.declared.ends.Ends.{Ends}
@@ -46,6 +50,7 @@ use Rattle.conn.specs.declared.setup.Setup as code_setup
 use Rattle.conn.specs.declared.stage.Finish.TheVariants as finish
 use Rattle.conn.specs.declared.stage.Stage.{Stage}
 use Rattle.conn.specs.declared.stage.Stage.TheVariants as stage
+use Rattle.conn.proofs.Fitting.{after_fits, after_plain}
 
 -- an item that is found stands within a list
 some_within : {A : Type 0} (xs : List A) (n : ℕ) (x : A) → slice_get xs n ≡ Some x → n < length xs
@@ -96,28 +101,32 @@ begins_same {H = H} g tree budget vars host more m frames begins units =
     let F : List Frame → Mode → ℕ → Outcome H = λ fs md b. meaning g full_room tree fs md [] (state vars host more b 0 []) in
     sym (ap (λ fs. F fs m.mode m.budget) frames ∙ ap (λ md. F [] md m.budget) begins ∙ ap (λ b. F [] mode.Begin b) units)
 
--- what it goes from: the variables of the trace, no reply that wasn't taken, and nothing collected
+-- what it goes from: the variables of the trace, no reply that wasn't taken, and what its rules are told
 pub record From (g : Setup) (l : TraceState) (mid : Conn) : Type 0 where
   pub vars : l.vars ≡ mid.vars
   pub replies : l.answers.replies ≡ []
-  pub collects : CollectsNothing g mid.host.net
+  pub told : Told g mid.ends.link mid.host.net
 
--- It went to a place of its trace, with these ends; nothing is collected, and no call is open.
+-- It went to a place of its trace, with these ends, and no call is open.
 pub record GoneTo (g : Setup) (fin : Bool) (p : Place) (l : TraceState) (e : Ends) (new : Conn) : Type 0 where
   pub stands : Stands g new.stage (put p l) new
   pub finished : fin ≡ has_finished new.stage
   pub fits : fits new.stage new.ends.link ≡ true
-  pub collects : CollectsNothing g new.host.net
+  pub told : Told g new.ends.link new.host.net
   pub ends : new.ends ≡ e
   pub awake : is_asking new.stage ≡ false
   pub event : HostIn new.stage new.host.event
 
--- the same host collects nothing too
-pub same_collects : (g : Setup) (old new : RuleHost) → new ≡ old → CollectsNothing g old.net → CollectsNothing g new.net
-same_collects g old new is k = subst (λ h. CollectsNothing g h.net) (sym is) k
+-- the same is told of the same host, with the same ends
+pub same_told : (g : Setup) (old new : Conn) → new.host ≡ old.host → new.ends ≡ old.ends → Told g old.ends.link old.host.net → Told g new.ends.link new.host.net
+same_told g old new host ends k = subst (λ e. Told g e.link new.host.net) (sym ends) (subst (λ h. Told g old.ends.link h.net) (sym host) k)
 
-pub begun_collects : (g : Setup) (at : At) (up : Bool) (old new : RuleHost) → new ≡ begun_host at up old → CollectsNothing g old.net → CollectsNothing g new.net
-begun_collects g at up old new is k = subst (λ h. CollectsNothing g h.net) (sym is) (record { from = k.from; client = k.client; server = k.server; loose = k.loose })
+-- where an event begins they are told whether there is a server connection
+pub begun_told : (g : Setup) (at : At) (k : Link) (old new : RuleHost) → new ≡ begun_host at (is_up k) old → old.net.from ≡ g.from → Told g k new.net
+begun_told g at k old new is from = subst (λ h. Told g k h.net) (sym is) (record { from = from; relays = λ e. e })
+
+begins_told : (g : Setup) (at : At) (old mid : Conn) → Begins at old mid → Told g old.ends.link old.host.net → Told g mid.ends.link mid.host.net
+begins_told g at old mid k told = subst (λ e. Told g e.link mid.host.net) (sym k.ends) (begun_told g at old.ends.link old.host mid.host k.host told.from)
 
 up_is : (k : Link) → model.is_up (link_by k) ≡ is_up k
 up_is link.Absent = refl
@@ -141,72 +150,9 @@ link_is a l e h = ap link_of h.server ∙ link_side e.link e.server
 pub begun_is : (at : At) (k : Link) (old new : RuleHost) → new ≡ begun_host at (is_up k) old → seen_host new ≡ begun (event_of at) (link_by k) (seen_host old)
 begun_is at k old new is = ap seen_host is ∙ ap (λ up. seen_host (begun_host at up old)) (sym (up_is k))
 
-after_fits : (at : At) (net : NetState) (k : Link) → at_fits at k ≡ true → fits (after_stage at net) k ≡ true
-after_fits event.Accepted net k fit = by_end net.wishes.ends
-  where
-    by_end : (o : Option Ending) → fits (unless_ended o stage.Choosing) k ≡ true
-    by_end None = fit
-    by_end (Some Rejects) = refl
-    by_end (Some Closes) = refl
-after_fits event.Selected net k fit = by_end net.wishes.ends
-  where
-    by_server : (o : Option Selected) → fits (connecting_stage o) k ≡ true
-    by_server None = refl
-    by_server (Some s) = fit
-
-    by_end : (o : Option Ending) → fits (unless_ended o (connecting_stage net.selected)) k ≡ true
-    by_end None = by_server net.selected
-    by_end (Some Rejects) = refl
-    by_end (Some Closes) = refl
-after_fits event.Failed net k fit = by_end net.wishes.ends
-  where
-    by_test : (b : Bool) → fits (if b then stage.Choosing else stage.Finishing finish.Unselected) k ≡ true
-    by_test true = fit
-    by_test false = refl
-
-    by_end : (o : Option Ending) → fits (unless_ended o (if net.wishes.reselects then stage.Choosing else stage.Finishing finish.Unselected)) k ≡ true
-    by_end None = by_test net.wishes.reselects
-    by_end (Some Rejects) = refl
-    by_end (Some Closes) = refl
-after_fits event.Connected net k fit = by_end net.wishes.ends
-  where
-    by_end : (o : Option Ending) → fits (unless_ended o stage.Relaying) k ≡ true
-    by_end None = fit
-    by_end (Some Rejects) = refl
-    by_end (Some Closes) = refl
-after_fits event.ServerClosed net k fit = refl
-after_fits event.Closed net k fit = refl
-
--- a stage behind the bodies of an event: it has finished where the event is a closing one, and asks nothing
-record Plain (closed : Bool) (st : Stage) : Type 0 where
-  finished : closed ≡ has_finished st
-  awake : is_asking st ≡ false
-  event : (e : At) → HostIn st e
-
-plain_end : (o : Option Ending) (st : Stage) → Plain false st → Plain false (unless_ended o st)
-plain_end None st k = k
-plain_end (Some Rejects) st k = record { finished = refl; awake = refl; event = λ e. tt }
-plain_end (Some Closes) st k = record { finished = refl; awake = refl; event = λ e. tt }
-
-after_plain : (at : At) (net : NetState) → Plain (is_closed at) (after_stage at net)
-after_plain event.Accepted net = plain_end net.wishes.ends stage.Choosing (record { finished = refl; awake = refl; event = λ e. tt })
-after_plain event.Selected net = plain_end net.wishes.ends (connecting_stage net.selected) (by_server net.selected)
-  where
-    by_server : (o : Option Selected) → Plain false (connecting_stage o)
-    by_server None = record { finished = refl; awake = refl; event = λ e. tt }
-    by_server (Some s) = record { finished = refl; awake = refl; event = λ e. tt }
-after_plain event.Failed net = plain_end net.wishes.ends _ (by_test net.wishes.reselects)
-  where
-    by_test : (b : Bool) → Plain false (if b then stage.Choosing else stage.Finishing finish.Unselected)
-    by_test true = record { finished = refl; awake = refl; event = λ e. tt }
-    by_test false = record { finished = refl; awake = refl; event = λ e. tt }
-after_plain event.Connected net = plain_end net.wishes.ends stage.Relaying (record { finished = refl; awake = refl; event = λ e. tt })
-after_plain event.ServerClosed net = record { finished = refl; awake = refl; event = λ e. tt }
-after_plain event.Closed net = record { finished = refl; awake = refl; event = λ e. tt }
-
 module _ (g : Setup) (l : TraceState) where
   -- behind an event that is entered again by no other
-  after_stands : (at : At) (fin : Bool) (k : state.Link) (new : Conn) → (at ≡ event.ServerClosed → ⊥) → From g l new → Stands g (after_stage at new.host.net) (put (after_event g (event_of at) fin k (seen_host new.host)) l) new
+  after_stands : (at : At) (fin : Bool) (k : Link) (new : Conn) → (at ≡ event.ServerClosed → ⊥) → From g l new → Stands g (after_stage at k new.host.net) (put (after_event g (event_of at) fin (link_by k) (seen_host new.host)) l) new
   after_stands at fin k new plain f = by_event at plain
     where
       here : Phase → TraceState
@@ -228,25 +174,47 @@ module _ (g : Setup) (l : TraceState) where
       by_test true = (refl, between _)
       by_test false = (refl, between _)
 
-      by_event : (at : At) → (at ≡ event.ServerClosed → ⊥) → Stands g (after_stage at new.host.net) (put (after_event g (event_of at) fin k (seen_host new.host)) l) new
-      by_event event.Accepted p = by_end new.host.net.wishes.ends stage.Choosing (behind_accepted new.host.net.client.asks) (ap (λ c. behind_accepted c.asks) f.collects.client, between _)
+      by_asks : (asks : Asks) → Stands g (accepted_stage asks) (here (behind_accepted asks)) new
+      by_asks NotAsked = (refl, between _)
+      by_asks (Stated n) = (refl, between _)
+
+      by_release : (b : Bool) → Stands g (data_stage false b) (here (if b then Choosing else Collecting)) new
+      by_release true = (refl, between _)
+      by_release false = (refl, between _)
+
+      by_link : (x : Link) (b : Bool) → Stands g (data_stage (is_up x) b) (here (behind_data (link_by x) b)) new
+      by_link link.Absent b = by_release b
+      by_link link.Asked b = by_release b
+      by_link link.Refused b = by_release b
+      by_link link.Made b = by_release b
+      by_link link.Up b = (refl, between _)
+
+      by_loose : (bytes : List ℕ) → Stands g (connected_stage bytes) (here (behind_connected bytes)) new
+      by_loose [] = (refl, between _)
+      by_loose (b ∷ bs) = (refl, between _)
+
+      by_event : (at : At) → (at ≡ event.ServerClosed → ⊥) → Stands g (after_stage at k new.host.net) (put (after_event g (event_of at) fin (link_by k) (seen_host new.host)) l) new
+      by_event event.Accepted p = by_end new.host.net.wishes.ends (accepted_stage new.host.net.client.asks) (behind_accepted new.host.net.client.asks) (by_asks new.host.net.client.asks)
+      by_event event.ClientData p = by_end new.host.net.wishes.ends (data_stage (is_up k) new.host.net.wishes.released) (behind_data (link_by k) new.host.net.wishes.released) (by_link k new.host.net.wishes.released)
       by_event event.Selected p = by_end new.host.net.wishes.ends (connecting_stage new.host.net.selected) (connecting new.host.net.selected) (by_server new.host.net.selected)
       by_event event.Failed p = by_end new.host.net.wishes.ends _ _ (by_test new.host.net.wishes.reselects)
-      by_event event.Connected p = by_end new.host.net.wishes.ends stage.Relaying (behind_connected new.host.net.loose) (ap behind_connected f.collects.loose, between _)
+      by_event event.Connected p = by_end new.host.net.wishes.ends (connected_stage new.host.net.loose) (behind_connected new.host.net.loose) (by_loose new.host.net.loose)
+      by_event event.ServerData p = by_end new.host.net.wishes.ends (stage.Relaying Client) Relaying (refl, between _)
       by_event event.ServerClosed p = absurd (p refl)
       by_event event.Closed p = (refl, between _)
 
-  goes_gone : (at : At) (fin : Bool) (k : state.Link) (mid new : Conn) → (at ≡ event.ServerClosed → ⊥) → GoesTo (after_stage at mid.host.net) mid new → From g l mid → at_fits at mid.ends.link ≡ true → fin ≡ is_closed at
-      → GoneTo g fin (after_event g (event_of at) fin k (seen_host mid.host)) l mid.ends new
-  goes_gone at fin k mid new plain c f fit is =
-      let p = after_plain at mid.host.net in
-      let f' : From g l new = record { vars = f.vars ∙ sym c.vars; replies = f.replies; collects = same_collects g mid.host new.host c.host f.collects } in
-      let S : Stage → RuleHost → Type 0 = λ st h. Stands g st (put (after_event g (event_of at) fin k (seen_host h)) l) new in
+  goes_gone : (at : At) (fin : Bool) (mid new : Conn) → (at ≡ event.ServerClosed → ⊥) → GoesTo (left_stage at mid) mid new → From g l mid → at_fits at mid.ends.link ≡ true → fin ≡ is_closed at
+      → GoneTo g fin (after_event g (event_of at) fin (link_by mid.ends.link) (seen_host mid.host)) l mid.ends new
+  goes_gone at fin mid new plain c f fit is =
+      let k = mid.ends.link in
+      let p = after_plain at k mid.host.net in
+      let f' : From g l new = record { vars = f.vars ∙ sym c.vars; replies = f.replies; told = same_told g mid new c.host c.ends f.told } in
+      let S : Stage → RuleHost → Type 0 = λ st h. Stands g st (put (after_event g (event_of at) fin (link_by k) (seen_host h)) l) new in
       record {
-        stands = subst (λ st. S st mid.host) (sym c.there) (subst (λ h. S (after_stage at h.net) h) c.host (after_stands at fin k new plain f'));
+        stands = subst (λ st. S st mid.host) (sym c.there) (subst (λ h. S (after_stage at k h.net) h) c.host (after_stands at fin k new plain f'));
         finished = is ∙ p.finished ∙ ap has_finished (sym c.there);
-        fits = ap (λ st. fits st new.ends.link) c.there ∙ ap (λ e. fits (after_stage at mid.host.net) e.link) c.ends ∙ after_fits at mid.host.net mid.ends.link fit;
-        collects = f'.collects;
+        fits = ap (λ st. fits st new.ends.link) c.there ∙ ap (λ e. fits (left_stage at mid) e.link) c.ends ∙ after_fits at mid.host.net k fit;
+        told = f'.told;
         ends = c.ends;
         awake = ap is_asking c.there ∙ p.awake;
         event = subst (λ st. HostIn st new.host.event) (sym c.there) (p.event new.host.event);
@@ -263,7 +231,7 @@ module _ (g : Setup) (l : TraceState) where
           acts = [];
           cost = 0;
           phase = refl;
-          no_collect = f.collects;
+          kept = λ side free. ap (λ h. collected side h.net) k.host;
           same = λ more.
               ap (λ rs. evaluate S b.body l.vars (seen_host mid.host) (rs ++ more) g.budget) f.replies
               ∙ ap (λ v. evaluate S b.body v (seen_host mid.host) more g.budget) (f.vars ∙ sym k.vars)
@@ -282,7 +250,7 @@ module _ (g : Setup) (l : TraceState) where
           stands = subst (λ st. Stands g st l' new) (sym c.there) (body, c.fresh.runs);
           finished = is ∙ ap has_finished (sym c.there);
           fits = ap (λ st. fits st new.ends.link) c.there ∙ ap (λ e. at_fits at e.link) c.ends ∙ fit;
-          collects = same_collects g mid.host new.host c.host f.collects;
+          told = same_told g mid new c.host c.ends f.told;
           ends = c.ends;
           awake = ap is_asking c.there;
           event = subst (λ st. HostIn st new.host.event) (sym c.there) (ap (λ h. event_of h.event) c.host ∙ ev);
@@ -309,19 +277,21 @@ module _ (g : Setup) (l : TraceState) where
     pub client_gone : (old new : Conn) → ClosesClient s old new → From g l old → GoneTo g true (closed_client g (link_by old.ends.link) (seen_host old.host)) l old.ends new
     client_gone old new k f =
         let mid = k.mid in
-        let f' : From g l mid = record { vars = f.vars ∙ sym k.begins.vars; replies = f.replies; collects = begun_collects g event.Closed (is_up old.ends.link) old.host mid.host k.begins.host f.collects } in
-        let gone = bodies_gone event.Closed 0 true (place state.Draining (seen_host mid.host)) mid new (GoesTo stage.Draining mid new) k.goes f' (ap (λ h. event_of h.event) k.begins.host) refl refl (λ c. goes_gone event.Closed true state.Absent mid new (λ e. cc) c f' refl refl) in
+        let f' : From g l mid = record { vars = f.vars ∙ sym k.begins.vars; replies = f.replies; told = begins_told g event.Closed old mid k.begins f.told } in
+        let gone = bodies_gone event.Closed 0 true (place state.Draining (seen_host mid.host)) mid new (GoesTo stage.Draining mid new) k.goes f' (ap (λ h. event_of h.event) k.begins.host) refl refl (λ c. goes_gone event.Closed true mid new (λ e. cc) c f' refl refl) in
         subst (λ e. GoneTo g true (closed_client g (link_by old.ends.link) (seen_host old.host)) l e new) k.begins.ends
         (subst (λ h. GoneTo g true (bodies_left (event_of event.Closed) (g.handlers (event_of event.Closed)) h (place state.Draining h)) l mid.ends new) (begun_is event.Closed old.ends.link old.host mid.host k.begins.host) gone)
 
     -- all bodies of an event have ended
     leaves_gone : (at : At) (fin : Bool) (mid new : Conn) → Leaves s at mid new → From g l mid → at_fits at mid.ends.link ≡ true → fin ≡ is_closed at → GoneTo g fin (after_event g (event_of at) fin (link_by mid.ends.link) (seen_host mid.host)) l mid.ends new
-    leaves_gone event.Accepted fin mid new k f fit is = goes_gone event.Accepted fin (link_by mid.ends.link) mid new (λ e. cc) k f fit is
-    leaves_gone event.Selected fin mid new k f fit is = goes_gone event.Selected fin (link_by mid.ends.link) mid new (λ e. cc) k f fit is
-    leaves_gone event.Failed fin mid new k f fit is = goes_gone event.Failed fin (link_by mid.ends.link) mid new (λ e. cc) k f fit is
-    leaves_gone event.Connected fin mid new k f fit is = goes_gone event.Connected fin (link_by mid.ends.link) mid new (λ e. cc) k f fit is
+    leaves_gone event.Accepted fin mid new k f fit is = goes_gone event.Accepted fin mid new (λ e. cc) k f fit is
+    leaves_gone event.ClientData fin mid new k f fit is = goes_gone event.ClientData fin mid new (λ e. cc) k f fit is
+    leaves_gone event.Selected fin mid new k f fit is = goes_gone event.Selected fin mid new (λ e. cc) k f fit is
+    leaves_gone event.Failed fin mid new k f fit is = goes_gone event.Failed fin mid new (λ e. cc) k f fit is
+    leaves_gone event.Connected fin mid new k f fit is = goes_gone event.Connected fin mid new (λ e. cc) k f fit is
+    leaves_gone event.ServerData fin mid new k f fit is = goes_gone event.ServerData fin mid new (λ e. cc) k f fit is
     leaves_gone event.ServerClosed fin mid new k f fit is = subst (λ b. GoneTo g b (after_event g (event_of event.ServerClosed) b (link_by mid.ends.link) (seen_host mid.host)) l mid.ends new) (sym is) (client_gone mid new k f)
-    leaves_gone event.Closed fin mid new k f fit is = goes_gone event.Closed fin (link_by mid.ends.link) mid new (λ e. cc) k f fit is
+    leaves_gone event.Closed fin mid new k f fit is = goes_gone event.Closed fin mid new (λ e. cc) k f fit is
 
     -- behind a body
     pub next_gone : (at : At) (n : ℕ) (fin : Bool) (mid new : Conn) → NextBody s at n mid new → From g l mid → event_of mid.host.event ≡ event_of at → at_fits at mid.ends.link ≡ true → fin ≡ is_closed at
@@ -333,7 +303,7 @@ module _ (g : Setup) (l : TraceState) where
     server_gone : (old new : Conn) → ClosesServer s old new → From g l old → GoneTo g true (closed_server g (link_by old.ends.link) (seen_host old.host)) l old.ends new
     server_gone old new k f =
         let mid = k.mid in
-        let f' : From g l mid = record { vars = f.vars ∙ sym k.begins.vars; replies = f.replies; collects = begun_collects g event.ServerClosed (is_up old.ends.link) old.host mid.host k.begins.host f.collects } in
+        let f' : From g l mid = record { vars = f.vars ∙ sym k.begins.vars; replies = f.replies; told = begins_told g event.ServerClosed old mid k.begins f.told } in
         let gone = next_gone event.ServerClosed 0 true mid new k.goes f' (ap (λ h. event_of h.event) k.begins.host) refl refl in
         let on : GoneTo g true (next_body g (event_of event.ServerClosed) true (link_by old.ends.link) (g.handlers (event_of event.ServerClosed)) (seen_host mid.host)) l old.ends new = subst (λ e. GoneTo g true (next_body g (event_of event.ServerClosed) true (link_by e.link) (g.handlers (event_of event.ServerClosed)) (seen_host mid.host)) l e new) k.begins.ends gone in
         subst (λ h. GoneTo g true (next_body g (event_of event.ServerClosed) true (link_by old.ends.link) (g.handlers (event_of event.ServerClosed)) h) l old.ends new) (begun_is event.ServerClosed old.ends.link old.host mid.host k.begins.host) on
@@ -350,11 +320,11 @@ module _ (g : Setup) (l : TraceState) where
         by_link link.Up is c = subst (λ x. GoneTo g true (closed_server g (link_by x) (seen_host old.host)) l old.ends new) is (server_gone old new c f)
 
     -- an event is entered
-    pub enters_gone : (at : At) (host : RuleHost) (ends : Ends) (old new : Conn) → Enters s at host ends old new → l.vars ≡ old.vars → l.answers.replies ≡ [] → CollectsNothing g host.net → at_fits at ends.link ≡ true → is_closed at ≡ false → (at ≡ event.ServerClosed → ⊥)
+    pub enters_gone : (at : At) (host : RuleHost) (ends : Ends) (old new : Conn) → Enters s at host ends old new → l.vars ≡ old.vars → l.answers.replies ≡ [] → host.net.from ≡ g.from → at_fits at ends.link ≡ true → is_closed at ≡ false → (at ≡ event.ServerClosed → ⊥)
         → GoneTo g false (enter g (event_of at) (link_by ends.link) (seen_host host)) l ends new
-    enters_gone at host ends old new k vars replies collects fit not_closing plain =
+    enters_gone at host ends old new k vars replies from fit not_closing plain =
         let e = event_of at in
-        let f : From g l new = record { vars = vars ∙ sym k.vars; replies = replies; collects = begun_collects g at (is_up ends.link) host new.host k.host collects } in
+        let f : From g l new = record { vars = vars ∙ sym k.vars; replies = replies; told = subst (λ e. Told g e.link new.host.net) (sym k.ends) (begun_told g at ends.link host new.host k.host from) } in
         subst (λ h. GoneTo g false (entered g e (link_by ends.link) (g.handlers e) h) l ends new) (begun_is at ends.link host new.host k.host) (by_bodies f (g.handlers e) (places_at s at) refl refl (serves.count e))
       where
         here : (f : From g l new) (hs : List Handler) → Type 0
@@ -362,20 +332,20 @@ module _ (g : Setup) (l : TraceState) where
 
         by_bodies : (f : From g l new) (hs : List Handler) (ps : List Body) → g.handlers (event_of at) ≡ hs → places_at s at ≡ ps → length hs ≡ length ps → here f hs
         by_bodies f [] [] e p n =
-            let there : new.stage ≡ after_stage at new.host.net = k.there ∙ ap (entered_by at new.host.net) p in
-            subst (λ x. GoneTo g false (after_event g (event_of at) false (link_by ends.link) (seen_host new.host)) l x new) k.ends
-            (goes_gone at false (link_by ends.link) new new plain (record { there = there; vars = refl; host = refl; ends = refl }) f (ap (λ x. at_fits at x.link) k.ends ∙ fit) (sym not_closing))
+            let there : new.stage ≡ left_stage at new = k.there ∙ ap (entered_by at ends.link new.host.net) p ∙ ap (λ x. after_stage at x.link new.host.net) (sym k.ends) in
+            subst (λ x. GoneTo g false (after_event g (event_of at) false (link_by x.link) (seen_host new.host)) l x new) k.ends
+            (goes_gone at false new new plain (record { there = there; vars = refl; host = refl; ends = refl }) f (ap (λ x. at_fits at x.link) k.ends ∙ fit) (sym not_closing))
         by_bodies f [] (p ∷ ps) e q n = absurd (omega (arith, n))
         by_bodies f (h ∷ hs) [] e q n = absurd (omega (arith, n))
         by_bodies f (h ∷ hs) (p ∷ ps) e q n =
-            let there : new.stage ≡ stage.Gated at = k.there ∙ ap (entered_by at new.host.net) q in
+            let there : new.stage ≡ stage.Gated at = k.there ∙ ap (entered_by at ends.link new.host.net) q in
             let l' : TraceState = record l { phase = InEvent (event_of at) (Gated h hs); host = seen_host new.host } in
             let gate : GatedBefore (event_of at) (g.handlers (event_of at)) (InEvent (event_of at) (Gated h hs)) = subst (λ ms. GatedBefore (event_of at) ms (InEvent (event_of at) (Gated h hs))) (sym e) refl in
             record {
               stands = subst (λ st. Stands g st l' new) (sym there) (gate, record { vars = f.vars; host = refl; replies = f.replies });
               finished = ap has_finished (sym there);
               fits = ap (λ st. fits st new.ends.link) there ∙ ap (λ b. not b && at_fits at new.ends.link) not_closing ∙ ap (λ x. at_fits at x.link) k.ends ∙ fit;
-              collects = f.collects;
+              told = f.told;
               ends = k.ends;
               awake = ap is_asking there;
               event = subst (λ st. HostIn st new.host.event) (sym there) (ap (λ h. event_of h.event) k.host);

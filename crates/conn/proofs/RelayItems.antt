@@ -1,72 +1,46 @@
--- A relay without collects, by the fields of a trace's state.
-use Rattle.std.proofs.Common.{◌≡◌, refl, ap, ◌∙◌, ℕ, ◌-◌, ◌≤◌, ◌<◌, List, [], ◌∷◌, length, min, Bool, true, false, ◌&&◌, ◌||◌, not, nat_le, nat_lt, if◌then◌else◌, None, arith, le-leb, lt-ltb}
-use Rattle.std.proofs.lemmas.Bool.{and_from, and_right}
+-- A relay, by the fields of a trace's state.
+use Rattle.std.proofs.Common.{◌≡◌, refl, ap, ◌∙◌, ℕ, ◌-◌, ◌≤◌, ◌<◌, List, [], ◌∷◌, length, min, Bool, true, false, ◌&&◌, ◌||◌, not, nat_le, nat_lt, if◌then◌else◌, Option, Some, None, arith, le-leb, lt-ltb}
+use Rattle.std.proofs.lemmas.Bool.{and_from}
 use Rattle.std.proofs.lemmas.Bool.Decides.{nat_tests}
-use Rattle.seg_buffer.specs.Bytes.{is_empty}
 use Rattle.px_bytes.specs.declared.addr.Side.{Side}
 use Rattle.px_bytes.specs.declared.addr.Side.TheVariants.{Client, Server}
 use Rattle.irule_net.specs.declared.state.Asks.{Asks}
-use Rattle.irule_net.specs.declared.state.Asks.TheVariants.{NotAsked}
+use Rattle.irule_net.specs.declared.state.Asks.TheVariants.{NotAsked, Stated}
 use Rattle.connection_model.specs.Gates.{Counts, TakenCounts, has_room, room_limit, to_take}
-use Rattle.connection_model.specs.Item.{Choice, PassesOn, Closed}
-use Rattle.connection_model.specs.Relay.{Incoming, ready, is_nothing, is_done, passes, BothDone, Passing, Resting, chosen_act, relay_act}
+use Rattle.connection_model.specs.Item.{Choice, PassesOn, Fires, Closed}
+use Rattle.connection_model.specs.Relay.{Incoming, by_side, firing, is_done, meets, passes, ready, ready_of, BothDone, Firing, Passing, Resting, chosen_act, relay_act}
 use Rattle.connection_model.specs.Setup.{Setup}
-use Rattle.connection_model.specs.State.{Relaying, ServerSide, Stream, There, link_of, TraceState, Next, Waits, ForRelay, stream_of}
+use Rattle.connection_model.specs.State.{Relaying, ServerSide, Stream, There, link_of, TraceState, Next, Waits, ForRelay, IsMet, Nothing, stream_of}
 use Rattle.connection_model.specs.Trace.{counted, finish, may_relay, next_item, relay_next, rests}
 use Rattle.conn.proofs.SelectItems.{next_in}
 
--- it relays, no collect is in force, and this came of both sides and wasn't read
-pub record InRelay (c s : Stream) (l : TraceState) : Type 0 where
+-- it relays, and these are the collects in force and what came of both sides and wasn't read
+pub record InRelay (c s : Incoming) (l : TraceState) : Type 0 where
   pub no_cut : l.answers.cut ≡ None
   pub phase : l.phase ≡ Relaying
-  pub client : l.client ≡ c
-  pub server : l.server ≡ There s
-  pub client_asks : l.host.net.client.asks ≡ NotAsked
-  pub server_asks : l.host.net.server.asks ≡ NotAsked
-
-abbrev pub plain_side : Stream → Incoming
-plain_side s = record { asks = NotAsked; stream = s }
-
--- nothing more comes of it
-abbrev pub is_spent : Stream → Bool
-is_spent s = s.ended && is_empty s.unread
-
-abbrev pub of_side : Side → Stream → Stream → Stream
-of_side Client c s = c
-of_side Server c s = s
-
-nothing_left : (u : List ℕ) → is_nothing (ready NotAsked u) ≡ is_empty u
-nothing_left [] = refl
-nothing_left (b ∷ u) = refl
-
-done_is : (s : Stream) → is_done (plain_side s) ≡ is_spent s
-done_is s = ap (λ b. s.ended && b) (nothing_left s.unread)
+  pub client : l.client ≡ c.stream
+  pub server : l.server ≡ There s.stream
+  pub client_asks : l.host.net.client.asks ≡ c.asks
+  pub server_asks : l.host.net.server.asks ≡ s.asks
 
 -- bytes that may be passed
 pub passes_some : (n : ℕ) (u : List ℕ) → 0 < n → n ≤ length u → passes NotAsked n u ≡ true
 passes_some n [] some within = absurd (omega (arith, some, within))
 passes_some n (b ∷ u) some within = and_from (nat_lt 0 n) (nat_le n (length (b ∷ u))) (lt-ltb 0 n some) (le-leb n (length (b ∷ u)) within)
 
-unspent : (n : ℕ) (s : Stream) → 0 < n → n ≤ length s.unread → is_spent s ≡ false
-unspent n s some within = by_bytes s.unread within
-  where
-    by_bytes : (u : List ℕ) → n ≤ length u → (s.ended && is_empty u) ≡ false
-    by_bytes [] in_it = absurd (omega (arith, some, in_it))
-    by_bytes (b ∷ u) in_it = and_right s.ended false refl
+-- a stated collect that is met
+pub meets_some : (asks : Asks) (n : ℕ) (u : List ℕ) → asks ≡ Stated n → n ≤ length u → meets asks u ≡ Some n
+meets_some asks n u is within = ap (λ x. meets x u) is ∙ ap (λ b. if b then Some n else None) (le-leb n (length u) within)
 
-busy : (side : Side) (c s : Stream) (n : ℕ) → 0 < n → n ≤ length (of_side side c s).unread → (is_done (plain_side c) && is_done (plain_side s)) ≡ false
-busy Client c s n some within = ap (λ b. b && is_done (plain_side s)) (done_is c ∙ unspent n c some within)
-busy Server c s n some within = ap (λ b. is_done (plain_side c) && b) (done_is s ∙ unspent n s some within) ∙ and_right (is_done (plain_side c)) false refl
-
-module _ (g : Setup) (c s : Stream) (l : TraceState) (r : InRelay c s l) where
-  relays_next : (choices : List Choice) → l.answers.choices ≡ choices → next_item g l ≡ counted l.sent (relay_next g l (relay_act (plain_side c) (plain_side s) choices))
+module _ (g : Setup) (c s : Incoming) (l : TraceState) (r : InRelay c s l) where
+  relays_next : (choices : List Choice) → l.answers.choices ≡ choices → next_item g l ≡ counted l.sent (relay_next g l (relay_act c s choices))
   relays_next choices chosen =
       next_in g Relaying l.host (link_of l.server) l (record { phase = r.phase; host = refl; link = refl; no_cut = r.no_cut })
       ∙ ap (λ x. goes x l.client l.host.net.server.asks (stream_of Server l)) r.client_asks
-      ∙ ap (λ x. goes NotAsked x l.host.net.server.asks (stream_of Server l)) r.client
-      ∙ ap (λ x. goes NotAsked c x (stream_of Server l)) r.server_asks
-      ∙ ap (λ v. goes NotAsked c NotAsked (server_of v)) r.server
-      ∙ ap (λ x. counted l.sent (relay_next g l (relay_act (plain_side c) (plain_side s) x))) chosen
+      ∙ ap (λ x. goes c.asks x l.host.net.server.asks (stream_of Server l)) r.client
+      ∙ ap (λ x. goes c.asks c.stream x (stream_of Server l)) r.server_asks
+      ∙ ap (λ v. goes c.asks c.stream s.asks (server_of v)) r.server
+      ∙ ap (λ x. counted l.sent (relay_next g l (relay_act c s x))) chosen
     where
       goes : Asks → Stream → Asks → Stream → Next
       goes a x b y = counted l.sent (relay_next g l (relay_act (record { asks = a; stream = x }) (record { asks = b; stream = y }) l.answers.choices))
@@ -75,33 +49,36 @@ module _ (g : Setup) (c s : Stream) (l : TraceState) (r : InRelay c s l) where
       server_of v = stream_of Server (record l { server = v })
 
   -- both sides are done
-  pub relay_ends : is_spent c ≡ true → is_spent s ≡ true → next_item g l ≡ finish g Closed l
-  relay_ends first second =
-      relays_next l.answers.choices refl
-      ∙ ap (λ b. counted l.sent (relay_next g l (if b then BothDone else chosen_act (plain_side c) (plain_side s) l.answers.choices)))
-      (and_from (is_done (plain_side c)) (is_done (plain_side s)) (done_is c ∙ first) (done_is s ∙ second))
+  pub relay_ends : (is_done c && is_done s) ≡ true → next_item g l ≡ finish g Closed l
+  relay_ends over = relays_next l.answers.choices refl ∙ ap (λ b. counted l.sent (relay_next g l (if b then BothDone else chosen_act c s l.answers.choices))) over
 
   -- a chosen number of bytes is passed on
-  pub relay_passes : (side : Side) (n : ℕ) (more : List Choice) → l.answers.choices ≡ PassesOn side n ∷ more → 0 < n → n ≤ length (of_side side c s).unread
+  pub relay_passes : (side : Side) (n : ℕ) (more : List Choice) → l.answers.choices ≡ PassesOn side n ∷ more → (is_done c && is_done s) ≡ false → (by_side side c s).asks ≡ NotAsked → 0 < n → n ≤ length (by_side side c s).stream.unread
       → next_item g l ≡ counted l.sent (relay_next g l (Passing side n more))
-  relay_passes side n more chosen some within =
+  relay_passes side n more chosen left free some within =
+      let i = by_side side c s in
       relays_next (PassesOn side n ∷ more) chosen
-      ∙ ap (λ b. counted l.sent (relay_next g l (if b then BothDone else chosen_act (plain_side c) (plain_side s) (PassesOn side n ∷ more)))) (busy side c s n some within)
-      ∙ by_side side within
-    where
-      by_side : (side : Side) → n ≤ length (of_side side c s).unread → counted l.sent (relay_next g l (chosen_act (plain_side c) (plain_side s) (PassesOn side n ∷ more))) ≡ counted l.sent (relay_next g l (Passing side n more))
-      by_side Client in_it = ap (λ b. counted l.sent (relay_next g l (if b then Passing Client n more else Resting))) (passes_some n c.unread some in_it)
-      by_side Server in_it = ap (λ b. counted l.sent (relay_next g l (if b then Passing Server n more else Resting))) (passes_some n s.unread some in_it)
+      ∙ ap (λ b. counted l.sent (relay_next g l (if b then BothDone else chosen_act c s (PassesOn side n ∷ more)))) left
+      ∙ ap (λ b. counted l.sent (relay_next g l (if b then Passing side n more else Resting))) (ap (λ x. passes x n i.stream.unread) free ∙ passes_some n i.stream.unread some within)
+
+  -- a met collect fires
+  pub relay_fires : (side : Side) (n : ℕ) (more : List Choice) → l.answers.choices ≡ Fires side ∷ more → (is_done c && is_done s) ≡ false → (by_side side c s).asks ≡ Stated n → n ≤ length (by_side side c s).stream.unread
+      → next_item g l ≡ counted l.sent (relay_next g l (Firing side n more))
+  relay_fires side n more chosen left asks within =
+      let i = by_side side c s in
+      relays_next (Fires side ∷ more) chosen
+      ∙ ap (λ b. counted l.sent (relay_next g l (if b then BothDone else chosen_act c s (Fires side ∷ more)))) left
+      ∙ ap (λ o. counted l.sent (relay_next g l (firing side more o))) (meets_some i.asks n i.stream.unread asks within)
 
   -- nothing is chosen: it waits
-  pub relay_waits : l.answers.choices ≡ [] → (is_spent c && is_spent s) ≡ false → next_item g l ≡ Waits (ForRelay (ready NotAsked c.unread) (ready NotAsked s.unread))
+  pub relay_waits : l.answers.choices ≡ [] → (is_done c && is_done s) ≡ false → next_item g l ≡ Waits (ForRelay (ready_of c) (ready_of s))
   relay_waits none left =
       relays_next [] none
-      ∙ ap (λ b. counted l.sent (relay_next g l (if b then BothDone else Resting))) (ap (λ b. b && is_done (plain_side s)) (done_is c) ∙ ap (λ b. is_spent c && b) (done_is s) ∙ left)
+      ∙ ap (λ b. counted l.sent (relay_next g l (if b then BothDone else Resting))) left
       ∙ ap (λ x. waits x l.client l.host.net.server.asks (stream_of Server l)) r.client_asks
-      ∙ ap (λ x. waits NotAsked x l.host.net.server.asks (stream_of Server l)) r.client
-      ∙ ap (λ x. waits NotAsked c x (stream_of Server l)) r.server_asks
-      ∙ ap (λ v. waits NotAsked c NotAsked (server_of v)) r.server
+      ∙ ap (λ x. waits c.asks x l.host.net.server.asks (stream_of Server l)) r.client
+      ∙ ap (λ x. waits c.asks c.stream x (stream_of Server l)) r.server_asks
+      ∙ ap (λ v. waits c.asks c.stream s.asks (server_of v)) r.server
     where
       waits : Asks → Stream → Asks → Stream → Next
       waits a x b y = Waits (ForRelay (ready a x.unread) (ready b y.unread))
@@ -118,15 +95,16 @@ pub none_passes : (u : List ℕ) (p : ℕ) → may_pass u p ≡ 0 → may_relay 
 none_passes [] p none = refl
 none_passes (b ∷ u) p none = grind (arith, nat_tests, none)
 
+-- nor does one whose collect isn't met
+pub unmet_waits : (n : ℕ) (u : List ℕ) (room : Bool) → nat_le n (length u) ≡ false → may_relay (ready (Stated n) u) room ≡ false
+unmet_waits n u room unmet = ap (λ b. may_relay (if b then IsMet else Nothing) room) unmet
+
 pub some_passes : (u : List ℕ) (p : ℕ) → 0 < may_pass u p → nat_lt p room_limit ≡ true
 some_passes u p some = grind (arith, nat_tests, some)
 
 pub passes_within : (u : List ℕ) (p : ℕ) → may_pass u p ≤ length u
 passes_within u p = omega arith
 
--- a relay of which nothing may be passed rests
-pub relay_rests : (c s : List ℕ) (sent : Counts) (took : TakenCounts) → may_pass c (to_take sent took Server) ≡ 0 → may_pass s (to_take sent took Client) ≡ 0
-    → rests false (ForRelay (ready NotAsked c) (ready NotAsked s)) sent took ≡ true
-relay_rests c s sent took first second =
-    ap (λ b. not (b || may_relay (ready NotAsked s) (has_room sent took Client))) (none_passes c (to_take sent took Server) first)
-    ∙ ap not (none_passes s (to_take sent took Client) second)
+-- a relay of which nothing may be passed or collected rests
+pub relay_rests : (c s : Incoming) (sent : Counts) (took : TakenCounts) → may_relay (ready_of c) (has_room sent took Server) ≡ false → may_relay (ready_of s) (has_room sent took Client) ≡ false → rests false (ForRelay (ready_of c) (ready_of s)) sent took ≡ true
+relay_rests c s sent took first second = ap (λ b. not (b || may_relay (ready_of s) (has_room sent took Client))) first ∙ ap not second

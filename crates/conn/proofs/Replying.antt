@@ -7,6 +7,7 @@ use Rattle.px_bytes.specs.declared.fault.Reply.{Reply}
 use Rattle.tcl_compile.specs.Tree.{Tree}
 use Rattle.tcl_vars.specs.Scopes.{Scopes}
 use Rattle.event_order.specs.declared.event.EventName.{EventName}
+use Rattle.irule_net.specs.State.{collected}
 use Rattle.rule_model.specs.Evaluator.{evaluate}
 use Rattle.rule_model.specs.Outcome.{Act, Called, reply_code}
 use Rattle.rule_model.specs.Setting as given
@@ -26,7 +27,7 @@ use Rattle.conn.specs.Bodies.{Heard}
 use Rattle.conn.specs.Calls.{Replies}
 use Rattle.conn.specs.Events.{event_of}
 use Rattle.conn.specs.Holds.{Around, BodyGoesOn, Holds, HoldsEnds, ReplyCame, RunsFirst, Stands, call_of}
-use Rattle.conn.specs.Hosts.{CollectsNothing, seen_host}
+use Rattle.conn.specs.Hosts.{seen_host}
 use Rattle.conn.specs.Modes.{is_asked}
 use Rattle.conn.specs.Stages.{InEvent, fits, has_finished, selects}
 use Rattle.conn.specs.declared.ends.Ends.{Ends}
@@ -36,6 +37,7 @@ use Rattle.conn.specs.declared.host.RuleHost.{RuleHost}
 use Rattle.conn.specs.declared.stage.Stage.{Stage}
 use Rattle.conn.specs.declared.stage.Stage.TheVariants as stage
 use Rattle.conn.proofs.Giving.{ends_kept}
+use Rattle.conn.proofs.Places.{same_told}
 
 pub asked_mode : (m : Mode) → is_asked m ≡ true → (call : List (List ℕ)) × (m ≡ mode.Asked call)
 asked_mode mode.Begin e = cc
@@ -60,7 +62,7 @@ body_hears g e b bs l old new reply k asked heard vars host =
       acts = acts;
       cost = k.cost;
       phase = k.phase ∙ ap (λ n. phase.InEvent e (Running b bs n)) count;
-      no_collect = k.no_collect;
+      kept = λ side free. ap (λ x. collected side x.net) host ∙ k.kept side free;
       same = λ more.
           ap (λ rs. evaluate S b.body l.vars l.host rs g.budget) (append_assoc l.answers.replies (reply ∷ []) more)
           ∙ k.same (reply ∷ more)
@@ -85,13 +87,12 @@ holds_longer : (g : Setup) (a : Around) (l : TraceState) (old new : Conn) (reply
     → new.host ≡ old.host → new.ends ≡ old.ends → Holds g a (longer (replies_only (reply ∷ [])) l) new
 holds_longer g a l old new reply h stands finished fit event host ends =
     let f = replies_only (reply ∷ []) in
-    let P : RuleHost → Type 0 = λ x. CollectsNothing g x.net in
     record {
       stage = stands;
       finished = h.finished ∙ sym finished;
       fits = ap (λ e. fits new.stage e.link) ends ∙ fit ∙ h.fits;
       event = subst (λ x. InEvent new.stage x.event) (sym host) event;
-      no_collect = subst P (sym host) h.no_collect;
+      told = same_told g old new host ends h.told;
       ends = same_ends a l old.ends new.ends reply h.ends ends;
       no_choice = append-nil l.answers.choices ∙ h.no_choice;
       no_cut = ap (λ c. first_cut c f.cut) h.no_cut;

@@ -29,7 +29,7 @@ use Rattle.conn.specs.declared.stage.Stage.TheVariants as stage
 use Rattle.conn.specs.declared.turn.Act.TheVariants as done
 use Rattle.conn.specs.declared.turn.ConnTurn.{ConnTurn}
 use Rattle.conn.specs.declared.turn.ConnTurn.TheVariants as turn
-use Rattle.conn.proofs.Advancing.{ActedWell, Tells, acted_well, asks_there, rests_same}
+use Rattle.conn.proofs.Advancing.{ActedWell, Tells, acted_well, asks_there, rests_asking}
 use Rattle.conn.proofs.Arriving.{holds, with_edges}
 use Rattle.conn.proofs.Giving.{Gave, edges_on, gave_none, gave_more}
 use Rattle.conn.proofs.Settling.{rests_with, settles}
@@ -148,7 +148,7 @@ rest_asks c conn =
 -- and it holds the same
 told_holds : (g : Setup) (a : Around) (l : TraceState) (c : ℕ) (conn : Conn) → Holds g a l conn → Holds g a l (noted_in (rest_notes c conn) conn)
 told_holds g a l c conn h =
-    holds g a a l l.client l.server l.answers.connects conn (noted_in (rest_notes c conn) conn).ends h (with_edges a l conn.ends h.ends (edges_noted (rest_notes c conn) conn.ends.edges) (rest_asks c conn conn.ends.edges)) h.fits
+    holds g a a l l.client l.server l.answers.connects conn (noted_in (rest_notes c conn) conn).ends h (with_edges a l conn.ends h.ends (edges_noted (rest_notes c conn) conn.ends.edges) (rest_asks c conn conn.ends.edges)) h.fits (λ u. u)
 
 pub runs_rests : (s : code.Setup) (c : ℕ) (old mid new last : Conn) (before notes after told : List Note) (t : ConnTurn) → RunsOn s c old mid before notes → Acted s c mid new notes after done.Rests → Rested c new last after told t → RunsBy s c old last before told t
 runs_rests s c old mid new last before notes after told t r acted rested = by_turn t rested
@@ -169,7 +169,7 @@ runs_rests s c old mid new last before notes after told t r acted rested = by_tu
         let p = r.along g a l serves h awake in
         let q = k.along g a p.at serves p.gave.holds p.awake in
         gives g a l q.at c old new (noted_in (rest_notes c new) new) (r.group ++ k.group) (rest_notes c new) t (subst (Gave g a l q.at c old new (r.group ++ k.group)) (sym none) (gave_more g a l p.at q.at c old mid new r.group k.group h.no_cut p.gave q.gave))
-        (rests_with c new g a q.at q.gave.holds ∙ sym (ap (λ f. f g a.took q.at c new.ends.edges (queued_in new.ends)) is)) (stops q.at q.stops q.gave.holds) (told_holds g a q.at c new q.gave.holds) refl refl (ap (λ x. is_asking x.stage) (rests_same s c mid new notes after acted) ∙ p.awake ∙ sym quiet)
+        (rests_with c new g a q.at q.gave.holds q.stops.1.1 ∙ sym (ap (λ f. f g a.took q.at c new.ends.edges (queued_in new.ends)) is)) (stops q.at (q.stops.0, q.stops.1.0) q.gave.holds) (told_holds g a q.at c new q.gave.holds) refl refl (rests_asking s c mid new notes after acted ∙ p.awake ∙ sym quiet)
 
     by_turn : (t : ConnTurn) → Rested c new last after told t → RunsBy s c old last before told t
     by_turn turn.More x = absurd x

@@ -1,5 +1,6 @@
 -- What a connection owes the outside where it can't go on, by its fields and by its trace.
-use Rattle.std.proofs.Common.{◌≡◌, refl, sym, ap, subst, ◌∙◌, ℕ, zero, suc, ◌+◌, ◌-◌, List, [], ◌∷◌, ◌++◌, drop, length, Bool, true, false, ◌&&◌, not, Option, Some, None, nat_eq, arith, if◌then◌else◌}
+use Rattle.std.proofs.Common.{◌≡◌, refl, sym, ap, subst, ◌∙◌, ℕ, zero, suc, ◌+◌, ◌-◌, List, [], ◌∷◌, ◌++◌, drop, length, Bool, true, false, true≢false, ◌&&◌, not, Option, Some, None, nat_eq, arith, if◌then◌else◌}
+use Rattle.std.proofs.lemmas.Bool.{and_parts}
 use Rattle.std.specs.Prelude.{slice_get}
 use Rattle.px_bytes.specs.declared.addr.Addr.{Addr}
 use Rattle.px_bytes.specs.declared.addr.Side.{Side}
@@ -8,6 +9,7 @@ use Rattle.px_bytes.specs.declared.fault.Reply.{Reply}
 use Rattle.px_bytes.specs.declared.fault.Reply.TheVariants as reply
 use Rattle.seg_buffer.specs.Bytes.{is_empty}
 use Rattle.event_order.specs.declared.event.EventName.{EventName}
+use Rattle.event_order.specs.declared.event.EventName.TheVariants.{ClientData, ServerData}
 use Rattle.irule_net.specs.State.{collected}
 use Rattle.irule_net.specs.declared.state.Asks.{Asks}
 use Rattle.irule_net.specs.declared.state.Asks.TheVariants.{NotAsked, Stated}
@@ -30,13 +32,13 @@ use Rattle.connection_model.specs.State as next
 use Rattle.connection_model.specs.Trace.{answering_next, carrying_next, choosing_next, collect_next, collecting_next, counted, default_next, next_item, phase_next, relay_next, selected_next, selecting_next, unit_next}
 use Rattle.connection_model.proofs.Longer.{plain_next}
 use Rattle.conn.specs.Ends.{arrived, end_of, is_done, is_up, lost_at, number_by, queued_in, server_by, servers_by}
-use Rattle.conn.specs.Events.{event_of}
-use Rattle.conn.specs.Holds.{Around, GatedBefore, Holds, RunsFirst, Stands}
+use Rattle.conn.specs.Events.{event_of, is_data}
+use Rattle.conn.specs.Holds.{Around, Between, GatedBefore, Holds, RunsFirst, Stands}
 use Rattle.conn.specs.Queues.{dropped_at, dropped_by, queue_in}
 use Rattle.connection_model.specs.declared.note.Note.TheVariants.{HalfClose}
 use Rattle.conn.specs.Settling as settle
-use Rattle.conn.specs.Settling.{DropsReset, RestsWith, Settles, SettlesNotes, half_close, half_due, half_notes, is_drained, is_over, lost_by, lost_of, note_if, over_in, rest_notes, settle_notes, settling, settling_at}
-use Rattle.conn.specs.Stages.{fits, has_finished, is_draining, is_relaying, reason_for}
+use Rattle.conn.specs.Settling.{DropsReset, RestsWith, Settles, SettlesNotes, half_close, half_due, half_notes, is_drained, is_over, is_spent, lost_by, lost_of, note_if, noted_in, over_in, rest_notes, settle_notes, settling, settling_at}
+use Rattle.conn.specs.Stages.{has_finished, is_draining, is_in_body, is_relaying, reason_for}
 use Rattle.conn.specs.declared.connection.Conn.{Conn}
 use Rattle.conn.specs.declared.ends.End.{End}
 use Rattle.conn.specs.declared.ends.Ends.{Ends as BothEnds}
@@ -149,7 +151,9 @@ stage_last g stage.Selecting l c k = ap is_last k.0
 stage_last g (stage.Chosen addr) l c k = ap is_last k.0
 stage_last g (stage.Connecting to) l c k = ap is_last k.0
 stage_last g (stage.Answering to) l c k = ap is_last k.0
-stage_last g stage.Relaying l c k = ap is_last k.0
+stage_last g stage.Collecting l c k = ap is_last k.0
+stage_last g stage.Releasing l c k = ap is_last k.0
+stage_last g (stage.Relaying first) l c k = ap is_last k.0
 stage_last g (stage.Finishing f) l c k = ap is_last k.0
 stage_last g stage.Draining l c k = ap is_last k.0
 stage_last g stage.OutOfMemory l c k = absurd k
@@ -173,68 +177,93 @@ settles_notes number c g a l h =
     ∙ ap (λ x. settling (is_over (next_item g l)) number e x (is_empty (queue_in Client c)) d) (sym (took_all a l c.ends h.ends Server))
     ∙ ap (λ x. settling (is_over (next_item g l)) number e (settle.took_all l a.took Server) x d) (sym (took_all a l c.ends h.ends Client))
 
--- bytes are passed on where it relays alone
-at_relays : (at : At) (bodies : Bodies) (k : Link) → relays_at (InEvent (event_of at) bodies) k ≡ false
-at_relays at.Accepted bodies k = refl
-at_relays at.Selected bodies k = refl
-at_relays at.Failed bodies k = refl
-at_relays at.Connected bodies k = refl
-at_relays at.ServerClosed bodies k = refl
-at_relays at.Closed bodies k = refl
+-- Bytes are passed on where it relays, and at the gate of an event of collected bytes.
+closed_relay : (p q : Phase) (s : Link) → p ≡ q → relays_at q s ≡ false → relays_at p s ≡ false
+closed_relay p q s is n = ap (λ x. relays_at x s) is ∙ n
 
-abbrev NoRelay : Phase → Link → Type 0
-NoRelay p k = relays_at p k ≡ false
+up_relay : (k : CodeLink) (e : End) → relays_at Relaying (link_of (server_by k e)) ≡ is_up k
+up_relay link.Absent e = refl
+up_relay link.Asked e = refl
+up_relay link.Refused e = refl
+up_relay link.Made e = refl
+up_relay link.Up e = refl
 
-moved_relay : (p q : Phase) (k : Link) → p ≡ q → NoRelay q k → NoRelay p k
-moved_relay p q k is n = ap (λ x. relays_at x k) is ∙ n
+client_relay : (bodies : Bodies) (k : CodeLink) (e : End) → relays_at (InEvent ClientData bodies) (link_of (server_by k e)) ≡ is_up k
+client_relay bodies link.Absent e = refl
+client_relay bodies link.Asked e = refl
+client_relay bodies link.Refused e = refl
+client_relay bodies link.Made e = refl
+client_relay bodies link.Up e = refl
 
-gated_relay : (at : At) (hs : List Handler) (p : Phase) (k : Link) → GatedBefore (event_of at) hs p → NoRelay p k
-gated_relay at [] p k r = absurd r
-gated_relay at (b ∷ bs) p k r = moved_relay p (InEvent (event_of at) (Gated b bs)) k r (at_relays at (Gated b bs) k)
+server_relay : (bodies : Bodies) (k : CodeLink) (e : End) → relays_at (InEvent ServerData bodies) (link_of (server_by k e)) ≡ is_up k
+server_relay bodies link.Absent e = refl
+server_relay bodies link.Asked e = refl
+server_relay bodies link.Refused e = refl
+server_relay bodies link.Made e = refl
+server_relay bodies link.Up e = refl
 
-first_relay : (g : Setup) (at : At) (hs : List Handler) (n : ℕ) (l : TraceState) (c : Conn) (k : Link) → RunsFirst g (event_of at) hs n l c → NoRelay l.phase k
-first_relay g at [] n l c k r = absurd r
-first_relay g at (b ∷ bs) n l c k r = moved_relay l.phase (InEvent (event_of at) (Running b bs (length r.acts + n))) k r.phase (at_relays at (Running b bs (length r.acts + n)) k)
+at_relays : (at : At) (bodies : Bodies) (k : CodeLink) (e : End) → relays_at (InEvent (event_of at) bodies) (link_of (server_by k e)) ≡ (is_data at && is_up k)
+at_relays at.Accepted bodies k e = refl
+at_relays at.ClientData bodies k e = client_relay bodies k e
+at_relays at.Selected bodies k e = refl
+at_relays at.Failed bodies k e = refl
+at_relays at.Connected bodies k e = refl
+at_relays at.ServerData bodies k e = server_relay bodies k e
+at_relays at.ServerClosed bodies k e = refl
+at_relays at.Closed bodies k e = refl
 
-no_relay : (g : Setup) (st : Stage) (l : TraceState) (c : Conn) (k : Link) → Stands g st l c → is_relaying st ≡ false → NoRelay l.phase k
-no_relay g (stage.Gated at) l c k r e = gated_relay at (g.handlers (event_of at)) l.phase k r.0
-no_relay g (stage.Running at n) l c k r e = first_relay g at (drop n (g.handlers (event_of at))) 0 l c k r.0
-no_relay g (stage.Asking at n) l c k r e = first_relay g at (drop n (g.handlers (event_of at))) 1 l c k r.0
-no_relay g (stage.Failing at n kind line) l c k r e = moved_relay l.phase _ k r.0 (at_relays at (Failing kind line (drop n (g.handlers (event_of at)))) k)
-no_relay g stage.Choosing l c k r e = moved_relay l.phase Choosing k r.0 refl
-no_relay g stage.Selecting l c k r e = moved_relay l.phase _ k r.0 refl
-no_relay g (stage.Chosen addr) l c k r e = moved_relay l.phase _ k r.0 refl
-no_relay g (stage.Connecting to) l c k r e = moved_relay l.phase (Connecting to) k r.0 refl
-no_relay g (stage.Answering to) l c k r e = moved_relay l.phase (Answering to) k r.0 refl
-no_relay g stage.Relaying l c k r e = absurd (let t : true ≡ false = e in cc)
-no_relay g (stage.Finishing f) l c k r e = moved_relay l.phase (Finishing (reason_for f)) k r.0 refl
-no_relay g stage.Draining l c k r e = moved_relay l.phase Draining k r.0 refl
-no_relay g stage.OutOfMemory l c k r e = absurd r
-no_relay g (stage.Dropped n) l c k r e = absurd r
+gated_relay : (at : At) (hs : List Handler) (p : Phase) (k : CodeLink) (e : End) → GatedBefore (event_of at) hs p → relays_at p (link_of (server_by k e)) ≡ (is_data at && is_up k)
+gated_relay at [] p k e r = absurd r
+gated_relay at (b ∷ bs) p k e r = ap (λ x. relays_at x (link_of (server_by k e))) r ∙ at_relays at (Gated b bs) k e
 
--- it relays where there is a server connection
+relays_is : (g : Setup) (st : Stage) (l : TraceState) (c : Conn) (k : CodeLink) (e : End) → Stands g st l c → is_in_body st ≡ false → relays_at l.phase (link_of (server_by k e)) ≡ is_relaying st k
+relays_is g (stage.Gated at) l c k e r quiet = gated_relay at (g.handlers (event_of at)) l.phase k e r.0
+relays_is g (stage.Running at n) l c k e r quiet = absurd (true≢false quiet)
+relays_is g (stage.Asking at n) l c k e r quiet = absurd (true≢false quiet)
+relays_is g (stage.Failing at n kind line) l c k e r quiet = absurd (true≢false quiet)
+relays_is g stage.Choosing l c k e r quiet = closed_relay l.phase Choosing (link_of (server_by k e)) r.0 refl
+relays_is g stage.Selecting l c k e r quiet = closed_relay l.phase _ (link_of (server_by k e)) r.0 refl
+relays_is g (stage.Chosen addr) l c k e r quiet = closed_relay l.phase _ (link_of (server_by k e)) r.0 refl
+relays_is g (stage.Connecting to) l c k e r quiet = closed_relay l.phase (Connecting to) (link_of (server_by k e)) r.0 refl
+relays_is g (stage.Answering to) l c k e r quiet = closed_relay l.phase (Answering to) (link_of (server_by k e)) r.0 refl
+relays_is g stage.Collecting l c k e r quiet = closed_relay l.phase Collecting (link_of (server_by k e)) r.0 refl
+relays_is g stage.Releasing l c k e r quiet = closed_relay l.phase Releasing (link_of (server_by k e)) r.0 refl
+relays_is g (stage.Relaying first) l c k e r quiet = ap (λ x. relays_at x (link_of (server_by k e))) r.0 ∙ up_relay k e
+relays_is g (stage.Finishing f) l c k e r quiet = closed_relay l.phase (Finishing (reason_for f)) (link_of (server_by k e)) r.0 refl
+relays_is g stage.Draining l c k e r quiet = closed_relay l.phase Draining (link_of (server_by k e)) r.0 refl
+relays_is g stage.OutOfMemory l c k e r quiet = absurd r
+relays_is g (stage.Dropped n) l c k e r quiet = absurd r
+
+-- it relays where there is a server connection, between bodies, and hasn't finished
 up_is : (k : CodeLink) → is_up k ≡ true → k ≡ link.Up
-up_is link.Absent e = absurd (let t : false ≡ true = e in cc)
-up_is link.Asked e = absurd (let t : false ≡ true = e in cc)
-up_is link.Refused e = absurd (let t : false ≡ true = e in cc)
-up_is link.Made e = absurd (let t : false ≡ true = e in cc)
+up_is link.Absent e = absurd (true≢false (sym e))
+up_is link.Asked e = absurd (true≢false (sym e))
+up_is link.Refused e = absurd (true≢false (sym e))
+up_is link.Made e = absurd (true≢false (sym e))
 up_is link.Up e = refl
 
-relaying_is : (st : Stage) → is_relaying st ≡ true → st ≡ stage.Relaying
-relaying_is (stage.Gated at) e = absurd (let t : false ≡ true = e in cc)
-relaying_is (stage.Running at n) e = absurd (let t : false ≡ true = e in cc)
-relaying_is (stage.Asking at n) e = absurd (let t : false ≡ true = e in cc)
-relaying_is (stage.Failing at n kind line) e = absurd (let t : false ≡ true = e in cc)
-relaying_is stage.Choosing e = absurd (let t : false ≡ true = e in cc)
-relaying_is stage.Selecting e = absurd (let t : false ≡ true = e in cc)
-relaying_is (stage.Chosen addr) e = absurd (let t : false ≡ true = e in cc)
-relaying_is (stage.Connecting to) e = absurd (let t : false ≡ true = e in cc)
-relaying_is (stage.Answering to) e = absurd (let t : false ≡ true = e in cc)
-relaying_is stage.Relaying e = refl
-relaying_is (stage.Finishing f) e = absurd (let t : false ≡ true = e in cc)
-relaying_is stage.Draining e = absurd (let t : false ≡ true = e in cc)
-relaying_is stage.OutOfMemory e = absurd (let t : false ≡ true = e in cc)
-relaying_is (stage.Dropped n) e = absurd (let t : false ≡ true = e in cc)
+record Relays (l : TraceState) (c : Conn) (st : Stage) (k : CodeLink) : Type 0 where
+  up : k ≡ link.Up
+  here : Between l c
+  unfinished : has_finished st ≡ false
+
+relaying_is : (g : Setup) (st : Stage) (l : TraceState) (c : Conn) (k : CodeLink) → Stands g st l c → is_relaying st k ≡ true → Relays l c st k
+relaying_is g (stage.Gated at) l c k r e = record { up = up_is k (and_parts (is_data at) (is_up k) e).1; here = r.1; unfinished = refl }
+relaying_is g (stage.Relaying first) l c k r e = record { up = up_is k e; here = r.1; unfinished = refl }
+relaying_is g (stage.Running at n) l c k r e = absurd (true≢false (sym e))
+relaying_is g (stage.Asking at n) l c k r e = absurd (true≢false (sym e))
+relaying_is g (stage.Failing at n kind line) l c k r e = absurd (true≢false (sym e))
+relaying_is g stage.Choosing l c k r e = absurd (true≢false (sym e))
+relaying_is g stage.Selecting l c k r e = absurd (true≢false (sym e))
+relaying_is g (stage.Chosen addr) l c k r e = absurd (true≢false (sym e))
+relaying_is g (stage.Connecting to) l c k r e = absurd (true≢false (sym e))
+relaying_is g (stage.Answering to) l c k r e = absurd (true≢false (sym e))
+relaying_is g stage.Collecting l c k r e = absurd (true≢false (sym e))
+relaying_is g stage.Releasing l c k r e = absurd (true≢false (sym e))
+relaying_is g (stage.Finishing f) l c k r e = absurd (true≢false (sym e))
+relaying_is g stage.Draining l c k r e = absurd (true≢false (sym e))
+relaying_is g stage.OutOfMemory l c k r e = absurd r
+relaying_is g (stage.Dropped n) l c k r e = absurd r
 
 same_empty : (q : List ℕ) → query.is_empty q ≡ is_empty q
 same_empty [] = refl
@@ -245,90 +274,109 @@ abbrev tests : (relays finished : Bool) → Stream → (held loose : List ℕ) �
 tests relays finished s held loose took reset =
     (relays && not finished) && (((s.ended && query.is_empty s.unread) && (query.is_empty held && query.is_empty loose)) && (took && not reset))
 
-test_values : (done took reset half : Bool) → (done && (took && (not reset && not half))) ≡ (((true && true) && ((done && (true && true)) && (took && not reset))) && not half)
+test_values : (spent took reset half : Bool) → (spent && (took && (not reset && not half))) ≡ ((spent && (took && not reset)) && not half)
 test_values true true true half = refl
 test_values true true false half = refl
 test_values true false reset half = refl
 test_values false took reset half = refl
 
-by_values : (e : End) (took reset half : Bool) → (is_done e && (took && (not reset && not half))) ≡ (tests true false (arrived e) [] [] took reset && not half)
-by_values e took reset half =
-    ap (λ x. (e.ended && x) && (took && (not reset && not half))) (sym (same_empty e.unread))
-    ∙ test_values (e.ended && query.is_empty e.unread) took reset half
+by_values : (e : End) (held loose : List ℕ) (took reset half : Bool) → ((is_done e && (is_empty held && is_empty loose)) && (took && (not reset && not half))) ≡ (tests true false (arrived e) held loose took reset && not half)
+by_values e held loose took reset half =
+    let more = took && (not reset && not half) in
+    let unread = query.is_empty e.unread in
+    ap (λ x. ((e.ended && x) && (is_empty held && is_empty loose)) && more) (sym (same_empty e.unread))
+    ∙ ap (λ x. ((e.ended && unread) && (x && is_empty loose)) && more) (sym (same_empty held))
+    ∙ ap (λ x. ((e.ended && unread) && (query.is_empty held && x)) && more) (sym (same_empty loose))
+    ∙ test_values ((e.ended && unread) && (query.is_empty held && query.is_empty loose)) took reset half
 
 module _ (g : Setup) (a : Around) (l : TraceState) (c : Conn) (h : Holds g a l c) where
+  abbrev own_held : Side → List ℕ
+  own_held side = (collected side c.host.net).held
+
   -- where it relays
-  module _ (is : c.stage ≡ stage.Relaying) where
-    up : c.ends.link ≡ link.Up
-    up = up_is c.ends.link (sym (ap (λ st. fits st c.ends.link) is) ∙ h.fits)
-
-    here : Stands g stage.Relaying l c
-    here = let S : Stage → Type 0 = λ st. Stands g st l c in subst S is h.stage
-
+  module _ (k : Relays l c c.stage c.ends.link) where
     server : l.server ≡ There (arrived c.ends.server)
-    server = h.ends.server ∙ ap (λ k. server_by k c.ends.server) up
-
-    relays : relays_at l.phase (link_of l.server) ≡ true
-    relays = ap (λ p. relays_at p (link_of l.server)) here.0 ∙ ap (λ v. relays_at Relaying (link_of v)) server
+    server = h.ends.server ∙ ap (λ k. server_by k c.ends.server) k.up
 
     unfinished : l.finished ≡ false
-    unfinished = h.finished ∙ ap has_finished is
+    unfinished = h.finished ∙ k.unfinished
 
     stream_is : (side : Side) → stream_of side l ≡ arrived (end_of side c.ends)
     stream_is Client = h.ends.client
     stream_is Server = ap server_stream server
 
-    nothing_held : (side : Side) → (collected side l.host.net).held ≡ []
-    nothing_held Client = ap (λ x. x.net.client.held) here.1.host ∙ ap (λ x. x.held) h.no_collect.client
-    nothing_held Server = ap (λ x. x.net.server.held) here.1.host ∙ ap (λ x. x.held) h.no_collect.server
-
-    nothing_loose : l.host.net.loose ≡ []
-    nothing_loose = ap (λ x. x.net.loose) here.1.host ∙ h.no_collect.loose
-
     reset_is : (side : Side) → is_reset l.sent a.took side ≡ (end_of side c.ends).reset
     reset_is Client = client_reset a l c.ends h.ends
-    reset_is Server = server_reset a l c.ends h.ends up
+    reset_is Server = server_reset a l c.ends h.ends k.up
 
-    due_is : (side : Side) → half_close_due l a.took side ≡ tests true false (arrived (end_of (other side) c.ends)) [] [] (is_empty (queue_in side c)) (end_of side c.ends).reset
-    due_is side =
+    due_is : (side : Side) → relays_at l.phase (link_of l.server) ≡ true → half_close_due l a.took side ≡ tests true false (arrived (end_of (other side) c.ends)) (own_held (other side)) c.host.net.loose (is_empty (queue_in side c)) (end_of side c.ends).reset
+    due_is side relays =
         let o = other side in
         let s = stream_of o l in
         let held = (collected o l.host.net).held in
         let loose = l.host.net.loose in
         let t = nat_eq (to_take l.sent a.took side) 0 in
         let z = is_reset l.sent a.took side in
+        let e = arrived (end_of o c.ends) in
         ap (λ x. tests x l.finished s held loose t z) relays
         ∙ ap (λ x. tests true x s held loose t z) unfinished
         ∙ ap (λ x. tests true false x held loose t z) (stream_is o)
-        ∙ ap (λ x. tests true false (arrived (end_of o c.ends)) x loose t z) (nothing_held o)
-        ∙ ap (λ x. tests true false (arrived (end_of o c.ends)) [] x t z) nothing_loose
-        ∙ ap (λ x. tests true false (arrived (end_of o c.ends)) [] [] x z) (took_all a l c.ends h.ends side)
-        ∙ ap (λ x. tests true false (arrived (end_of o c.ends)) [] [] (is_empty (queue_in side c)) x) (reset_is side)
+        ∙ ap (λ x. tests true false e (collected o x.net).held x.net.loose t z) k.here.host
+        ∙ ap (λ x. tests true false e (own_held o) c.host.net.loose x z) (took_all a l c.ends h.ends side)
+        ∙ ap (λ x. tests true false e (own_held o) c.host.net.loose (is_empty (queue_in side c)) x) (reset_is side)
 
   abbrev rest_of : Bool → Side → Bool
-  rest_of r side = r && (is_done (end_of (other side) c.ends) && (is_empty (queue_in side c) && (not (end_of side c.ends).reset && not (edge_of side c.ends.edges).half)))
+  rest_of r side = r && (is_spent (other side) c && (is_empty (queue_in side c) && (not (end_of side c.ends).reset && not (edge_of side c.ends.edges).half)))
 
-  half_is : (side : Side) → half_due side c ≡ (half_close_due l a.took side && not (edge_of side c.ends.edges).half)
-  half_is side = by_stage (is_relaying c.stage) refl
+  half_is : (side : Side) → is_in_body c.stage ≡ false → half_due side c ≡ (half_close_due l a.took side && not (edge_of side c.ends.edges).half)
+  half_is side quiet = by_stage (is_relaying c.stage c.ends.link) refl
     where
       half : Bool
       half = (edge_of side c.ends.edges).half
 
-      by_stage : (b : Bool) → is_relaying c.stage ≡ b → rest_of b side ≡ (half_close_due l a.took side && not half)
+      relays : relays_at l.phase (link_of l.server) ≡ is_relaying c.stage c.ends.link
+      relays = ap (λ x. relays_at l.phase (link_of x)) h.ends.server ∙ relays_is g c.stage l c c.ends.link c.ends.server h.stage quiet
+
+      by_stage : (b : Bool) → is_relaying c.stage c.ends.link ≡ b → rest_of b side ≡ (half_close_due l a.took side && not half)
       by_stage true e =
-          by_values (end_of (other side) c.ends) (is_empty (queue_in side c)) (end_of side c.ends).reset half
-          ∙ ap (λ x. x && not half) (sym (due_is (relaying_is c.stage e) side))
+          by_values (end_of (other side) c.ends) (own_held (other side)) c.host.net.loose (is_empty (queue_in side c)) (end_of side c.ends).reset half
+          ∙ ap (λ x. x && not half) (sym (due_is (relaying_is g c.stage l c c.ends.link h.stage e) side (relays ∙ e)))
       by_stage false e =
-          let due : half_close_due l a.took side ≡ false = ap (λ x. tests x l.finished (stream_of (other side) l) (collected (other side) l.host.net).held l.host.net.loose (nat_eq (to_take l.sent a.took side) 0) (is_reset l.sent a.took side)) (no_relay g c.stage l c (link_of l.server) h.stage e) in
+          let due : half_close_due l a.took side ≡ false = ap (λ x. tests x l.finished (stream_of (other side) l) (collected (other side) l.host.net).held l.host.net.loose (nat_eq (to_take l.sent a.took side) 0) (is_reset l.sent a.took side)) (relays ∙ e) in
           sym (ap (λ x. x && not half) due)
 
 pub rests_with : (number : ℕ) (c : Conn) → RestsWith number c
-rests_with number c g a l h =
+rests_with number c g a l h quiet =
     let e = c.ends.edges in
     let d = queued_in c.ends in
-    ap (λ x. note_if x (HalfClose number Client) ++ (half_notes number Server c ++ settle_notes number c)) (half_is g a l c h Client)
-    ∙ ap (λ x. half_close a.took l number e Client ++ (note_if x (HalfClose number Server) ++ settle_notes number c)) (half_is g a l c h Server)
+    ap (λ x. note_if x (HalfClose number Client) ++ (half_notes number Server c ++ settle_notes number c)) (half_is g a l c h Client quiet)
+    ∙ ap (λ x. half_close a.took l number e Client ++ (note_if x (HalfClose number Server) ++ settle_notes number c)) (half_is g a l c h Server quiet)
     ∙ ap (λ x. half_close a.took l number e Client ++ (half_close a.took l number e Server ++ x)) (settles_notes number c g a l h)
+
+-- the half-closes leave what the other notes are by
+server_due : (number : ℕ) (c : Conn) (b : Bool) → half_due Server (noted_in (note_if b (HalfClose number Client)) c) ≡ half_due Server c
+server_due number c true = refl
+server_due number c false = refl
+
+by_halves : (number : ℕ) (c : Conn) (client server : Bool) → (let mid = noted_in (note_if server (HalfClose number Server)) (noted_in (note_if client (HalfClose number Client)) c) in noted_in (settle_notes number mid) mid)
+    ≡ noted_in (note_if client (HalfClose number Client) ++ (note_if server (HalfClose number Server) ++ settle_notes number c)) c
+by_halves number c true true = refl
+by_halves number c true false = refl
+by_halves number c false true = refl
+by_halves number c false false = refl
+
+abbrev settled_in : ℕ → Conn → Conn
+settled_in number c = noted_in (settle_notes number c) c
+
+abbrev server_half : ℕ → Conn → Conn
+server_half number c = noted_in (half_notes number Server c) c
+
+pub rest_noted : (number : ℕ) (old first second new : Conn) → first ≡ noted_in (half_notes number Client old) old → second ≡ server_half number first → new ≡ settled_in number second → new ≡ noted_in (rest_notes number old) old
+rest_noted number old first second new is_first is_second is_new =
+    let mid = noted_in (half_notes number Client old) old in
+    is_new ∙ ap (settled_in number) is_second ∙ ap (λ x. settled_in number (server_half number x)) is_first
+    ∙ ap (λ b. settled_in number (noted_in (note_if b (HalfClose number Server)) mid)) (server_due number old (half_due Client old))
+    ∙ by_halves number old (half_due Client old) (half_due Server old)
 
 -- what was dropped, where it stands for a state
 lost_client : (b : Bool) (q : List ℕ) (counted sent : ℕ) → length q + counted ≡ sent → (if b then length q else 0) ≡ lost_by (taken_by b counted) (sent - counted)
@@ -372,6 +420,8 @@ drops_reset c g a l h = by_stage c.stage h.stage
     by_stage (stage.Chosen addr) k = lost_is
     by_stage (stage.Connecting to) k = lost_is
     by_stage (stage.Answering to) k = lost_is
-    by_stage stage.Relaying k = lost_is
+    by_stage stage.Collecting k = lost_is
+    by_stage stage.Releasing k = lost_is
+    by_stage (stage.Relaying first) k = lost_is
     by_stage (stage.Finishing f) k = lost_is
     by_stage stage.Draining k = lost_is

@@ -6,7 +6,7 @@ use Rattle.px_bytes.specs.declared.addr.Side.TheVariants.{Client, Server}
 use Rattle.connection_model.specs.Heard.{taken_by}
 use Rattle.connection_model.specs.State.{TraceState}
 use Rattle.conn.specs.Calls.{Takes, more_at_last, took_ends, took_more}
-use Rattle.conn.specs.Ends.{connects_by, end_of, fresh_end, queue_of, server_by, servers_by}
+use Rattle.conn.specs.Ends.{connects_by, end_of, fresh_end, is_up, queue_of, server_by, servers_by}
 use Rattle.conn.specs.Holds.{Around, HoldsEnds}
 use Rattle.conn.specs.Stages.{fits}
 use Rattle.conn.specs.declared.connection.Conn.{Conn}
@@ -91,4 +91,4 @@ took_link Server n e = refl
 
 pub takes : (side : Side) (n : ℕ) (old : Conn) → n ≤ length (queue_of (end_of side old.ends)) → Takes side n old (with_ends (took_ends side n old.ends) old)
 takes side n old within g a l h =
-    holds g a (took_more side n a) l l.client l.server l.answers.connects old (took_ends side n old.ends) h (takes_ends a l side n old.ends within h.ends) (ap (fits old.stage) (took_link side n old.ends) ∙ h.fits)
+    holds g a (took_more side n a) l l.client l.server l.answers.connects old (took_ends side n old.ends) h (takes_ends a l side n old.ends within h.ends) (ap (fits old.stage) (took_link side n old.ends) ∙ h.fits) (λ u. ap is_up (took_link side n old.ends) ∙ u)

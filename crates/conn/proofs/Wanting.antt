@@ -1,63 +1,116 @@
 -- How many bytes may come.
-use Rattle.std.proofs.Common.{◌≡◌, refl, sym, ap, subst, ◌∙◌, ℕ, ◌-◌, List, [], ◌∷◌, drop, length, Bool, true, false, arith}
+use Rattle.std.proofs.Common.{◌≡◌, refl, sym, ap, ◌∙◌, ℕ, ◌-◌, List, [], ◌∷◌, drop, length, Bool, true, false, true≢false}
 use Rattle.std.specs.Prelude.{if◌then◌else◌}
 use Rattle.px_bytes.specs.declared.addr.Side.{Side}
 use Rattle.px_bytes.specs.declared.addr.Side.TheVariants.{Client, Server}
 use Rattle.event_order.specs.declared.event.EventName.{EventName}
 use Rattle.irule_net.specs.State.{collected}
-use Rattle.irule_net.specs.declared.state.Asks.TheVariants.{NotAsked}
-use Rattle.connection_model.specs.Host.{HostState}
-use Rattle.connection_model.specs.Queries.{arriving, counted_held, first_some, held_under, in_event_of, last_made, own_stream, unread_at, unread_limit}
+use Rattle.irule_net.specs.declared.state.Asks.{Asks}
+use Rattle.connection_model.specs.Queries as query
+use Rattle.connection_model.specs.Queries.{arriving, first_some, held_under, last_made, own_stream, unread_at, unread_limit}
 use Rattle.connection_model.specs.Setup.{Handler, Setup}
-use Rattle.connection_model.specs.State.{TraceState}
-use Rattle.conn.specs.Calls.{Wants, wanted_in}
+use Rattle.connection_model.specs.State.{Bodies, Failing, Gated, Running, Phase, Carrying, InEvent, Choosing, Selecting, Connecting, Answering, Releasing, Relaying, Collecting, Finishing, Draining, TraceState}
+use Rattle.conn.specs.Calls.{Wants, counted_held, wanted_in}
 use Rattle.conn.specs.Ends.{connects_by, end_of, fresh_end, has_stream, server_by}
-use Rattle.conn.specs.Events.{event_of}
-use Rattle.conn.specs.Holds.{Around, HoldsEnds, RunsFirst, Stands}
-use Rattle.conn.specs.Hosts.{CollectsNothing, seen_host}
-use Rattle.conn.specs.Stages.{has_finished}
+use Rattle.conn.specs.Events.{collects_in, event_of}
+use Rattle.conn.specs.Holds.{Around, Between, GatedBefore, Holds, HoldsEnds, RunsFirst, Stands}
+use Rattle.conn.specs.Stages.{has_finished, in_event_of}
 use Rattle.conn.specs.declared.connection.Conn.{Conn}
 use Rattle.conn.specs.declared.ends.End.{End}
 use Rattle.conn.specs.declared.ends.Ends.{Ends}
 use Rattle.conn.specs.declared.ends.Link.{Link}
 use Rattle.conn.specs.declared.ends.Link.TheVariants as link
+use Rattle.conn.specs.declared.events.At.{At}
+use Rattle.conn.specs.declared.events.At.TheVariants as at
 use Rattle.conn.specs.declared.stage.Stage.{Stage}
 use Rattle.conn.specs.declared.stage.Stage.TheVariants as stage
 
--- no collect is in force
-first_collect : (g : Setup) (e : EventName) (hs : List Handler) (n : ℕ) (l : TraceState) (c : Conn) → RunsFirst g e hs n l c → CollectsNothing g l.host.net
-first_collect g e [] n l c k = absurd k
-first_collect g e (b ∷ bs) n l c k = k.no_collect
+-- an event by its name, and a phase that is none
+in_event_is : (side : Side) (e : At) (bodies : Bodies) → query.in_event_of side (InEvent (event_of e) bodies) ≡ collects_in side (event_of e)
+in_event_is Client at.Accepted bodies = refl
+in_event_is Client at.ClientData bodies = refl
+in_event_is Client at.Selected bodies = refl
+in_event_is Client at.Failed bodies = refl
+in_event_is Client at.Connected bodies = refl
+in_event_is Client at.ServerData bodies = refl
+in_event_is Client at.ServerClosed bodies = refl
+in_event_is Client at.Closed bodies = refl
+in_event_is Server at.Accepted bodies = refl
+in_event_is Server at.ClientData bodies = refl
+in_event_is Server at.Selected bodies = refl
+in_event_is Server at.Failed bodies = refl
+in_event_is Server at.Connected bodies = refl
+in_event_is Server at.ServerData bodies = refl
+in_event_is Server at.ServerClosed bodies = refl
+in_event_is Server at.Closed bodies = refl
 
-same_collect : (g : Setup) (l : TraceState) (c : Conn) → CollectsNothing g c.host.net → l.host ≡ seen_host c.host → CollectsNothing g l.host.net
-same_collect g l c q is = let P : HostState → Type 0 = λ h. CollectsNothing g h.net in subst P (sym is) q
+abbrev is_in_event : Phase → Bool
+is_in_event (InEvent e bodies) = true
+is_in_event other = false
 
-no_collect : (g : Setup) (st : Stage) (l : TraceState) (c : Conn) → CollectsNothing g c.host.net → Stands g st l c → CollectsNothing g l.host.net
-no_collect g (stage.Gated at) l c q k = same_collect g l c q k.1.host
-no_collect g (stage.Running at n) l c q k = first_collect g (event_of at) (drop n (g.handlers (event_of at))) 0 l c k.0
-no_collect g (stage.Asking at n) l c q k = first_collect g (event_of at) (drop n (g.handlers (event_of at))) 1 l c k.0
-no_collect g (stage.Failing at n kind line) l c q k = same_collect g l c q k.1.host
-no_collect g stage.Choosing l c q k = same_collect g l c q k.1.host
-no_collect g stage.Selecting l c q k = same_collect g l c q k.1.host
-no_collect g (stage.Chosen addr) l c q k = same_collect g l c q k.1.host
-no_collect g (stage.Connecting to) l c q k = same_collect g l c q k.1.host
-no_collect g (stage.Answering to) l c q k = same_collect g l c q k.1.host
-no_collect g stage.Relaying l c q k = same_collect g l c q k.1.host
-no_collect g (stage.Finishing f) l c q k = same_collect g l c q k.1.host
-no_collect g stage.Draining l c q k = same_collect g l c q k.1.host
-no_collect g stage.OutOfMemory l c q k = absurd k
-no_collect g (stage.Dropped n) l c q k = absurd k
+not_in : (side : Side) (p : Phase) → is_in_event p ≡ false → query.in_event_of side p ≡ false
+not_in Client (Carrying fate from left) e = refl
+not_in Client (InEvent event bodies) e = absurd (true≢false e)
+not_in Client Choosing e = refl
+not_in Client (Selecting call) e = refl
+not_in Client (Connecting a) e = refl
+not_in Client (Answering a) e = refl
+not_in Client Releasing e = refl
+not_in Client Relaying e = refl
+not_in Client Collecting e = refl
+not_in Client (Finishing r) e = refl
+not_in Client Draining e = refl
+not_in Server (Carrying fate from left) e = refl
+not_in Server (InEvent event bodies) e = absurd (true≢false e)
+not_in Server Choosing e = refl
+not_in Server (Selecting call) e = refl
+not_in Server (Connecting a) e = refl
+not_in Server (Answering a) e = refl
+not_in Server Releasing e = refl
+not_in Server Relaying e = refl
+not_in Server Collecting e = refl
+not_in Server (Finishing r) e = refl
+not_in Server Draining e = refl
 
-not_asked : (g : Setup) (l : TraceState) (side : Side) → CollectsNothing g l.host.net → (collected side l.host.net).asks ≡ NotAsked
-not_asked g l Client q = ap (λ x. x.asks) q.client
-not_asked g l Server q = ap (λ x. x.asks) q.server
+-- what counts as held is read of the same event, and where that is none of this side, of the same collect
+record SameHeld (side : Side) (l : TraceState) (c : Conn) (st : Stage) : Type 0 where
+  event : query.in_event_of side l.phase ≡ in_event_of side st
+  asks : in_event_of side st ≡ false → (collected side l.host.net).asks ≡ (collected side c.host.net).asks
 
-none_counted : (l : TraceState) (side : Side) → (collected side l.host.net).asks ≡ NotAsked → counted_held side l ≡ 0
-none_counted l side e = ap (λ x. if in_event_of side l.phase then 0 else held_under x (length (unread_at (arriving side l)))) e ∙ by_event (in_event_of side l.phase)
-  where
-    by_event : (b : Bool) → ◌≡◌ {A = ℕ} (if b then 0 else 0) 0
-    by_event true = refl
-    by_event false = refl
+gated_event : (side : Side) (e : At) (hs : List Handler) (p : Phase) → GatedBefore (event_of e) hs p → query.in_event_of side p ≡ collects_in side (event_of e)
+gated_event side e [] p k = absurd k
+gated_event side e (b ∷ bs) p k = ap (query.in_event_of side) k ∙ in_event_is side e (Gated b bs)
+
+first_held : (g : Setup) (side : Side) (e : At) (hs : List Handler) (n waiting : ℕ) (l : TraceState) (c : Conn) → RunsFirst g (event_of e) hs waiting l c → SameHeld side l c (stage.Running e n)
+first_held g side e [] n waiting l c k = absurd k
+first_held g side e (b ∷ bs) n waiting l c k = record { event = ap (query.in_event_of side) k.phase ∙ in_event_is side e (Running b bs _); asks = λ free. ap (λ x. x.asks) (sym (k.kept side free)) }
+
+between_held : (side : Side) (l : TraceState) (c : Conn) (st : Stage) → Between l c → query.in_event_of side l.phase ≡ in_event_of side st → SameHeld side l c st
+between_held side l c st b is = record { event = is; asks = λ free. ap (λ h. (collected side h.net).asks) b.host }
+
+-- no event
+plain_held : (side : Side) (l : TraceState) (c : Conn) (st : Stage) (p : Phase) → Between l c → l.phase ≡ p → is_in_event p ≡ false → in_event_of side st ≡ false → SameHeld side l c st
+plain_held side l c st p b is none quiet = between_held side l c st b (ap (query.in_event_of side) is ∙ not_in side p none ∙ sym quiet)
+
+same_held : (g : Setup) (side : Side) (st : Stage) (l : TraceState) (c : Conn) → Stands g st l c → SameHeld side l c st
+same_held g side (stage.Gated e) l c k = between_held side l c (stage.Gated e) k.1 (gated_event side e (g.handlers (event_of e)) l.phase k.0)
+same_held g side (stage.Running e n) l c k = first_held g side e (drop n (g.handlers (event_of e))) n 0 l c k.0
+same_held g side (stage.Asking e n) l c k =
+    let h = first_held g side e (drop n (g.handlers (event_of e))) n 1 l c k.0 in
+    record { event = h.event; asks = h.asks }
+same_held g side (stage.Failing e n kind line) l c k = between_held side l c (stage.Failing e n kind line) k.1 (ap (query.in_event_of side) k.0 ∙ in_event_is side e (Failing kind line (drop n (g.handlers (event_of e)))))
+same_held g side stage.Choosing l c k = plain_held side l c stage.Choosing Choosing k.1 k.0 refl refl
+same_held g side stage.Selecting l c k = plain_held side l c stage.Selecting _ k.1 k.0 refl refl
+same_held g side (stage.Chosen addr) l c k = record { event = ap (query.in_event_of side) k.0 ∙ not_in side _ refl; asks = λ free. ap (λ h. (collected side h.net).asks) k.1.host }
+same_held g side (stage.Connecting to) l c k = plain_held side l c (stage.Connecting to) (Connecting to) k.1 k.0 refl refl
+same_held g side (stage.Answering to) l c k = plain_held side l c (stage.Answering to) (Answering to) k.1 k.0 refl refl
+same_held g side stage.Collecting l c k = plain_held side l c stage.Collecting Collecting k.1 k.0 refl refl
+same_held g side stage.Releasing l c k = plain_held side l c stage.Releasing Releasing k.1 k.0 refl refl
+same_held g side (stage.Relaying first) l c k = plain_held side l c (stage.Relaying first) Relaying k.1 k.0 refl refl
+same_held g side (stage.Finishing f) l c k = plain_held side l c (stage.Finishing f) _ k.1 k.0 refl refl
+same_held g side stage.Draining l c k = plain_held side l c stage.Draining Draining k.1 k.0 refl refl
+same_held g side stage.OutOfMemory l c k = absurd k
+same_held g side (stage.Dropped n) l c k = absurd k
 
 -- what lies unread is that of the end
 server_unread : (k : Link) (s : End) → (has_stream k ≡ false → s ≡ fresh_end) → unread_at (first_some (last_made (connects_by k s)) (own_stream (server_by k s))) ≡ s.unread
@@ -74,20 +127,30 @@ unread_is a l e h Server =
     ∙ ap (λ v. unread_at (first_some (last_made (connects_by e.link e.server)) (own_stream v))) h.server
     ∙ server_unread e.link e.server h.nothing_came
 
+-- what counts as held is that of the fields
+abbrev held_by : Bool → Asks → ℕ → ℕ
+held_by b asks n = if b then 0 else held_under asks n
+
+held_is : (g : Setup) (a : Around) (l : TraceState) (c : Conn) → Holds g a l c → (side : Side) → query.counted_held side l ≡ counted_held side c
+held_is g a l c h side =
+    ap (λ b. held_by b (collected side l.host.net).asks (length (unread_at (arriving side l)))) same.event
+    ∙ ap (λ u. held_by (in_event_of side c.stage) (collected side l.host.net).asks (length u)) (unread_is a l c.ends h.ends side)
+    ∙ by_event (in_event_of side c.stage) refl
+  where
+    same : SameHeld side l c c.stage
+    same = same_held g side c.stage l c h.stage
+
+    by_event : (b : Bool) → in_event_of side c.stage ≡ b → held_by b (collected side l.host.net).asks (length (end_of side c.ends).unread) ≡ held_by b (collected side c.host.net).asks (length (end_of side c.ends).unread)
+    by_event true is = refl
+    by_event false is = ap (λ x. held_under x (length (end_of side c.ends).unread)) (same.asks is)
+
 -- by whether it has finished, what lies unread, and what of it counts as held
 abbrev wants_by : Bool → ℕ → ℕ → ℕ
 wants_by b n k = if b then unread_limit else unread_limit - (n - k)
 
-none_held : (b : Bool) (n : ℕ) → wants_by b n 0 ≡ (if b then unread_limit else unread_limit - n)
-none_held true n = refl
-none_held false n = omega arith
-
 pub wants : (side : Side) (c : Conn) (n : ℕ) → n ≡ wanted_in side c → Wants side c n
 wants side c n is g a l h order =
-    let k = counted_held side l in
-    let u = length (unread_at (arriving side l)) in
     is ∙ sym (
-    ap (λ b. wants_by b u k) h.finished
-    ∙ ap (wants_by (has_finished c.stage) u) (none_counted l side (not_asked g l side (no_collect g c.stage l c h.no_collect h.stage)))
-    ∙ none_held (has_finished c.stage) u
-    ∙ ap (λ s. if has_finished c.stage then unread_limit else unread_limit - length s) (unread_is a l c.ends h.ends side))
+    ap (λ b. wants_by b (length (unread_at (arriving side l))) (query.counted_held side l)) h.finished
+    ∙ ap (λ u. wants_by (has_finished c.stage) (length u) (query.counted_held side l)) (unread_is a l c.ends h.ends side)
+    ∙ ap (wants_by (has_finished c.stage) (length (end_of side c.ends).unread)) (held_is g a l c h side))

@@ -3,10 +3,12 @@ use Rattle.std.specs.Prelude.{◌≡◌, ℕ, List, [], ◌∷◌, ◌++◌, len
 use Rattle.std.specs.Prelude.{Option, Some, None, if◌then◌else◌}
 use Rattle.std.specs.Bool.{MatchBool}
 use Rattle.px_bytes.specs.declared.addr.Addr.{Addr}
+use Rattle.px_bytes.specs.declared.addr.Side.{Side}
 use Rattle.px_bytes.specs.declared.addr.Side.TheVariants.{Client, Server}
 use Rattle.px_bytes.specs.declared.fault.FaultKind.{FaultKind}
 use Rattle.connection_model.specs.Edges.{edge}
 use Rattle.connection_model.specs.Gates.{room_limit}
+use Rattle.connection_model.specs.Relay.{meets}
 use Rattle.connection_model.specs.declared.edges.EdgeState.TheVariants as state
 use Rattle.connection_model.specs.declared.note.CutReason.{CutReason}
 use Rattle.connection_model.specs.declared.note.CutReason.TheVariants.{ClientReset, ServerReset}
@@ -31,7 +33,7 @@ use Rattle.conn.specs.Changes.{Closes, Enters, GoesTo, NextBody, StartsBody}
 use Rattle.conn.specs.Choosing.{Chooses, TakesChosen}
 use Rattle.conn.specs.Events.{is_closed}
 use Rattle.conn.specs.Queues.{queue_in}
-use Rattle.conn.specs.Relaying.{PassesOn, relay_plan}
+use Rattle.conn.specs.Relaying.{Fires, PassesOn, Releases, relay_plan, round_begun}
 use Rattle.conn.specs.Stages.{cause_for, has_finished}
 use Rattle.conn.specs.Steps.{BodyMoved}
 
@@ -101,16 +103,36 @@ AnswersBy other s c old new before after a = Rests s c old new before after a
 abbrev pub Answers : Setup → ℕ → Conn → Conn → List Note → List Note → Act → Type 0
 Answers s c old new before after a = AnswersBy old.ends.link s c old new before after a
 
--- it passes bytes on, finishes where both ends have ended, or rests
+-- it passes bytes on, collects them, finishes where both ends have ended, or rests
 abbrev pub RelaysBy : Relay → Setup → ℕ → Conn → Conn → List Note → List Note → Act → Type 0
 RelaysBy relay.Done s c old new before after a =
     (a ≡ act.Goes) × Finishes s c finish.Closed old new before after
 RelaysBy (relay.Pass side n) s c old new before after a =
     (a ≡ act.Goes) × PassesOn c side n old new before after
-RelaysBy relay.Rest s c old new before after a = Rests s c old new before after a
+RelaysBy (relay.Fire side n) s c old new before after a =
+    (a ≡ act.Goes) × Fires s c side n old new before after
+RelaysBy relay.Rest s c old new before after a = Rests s c (round_begun old) new before after a
 
-abbrev pub Relays : Setup → ℕ → Conn → Conn → List Note → List Note → Act → Type 0
-Relays s c old new before after a = RelaysBy (relay_plan old.ends) s c old new before after a
+abbrev pub Relays : Setup → ℕ → Side → Conn → Conn → List Note → List Note → Act → Type 0
+Relays s c first old new before after a =
+    RelaysBy (relay_plan first old.host.net old.ends) s c old new before after a
+
+-- before there is a server the client's collect may be met, and else it rests
+abbrev pub CollectsBy : Option ℕ → Setup → ℕ → Conn → Conn → List Note → List Note → Act → Type 0
+CollectsBy None s c old new before after a = Rests s c old new before after a
+CollectsBy (Some n) s c old new before after a =
+    (a ≡ act.Goes) × Fires s c Client n old new before after
+
+abbrev pub Collects : Setup → ℕ → Conn → Conn → List Note → List Note → Act → Type 0
+Collects s c old new before after a =
+    CollectsBy (meets old.host.net.client.asks old.ends.client.unread) s c old new before after a
+
+-- released bytes go to the server where there is room
+abbrev pub PassesReleased : Setup → ℕ → Conn → Conn → List Note → List Note → Act → Type 0
+PassesReleased s c old new before after a =
+    MatchBool (nat_lt (length (queue_in Server old)) room_limit)
+    ((a ≡ act.Goes) × Releases old new × (after ≡ before))
+    (Rests s c old new before after a)
 
 -- what one action does, by where the connection stands
 abbrev pub ActedAt : Stage → Setup → ℕ → Conn → Conn → List Note → List Note → Act → Type 0
@@ -127,7 +149,10 @@ ActedAt (stage.Chosen addr) s c old new before after a =
 ActedAt (stage.Connecting to) s c old new before after a =
     (a ≡ act.Goes) × Connects c to old new before after
 ActedAt (stage.Answering to) s c old new before after a = Answers s c old new before after a
-ActedAt stage.Relaying s c old new before after a = Relays s c old new before after a
+ActedAt stage.Collecting s c old new before after a = Collects s c old new before after a
+ActedAt stage.Releasing s c old new before after a = PassesReleased s c old new before after a
+ActedAt (stage.Relaying first) s c old new before after a =
+    Relays s c first old new before after a
 ActedAt (stage.Finishing f) s c old new before after a =
     (a ≡ act.Goes) × Finishes s c f old new before after
 ActedAt other s c old new before after a =

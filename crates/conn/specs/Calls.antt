@@ -5,11 +5,12 @@ use Rattle.px_bytes.specs.declared.addr.Addr.{Addr}
 use Rattle.px_bytes.specs.declared.addr.Side.{Side}
 use Rattle.px_bytes.specs.declared.addr.Side.TheVariants.{Client, Server}
 use Rattle.px_bytes.specs.declared.fault.Reply.{Reply}
+use Rattle.irule_net.specs.State.{collected}
 use Rattle.connection_model.specs.Edges.{answered_edge, edge_ends, edge_resets}
 use Rattle.connection_model.specs.Further.{Coming, Further, nothing_further, longer}
 use Rattle.connection_model.specs.Further.{replies_only}
 use Rattle.connection_model.specs.Phases.{Orderly}
-use Rattle.connection_model.specs.Queries.{unread_limit}
+use Rattle.connection_model.specs.Queries.{held_under, unread_limit}
 use Rattle.connection_model.specs.Queries as query
 use Rattle.connection_model.specs.Setup as model
 use Rattle.connection_model.specs.State.{Stream, TraceState, no_stream, no_answers}
@@ -23,14 +24,21 @@ use Rattle.conn.specs.declared.setup.Setup.{Setup}
 use Rattle.conn.specs.Ends.{end_of, has_stream, hears_at}
 use Rattle.conn.specs.Holds.{Around, fresh, Holds}
 use Rattle.conn.specs.Setups.{Serves}
-use Rattle.conn.specs.Stages.{has_finished}
+use Rattle.conn.specs.Stages.{has_finished, in_event_of}
 
--- how many bytes of a side may come: as many as don't lie unread of the most, and the most once it
--- has finished
+-- unread bytes of a side that a collect in force is to hold; while the bodies of an event of this
+-- side run it isn't yet
+abbrev pub counted_held : Side → Conn → ℕ
+counted_held side c =
+    if in_event_of side c.stage then 0
+    else held_under (collected side c.host.net).asks (length (end_of side c.ends).unread)
+
+-- How many bytes of a side may come: as many as don't lie unread of the most, but for those that a
+-- collect is to hold, and the most once it has finished.
 abbrev pub wanted_in : Side → Conn → ℕ
 wanted_in side c =
     if has_finished c.stage then unread_limit
-    else unread_limit - length (end_of side c.ends).unread
+    else unread_limit - (length (end_of side c.ends).unread - counted_held side c)
 
 -- as many as its trace wants
 abbrev pub Wants : Side → Conn → ℕ → Type 0

@@ -4,8 +4,8 @@ use Rattle.std.specs.Bool.{MatchBool}
 use Rattle.conn.specs.declared.connection.Conn.{Conn}
 use Rattle.conn.specs.declared.ends.Ends.{Ends}
 use Rattle.conn.specs.declared.events.At.{At}
-use Rattle.conn.specs.declared.events.At.TheVariants.{Accepted, Selected, Failed, Connected}
-use Rattle.conn.specs.declared.events.At.TheVariants.{ServerClosed, Closed}
+use Rattle.conn.specs.declared.events.At.TheVariants.{Accepted, ClientData, Selected, Failed}
+use Rattle.conn.specs.declared.events.At.TheVariants.{Connected, ServerData, ServerClosed, Closed}
 use Rattle.conn.specs.declared.host.RuleHost.{RuleHost}
 use Rattle.conn.specs.declared.setup.Setup.{Setup}
 use Rattle.conn.specs.declared.stage.Stage.{Stage}
@@ -49,13 +49,18 @@ pub record ClosesClient (s : Setup) (old new : Conn) : Type 0 where
   pub goes : ClosesBodies s mid new
 
 -- all bodies of an event have ended
+abbrev pub left_stage : At → Conn → Stage
+left_stage at c = after_stage at c.ends.link c.host.net
+
 abbrev pub Leaves : Setup → At → Conn → Conn → Type 0
 Leaves s ServerClosed old new = ClosesClient s old new
-Leaves s Accepted old new = GoesTo (after_stage Accepted old.host.net) old new
-Leaves s Selected old new = GoesTo (after_stage Selected old.host.net) old new
-Leaves s Failed old new = GoesTo (after_stage Failed old.host.net) old new
-Leaves s Connected old new = GoesTo (after_stage Connected old.host.net) old new
-Leaves s Closed old new = GoesTo (after_stage Closed old.host.net) old new
+Leaves s Accepted old new = GoesTo (left_stage Accepted old) old new
+Leaves s ClientData old new = GoesTo (left_stage ClientData old) old new
+Leaves s Selected old new = GoesTo (left_stage Selected old) old new
+Leaves s Failed old new = GoesTo (left_stage Failed old) old new
+Leaves s Connected old new = GoesTo (left_stage Connected old) old new
+Leaves s ServerData old new = GoesTo (left_stage ServerData old) old new
+Leaves s Closed old new = GoesTo (left_stage Closed old) old new
 
 -- the body of this number begins where there is one, and else the event is over
 abbrev pub NextBody : Setup → At → ℕ → Conn → Conn → Type 0
@@ -76,7 +81,7 @@ Closes s old new =
 -- an event is entered on this host, with these ends
 pub record Enters (s : Setup) (at : At) (h : RuleHost) (e : Ends) (old new : Conn)
     : Type 0 where
-  pub there : new.stage ≡ entered_stage s at new.host.net
+  pub there : new.stage ≡ entered_stage s at e.link new.host.net
   pub vars : new.vars ≡ old.vars
   pub host : new.host ≡ begun_host at (is_up e.link) h
   pub ends : new.ends ≡ e

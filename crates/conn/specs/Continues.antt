@@ -56,7 +56,9 @@ phase_at g net stage.Selecting = phase.Selecting (call_of g net)
 phase_at g net (stage.Chosen addr) = phase.Selecting (call_of g net)
 phase_at g net (stage.Connecting to) = phase.Connecting to
 phase_at g net (stage.Answering to) = phase.Answering to
-phase_at g net stage.Relaying = phase.Relaying
+phase_at g net stage.Collecting = phase.Collecting
+phase_at g net stage.Releasing = phase.Releasing
+phase_at g net (stage.Relaying first) = phase.Relaying
 phase_at g net (stage.Finishing f) = phase.Finishing (reason_for f)
 phase_at g net other = phase.Draining
 

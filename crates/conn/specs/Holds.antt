@@ -2,8 +2,10 @@
 use Rattle.std.specs.Prelude.{◌≡◌, ℕ, ◌+◌, List, [], ◌∷◌, ◌++◌, length, drop, true, false}
 use Rattle.std.specs.Prelude.{Option, None}
 use Rattle.px_bytes.specs.declared.addr.Addr.{Addr}
+use Rattle.px_bytes.specs.declared.addr.Side.{Side}
 use Rattle.px_bytes.specs.declared.fault.Reply.{Reply}
 use Rattle.event_order.specs.declared.event.EventName.{EventName}
+use Rattle.irule_net.specs.State.{collected}
 use Rattle.irule_net.specs.declared.state.NetState.{NetState}
 use Rattle.irule_net.specs.declared.state.Target.{Target}
 use Rattle.irule_net.specs.declared.state.Target.TheVariants.{Default, PoolOf, MemberOf, NodeAt}
@@ -25,8 +27,8 @@ use Rattle.conn.specs.declared.stage.Stage.{Stage}
 use Rattle.conn.specs.declared.stage.Stage.TheVariants as stage
 use Rattle.conn.specs.Ends.{arrived, connects_by, fresh_end, has_stream, is_up, number_by}
 use Rattle.conn.specs.Ends.{server_by, servers_by}
-use Rattle.conn.specs.Events.{event_of}
-use Rattle.conn.specs.Hosts.{CollectsNothing, seen_host}
+use Rattle.conn.specs.Events.{collects_in, event_of}
+use Rattle.conn.specs.Hosts.{Told, seen_host}
 use Rattle.conn.specs.Stages.{InEvent as HostIn, fits, has_finished, reason_for, selects}
 
 -- What was told of it from outside: what was taken, where a side that was reset counts as having
@@ -46,14 +48,15 @@ pub record Between (l : TraceState) (c : Conn) : Type 0 where
   pub replies : l.answers.replies ≡ []
 
 -- A body runs whose frames the connection has: whatever replies follow, the body that is evaluated
--- from its beginning comes to what the frames come to. So many of its acts were given, and `open`
--- more where it waits for a reply.
+-- from its beginning comes to what the frames come to. So many of its acts were given, and `waiting`
+-- more where it waits for a reply. Collects but that of its own side are as they were.
 pub record BodyGoesOn (g : Setup) (e : EventName) (b : Handler) (bs : List Handler) (waiting : ℕ)
     (l : TraceState) (c : Conn) : Type 0 where
   pub acts : List Act
   pub cost : ℕ
   pub phase : l.phase ≡ InEvent e (Running b bs (length acts + waiting))
-  pub no_collect : CollectsNothing g l.host.net
+  pub kept : (side : Side) → collects_in side e ≡ false
+      → collected side c.host.net ≡ collected side l.host.net
   pub same : (more : List Reply)
       → evaluate (body_setting g b.procedures) b.body l.vars l.host (l.answers.replies ++ more)
       g.budget
@@ -105,7 +108,9 @@ Stands g (stage.Chosen addr) l c =
     (l.phase ≡ phase.Selecting (call_of g c.host.net)) × ReplyCame l c addr
 Stands g (stage.Connecting to) l c = (l.phase ≡ phase.Connecting to) × Between l c
 Stands g (stage.Answering to) l c = (l.phase ≡ phase.Answering to) × Between l c
-Stands g stage.Relaying l c = (l.phase ≡ phase.Relaying) × Between l c
+Stands g stage.Collecting l c = (l.phase ≡ phase.Collecting) × Between l c
+Stands g stage.Releasing l c = (l.phase ≡ phase.Releasing) × Between l c
+Stands g (stage.Relaying first) l c = (l.phase ≡ phase.Relaying) × Between l c
 Stands g (stage.Finishing f) l c = (l.phase ≡ phase.Finishing (reason_for f)) × Between l c
 Stands g stage.Draining l c = (l.phase ≡ phase.Draining) × Between l c
 Stands g stage.OutOfMemory l c = ⊥
@@ -133,7 +138,7 @@ pub record Holds (g : Setup) (a : Around) (l : TraceState) (c : Conn) : Type 0 w
   pub finished : l.finished ≡ has_finished c.stage
   pub fits : fits c.stage c.ends.link ≡ true
   pub event : HostIn c.stage c.host.event
-  pub no_collect : CollectsNothing g c.host.net
+  pub told : Told g c.ends.link c.host.net
   pub ends : HoldsEnds a l c.ends
   pub no_choice : l.answers.choices ≡ []
   pub no_cut : l.answers.cut ≡ None

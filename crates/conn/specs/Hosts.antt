@@ -1,19 +1,23 @@
 -- The host of a connection's rules: what its commands see of it, and what is done of what they made.
-use Rattle.std.specs.Prelude.{◌≡◌, ℕ, List, [], ◌∷◌, ◌++◌, Bool, Option}
+use Rattle.std.specs.Prelude.{◌≡◌, ℕ, List, [], ◌∷◌, ◌++◌, Bool, true, false, Option}
 use Rattle.px_bytes.specs.Host.{Effect, Logged, Sent}
+use Rattle.px_bytes.specs.declared.addr.Side.{Side}
 use Rattle.px_bytes.specs.declared.addr.Side.TheVariants.{Client, Server}
 use Rattle.event_order.specs.declared.event.EventName.{EventName}
-use Rattle.irule_net.specs.State.{begun, no_collect}
+use Rattle.irule_net.specs.State.{begun, collected, with_collected}
+use Rattle.irule_net.specs.declared.state.Asks.TheVariants.{NotAsked}
 use Rattle.irule_net.specs.declared.state.NetState.{NetState}
 use Rattle.irule_net.specs.declared.state.Selected.{Selected}
 use Rattle.connection_model.specs.Host.{HostState}
 use Rattle.connection_model.specs.Setup.{Setup}
 use Rattle.connection_model.specs.declared.note.Note.{Note}
 use Rattle.connection_model.specs.declared.note.Note.TheVariants as note
+use Rattle.conn.specs.declared.ends.Link.{Link}
 use Rattle.conn.specs.declared.events.At.{At}
 use Rattle.conn.specs.declared.events.At.TheVariants.{Accepted}
 use Rattle.conn.specs.declared.host.RuleHost.{RuleHost}
-use Rattle.conn.specs.Events.{event_of}
+use Rattle.conn.specs.Ends.{is_up}
+use Rattle.conn.specs.Events.{collects_in, event_of}
 
 abbrev pub seen_net : EventName → NetState → HostState
 seen_net e net = record { event = e; net = net }
@@ -30,6 +34,17 @@ begun_host at up h = record h { event = at; net = record (begun h.net) { relays 
 
 abbrev pub selected_host : Option Selected → RuleHost → RuleHost
 selected_host selected h = record h { net = record h.net { selected = selected } }
+
+-- the first bytes of a side are held, and its collect is over
+abbrev pub fired_host : Side → List ℕ → RuleHost → RuleHost
+fired_host side bytes h = record h {
+  net = with_collected side
+      (record { asks = NotAsked; held = (collected side h.net).held ++ bytes }) h.net;
+}
+
+-- no released bytes wait for the server any more
+abbrev pub released_host : RuleHost → RuleHost
+released_host h = record h { net = record h.net { loose = [] } }
 
 -- the same with nothing left to be done
 abbrev pub cleared_host : RuleHost → RuleHost
@@ -71,17 +86,15 @@ OneAtMost (e ∷ (f ∷ es)) = ⊥
 abbrev pub Made : RuleHost → List Effect → RuleHost → Type 0
 Made a es b = b.made ≡ a.made ++ es
 
--- No rule collects bytes: no command of today does, so none are held, and none wait for a server.
--- The client's address is that of its accept.
-pub record CollectsNothing (g : Setup) (s : NetState) : Type 0 where
-  pub from : s.from ≡ g.from
-  pub client : s.client ≡ no_collect
-  pub server : s.server ≡ no_collect
-  pub loose : s.loose ≡ []
-
--- the same of what rules collect, and of the client's address
-pub record SameCollects (s t : NetState) : Type 0 where
+-- What the bodies of an event leave as it was: the client's address, whether there is a server
+-- connection, and each collect but that of the event's own side.
+pub record KeepsCollects (e : EventName) (s t : NetState) : Type 0 where
   pub from : t.from ≡ s.from
-  pub client : t.client ≡ s.client
-  pub server : t.server ≡ s.server
-  pub loose : t.loose ≡ s.loose
+  pub relays : t.relays ≡ s.relays
+  pub kept : (side : Side) → collects_in side e ≡ false → collected side t ≡ collected side s
+
+-- What its rules are told of a connection: the client's address, and that there is a server connection
+-- only where one is.
+pub record Told (g : Setup) (k : Link) (s : NetState) : Type 0 where
+  pub from : s.from ≡ g.from
+  pub relays : s.relays ≡ true → is_up k ≡ true

@@ -5,6 +5,7 @@ use Rattle.std.specs.Prelude.{◌&&◌, not, nat_eq, Option, Some, None, if◌th
 use Rattle.px_bytes.specs.declared.addr.Side.{Side}
 use Rattle.px_bytes.specs.declared.addr.Side.TheVariants.{Client, Server}
 use Rattle.seg_buffer.specs.Bytes.{is_empty}
+use Rattle.irule_net.specs.State.{collected}
 use Rattle.connection_model.specs.Edges.{edge_of, edges_noted}
 use Rattle.connection_model.specs.Gates.{Counts, TakenCounts, other, taken_of, to_take}
 use Rattle.connection_model.specs.Queries.{half_close_due}
@@ -21,7 +22,7 @@ use Rattle.conn.specs.declared.connection.Conn.{Conn}
 use Rattle.conn.specs.Ends.{end_of, is_done, queued_in}
 use Rattle.conn.specs.Holds.{Around, Holds}
 use Rattle.conn.specs.Queues.{queue_in}
-use Rattle.conn.specs.Stages.{is_draining, is_relaying}
+use Rattle.conn.specs.Stages.{is_draining, is_in_body, is_relaying}
 
 abbrev pub note_if : Bool → Note → List Note
 note_if told n = if told then n ∷ [] else []
@@ -81,11 +82,16 @@ resting g took at c e dropped =
     half_close took at c e Client
     ++ (half_close took at c e Server ++ settling_at g took at c e dropped)
 
--- the same by the connection's own fields
+-- the same by the connection's own fields: nothing of a side is unread, held, or waits
+abbrev pub is_spent : Side → Conn → Bool
+is_spent side c =
+    is_done (end_of side c.ends)
+    && (is_empty (collected side c.host.net).held && is_empty c.host.net.loose)
+
 abbrev pub half_due : Side → Conn → Bool
 half_due side c =
-    is_relaying c.stage
-    && (is_done (end_of (other side) c.ends) && (is_empty (queue_in side c)
+    is_relaying c.stage c.ends.link
+    && (is_spent (other side) c && (is_empty (queue_in side c)
     && (not (end_of side c.ends).reset && not (edge_of side c.ends.edges).half)))
 
 abbrev pub half_notes : ℕ → Side → Conn → List Note
@@ -114,7 +120,7 @@ Settles c over =
     (g : model.Setup) (a : Around) (l : TraceState) → Holds g a l c
     → over ≡ is_drained g a.took l
 
--- the notes that are due where it stands, and at a rest
+-- the notes that are due where it stands, and at a rest, where no body runs
 abbrev pub SettlesNotes : ℕ → Conn → Type 0
 SettlesNotes number c =
     (g : model.Setup) (a : Around) (l : TraceState) → Holds g a l c
@@ -123,6 +129,7 @@ SettlesNotes number c =
 abbrev pub RestsWith : ℕ → Conn → Type 0
 RestsWith number c =
     (g : model.Setup) (a : Around) (l : TraceState) → Holds g a l c
+    → is_in_body c.stage ≡ false
     → rest_notes number c ≡ resting g a.took l number c.ends.edges (queued_in c.ends)
 
 -- while it stands for a state what was dropped is what resets left untaken

@@ -1,9 +1,14 @@
 -- Where a connection goes.
-use Rattle.std.specs.Prelude.{◌≡◌, ℕ, List, [], ◌∷◌, Bool, true, false, ◌&&◌, not, Option, Some, None}
+use Rattle.std.specs.Prelude.{◌≡◌, ℕ, List, [], ◌∷◌, Bool, true, false, ◌&&◌, ◌||◌, not}
+use Rattle.std.specs.Prelude.{Option, Some, None}
 use Rattle.std.specs.Prelude.{if◌then◌else◌}
 use Rattle.px_bytes.specs.declared.addr.Addr.{Addr}
+use Rattle.px_bytes.specs.declared.addr.Side.{Side}
+use Rattle.px_bytes.specs.declared.addr.Side.TheVariants.{Client, Server}
 use Rattle.px_bytes.specs.declared.fault.Reply.{Reply}
 use Rattle.px_bytes.specs.declared.fault.Reply.TheVariants as reply
+use Rattle.irule_net.specs.declared.state.Asks.{Asks}
+use Rattle.irule_net.specs.declared.state.Asks.TheVariants.{NotAsked, Stated}
 use Rattle.irule_net.specs.declared.state.Ending.{Ending}
 use Rattle.irule_net.specs.declared.state.Ending.TheVariants.{Rejects, Closes}
 use Rattle.irule_net.specs.declared.state.NetState.{NetState}
@@ -23,7 +28,7 @@ use Rattle.conn.specs.declared.stage.Stage.TheVariants as stage
 use Rattle.conn.specs.declared.setup.Place.{Place}
 use Rattle.conn.specs.declared.setup.Setup.{Setup}
 use Rattle.conn.specs.Ends.{is_sought, is_up}
-use Rattle.conn.specs.Events.{event_of, is_closed}
+use Rattle.conn.specs.Events.{event_of, is_closed, is_data, is_event_of}
 use Rattle.conn.specs.Setups.{places_at}
 
 abbrev pub reason_for : Finish → Reason
@@ -53,32 +58,51 @@ abbrev pub connecting_stage : Option Selected → Stage
 connecting_stage None = stage.Finishing finish.Unselected
 connecting_stage (Some s) = stage.Connecting s.addr
 
+-- behind CLIENT_ACCEPTED, by the client's collect
+abbrev pub accepted_stage : Asks → Stage
+accepted_stage NotAsked = stage.Choosing
+accepted_stage (Stated n) = stage.Collecting
+
+-- Behind CLIENT_DATA, by whether there is a server, and whether its bodies released. The sides of a
+-- relay take turns.
+abbrev pub data_stage : (up released : Bool) → Stage
+data_stage true released = stage.Relaying Server
+data_stage false released = if released then stage.Choosing else stage.Collecting
+
+-- behind SERVER_CONNECTED, by the bytes that were released before
+abbrev pub connected_stage : (loose : List ℕ) → Stage
+connected_stage [] = stage.Relaying Client
+connected_stage (b ∷ bs) = stage.Releasing
+
 -- where it goes behind an event that nothing ended
-abbrev pub goes_on_stage : At → NetState → Stage
-goes_on_stage at.Accepted net = stage.Choosing
-goes_on_stage at.Selected net = connecting_stage net.selected
-goes_on_stage at.Failed net =
+abbrev pub goes_on_stage : At → Link → NetState → Stage
+goes_on_stage at.Accepted link net = accepted_stage net.client.asks
+goes_on_stage at.ClientData link net = data_stage (is_up link) net.wishes.released
+goes_on_stage at.Selected link net = connecting_stage net.selected
+goes_on_stage at.Failed link net =
     if net.wishes.reselects then stage.Choosing else stage.Finishing finish.Unselected
-goes_on_stage at.Connected net = stage.Relaying
-goes_on_stage at.ServerClosed net = stage.Draining
-goes_on_stage at.Closed net = stage.Draining
+goes_on_stage at.Connected link net = connected_stage net.loose
+goes_on_stage at.ServerData link net = stage.Relaying Client
+goes_on_stage at.ServerClosed link net = stage.Draining
+goes_on_stage at.Closed link net = stage.Draining
 
 abbrev pub unless_ended : Option Ending → Stage → Stage
 unless_ended None st = st
 unless_ended (Some ending) st = ended_stage ending
 
 -- where all bodies of an event have ended; behind the one that closes its server another comes
-abbrev pub after_stage : At → NetState → Stage
-after_stage at net =
-    if is_closed at then stage.Draining else unless_ended net.wishes.ends (goes_on_stage at net)
+abbrev pub after_stage : At → Link → NetState → Stage
+after_stage at link net =
+    if is_closed at then stage.Draining
+    else unless_ended net.wishes.ends (goes_on_stage at link net)
 
 -- where an event is entered
-abbrev pub entered_by : At → NetState → List Place → Stage
-entered_by at net [] = after_stage at net
-entered_by at net (p ∷ ps) = stage.Gated at
+abbrev pub entered_by : At → Link → NetState → List Place → Stage
+entered_by at link net [] = after_stage at link net
+entered_by at link net (p ∷ ps) = stage.Gated at
 
-abbrev pub entered_stage : Setup → At → NetState → Stage
-entered_stage s at net = entered_by at net (places_at s at)
+abbrev pub entered_stage : Setup → At → Link → NetState → Stage
+entered_stage s at link net = entered_by at link net (places_at s at)
 
 -- it waits for the reply to a shared call
 abbrev pub is_asking : Stage → Bool
@@ -90,9 +114,26 @@ abbrev pub is_draining : Stage → Bool
 is_draining stage.Draining = true
 is_draining other = false
 
-abbrev pub is_relaying : Stage → Bool
-is_relaying stage.Relaying = true
-is_relaying other = false
+-- bytes are passed on both ways, also at the gate of an event of collected bytes
+abbrev pub is_relaying : Stage → Link → Bool
+is_relaying (stage.Relaying first) link = is_up link
+is_relaying (stage.Gated at) link = is_data at && is_up link
+is_relaying other link = false
+
+-- a body runs, or left a fault
+abbrev pub is_in_body : Stage → Bool
+is_in_body (stage.Running at n) = true
+is_in_body (stage.Asking at n) = true
+is_in_body (stage.Failing at n kind line) = true
+is_in_body other = false
+
+-- the bodies of an event run at which bytes of this side are collected, or are to
+abbrev pub in_event_of : Side → Stage → Bool
+in_event_of side (stage.Gated at) = is_event_of side at
+in_event_of side (stage.Running at n) = is_event_of side at
+in_event_of side (stage.Asking at n) = is_event_of side at
+in_event_of side (stage.Failing at n kind line) = is_event_of side at
+in_event_of side other = false
 
 -- where memory was refused; a connection that is over stays so
 abbrev pub failed : Stage → Stage
@@ -122,9 +163,12 @@ InEvent (stage.Failing at n kind line) event = event_of event ≡ event_of at
 InEvent other event = Unit {0}
 
 -- Where there may be a server connection: it is selected and asked for while there is none, and there
--- once it was made. The closing events have no gate, and a cut finishes at once.
+-- once it was made. The client's bytes are collected but while a server is asked for. The closing
+-- events have no gate, and a cut finishes at once.
 abbrev pub at_fits : At → Link → Bool
+at_fits at.ClientData link = is_up link || not (is_sought link)
 at_fits at.Connected link = is_up link
+at_fits at.ServerData link = is_up link
 at_fits at.ServerClosed link = true
 at_fits at.Closed link = true
 at_fits other link = not (is_sought link)
@@ -139,6 +183,8 @@ fits stage.Selecting link = not (is_sought link)
 fits (stage.Chosen addr) link = not (is_sought link)
 fits (stage.Connecting to) link = not (is_sought link)
 fits (stage.Answering to) link = is_sought link && not (is_up link)
-fits stage.Relaying link = is_up link
+fits stage.Collecting link = not (is_sought link)
+fits stage.Releasing link = is_up link
+fits (stage.Relaying first) link = is_up link
 fits (stage.Finishing (finish.Cut reason)) link = false
 fits other link = true

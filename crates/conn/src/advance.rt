@@ -78,10 +78,20 @@ impl Conn {
                 *spent += 1;
                 Ok(self.answer(setup, number, notes))
             }
-            Stage::Relaying => {
+            Stage::Collecting => {
                 steps.tick();
                 *spent += 1;
-                self.relay(setup, number, notes)
+                self.collect(setup, number, notes)
+            }
+            Stage::Releasing => {
+                steps.tick();
+                *spent += 1;
+                self.release(alloc, setup, number, notes)
+            }
+            Stage::Relaying(first) => {
+                steps.tick();
+                *spent += 1;
+                self.relay(setup, number, first, notes)
             }
             Stage::Finishing(finish) => {
                 steps.tick();

@@ -7,6 +7,7 @@ ghost use Rattle.conn.specs.Changes.{NextBody, StartsBody};
 ghost use Rattle.conn.specs.Steps.{BodyMoved, GoesOn, said_of};
 
 use crate::connection::Conn;
+use crate::ends::Link;
 use crate::events::At;
 use crate::setup::{Handler, Setup};
 use crate::stage::Stage;
@@ -21,11 +22,11 @@ use std::sync::ledger::Ledger;
 
 impl Setup<'_> {
     /// Where a connection stands that enters an event.
-    pub(crate) fn enter(&self, at: At, net: &NetState) -> Stage
-        ensures { result ≡ entered_stage self.now at net.now }
+    pub(crate) fn enter(&self, at: At, link: Link, net: &NetState) -> Stage
+        ensures { result ≡ entered_stage self.now at link net.now }
     {
         if self.places(at).is_empty() {
-            return Stage::after(at, net);
+            return Stage::after(at, link, net);
         }
         Stage::Gated { at }
     }

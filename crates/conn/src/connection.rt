@@ -5,20 +5,20 @@ ghost use Rattle.std.specs.Prelude.{length, take};
 ghost use Rattle.connection_model.specs.Edges.{is_connecting};
 ghost use Rattle.conn.specs.Calls.{Begins, Connects, Hears, Replies, Resets, Takes, Wants};
 ghost use Rattle.conn.specs.Calls.{connected_ends, ended_ends, heard_ends, reset_ends, took_ends};
-ghost use Rattle.conn.specs.Calls.{wanted_in};
+ghost use Rattle.conn.specs.Calls.{counted_held, wanted_in};
 ghost use Rattle.connection_model.specs.Selected.{addr_of};
 ghost use Rattle.conn.specs.Ends.{end_of, fresh_ends};
 ghost use Rattle.conn.specs.Queues.{queue_in};
 ghost use Rattle.conn.specs.Stages.{has_finished, is_asking, selects};
 
 use crate::body::Body;
-use crate::ends::{End, Ends, UNREAD_LIMIT};
+use crate::ends::{Ends, Link, UNREAD_LIMIT};
 use crate::events::At;
 use crate::host::RuleHost;
 use crate::setup::Setup;
 use crate::stage::Stage;
 use connection_model::Edges;
-use irule_net::NetState;
+use irule_net::{Asks, NetState};
 use px_bytes::{Addr, M, Reply, Side, Text, read_addr};
 use std::alloc::Global;
 use tcl_vars::Vars;
@@ -44,7 +44,7 @@ impl Conn {
         let pool = Text::new(alloc, setup.pool)?;
         let net = NetState::new(alloc, from, setup.port, pool, false);
         Ok(Conn {
-            stage: setup.enter(At::Accepted, &net),
+            stage: setup.enter(At::Accepted, Link::Absent, &net),
             body: Body::new(alloc),
             vars: Vars::new(alloc),
             host: RuleHost::new(alloc, net),
@@ -127,27 +127,18 @@ impl Conn {
         self.ends.connected(made, finished);
     }
 
-    fn end_of(&self, side: Side) -> &End
-        ensures { result.now ≡ end_of side self.now.ends }
-    {
-        match side {
-            Side::Client => &self.ends.client,
-            Side::Server => &self.ends.server,
-        }
-    }
-
     /// How many bytes a side is to take.
     pub fn pending(&self, side: Side) -> usize
         ensures { result ≡ length (queue_in side self.now) }
     {
-        self.end_of(side).pending()
+        self.ends.end_of(side).pending()
     }
 
     /// The bytes that a side is to take.
     pub fn front(&self, side: Side) -> &[u8]
         ensures { result.now ≡ queue_in side self.now }
     {
-        self.end_of(side).front()
+        self.ends.end_of(side).front()
     }
 
     /// The first `n` of them.
@@ -155,7 +146,7 @@ impl Conn {
         requires { n ≤ length (queue_in side self.now) }
         ensures { IfOk result (λ text. text ≡ take n (queue_in side self.now)) }
     {
-        self.end_of(side).copy(n)
+        self.ends.end_of(side).copy(n)
     }
 
     /// How many bytes of a side may come.
@@ -172,7 +163,22 @@ impl Conn {
         if self.stage.has_finished() {
             return UNREAD_LIMIT;
         }
-        UNREAD_LIMIT.saturating_sub(self.end_of(side).unread.len())
+        let unread = self.ends.end_of(side).unread.len();
+        UNREAD_LIMIT.saturating_sub(unread - self.counted_held(side))
+    }
+
+    // Unread bytes that a collect in force is to hold.
+    fn counted_held(&self, side: Side) -> usize
+        ensures exact { result ≡ counted_held side self.now }
+        ensures within { result ≤ length (end_of side self.now.ends).unread }
+    {
+        if self.stage.is_in_event_of(side) {
+            return 0;
+        }
+        match self.host.collected(side).asks {
+            Asks::NotAsked => 0,
+            Asks::Stated(n) => n.min(self.ends.end_of(side).unread.len()),
+        }
     }
 
     /// Bytes come of a side. Once it has finished they are dropped.

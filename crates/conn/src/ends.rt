@@ -4,6 +4,7 @@ ghost use Rattle.std.specs.Prelude.{◌≡◌, ◌≤◌, ◌<◌, ◌^◌, [], 
 ghost use Rattle.conn.specs.Calls.{connected_ends, ended_ends, reset_ends, took_ends};
 ghost use Rattle.conn.specs.Ends.{end_of, fresh_end, fresh_ends, has_stream, heard_end, hears_at, is_done};
 ghost use Rattle.conn.specs.Ends.{is_sought, is_up, lost_at, queue_of, queued_in, room_left};
+ghost use Rattle.conn.specs.Relaying.{passes_now, read_ends};
 
 use connection_model::{Edge, EdgeState, Edges};
 use px_bytes::{M, Side, Text};
@@ -223,6 +224,26 @@ impl Ends {
             Side::Client => self.client.end(),
             Side::Server if self.link.has_stream() => self.server.end(),
             Side::Server => {}
+        }
+    }
+
+    pub(crate) fn end_of(&self, side: Side) -> &End
+        ensures { result.now ≡ end_of side self.now }
+    {
+        match side {
+            Side::Client => &self.client,
+            Side::Server => &self.server,
+        }
+    }
+
+    /// The first `n` bytes of a side are read.
+    pub(crate) fn read(&mut self, side: Side, n: usize)
+        requires { passes_now side n self.old }
+        ensures { self.new ≡ read_ends side n self.old }
+    {
+        match side {
+            Side::Client => self.client.unread.drop_front(n),
+            Side::Server => self.server.unread.drop_front(n),
         }
     }
 

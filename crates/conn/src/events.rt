@@ -1,21 +1,26 @@
-// The events that a connection comes to whose bytes no rule collects.
+// The events that a connection without HTTP comes to.
 
 ghost use Rattle.std.specs.Prelude.{◌≡◌};
-ghost use Rattle.conn.specs.Events.{event_of, is_closed};
+ghost use Rattle.conn.specs.Events.{data_at, event_of, is_closed, is_data, is_event_of};
 
 use event_order::EventName;
+use px_bytes::Side;
 
 /// An event of a connection.
 #[derive(Clone, Copy, Debug, PartialEq, Eq)]
 pub enum At {
     /// Its client was accepted.
     Accepted,
+    /// A collect of its client's bytes was met.
+    ClientData,
     /// A server was selected.
     Selected,
     /// No server was found.
     Failed,
     /// The server took the connection.
     Connected,
+    /// A collect of its server's bytes was met.
+    ServerData,
     /// It is closed to its server.
     ServerClosed,
     /// It is closed to its client.
@@ -29,9 +34,11 @@ impl At {
     {
         match self {
             At::Accepted => EventName::ClientAccepted,
+            At::ClientData => EventName::ClientData,
             At::Selected => EventName::LbSelected,
             At::Failed => EventName::LbFailed,
             At::Connected => EventName::ServerConnected,
+            At::ServerData => EventName::ServerData,
             At::ServerClosed => EventName::ServerClosed,
             At::Closed => EventName::ClientClosed,
         }
@@ -42,5 +49,32 @@ impl At {
         ensures { result ≡ is_closed self }
     {
         matches!(self, At::ServerClosed | At::Closed)
+    }
+
+    /// The event of the bytes that a collect of a side asked for.
+    pub fn data(side: Side) -> At
+        ensures { result ≡ data_at side }
+    {
+        match side {
+            Side::Client => At::ClientData,
+            Side::Server => At::ServerData,
+        }
+    }
+
+    /// Collected bytes of a side are there.
+    pub fn is_data(self) -> bool
+        ensures { result ≡ is_data self }
+    {
+        matches!(self, At::ClientData | At::ServerData)
+    }
+
+    /// Bytes of this side are collected at it, or are to be.
+    pub fn is_event_of(self, side: Side) -> bool
+        ensures { result ≡ is_event_of side self }
+    {
+        match side {
+            Side::Client => matches!(self, At::Accepted | At::ClientData),
+            Side::Server => matches!(self, At::Connected | At::ServerData),
+        }
     }
 }

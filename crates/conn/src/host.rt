@@ -1,16 +1,18 @@
 // The host of a connection's rules.
 
-ghost use Rattle.std.specs.Prelude.{◌≡◌, ◌++◌, [], MatchResult};
+ghost use Rattle.std.specs.Prelude.{◌≡◌, ◌++◌, [], MatchResult, OnErr, OnOk};
+ghost use Rattle.irule_net.specs.State.{collected};
 ghost use Rattle.px_bytes.specs.Answered.{DidStep};
 ghost use Rattle.connection_model.specs.Host.{commands, first_word};
-ghost use Rattle.conn.specs.Hosts.{begun_host, fresh_host, seen_net, selected_host};
+ghost use Rattle.conn.specs.Hosts.{begun_host, fired_host, fresh_host, released_host, seen_net};
+ghost use Rattle.conn.specs.Hosts.{selected_host};
 
 use crate::events::At;
 use connection_model::is_there;
 use event_order::EventName;
 use frame_machine::Host;
-use irule_net::{Effects, Groups, NetState, Selected, net_command};
-use px_bytes::{HostAnswer, M, TclFault, Texts};
+use irule_net::{Asks, Collected, Effects, Groups, NetState, Selected, net_command};
+use px_bytes::{HostAnswer, M, Side, TclFault, Text, Texts};
 use std::alloc::Global;
 
 /// What the commands of a connection's rules read and leave.
@@ -44,12 +46,51 @@ impl RuleHost {
         self.net.relays = up;
     }
 
+    /// The collect of a side, and what it holds.
+    pub fn collected(&self, side: Side) -> &Collected
+        ensures { result.now ≡ collected side self.now.net }
+    {
+        match side {
+            Side::Client => &self.net.client,
+            Side::Server => &self.net.server,
+        }
+    }
+
+    /// The collect of a side is met by these bytes: it holds them, and is over. Out of memory nothing
+    /// changes.
+    pub fn fire(&mut self, side: Side, bytes: &[u8]) -> M<()>
+        ensures ok { OnOk result (self.new ≡ fired_host side bytes.now self.old) }
+        ensures err { OnErr result (self.new ≡ self.old) }
+    {
+        match side {
+            Side::Client => hold(&mut self.net.client, bytes),
+            Side::Server => hold(&mut self.net.server, bytes),
+        }
+    }
+
+    /// No released bytes wait for the server any more.
+    pub fn released(&mut self, alloc: Global)
+        ensures { self.new ≡ released_host self.old }
+    {
+        self.net.loose = Text::empty(alloc);
+    }
+
     /// This server is selected, or none.
     pub fn select(&mut self, selected: Option<Selected>)
         ensures { self.new ≡ selected_host selected self.old }
     {
         self.net.selected = selected;
     }
+}
+
+fn hold(collected: &mut Collected, bytes: &[u8]) -> M<()>
+    ensures ok { OnOk result (collected.new
+        ≡ record { asks = Asks.NotAsked; held = collected.old.held ++ bytes.now }) }
+    ensures err { OnErr result (collected.new ≡ collected.old) }
+{
+    collected.held.push(bytes)?;
+    collected.asks = Asks::NotAsked;
+    Ok(())
 }
 
 impl Host for RuleHost {

@@ -4,6 +4,7 @@
 mod advance;
 mod body;
 mod body_step;
+mod collect;
 mod connect;
 mod connection;
 mod ends;

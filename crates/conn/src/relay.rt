@@ -1,16 +1,21 @@
-// Bytes are passed on both ways.
+// Bytes are passed on both ways, and collected.
 
 ghost use Rattle.std.specs.Prelude.{◌≡◌, ◌+◌, ◌≤◌, ◌++◌, length, take, drop, IfOk, OnErr, OnOk};
 ghost use Rattle.conn.specs.Acts.{Relays};
-ghost use Rattle.conn.specs.Relaying.{moved, passes_now, relay_plan, to_pass};
+ghost use Rattle.connection_model.specs.Gates.{other};
+ghost use Rattle.connection_model.specs.Relay.{is_done};
+ghost use Rattle.conn.specs.Relaying.{incoming_of, moved, passes_now, turn_plan, relay_plan, side_plan};
+ghost use Rattle.conn.specs.Relaying.{to_pass};
 
 use crate::connection::Conn;
 use crate::ends::{End, Ends};
 use crate::setup::Setup;
-use crate::stage::Finish;
+use crate::stage::{Finish, Stage};
 use crate::turn::Act;
 use connection_model::{Note, Notes};
+use irule_net::Asks;
 use px_bytes::{M, Side};
+use std::mem;
 
 /// What a relay does next.
 #[derive(Clone, Copy, Debug, PartialEq, Eq)]
@@ -19,15 +24,24 @@ pub(crate) enum Relay {
     Done,
     /// So many bytes of a side are passed on.
     Pass(Side, usize),
+    /// So many bytes of a side meet its collect.
+    Fire(Side, usize),
     /// None can be.
     Rest,
 }
 
 impl Conn {
-    /// Passes bytes on, finishes where both ends have ended, or rests.
-    pub(crate) fn relay(&mut self, setup: &Setup<'_>, number: u32, notes: &mut Notes) -> M<Act>
+    /// Passes bytes on, collects them, finishes where both ends have ended, or rests. The bytes of
+    /// the first side go first.
+    pub(crate) fn relay(
+        &mut self,
+        setup: &Setup<'_>,
+        number: u32,
+        first: Side,
+        notes: &mut Notes,
+    ) -> M<Act>
         requires { 1 ≤ notes.old.spare }
-        ensures ok { IfOk result (λ act. Relays setup.now number self.old self.new
+        ensures ok { IfOk result (λ act. Relays setup.now number first self.old self.new
             notes.old.items notes.new.items act) }
         ensures err { OnErr result (notes.new ≡ notes.old) }
         ensures kept { OnErr result (self.new.ends.edges ≡ self.old.ends.edges) }
@@ -36,7 +50,7 @@ impl Conn {
         ensures room { notes.new.spare + length notes.new.items
             ≡ notes.old.spare + length notes.old.items }
     {
-        match self.ends.plan() {
+        match self.plan(first) {
             Relay::Done => {
                 self.finish(setup, number, Finish::Closed, notes);
                 Ok(Act::Goes)
@@ -48,34 +62,77 @@ impl Conn {
                     side,
                     n,
                 });
+                self.stage = Stage::Relaying(other(side));
                 Ok(Act::Goes)
             }
-            Relay::Rest => Ok(self.rest_or_cut(setup, number, notes)),
+            Relay::Fire(side, n) => {
+                self.fire(setup, number, side, n, notes)?;
+                Ok(Act::Goes)
+            }
+            Relay::Rest => {
+                self.stage = Stage::Relaying(Side::Client);
+                Ok(self.rest_or_cut(setup, number, notes))
+            }
+        }
+    }
+
+    fn plan(&self, first: Side) -> Relay
+        ensures { result ≡ relay_plan first self.now.host.net self.now.ends }
+    {
+        if is_done(self.host.net.client.asks, &self.ends.client) {
+            if is_done(self.host.net.server.asks, &self.ends.server) {
+                return Relay::Done;
+            }
+        }
+        let later = self.turn_plan(other(first), Relay::Rest);
+        self.turn_plan(first, later)
+    }
+
+    fn turn_plan(&self, side: Side, later: Relay) -> Relay
+        ensures { result ≡ turn_plan side self.now.host.net self.now.ends later }
+    {
+        let (client, server) = (&self.ends.client, &self.ends.server);
+        match side {
+            Side::Client => side_plan(side, self.host.net.client.asks, client, server, later),
+            Side::Server => side_plan(side, self.host.net.server.asks, server, client, later),
         }
     }
 }
 
-impl Ends {
-    // The client's bytes go first.
-    fn plan(&self) -> Relay
-        ensures { result ≡ relay_plan self.now }
-    {
-        if self.client.is_done() {
-            if self.server.is_done() {
-                return Relay::Done;
-            }
-        }
-        let of_client = passable(&self.client, &self.server);
-        if of_client > 0 {
-            return Relay::Pass(Side::Client, of_client);
-        }
-        let of_server = passable(&self.server, &self.client);
-        if of_server > 0 {
-            return Relay::Pass(Side::Server, of_server);
-        }
-        Relay::Rest
+fn other(side: Side) -> Side
+    ensures { result ≡ other side }
+{
+    match side {
+        Side::Client => Side::Server,
+        Side::Server => Side::Client,
     }
+}
 
+// No more of a side is passed on or collected.
+fn is_done(asks: Asks, from: &End) -> bool
+    ensures { result ≡ is_done (incoming_of asks from.now) }
+{
+    match asks {
+        Asks::NotAsked => from.is_done(),
+        Asks::Stated(n) => from.ended && from.unread.len() < n,
+    }
+}
+
+// What is done with the bytes of a side, or later.
+fn side_plan(side: Side, asks: Asks, from: &End, to: &End, later: Relay) -> Relay
+    ensures { result ≡ side_plan side asks from.now to.now later }
+{
+    match asks {
+        Asks::NotAsked => match passable(from, to) {
+            0 => later,
+            n => Relay::Pass(side, n),
+        },
+        Asks::Stated(n) if n <= from.unread.len() => Relay::Fire(side, n),
+        Asks::Stated(_) => later,
+    }
+}
+
+impl Ends {
     fn pass(&mut self, side: Side, n: usize) -> M<()>
         requires { passes_now side n self.old }
         ensures moved { OnOk result (self.new ≡ moved side n self.old) }
@@ -95,12 +152,17 @@ fn passable(from: &End, to: &End) -> usize
     from.unread.len().min(to.room())
 }
 
+// All that came goes to an end that waits for nothing without a copy.
 fn pass(from: &mut End, to: &mut End, n: usize) -> M<()>
     requires { n ≤ length from.old.unread }
     ensures from { OnOk result (from.new ≡ record from.old { unread = drop n from.old.unread }) }
     ensures to { OnOk result (to.new
         ≡ record to.old { queued = to.old.queued ++ take n from.old.unread }) }
 {
+    if to.queued.is_empty() && n == from.unread.len() {
+        mem::swap(&mut from.unread, &mut to.queued);
+        return Ok(());
+    }
     to.queued.push(&from.unread.front()[..n])?;
     from.unread.drop_front(n);
     Ok(())

@@ -3,7 +3,7 @@
 ghost use Rattle.std.specs.Prelude.{◌≡◌, ◌+◌, ◌≤◌, ◌++◌, length};
 ghost use Rattle.conn.specs.Settling.{Settles, SettlesNotes, half_due, half_notes, noted_in, over_in};
 ghost use Rattle.conn.specs.Settling.{client_notes, close_notes, is_there, rest_notes};
-ghost use Rattle.conn.specs.Settling.{server_notes, settle_notes};
+ghost use Rattle.conn.specs.Settling.{is_spent, server_notes, settle_notes};
 ghost use Rattle.connection_model.specs.Edges.{edges_noted};
 
 use crate::connection::Conn;
@@ -78,15 +78,25 @@ impl Conn {
     fn half_due(&self, side: Side) -> bool
         ensures { result ≡ half_due side self.now }
     {
-        if !self.stage.is_relaying() {
+        if !self.stage.is_relaying(self.ends.link) {
             return false;
         }
         let ends = &self.ends;
         let (from, to, edge) = match side {
-            Side::Client => (&ends.server, &ends.client, ends.edges.client),
-            Side::Server => (&ends.client, &ends.server, ends.edges.server),
+            Side::Client => (Side::Server, &ends.client, ends.edges.client),
+            Side::Server => (Side::Client, &ends.server, ends.edges.server),
         };
-        from.is_done() && to.pending() == 0 && !to.reset && !edge.half
+        self.is_spent(from) && to.pending() == 0 && !to.reset && !edge.half
+    }
+
+    // Nothing of a side is unread, held, or waits.
+    fn is_spent(&self, side: Side) -> bool
+        ensures { result ≡ is_spent side self.now }
+    {
+        let held = self.host.collected(side).held.as_bytes();
+        self.ends.end_of(side).is_done()
+            && held.is_empty()
+            && self.host.net.loose.as_bytes().is_empty()
     }
 }
 

@@ -1,14 +1,16 @@
 // Where a connection stands.
 
 ghost use Rattle.std.specs.Prelude.{◌≡◌};
-ghost use Rattle.conn.specs.Stages.{after_stage, cause_for, connecting_stage, dropped_in, ended_stage};
-ghost use Rattle.conn.specs.Stages.{failed, goes_on_stage, has_finished, is_asking, is_draining};
+ghost use Rattle.conn.specs.Stages.{accepted_stage, after_stage, cause_for, connected_stage};
+ghost use Rattle.conn.specs.Stages.{connecting_stage, data_stage, dropped_in, ended_stage, failed};
+ghost use Rattle.conn.specs.Stages.{goes_on_stage, has_finished, in_event_of, is_asking, is_draining};
 ghost use Rattle.conn.specs.Stages.{is_relaying};
 
+use crate::ends::Link;
 use crate::events::At;
 use connection_model::{Cause, CutReason};
-use irule_net::{Ending, NetState, Selected};
-use px_bytes::{Addr, FaultKind, Text};
+use irule_net::{Asks, Ending, NetState, Selected};
+use px_bytes::{Addr, FaultKind, Side, Text};
 
 /// Why a connection finishes.
 #[derive(Clone, Copy, Debug, PartialEq, Eq)]
@@ -74,8 +76,13 @@ pub enum Stage {
     Connecting(Addr),
     /// It was asked.
     Answering(Addr),
-    /// Bytes are passed on both ways.
-    Relaying,
+    /// The client's bytes are collected, and there is no server yet.
+    Collecting,
+    /// The client's bytes that were released before there was a server are to go to it.
+    Releasing,
+    /// Bytes are passed on both ways, or collected. The sides take turns, and it is the turn of this
+    /// one.
+    Relaying(Side),
     /// It is to finish.
     Finishing(Finish),
     /// What is queued is to be taken.
@@ -89,15 +96,15 @@ pub enum Stage {
 impl Stage {
     /// Where a connection stands whose bodies of an event have ended. Behind the one that closes its
     /// server the next event comes.
-    pub fn after(at: At, net: &NetState) -> Stage
-        ensures { result ≡ after_stage at net.now }
+    pub fn after(at: At, link: Link, net: &NetState) -> Stage
+        ensures { result ≡ after_stage at link net.now }
     {
         if at.is_closed() {
             return Stage::Draining;
         }
         match net.wishes.ends {
             Some(ending) => Stage::ended(ending),
-            None => Stage::going_on(at, net),
+            None => Stage::going_on(at, link, net),
         }
     }
 
@@ -111,16 +118,46 @@ impl Stage {
     }
 
     // Nothing ended the connection.
-    fn going_on(at: At, net: &NetState) -> Stage
-        ensures { result ≡ goes_on_stage at net.now }
+    fn going_on(at: At, link: Link, net: &NetState) -> Stage
+        ensures { result ≡ goes_on_stage at link net.now }
     {
         match at {
-            At::Accepted => Stage::Choosing,
+            At::Accepted => Stage::behind_accepted(net.client.asks),
+            At::ClientData => Stage::behind_data(link.is_up(), net.wishes.released),
             At::Selected => Stage::connecting(&net.selected),
             At::Failed if net.wishes.reselects => Stage::Choosing,
             At::Failed => Stage::Finishing(Finish::Unselected),
-            At::Connected => Stage::Relaying,
+            At::Connected => Stage::behind_connected(net.loose.as_bytes()),
+            At::ServerData => Stage::Relaying(Side::Client),
             At::ServerClosed | At::Closed => Stage::Draining,
+        }
+    }
+
+    fn behind_accepted(asks: Asks) -> Stage
+        ensures { result ≡ accepted_stage asks }
+    {
+        match asks {
+            Asks::NotAsked => Stage::Choosing,
+            Asks::Stated(_) => Stage::Collecting,
+        }
+    }
+
+    fn behind_data(up: bool, released: bool) -> Stage
+        ensures { result ≡ data_stage up released }
+    {
+        match (up, released) {
+            (true, _) => Stage::Relaying(Side::Server),
+            (false, true) => Stage::Choosing,
+            (false, false) => Stage::Collecting,
+        }
+    }
+
+    fn behind_connected(loose: &[u8]) -> Stage
+        ensures { result ≡ connected_stage loose.now }
+    {
+        match loose {
+            [] => Stage::Relaying(Side::Client),
+            _ => Stage::Releasing,
         }
     }
 
@@ -186,12 +223,26 @@ impl Stage {
         }
     }
 
-    /// Whether bytes are passed on.
-    pub fn is_relaying(&self) -> bool
-        ensures { result ≡ is_relaying self.now }
+    /// Whether bytes are passed on, also at the gate of an event of collected bytes.
+    pub fn is_relaying(&self, link: Link) -> bool
+        ensures { result ≡ is_relaying self.now link }
     {
         match self {
-            Stage::Relaying => true,
+            Stage::Relaying(_) => link.is_up(),
+            Stage::Gated { at } => at.is_data() && link.is_up(),
+            _ => false,
+        }
+    }
+
+    /// Whether the bodies of an event run at which bytes of this side are collected, or are to.
+    pub fn is_in_event_of(&self, side: Side) -> bool
+        ensures { result ≡ in_event_of side self.now }
+    {
+        match self {
+            Stage::Gated { at }
+            | Stage::Running { at, .. }
+            | Stage::Asking { at, .. }
+            | Stage::Failing { at, .. } => at.is_event_of(side),
             _ => false,
         }
     }

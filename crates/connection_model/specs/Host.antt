@@ -11,7 +11,8 @@ use Rattle.event_order.specs.declared.command.HostCommand.TheVariants.{Log, Clas
 use Rattle.event_order.specs.declared.command.HostCommand.TheVariants.{IpClientAddr, IpServerAddr}
 use Rattle.event_order.specs.declared.command.HostCommand.TheVariants.{ActiveMembers, Pool, Node}
 use Rattle.event_order.specs.declared.command.HostCommand.TheVariants.{LbReselect, Reject, Drop}
-use Rattle.event_order.specs.declared.command.HostCommand.TheVariants.{TcpClose}
+use Rattle.event_order.specs.declared.command.HostCommand.TheVariants.{TcpClose, TcpCollect}
+use Rattle.event_order.specs.declared.command.HostCommand.TheVariants.{TcpRelease, TcpPayload}
 use Rattle.event_order.specs.declared.command.HostCommand.TheVariants.{TcpClientPort, LbServer}
 use Rattle.event_order.specs.declared.event.EventName.{EventName}
 use Rattle.event_order.specs.declared.event.EventName.TheVariants.{ClientAccepted}
@@ -44,8 +45,7 @@ with_collect side c h = record h { net = with_collected side c h.net }
 abbrev pub with_loose : List ℕ → HostState → HostState
 with_loose loose h = record h { net = record h.net { loose = loose } }
 
--- The commands that there are today. Those that collect bytes aren't there yet; of those that ask a
--- shared call one is.
+-- The commands that there are today. Of those that ask a shared call one is.
 abbrev pub is_there : HostCommand → Bool
 is_there Log = true
 is_there Class = true
@@ -61,6 +61,9 @@ is_there LbReselect = true
 is_there Reject = true
 is_there Drop = true
 is_there TcpClose = true
+is_there TcpCollect = true
+is_there TcpRelease = true
+is_there TcpPayload = true
 is_there other = false
 
 -- the name is that of one of them

@@ -1,9 +1,12 @@
 //! Gives back on each connection what comes on it. `README.md` has the words.
 #![tactic(auto)]
 
+mod answer;
+mod begin;
 mod echo;
 mod once;
 mod own;
+mod turn;
 
 use crate::echo::Echo;
 use crate::own::Client;

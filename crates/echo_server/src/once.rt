@@ -1,7 +1,7 @@
 // One echo over any net.
 
 ghost use Rattle.std.specs.Prelude.{◌≡◌, ◌<◌, vec_len};
-ghost use Rattle.echo_server.specs.Echo.{Echoes};
+ghost use Rattle.echo_server.specs.Echoes.{Echoes, IsWithin};
 
 use px_outside::{Net, ReadAnswer, WriteAnswer};
 
@@ -19,7 +19,8 @@ pub enum Echoed {
 pub fn echo<N: Net>(net: &mut N, link: u32, room: &mut Vec<u8>) -> Echoed
     requires { 0 < vec_len room.old }
     ensures room { vec_len room.new ≡ vec_len room.old }
-    ensures calls { Echoes N.did net.old link (vec_len room.old) result net.new }
+    ensures calls { Echoes N.did net.old link (vec_len room.old) room.new.items result net.new }
+    ensures within { IsWithin (vec_len room.old) result }
 {
     match net.read(link, room) {
         ReadAnswer::Got(n) => {

@@ -1,17 +1,14 @@
 -- Names of host commands.
-use Rattle.std.proofs.Common.{◌≡◌, ◌≤◌, ℕ, List, [], ◌∷◌, length, Bool, true, false, ◌||◌, Option, Some, None, IsTrue, ◌↔◌, Contains, refl, sym, ap, find, arith}
+use Rattle.std.proofs.Common.{◌≡◌, ◌≤◌, ℕ, List, [], ◌∷◌, length, Bool, true, false, ◌||◌, Option, Some, None, IsTrue, ◌↔◌, refl, sym, ap, find, arith}
 use Rattle.std.specs.Prelude.{not}
 use Rattle.std.specs.Option.{is_some}
 use Rattle.std.specs.Str.{bytes_eq}
 use Rattle.std.proofs.lemmas.Bool.{false≢true}
 use Rattle.std.proofs.lemmas.List.Sums.{AllPass-from_list_all, list_all-from_AllPass}
-use Rattle.std.proofs.lemmas.Cmp.{nat_list_eq_equiv}
-use Rattle.std.proofs.lemmas.Map.Views.{Contains-from_any, list_any-from_Contains}
-use Rattle.std.proofs.lemmas.Slice.Eq.{bytes_eq-Decides}
 use Rattle.event_order.proofs.ByName.{command_by_name}
 use Rattle.event_order.specs.Command.{IsHostCommand, command_row, every_command}
 use Rattle.event_order.specs.declared.command.HostCommand.{HostCommand}
-use Rattle.interim_rules.specs.HostCommands.{NamesBuilt, built_names, is_built, is_built_name, is_host_name, may_all_stand, may_stand, names_in}
+use Rattle.interim_rules.specs.HostCommands.{NamesBuilt, is_built, is_built_name, is_host_name, may_all_stand, may_stand, names_in}
 use Rattle.interim_rules.specs.HostCommands.{only_text}
 use Rattle.tcl_compile.specs.Tree.{Tree, trees_of}
 use Rattle.tcl_compile.specs.TreeView.{nodes_view}
@@ -53,14 +50,10 @@ only_if true b P Q one other = (λ h p. one.0 refl, λ f. refl)
 only_if false true P Q one other = (λ h. absurd (false≢true h), λ f. one.1 (f (other.0 refl)))
 only_if false false P Q one other = (λ h p. absurd (false≢true (other.1 p)), λ f. refl)
 
-one_name : (a b : List ℕ) → bytes_eq a b ≡ true → a ≡ b
-one_name a b h = (bytes_eq-Decides a b).0 h
-
-stands_if : (name : List ℕ) → IsTrue (may_stand name) ↔ (IsHostCommand name → Contains built_names name)
+stands_if : (name : List ℕ) → IsTrue (may_stand name) ↔ (IsHostCommand name → IsTrue (is_built_name name))
 stands_if name =
-    only_if (is_built_name name) (is_host_name name) (IsHostCommand name) (Contains built_names name)
-    (Contains-from_any one_name name built_names, list_any-from_Contains nat_list_eq_equiv name built_names)
-    (host_named name)
+    only_if (is_built_name name) (is_host_name name) (IsHostCommand name) (IsTrue (is_built_name name))
+    (λ h. h, λ h. h) (host_named name)
 
 pub built_if : (t : Tree) → IsTrue (is_built t) ↔ NamesBuilt t
 built_if t = (

@@ -3,7 +3,7 @@ use Rattle.std.proofs.Common.{◌≡◌, ℕ, List, [], ◌∷◌, refl, codes, 
 use Rattle.tcl_compile.specs.Tree.{Tree, plain, word, script, command, trees_of}
 use Rattle.tcl_compile.specs.declared.node.Verb.{Verb}
 use Rattle.tcl_compile.specs.declared.node.Verb.TheVariants.{Named, Computed}
-use Rattle.interim_rules.specs.HostCommands.{is_built, is_host_name}
+use Rattle.interim_rules.specs.HostCommands.{is_built, is_built_name, is_host_name}
 
 -- a word of this text
 abbrev text : List ℕ → Tree
@@ -14,17 +14,23 @@ abbrev call : Verb → List ℕ → Tree
 call verb name = script (trees_of (command verb (trees_of (text name ∷ text (codes "p") ∷ [])) ∷ []))
 
 record Rows : Type 0 where
+  -- table p
+  host : is_built (call Named (codes "table")) ≡ false
+  -- TCP::collect p
+  collect : is_built (call Named (codes "TCP::collect")) ≡ true
+  -- HTTP::uri p
+  uri : is_built (call Named (codes "HTTP::uri")) ≡ false
   -- pool p
-  host : is_built (call Named (codes "pool")) ≡ false
+  pool : is_built (call Named (codes "pool")) ≡ true
   -- TCP::respond p
   respond : is_built (call Named (codes "TCP::respond")) ≡ true
   -- active_members p
   members : is_built (call Named (codes "active_members")) ≡ true
   -- string p
   pure : is_built (call Named (codes "string")) ≡ true
-  -- poo\x6c p: a name with a backslash is a name when the command runs
-  backslash : is_built (call Computed (codes "pool")) ≡ true
+  -- tabl\x65 p: a name with a backslash is a name when the command runs
+  backslash : is_built (call Computed (codes "table")) ≡ true
 
 rows : Rows
-unfolding is_host_name
-rows = record { host = refl; respond = refl; members = refl; pure = refl; backslash = refl }
+unfolding is_host_name is_built_name
+rows = record { host = refl; collect = refl; uri = refl; pool = refl; respond = refl; members = refl; pure = refl; backslash = refl }

@@ -1,8 +1,10 @@
 -- The host commands that a tree names.
-use Rattle.std.specs.Prelude.{ℕ, List, [], ◌∷◌, ◌++◌, codes, Bool, ◌||◌, not, find, is_some, Contains}
-use Rattle.std.specs.List.{All, list_all, list_any}
+use Rattle.std.specs.Prelude.{ℕ, List, [], ◌∷◌, ◌++◌, Bool, ◌||◌, not, find, is_some, IsTrue}
+use Rattle.std.specs.List.{All, list_all}
 use Rattle.std.specs.Str.{bytes_eq}
+use Rattle.connection_model.specs.Host.{names_one}
 use Rattle.event_order.specs.Command.{IsHostCommand, command_row, every_command}
+use Rattle.irule_net.specs.Checks.{command_of}
 use Rattle.tcl_compile.specs.Tree.{Tree, plain, variable, element, word, script, command, expr}
 use Rattle.tcl_compile.specs.Tree.{branches, loop, each, switch, catch, catch_in, next_body}
 use Rattle.tcl_compile.specs.Tree.{prefixed, row, choice, Trees, no_trees, and_tree}
@@ -73,12 +75,9 @@ abbrev mutual
 unfoldable pub is_host_name : List ℕ → Bool
 is_host_name name = is_some (find (λ c. bytes_eq (command_row c).name name) every_command)
 
--- the host commands that can be run today
-abbrev pub built_names : List (List ℕ)
-built_names = codes "log" ∷ codes "class" ∷ codes "TCP::respond" ∷ codes "active_members" ∷ []
-
-abbrev pub is_built_name : List ℕ → Bool
-is_built_name name = list_any (bytes_eq name) built_names
+-- a connection has the host command of this name today
+unfoldable pub is_built_name : List ℕ → Bool
+is_built_name name = names_one (command_of name)
 
 -- a name may stand in a rule; one that nothing has is a fault when it runs
 abbrev pub may_stand : List ℕ → Bool
@@ -93,4 +92,4 @@ is_built t = may_all_stand (names_in t)
 
 -- the same, name by name
 abbrev pub NamesBuilt : Tree → Type 0
-NamesBuilt t = All (λ name. IsHostCommand name → Contains built_names name) (names_in t)
+NamesBuilt t = All (λ name. IsHostCommand name → IsTrue (is_built_name name)) (names_in t)

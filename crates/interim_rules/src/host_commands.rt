@@ -9,6 +9,7 @@ ghost use Rattle.interim_rules.specs.HostCommands.{only_text, plain_text};
 ghost use Rattle.tcl_compile.specs.Tree.{operands_of, trees_of, values_of};
 ghost use Rattle.tcl_compile.specs.TreeView.{node_view, nodes_view, operands_view, values_view};
 
+use connection_model::is_there;
 use event_order::is_host_command;
 use tcl_compile::{Node, Verb};
 use tcl_expr::Joint;
@@ -20,14 +21,12 @@ fn is_host_name(name: &[u8]) -> bool
     is_host_command(name)
 }
 
-// Whether it is the name of a host command that can be run.
+// Whether it is the name of a host command that a connection has today.
+#[tactic(auto, unfolding(crate::specs::HostCommands::is_built_name))]
 fn is_built_name(name: &[u8]) -> bool
     ensures { result ≡ is_built_name name.now }
 {
-    name == b"log".as_slice()
-        || name == b"class".as_slice()
-        || name == b"TCP::respond".as_slice()
-        || name == b"active_members".as_slice()
+    is_there(name)
 }
 
 // Whether the name of a command may stand in a rule: it is no host command's, or that of one that

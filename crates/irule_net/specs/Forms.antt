@@ -30,17 +30,23 @@ server_form (word ∷ words) =
     else (if bytes_eq word (codes "addr") then Some form.SelectedAddr
     else (if bytes_eq word (codes "port") then Some form.SelectedPort else None))
 
+-- The word behind the command is an option, which has the number of words of one of its forms.
 abbrev pub payload_form : List (List ℕ) → Option Form
 payload_form [] = Some form.Payload
-payload_form (word ∷ words) =
-    if bytes_eq word (codes "length") then Some form.PayloadLength
-    else (if bytes_eq word (codes "replace") then Some form.Replace else None)
+payload_form (word ∷ []) =
+    if bytes_eq word (codes "length") then Some form.PayloadLength else None
+payload_form (word ∷ (at ∷ (n ∷ (text ∷ [])))) =
+    if bytes_eq word (codes "replace") then Some form.Replace else None
+payload_form words = None
 
 abbrev pub reselect_form : List (List ℕ) → Option Form
 reselect_form [] = Some form.Reselect
-reselect_form (word ∷ words) =
+reselect_form (word ∷ (name ∷ [])) =
     if bytes_eq word (codes "pool") then Some form.ReselectPool
     else (if bytes_eq word (codes "node") then Some form.ReselectNode else None)
+reselect_form (word ∷ (addr ∷ (port ∷ []))) =
+    if bytes_eq word (codes "node") then Some form.ReselectNode else None
+reselect_form words = None
 
 -- The form of a command by the words behind it. A command that has one form alone has that one,
 -- whatever its words.

@@ -113,15 +113,14 @@ fn server_form(words: &[Text]) -> Option<Form>
     }
 }
 
+// The word behind the command is an option, which has the number of words of one of its forms.
 fn payload_form(words: &[Text]) -> Option<Form>
     ensures { result ≡ payload_form words.now }
 {
-    let [word, ..] = words else {
-        return Some(Form::Payload);
-    };
-    match word.as_bytes() {
-        b"length" => Some(Form::PayloadLength),
-        b"replace" => Some(Form::Replace),
+    match words {
+        [] => Some(Form::Payload),
+        [word] if word.as_bytes() == b"length".as_slice() => Some(Form::PayloadLength),
+        [word, _, _, _] if word.as_bytes() == b"replace".as_slice() => Some(Form::Replace),
         _ => None,
     }
 }
@@ -129,12 +128,12 @@ fn payload_form(words: &[Text]) -> Option<Form>
 fn reselect_form(words: &[Text]) -> Option<Form>
     ensures { result ≡ reselect_form words.now }
 {
-    let [word, ..] = words else {
-        return Some(Form::Reselect);
-    };
-    match word.as_bytes() {
-        b"pool" => Some(Form::ReselectPool),
-        b"node" => Some(Form::ReselectNode),
+    match words {
+        [] => Some(Form::Reselect),
+        [word, _] if word.as_bytes() == b"pool".as_slice() => Some(Form::ReselectPool),
+        [word, _] | [word, _, _] if word.as_bytes() == b"node".as_slice() => {
+            Some(Form::ReselectNode)
+        }
         _ => None,
     }
 }

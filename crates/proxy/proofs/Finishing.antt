@@ -1,5 +1,5 @@
 -- From what stands and the end of a report to what a replay comes to.
-use Rattle.std.proofs.Common.{◌≡◌, inl, inr, refl, sym, ap, subst, ◌∙◌, ℕ, ◌+◌, ◌≤◌, List, []}
+use Rattle.std.proofs.Common.{◌≡◌, inl, inr, refl, ap, subst, ◌∙◌, ℕ, ◌+◌, ◌≤◌, List, []}
 use Rattle.std.proofs.Common.{◌++◌, length, Option, Result, Ok, Err, IfOk, arith}
 use Rattle.px_bytes.specs.declared.memory.Memory as want
 use Rattle.px_outside.specs.Outside.{told_more, Rose}

@@ -1,5 +1,6 @@
 pub mod ListTests
 pub mod TakenBytes
+pub mod MadeServers
 pub mod TakenKept
 pub mod LineCuts
 pub mod ConnectionLines

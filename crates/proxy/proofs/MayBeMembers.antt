@@ -1,5 +1,5 @@
 -- Whether some may be the members of a pool, by one test.
-use Rattle.std.proofs.Common.{◌≡◌, ◌≤◌, refl, ℕ, List, length, Bool, true, false, ◌&&◌, nat_le, arith}
+use Rattle.std.proofs.Common.{◌≡◌, refl, List, length, Bool, true, false, ◌&&◌, nat_le, arith}
 use Rattle.std.specs.Prelude.{◌↔◌, IsTrue}
 use Rattle.std.specs.List.{list_all}
 use Rattle.std.proofs.lemmas.Bool.{and_parts}

@@ -7,7 +7,6 @@ use Rattle.std.specs.Option.{option_or}
 use Rattle.event_order.specs.Event.{every_event}
 use Rattle.event_order.specs.declared.event.EventName.{EventName}
 use Rattle.interim_rules.specs.HostCommands.{is_built}
-use Rattle.irule_net.specs.declared.groups.Groups.{Groups}
 use Rattle.rule_loader.specs.Loading.{Loaded, rule_of}
 use Rattle.rule_loader.specs.Outcome.{Gives}
 use Rattle.rule_loader.specs.declared.load_fault.RuleFault.{RuleFault}

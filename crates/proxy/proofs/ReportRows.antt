@@ -1,10 +1,11 @@
 -- Worked lines of a report, besides those of notes.
-use Rattle.std.proofs.Common.{◌≡◌, [], refl}
+use Rattle.std.proofs.Common.{◌≡◌, [], ◌∷◌, refl}
 use Rattle.std.specs.Prelude.{codes}
 use Rattle.std.specs.Fmt.{digits}
 use Rattle.journal_text.specs.declared.line_kind.LineKind.TheVariants.{NotEvent}
 use Rattle.proxy_core.specs.declared.event.BadEvent.TheVariants.{Full}
-use Rattle.proxy.specs.Report.{client_text, open_text, end_text, text_fault, event_fault, config_fault}
+use Rattle.proxy.specs.Replay.{servers_text}
+use Rattle.proxy.specs.Report.{client_text, server_text, open_text, end_text, text_fault, event_fault, config_fault}
 
 client : client_text 1 (codes "hi 7") ≡ codes "> client 1 68692037\n"
 unfolding digits
@@ -13,6 +14,14 @@ client = refl
 client_without_bytes : client_text 1 [] ≡ codes "> client 1 -\n"
 unfolding digits
 client_without_bytes = refl
+
+server : server_text 1 1 (codes "ab") ≡ codes "> server 1 1 6162\n"
+unfolding digits
+server = refl
+
+servers : servers_text 1 1 (codes "ab" ∷ [] ∷ []) ≡ codes "> server 1 1 6162\n> server 1 2 -\n"
+unfolding digits
+servers = refl
 
 live : open_text 1 4 0 ≡ codes "> open 1 4 0\n"
 unfolding digits

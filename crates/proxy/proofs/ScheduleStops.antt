@@ -1,16 +1,16 @@
 -- A schedule: what stands behind its lines, and where the replay stops.
 use Rattle.std.proofs.Common.{◌≡◌, refl, sym, ap, subst, ◌∙◌, ℕ, ◌+◌, ◌-◌, ◌<◌}
-use Rattle.std.proofs.Common.{List, [], ◌∷◌, ◌++◌, length, take, drop, Option, Some, None, arith}
+use Rattle.std.proofs.Common.{List, ◌++◌, length, take, drop, Option, Some, None}
 use Rattle.std.specs.Prelude.{Result, Ok, Err, OnOk, IfErr}
 use Rattle.std.specs.List.{position_from}
-use Rattle.std.proofs.lemmas.List.{take-append-drop, take_rest, length-drop}
+use Rattle.std.proofs.lemmas.List.{take-append-drop, take_rest}
 use Rattle.proxy_core.specs.declared.config.Config.{Config}
 use Rattle.proxy_core.specs.declared.core_state.Core.{Core}
 use Rattle.proxy.specs.declared.replay.Stop.{Stop}
 use Rattle.proxy.specs.declared.replay.Stop.TheVariants as stop
 use Rattle.proxy.specs.declared.taken.Taken.{Taken}
 use Rattle.journal_text.specs.Line.{IsSkipped}
-use Rattle.proxy.specs.Lines.{IsLine, Faulty, Unended, NoEvent, events_of, unended_kind}
+use Rattle.proxy.specs.Lines.{Faulty, Unended, NoEvent, unended_kind}
 use Rattle.proxy.specs.Stops.{with_line, StoppedAtLine, Stopped}
 use Rattle.proxy.specs.Written.{Stands, StandsAtEnd}
 use Rattle.proxy.proofs.LineCuts.{is_lf, cut, no_lf, next_line}

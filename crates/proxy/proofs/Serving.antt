@@ -1,13 +1,12 @@
 -- What serving comes to, and when it is what was asked for.
-use Rattle.std.proofs.Common.{◌≡◌, ◌⊎◌, ℕ, Bool, true, false, List, Option, Some, None, inl, inr, refl, sym, subst, ◌∙◌}
-use Rattle.std.specs.Prelude.{Result, Ok, Err, IfOk, IfErr}
+use Rattle.std.proofs.Common.{◌≡◌, ℕ, Bool, true, false, List, Option, Some, None, inl, inr, refl, subst}
+use Rattle.std.specs.Prelude.{Result, Ok, Err, IfOk, IfErr, OnErr}
 use Rattle.config.specs.Outcomes.{Answers}
 use Rattle.config.specs.declared.fault.ConfigFault.{ConfigFault}
 use Rattle.config.specs.declared.fault.ConfigFault.TheVariants as config
 use Rattle.config.specs.declared.fault.Fault.{Fault}
 use Rattle.config.specs.declared.reader.Config as loaded
 use Rattle.px_outside.specs.Net.{Call}
-use Rattle.px_outside.specs.Outside.{Rose}
 use Rattle.proxy_core.specs.declared.config.Config as core
 use Rattle.serve_loop.specs.Faults.{FromNetOrSink}
 use Rattle.serve_loop.specs.declared.fault.ServeEnd.{ServeEnd}
@@ -16,12 +15,11 @@ use Rattle.serve_loop.specs.declared.fault.ServeFault.{ServeFault}
 use Rattle.serve_loop.specs.declared.fault.ServeFault.TheVariants as fault
 use Rattle.serve_words.specs.Words.{IsServe, fields_of}
 use Rattle.serve_words.specs.declared.serve.Serve.{Serve}
-use Rattle.served_core.specs.Serves.{ServesConfig}
+use Rattle.served_core.specs.Serves.{ServesConfig, StopsConfig}
 use Rattle.proxy.specs.declared.outcome.Outcome.{Outcome}
 use Rattle.proxy.specs.declared.outcome.Outcome.TheVariants as is
-use Rattle.proxy.specs.Complete.{MayLoad}
-use Rattle.proxy.specs.Loads.{Loads, is_read_fault}
-use Rattle.proxy.specs.Offline.{IsNotBuilt, IsRefusal}
+use Rattle.proxy.specs.Loads.{is_read_fault}
+use Rattle.proxy.specs.Offline.{IsRefusal}
 use Rattle.proxy.specs.Runnable.{IsRun, run_of}
 use Rattle.proxy.specs.Says.{fault_text}
 use Rattle.proxy.specs.Serving.{MayServe, OfServe, OfWords, Outside, ServeCompletes, ServesTo, Untouched, end_of, read_end, refused_end}
@@ -54,14 +52,17 @@ module _ {S T : Type 0} (did : S → Call → S → Type 0) (gave : S → ℕ �
 
     pub served : (C : loaded.Config) (K : core.Config) → Answers told old.reads new.reads s.config (Ok C) → IsRun C K → (r : Result ServeEnd ServeFault)
         → IfOk r (ServesConfig did gave ticked K s.conns s.turns old.net new.net old.clock new.clock old.written new.written)
+        → OnErr r (StopsConfig did gave ticked K s.conns s.turns old.net old.clock new.clock old.written new.written)
         → IfErr r (FromNetOrSink old.net_faults new.net_faults old.writes new.writes) → To (end_of r)
-    served C K answers run (Ok ending.Conns) serves free =
+    served C K answers run (Ok ending.Conns) serves stops free =
         record { C = C; K = K; loads = loads told old.reads new.reads s.config C answers; is_run = run; serves = serves }
-    served C K answers run (Ok ending.Turns) serves free =
+    served C K answers run (Ok ending.Turns) serves stops free =
         record { C = C; K = K; loads = loads told old.reads new.reads s.config C answers; is_run = run; serves = serves }
-    served C K answers run (Err fault.Net) free rose = ((C, K, loads told old.reads new.reads s.config C answers, run), rose)
-    served C K answers run (Err fault.Write) free rose = ((C, K, loads told old.reads new.reads s.config C answers, run), rose)
-    served C K answers run (Err fault.Memory) free rose = tt
+    served C K answers run (Err fault.Net) free stops rose =
+        (record { C = C; K = K; loads = loads told old.reads new.reads s.config C answers; is_run = run; stops = stops }, rose)
+    served C K answers run (Err fault.Write) free stops rose =
+        (record { C = C; K = K; loads = loads told old.reads new.reads s.config C answers; is_run = run; stops = stops }, rose)
+    served C K answers run (Err fault.Memory) free stops rose = tt
 
   module _ (words : List (List ℕ)) where
     pub of_serve : (s : Serve) → IsServe words s → (end : Outcome) → ServesTo did gave ticked told s old new end → OfWords did gave ticked told words old new end

@@ -1,6 +1,7 @@
 pub mod Report
 pub mod End
 pub mod Command
+pub mod ServerBytes
 pub mod Taken
 pub mod Lines
 pub mod Replay

@@ -1,18 +1,20 @@
 -- The report of a past, in this project's own format.
-use Rattle.std.specs.Prelude.{ℕ, List, [], ◌∷◌, ◌++◌, take, map, Option, Some, None, if◌then◌else◌}
+use Rattle.std.specs.Prelude.{ℕ, zero, suc, ◌+◌, List, [], ◌∷◌, ◌++◌, take, map}
+use Rattle.std.specs.Prelude.{Option, Some, None, if◌then◌else◌}
 use Rattle.px_bytes.specs.declared.addr.Side.TheVariants.{Client, Server}
-use Rattle.connection_model.specs.Item.{client_output}
+use Rattle.connection_model.specs.Item.{client_output, server_output}
 use Rattle.proxy_core.specs.Past.{Past, kind_of, heard, with_accepted, shared}
 use Rattle.proxy_core.specs.Queries.{pending_on}
 use Rattle.proxy_core.specs.Ready.{is_in}
 use Rattle.proxy_core.specs.Refusals.{live_at}
 use Rattle.proxy_core.specs.Scheduler.{State, pending}
+use Rattle.proxy_core.specs.Servers.{servers_made, took_of}
 use Rattle.proxy_core.specs.Setup.{init_notes}
 use Rattle.proxy_core.specs.declared.config.Config.{Config}
 use Rattle.proxy_core.specs.declared.core_state.Core.{Core}
 use Rattle.proxy_core.specs.declared.live.Live.{Live}
 use Rattle.proxy.specs.declared.taken.Taken.{Taken}
-use Rattle.proxy.specs.Report.{client_text, open_text}
+use Rattle.proxy.specs.Report.{client_text, server_text, open_text}
 use Rattle.journal_text.specs.Notes.{note_lines}
 
 -- the lines of the notes, the oldest first
@@ -33,12 +35,34 @@ accepted (x ∷ past) = with_accepted (kind_of x.event) (accepted past)
 abbrev pub taken_bytes : Past → State → ℕ → List ℕ
 taken_bytes past s c = take (heard c past).client.took (client_output (s.places c))
 
--- A connection's lines: what its client took, and, where it is live, what is pending to its client
--- and to its server. There is no server connection yet.
+-- The bytes that the server connection of this number took, the first being 1: so many as it took, of
+-- those that were sent to it. To one that was made behind the finish nothing was sent.
+abbrev pub server_bytes : Past → State → ℕ → (number : ℕ) → List ℕ
+server_bytes past s c k = take (took_of (heard c past).connects k) (server_output k (s.places c))
+
+-- the numbers from 1 to n
+abbrev pub numbers_to : ℕ → List ℕ
+numbers_to zero = []
+numbers_to (suc n) = numbers_to n ++ suc n ∷ []
+
+-- those of each server connection of c, in their order
+abbrev pub servers_bytes : Past → State → ℕ → List (List ℕ)
+servers_bytes past s c = map (server_bytes past s c) (numbers_to (servers_made c past))
+
+-- their lines, the first by this number
+abbrev pub servers_text : ℕ → (number : ℕ) → List (List ℕ) → List ℕ
+servers_text conn number [] = []
+servers_text conn number (bytes ∷ more) =
+    server_text conn number bytes ++ servers_text conn (number + 1) more
+
+-- A connection's lines: what its client took, what each of its server connections took, and, where
+-- it is live, what is pending to its client and to its server.
 abbrev pub connection_text : Past → State → ℕ → List ℕ
 connection_text past s c =
     client_text c (taken_bytes past s c)
-    ++ (if is_in (shared past).live c then open_text c (pending past s c Client) 0 else [])
+    ++ (servers_text c 1 (servers_bytes past s c)
+    ++ (if is_in (shared past).live c
+    then open_text c (pending past s c Client) (pending past s c Server) else []))
 
 abbrev pub connections_text : Past → State → List ℕ → List ℕ
 connections_text past s [] = []
@@ -50,9 +74,13 @@ abbrev pub report_text : Config → Past → State → List ℕ → List ℕ
 report_text C past s last =
     notes_text C past ++ (connections_text past s (accepted past) ++ last)
 
--- what the program keeps of the bytes that clients took
+-- what the program keeps of the bytes that the sides of connections took
+abbrev pub taken_by : Past → State → ℕ → Taken
+taken_by past s c =
+    record { conn = c; client = taken_bytes past s c; servers = servers_bytes past s c }
+
 abbrev pub taken_of : Past → State → List ℕ → List Taken
-taken_of past s numbers = map (λ c. record { conn = c; bytes = taken_bytes past s c }) numbers
+taken_of past s numbers = map (taken_by past s) numbers
 
 -- the same lines, as the program writes them from its core
 abbrev pub open_if_live : ℕ → Option Live → List ℕ
@@ -61,7 +89,8 @@ open_if_live conn (Some l) = open_text conn (pending_on Client l.conn) (pending_
 
 abbrev pub conn_text : Core → Taken → List ℕ
 conn_text core t =
-    client_text t.conn t.bytes ++ open_if_live t.conn (live_at core.live.items t.conn)
+    client_text t.conn t.client
+    ++ (servers_text t.conn 1 t.servers ++ open_if_live t.conn (live_at core.live.items t.conn))
 
 abbrev pub conns_text : Core → List Taken → List ℕ
 conns_text core [] = []

@@ -29,6 +29,12 @@ abbrev pub client_text : ℕ → List ℕ → List ℕ
 client_text conn bytes =
     codes "> client " ++ decimal conn ++ codes " " ++ hex_text bytes ++ codes "\n"
 
+-- the bytes that the server connection of this number took, the first of a client being 1
+abbrev pub server_text : ℕ → (number : ℕ) → List ℕ → List ℕ
+server_text conn number bytes =
+    codes "> server " ++ decimal conn ++ codes " " ++ decimal number ++ codes " "
+    ++ hex_text bytes ++ codes "\n"
+
 -- a connection is live at the end: how many bytes are pending to its client and to its server
 abbrev pub open_text : ℕ → ℕ → ℕ → List ℕ
 open_text conn to_client to_server =

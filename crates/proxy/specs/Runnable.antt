@@ -1,8 +1,8 @@
 -- Which of the configurations that load can be run today, and what the core runs for them: virtual
--- servers without HTTP, pool and persistence, and rules that name no command of the host but `log`,
--- `class`, `TCP::respond` and `active_members`, and have 65,536 procedures at most.
+-- servers without HTTP and persistence, and rules that name no command of the host but those that a
+-- connection has today, and have 65,536 procedures at most.
 use Rattle.std.specs.Prelude.{◌≡◌, ℕ, List, [], ◌∷◌, map, flat_map, Bool, true, false, not, ◌&&◌, Option}
-use Rattle.std.specs.Prelude.{Some, None, option_map, is_none, slice_get, if◌then◌else◌}
+use Rattle.std.specs.Prelude.{Some, None, option_map, is_none, slice_get, unwrap_or, if◌then◌else◌}
 use Rattle.std.specs.List.{list_all, position_from}
 use Rattle.std.specs.Str.{bytes_eq}
 use Rattle.config.specs.declared.config.Persist.{Persist}
@@ -52,7 +52,7 @@ keeps_none persist.SourceAddr = false
 keeps_none persist.Cookie = false
 
 abbrev pub is_plain : Virtual → Bool
-is_plain v = not v.http && (is_none v.pool && keeps_none v.persist)
+is_plain v = not v.http && keeps_none v.persist
 
 -- the number of a rule by its name, and those of a virtual server
 abbrev pub number_of : List LoadedRule → List ℕ → Option ℕ
@@ -65,9 +65,17 @@ listed (Some n) = n ∷ []
 abbrev pub numbers_of : List LoadedRule → List (List ℕ) → List ℕ
 numbers_of rules names = flat_map (λ name. listed (number_of rules name)) names
 
+-- the name of its default pool, empty where it has none
+abbrev pub pool_of : Virtual → List ℕ
+pool_of v = unwrap_or v.pool []
+
 abbrev pub server_of : List LoadedRule → Virtual → served.Virtual
-server_of rules v =
-    record { name = v.name; listen = v.listen; rules = numbers_of rules v.rules }
+server_of rules v = record {
+  name = v.name;
+  listen = v.listen;
+  pool = pool_of v;
+  rules = numbers_of rules v.rules;
+}
 
 -- ---- a configuration
 

@@ -12,12 +12,12 @@ use Rattle.serve_loop.specs.declared.fault.ServeFault.{ServeFault}
 use Rattle.serve_loop.specs.declared.fault.ServeFault.TheVariants as fault
 use Rattle.serve_words.specs.Words.{IsServe}
 use Rattle.serve_words.specs.declared.serve.Serve.{Serve}
-use Rattle.served_core.specs.Serves.{ServesConfig}
+use Rattle.served_core.specs.Serves.{ServesConfig, StopsConfig}
 use Rattle.proxy.specs.declared.outcome.Outcome.{Outcome}
 use Rattle.proxy.specs.declared.outcome.Outcome.TheVariants as is
 use Rattle.proxy.specs.Complete.{MayLoad}
 use Rattle.proxy.specs.Loads.{Loads, IsUnread, is_read_fault}
-use Rattle.proxy.specs.Offline.{IsRefusal, RunsSome}
+use Rattle.proxy.specs.Offline.{IsRefusal}
 use Rattle.proxy.specs.Runnable.{IsRun}
 
 abbrev pub status_of : Outcome → ℕ
@@ -72,6 +72,15 @@ pub record ServesFile {S T : Type 0} (did : S → Call → S → Type 0) (gave :
   pub is_run : IsRun C K
   pub serves : ServesConfig did gave ticked K s.conns s.turns old.net new.net old.clock new.clock old.written new.written end
 
+-- The configuration loads, the core runs it, and it met a fault: what was done before the turn of the fault is exact.
+pub record StopsFile {S T : Type 0} (did : S → Call → S → Type 0) (gave : S → ℕ → Type 0) (ticked : T → ℕ → T → Type 0)
+    (told : List ℕ → Option (List ℕ)) (s : Serve) (old new : Outside S T) : Type 0 where
+  pub C : loaded.Config
+  pub K : core.Config
+  pub loads : Loads told s.config C
+  pub is_run : IsRun C K
+  pub stops : StopsConfig did gave ticked K s.conns s.turns old.net old.clock new.clock old.written new.written
+
 -- by its end
 abbrev pub ServesTo : {S T : Type 0} → (S → Call → S → Type 0) → (S → ℕ → Type 0) → (T → ℕ → T → Type 0)
     → (List ℕ → Option (List ℕ)) → Serve → Outside S T → Outside S T → Outcome → Type 0
@@ -81,9 +90,9 @@ ServesTo did gave ticked told s old new is.Config =
     ((text : List ℕ) × IsRefusal told old.reads new.reads s.config text) × Untouched old new
 ServesTo did gave ticked told s old new is.ReadFault =
     Rose old.reads new.reads × IsUnread told old.reads new.reads s.config × Untouched old new
-ServesTo did gave ticked told s old new is.WriteFault = RunsSome told s.config × Rose old.writes new.writes
+ServesTo did gave ticked told s old new is.WriteFault = StopsFile did gave ticked told s old new × Rose old.writes new.writes
 ServesTo did gave ticked told s old new is.Memory = Unit {0}
-ServesTo did gave ticked told s old new is.NetFault = RunsSome told s.config × Rose old.net_faults new.net_faults
+ServesTo did gave ticked told s old new is.NetFault = StopsFile did gave ticked told s old new × Rose old.net_faults new.net_faults
 ServesTo did gave ticked told s old new is.Turns = ServesFile did gave ticked told s old new ending.Turns
 
 -- the words are `serve`'s, and it ends so

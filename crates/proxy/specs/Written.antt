@@ -1,5 +1,5 @@
 -- What a replay has read and written so far.
-use Rattle.std.specs.Prelude.{◌≡◌, ◌⊎◌, ℕ, ◌+◌, List, [], ◌++◌, length, take, Option}
+use Rattle.std.specs.Prelude.{◌≡◌, ◌⊎◌, ℕ, ◌+◌, List, ◌++◌, length, take, Option}
 use Rattle.px_outside.specs.Outside.{told_more}
 use Rattle.proxy_core.specs.Moves.{Leads}
 use Rattle.proxy_core.specs.Past.{Past}
@@ -15,7 +15,8 @@ use Rattle.proxy.specs.Replay.{notes_text, accepted, taken_of, report_text}
 use Rattle.proxy.specs.Report.{end_text, text_fault, event_fault}
 
 -- This text was read, in so many lines. The core stands for a past whose events are those of the
--- lines; the notes of it are written, and nothing else; and the bytes that clients took are kept.
+-- lines; the notes of it are written, and nothing else; and the bytes that the sides of connections
+-- took are kept.
 pub record Stands (C : Config) (text : List ℕ) (number : ℕ) (core : Core) (taken : List Taken)
     (events : ℕ) (old new : Option (List ℕ)) : Type 0 where
   pub past : Past

@@ -3,12 +3,12 @@
 ghost use Rattle.std.specs.Prelude.{◌≡◌, ◌≤◌, ◌++◌, IfOk, OnOk, OnErr, IfErr};
 ghost use Rattle.px_outside.specs.Outside.{told_more, Rose};
 ghost use Rattle.proxy_core.specs.Refusals.{live_at};
-ghost use Rattle.proxy.specs.Replay.{conn_text, conns_text, open_if_live};
+ghost use Rattle.proxy.specs.Replay.{conn_text, conns_text, open_if_live, servers_text};
 ghost use Rattle.proxy.specs.Stops.{IsOutside};
 ghost use Rattle.proxy.specs.Written.{WritesFrontOf};
 
 use crate::replay::{Replay, Stop};
-use crate::report::{client_line, open_line};
+use crate::report::{client_line, open_line, server_line};
 use crate::taken::Taken;
 use proxy_core::Core;
 use px_bytes::{M, Side, Text};
@@ -41,8 +41,20 @@ impl Replay {
 fn conn_text(alloc: Global, core: &Core, taken: &Taken) -> M<Text>
     ensures { IfOk result (λ text. text ≡ conn_text core.now taken.now) }
 {
-    let mut text = client_line(alloc, taken.conn, taken.bytes.as_bytes())?;
+    let mut text = client_line(alloc, taken.conn, taken.client.as_bytes())?;
+    text.push(servers_text(alloc, taken.conn, taken.servers.as_slice())?.as_bytes())?;
     text.push(open_text(alloc, core, taken.conn)?.as_bytes())?;
+    Ok(text)
+}
+
+// The lines of its server connections.
+fn servers_text(alloc: Global, conn: u32, servers: &[Text]) -> M<Text>
+    ensures { IfOk result (λ text. text ≡ servers_text conn 1 servers.now) }
+{
+    let mut text = Text::empty(alloc);
+    for (at, bytes) in servers.iter().enumerate() {
+        text.push(server_line(alloc, conn, at + 1, bytes.as_bytes())?.as_bytes())?;
+    }
     Ok(text)
 }
 

@@ -6,8 +6,12 @@ mod end;
 mod finish;
 mod groups;
 mod lines;
+#[cfg(test)]
+mod mem_serving;
 mod offline;
 mod outcome;
+#[cfg(test)]
+mod relay_tests;
 mod replay;
 mod report;
 mod run_schedule;
@@ -17,6 +21,7 @@ mod serve;
 mod serve_real;
 #[cfg(test)]
 mod serve_tests;
+mod server_bytes;
 mod taken;
 #[cfg(test)]
 mod tests;

@@ -20,7 +20,7 @@ pub struct Replay {
     pub core: Core,
     /// The notes of the event that is being given.
     pub notes: Notes,
-    /// What each client took, in the order in which the connections were accepted.
+    /// What the sides of each connection took, in the order in which they were accepted.
     pub taken: Vec<Taken>,
     /// How many events were accepted.
     pub events: u64,

@@ -9,7 +9,7 @@ ghost use Rattle.tcl_compile.specs.Procedures.{procs_view};
 ghost use Rattle.tcl_compile.specs.TreeView.{node_view};
 ghost use Rattle.proxy.specs.Runnable.{are_built, can_run, core_of, has_built_bodies, has_few};
 ghost use Rattle.proxy.specs.Runnable.{is_plain, is_rule_built, keeps_none, listed, number_of};
-ghost use Rattle.proxy.specs.Runnable.{numbers_of, run_of, server_of};
+ghost use Rattle.proxy.specs.Runnable.{numbers_of, pool_of, run_of, server_of};
 
 use crate::groups::{Made, core_groups};
 use config::{Config as Loaded, LoadedRule, Persist, Virtual};
@@ -94,7 +94,7 @@ fn keeps_none(persist: Persist) -> bool
 fn is_plain(server: &Virtual) -> bool
     ensures { result ≡ is_plain server.now }
 {
-    !server.http && server.pool.is_none() && keeps_none(server.persist)
+    !server.http && keeps_none(server.persist)
 }
 
 fn are_plain(servers: &[Virtual]) -> bool
@@ -141,12 +141,23 @@ fn numbers_of(alloc: Global, rules: &[LoadedRule], names: &[Text]) -> M<Seq<usiz
     Ok(numbers)
 }
 
+// The name of its default pool, empty where it has none.
+fn pool_of(alloc: Global, server: &Virtual) -> M<Text>
+    ensures { IfOk result (λ pool. pool ≡ pool_of server.now) }
+{
+    match &server.pool {
+        Some(name) => name.copy(),
+        None => Ok(Text::empty(alloc)),
+    }
+}
+
 fn server_of(alloc: Global, rules: &[LoadedRule], server: &Virtual) -> M<CoreVirtual>
     ensures { IfOk result (λ v. v ≡ server_of rules.now server.now) }
 {
     Ok(CoreVirtual {
         name: server.name.copy()?,
         listen: server.listen,
+        pool: pool_of(alloc, server)?,
         rules: numbers_of(alloc, rules, server.rules.as_slice())?,
     })
 }

@@ -1,5 +1,5 @@
 -- How many bytes of its sides a connection of the code takes is what its trace wants.
-use Rattle.std.proofs.Common.{◌≡◌, inl, inr, refl, sym, ap, subst, ◌∙◌, ℕ, ◌-◌, ◌≤◌, List, [], ◌∷◌, length, map, Bool, true, false, ◌||◌, not, Option, Some, None, if◌then◌else◌}
+use Rattle.std.proofs.Common.{◌≡◌, inl, inr, refl, sym, ap, subst, ◌∙◌, ℕ, ◌-◌, ◌≤◌, List, [], ◌∷◌, length, map, Bool, true, false, ◌||◌, not, Option, Some, None, if◌then◌else◌, arith}
 use Rattle.std.specs.Bool.{MatchBool}
 use Rattle.px_bytes.specs.declared.addr.Side.{Side}
 use Rattle.px_bytes.specs.declared.addr.Side.TheVariants.{Client, Server}
@@ -12,7 +12,7 @@ use Rattle.connection_model.specs.Tellings.{tells, finish_told}
 use Rattle.connection_model.specs.declared.edges.Edges.{Edges}
 use Rattle.connection_model.specs.declared.edges.EdgeState.{EdgeState}
 use Rattle.connection_model.specs.declared.edges.EdgeState.TheVariants as state
-use Rattle.conn.specs.Calls.{wanted_in}
+use Rattle.conn.specs.Calls.{counted_held, wanted_in}
 use Rattle.conn.specs.Ends.{arrived, connects_by, end_of, fresh_end, has_stream, server_by}
 use Rattle.conn.specs.Stages.{has_finished}
 use Rattle.conn.specs.declared.connection.Conn.{Conn}
@@ -54,21 +54,21 @@ module _ (C : Config) (c : ℕ) (z : Seen) (v : Served C c z) (told : z.heard.fi
   trace_wants side conn k = wants side conn (wanted_in side conn) refl (setup_of C z.heard) (around z.heard) at k.holds (stands_orderly C c z v)
 
   done : (side : Side) (conn : Conn) → Continues C z conn → z.heard.finished ≡ true → wanted_in side conn ≡ unread_limit
-  done side conn k e = ap (λ b. if b then unread_limit else unread_limit - length (end_of side conn.ends).unread) (sym k.holds.finished ∙ trace_finished C c z v told k.not_failed ∙ e)
+  done side conn k e = ap (λ b. if b then unread_limit else unread_limit - (length (end_of side conn.ends).unread - counted_held side conn)) (sym k.holds.finished ∙ trace_finished C c z v told k.not_failed ∙ e)
 
   -- where there is no server, it is the most
-  fresh_wants : (finished : Bool) (e : End) → e ≡ fresh_end → (if finished then unread_limit else unread_limit - length e.unread) ≡ unread_limit
-  fresh_wants true e is = refl
-  fresh_wants false e is = ap (λ x. unread_limit - length x.unread) is
+  fresh_wants : (finished : Bool) (e : End) (held : ℕ) → e ≡ fresh_end → (if finished then unread_limit else unread_limit - (length e.unread - held)) ≡ unread_limit
+  fresh_wants true e held is = refl
+  fresh_wants false e held is = ap (λ x. unread_limit - (length x.unread - held)) is ∙ omega arith
 
   closed_wants : (conn : Conn) (s : EdgeState) → z.heard.edges.server.state ≡ s → is_open s ≡ false → z.heard.edges ≡ conn.ends.edges → z.heard.finished ≡ false → Continues C z conn → wanted_in Server conn ≡ unread_limit
   closed_wants conn state.Absent is e same going k =
       let P : Bool → Type 0 = λ b. Linked b at z.heard.edges.server.state in
       let h = k.holds.ends in
-      fresh_wants (has_finished conn.stage) conn.ends.server (h.nothing_came (no_stream at conn.ends z.heard.edges.server.state is h.server h.connects (subst P going v.linked)))
+      fresh_wants (has_finished conn.stage) conn.ends.server (counted_held Server conn) (h.nothing_came (no_stream at conn.ends z.heard.edges.server.state is h.server h.connects (subst P going v.linked)))
   closed_wants conn state.Connecting is e same going k =
       let asked : conn.ends.link ≡ link.Asked = k.holds.ends.connecting (ap (λ x. is_connecting x.server.state) (sym same) ∙ ap is_connecting is) in
-      fresh_wants (has_finished conn.stage) conn.ends.server (k.holds.ends.nothing_came (ap has_stream asked))
+      fresh_wants (has_finished conn.stage) conn.ends.server (counted_held Server conn) (k.holds.ends.nothing_came (ap has_stream asked))
   closed_wants conn state.Open is e same going k = cc
   closed_wants conn state.Closed is e same going k =
       let over = (v.closed_over k.not_failed Server (ap is_closed is)).1 in
@@ -88,10 +88,10 @@ module _ (C : Config) (c : ℕ) (z : Seen) (v : Served C c z) (told : z.heard.fi
   wants_same Client None edges same k = sym (ap (λ b. if b then unread_limit else query.wanted Client at) k.finished)
   wants_same Server None edges same k = sym (ap (λ b. if b || not (is_open z.heard.edges.server.state) then unread_limit else query.wanted Server at) k.finished)
   wants_same Client (Some conn) edges same (inr k) =
-      ap (λ st. if has_finished st then unread_limit else unread_limit - length conn.ends.client.unread) k.there
+      ap (λ st. if has_finished st then unread_limit else unread_limit - (length conn.ends.client.unread - counted_held Client conn)) k.there
       ∙ ap (λ b. if b then unread_limit else query.wanted Client at) (sym k.finished)
   wants_same Server (Some conn) edges same (inr k) =
-      ap (λ st. if has_finished st then unread_limit else unread_limit - length conn.ends.server.unread) k.there
+      ap (λ st. if has_finished st then unread_limit else unread_limit - (length conn.ends.server.unread - counted_held Server conn)) k.there
       ∙ ap (λ b. if b || not (is_open z.heard.edges.server.state) then unread_limit else query.wanted Server at) (sym k.finished)
   wants_same Client (Some conn) edges same (inl k) =
       client_end z.heard.finished (wanted_in Client conn) (query.wanted Client at) (done Client conn k) (trace_wants Client conn k)

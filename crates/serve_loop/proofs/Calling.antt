@@ -1,6 +1,6 @@
 -- Calls, and what became of their answers.
 use Rattle.std.proofs.Common.{◌≡◌, ℕ, ◌<◌, ◌≤◌, List, [], ◌∷◌, ◌++◌, length, take, Bool, true, false, Option, Some, None, refl, sym, subst, inl, inr, arith}
-use Rattle.std.specs.Prelude.{if◌then◌else◌, ◌==◌}
+use Rattle.std.specs.Prelude.{if◌then◌else◌, ◌==◌, Ok}
 use Rattle.std.proofs.lemmas.List.{append-nil}
 use Rattle.std.proofs.lemmas.Grind.{common_steps}
 use Rattle.px_bytes.specs.declared.addr.Side.{Side}
@@ -9,7 +9,7 @@ use Rattle.px_outside.specs.declared.answers.ReadAnswer.{ReadAnswer}
 use Rattle.px_outside.specs.declared.answers.ReadAnswer.TheVariants as read
 use Rattle.px_outside.specs.declared.answers.WriteAnswer.{WriteAnswer}
 use Rattle.px_outside.specs.declared.answers.WriteAnswer.TheVariants as write
-use Rattle.px_outside.specs.Net.{Call, Chain, Write, got, ReadsWithin, WritesWithin}
+use Rattle.px_outside.specs.Net.{Call, Chain, Wait, Write, got, ReadsWithin, WritesWithin}
 use Rattle.journal_text.specs.declared.event.Event.{Event}
 use Rattle.served_links.specs.declared.links.Links.{Links}
 use Rattle.served_links.specs.Links.{link_in}
@@ -23,7 +23,10 @@ use Rattle.serve_loop.specs.Part.{stand, Part, IsGiven}
 use Rattle.serve_loop.specs.Asking.{IsOn, takes_back, OneCall, IsUnknown, AskedOnce}
 use Rattle.serve_loop.specs.Writing.{NothingToWrite, WroteOnce, asked_of}
 use Rattle.serve_loop.specs.Running.{OwnStep}
+use Rattle.serve_loop.specs.Turn.{Waits}
 use Rattle.serve_loop.proofs.Chains.{chain_append}
+use Rattle.serve_loop.proofs.Fresh.{once_none, once_then, owners_same, owners_then}
+use Rattle.serve_loop.specs.Fresh.{GivesOnce, OwnersStay, links_given}
 use Rattle.serve_loop.proofs.Compose.{part_less, part_at, part_nothing, tells_nothing}
 
 -- a call, and what became of its answer
@@ -34,10 +37,10 @@ pub record CallStep {C : Type 0} (face : Face C) (conns : ℕ) (call : Call) (a 
 
 -- a call whose answer becomes no event
 pub call_quiet : {C S : Type 0} {face : Face C} {did : S → Call → S → Type 0} {gave : S → ℕ → Type 0} {conns : ℕ}
-    (x : Serving C) (n m : S) (call : Call) → did n call m → ((l : ℕ) → gave n l → gave m l)
+    (x : Serving C) (n m : S) (call : Call) → did n call m → GivesOnce (gave n) (gave m) (links_given (call ∷ []))
     → MayCall face conns (stand x) call None → AfterCall face (stand x) call x.links
     → Part face did gave (CallStep face conns call) x x n m
-call_quiet x n m call d lasts may after = record {
+call_quiet x n m call d once may after = record {
   from = λ s. record {
     steps = Asks call None ∷ [];
     chain = (m, d, refl);
@@ -46,8 +49,10 @@ call_quiet x n m call d lasts may after = record {
       steps_are = refl;
       calls = record { event = None; may = may; links = x.links; after = after; becomes = refl };
     };
-    ready = record { stands = s.stands; known = λ l r e. lasts l (s.known l r e) };
+    ready = record { stands = s.stands; known = λ l r e. once.lasts l (s.known l r e) };
     told = tells_nothing x.journal;
+    once = once;
+    owners = owners_same _ x.links;
     conns = refl;
   };
 }
@@ -55,10 +60,10 @@ call_quiet x n m call d lasts may after = record {
 -- a call whose answer is given to the core
 pub call_heard : {C S : Type 0} {face : Face C} {did : S → Call → S → Type 0} {gave : S → ℕ → Type 0} {conns : ℕ}
     (x : Serving C) (t : Links) (y : Serving C) (n m k : S) (call : Call) (e : Event)
-    → did n call m → (Known (gave n) x.links → Known (gave m) t)
-    → MayCall face conns (stand x) call (Some e) → AfterCall face (stand x) call t → face.takes x.core e
+    → did n call m → GivesOnce (gave n) (gave m) (links_given (call ∷ [])) → OwnersStay (gave n) x.links t
+    → (Known (gave n) x.links → Known (gave m) t) → MayCall face conns (stand x) call (Some e) → AfterCall face (stand x) call t → face.takes x.core e
     → IsGiven face did gave e (record x { links = t }) y m k → Part face did gave (CallStep face conns call) x y n k
-call_heard {C} {S} {face} {did} x t y n m k call e d known may after takes given = record {
+call_heard {C} {S} {face} {did} {gave} x t y n m k call e d once owners known may after takes given = record {
   from = λ s.
       let it = given.from (record { stands = s.stands; known = known s.known }) takes in record {
         steps = Asks call (Some it.given) ∷ [];
@@ -71,6 +76,9 @@ call_heard {C} {S} {face} {did} x t y n m k call e d known may after takes given
         ready = it.ready;
         told = subst (λ (l : List ℕ). Tells x.journal y.journal l)
             (sym (append-nil (group_text it.given.event it.given.group))) it.told;
+        once = subst (λ (l : List Call). GivesOnce (gave n) (gave k) (links_given (call ∷ l))) (sym (append-nil it.given.calls))
+            (once_then (gave n) (gave m) (gave k) (call ∷ []) it.given.calls once it.once);
+        owners = owners_then (gave n) (gave m) x.links t y.links once.lasts owners it.owners;
         conns = it.conns;
       };
 }
@@ -81,20 +89,21 @@ one_call face conns at call on a steps b r =
     record { call = call; given = r.given; steps_are = r.steps_are; on = on; over_is = refl; calls = r.calls }
 
 pub part_quiet : {C S : Type 0} {face : Face C} {did : S → Call → S → Type 0} {gave : S → ℕ → Type 0} {conns : ℕ}
-    (at : ReadyAt) (x : Serving C) (n m : S) (call : Call) → did n call m → ((l : ℕ) → gave n l → gave m l) → IsOn at call
+    (at : ReadyAt) (x : Serving C) (n m : S) (call : Call) → did n call m → GivesOnce (gave n) (gave m) (links_given (call ∷ [])) → IsOn at call
     → MayCall face conns (stand x) call None → AfterCall face (stand x) call x.links
     → Part face did gave (OneCall face conns at (takes_back call)) x x n m
-part_quiet {face = face} {conns = conns} at x n m call d lasts on may after =
-    part_less (one_call face conns at call on) (call_quiet x n m call d lasts may after)
+part_quiet {face = face} {conns = conns} at x n m call d once on may after =
+    part_less (one_call face conns at call on) (call_quiet x n m call d once may after)
 
 pub part_heard : {C S : Type 0} {face : Face C} {did : S → Call → S → Type 0} {gave : S → ℕ → Type 0} {conns : ℕ}
     (at : ReadyAt) (x : Serving C) (t : Links) (y : Serving C) (n m k : S) (call : Call) (e : Event)
-    → did n call m → (Known (gave n) x.links → Known (gave m) t) → IsOn at call
+    → did n call m → GivesOnce (gave n) (gave m) (links_given (call ∷ [])) → OwnersStay (gave n) x.links t
+    → (Known (gave n) x.links → Known (gave m) t) → IsOn at call
     → MayCall face conns (stand x) call (Some e) → AfterCall face (stand x) call t → face.takes x.core e
     → IsGiven face did gave e (record x { links = t }) y m k
     → Part face did gave (OneCall face conns at (takes_back call)) x y n k
-part_heard {face = face} {conns = conns} at x t y n m k call e d known on may after takes given =
-    part_less (one_call face conns at call on) (call_heard x t y n m k call e d known may after takes given)
+part_heard {face = face} {conns = conns} at x t y n m k call e d once owners known on may after takes given =
+    part_less (one_call face conns at call on) (call_heard x t y n m k call e d once owners known may after takes given)
 
 pub part_again : {C S : Type 0} {face : Face C} {did : S → Call → S → Type 0} {gave : S → ℕ → Type 0} {conns : ℕ} {at : ReadyAt}
     {x y : Serving C} {n m : S} → Part face did gave (OneCall face conns at false) x y n m
@@ -196,10 +205,26 @@ takes_write {takes} c side len (write.Took k) e may within is = subst takes (som
 takes_write {takes} c side len write.NotYet e may within is = cc
 takes_write {takes} c side len write.Reset e may within is = subst takes (some_same _ e is) may.broken
 
+-- a wait that answered
+pub part_waits : {C S : Type 0} {face : Face C} {did : S → Call → S → Type 0} {gave : S → ℕ → Type 0} (until : ℕ) (listed : List ReadyAt)
+    (x : Serving C) (n m : S) → did n (Wait until listed (Ok tt)) m → ((l : ℕ) → gave n l → gave m l) → Part face did gave (Waits until listed) x x n m
+part_waits until listed x n m d lasts = record {
+  from = λ s. record {
+    steps = Asks (Wait until listed (Ok tt)) None ∷ [];
+    chain = (m, d, refl);
+    leads = record { waits = refl; same = refl };
+    ready = record { stands = s.stands; known = λ l r e. lasts l (s.known l r e) };
+    told = tells_nothing x.journal;
+    once = once_none lasts;
+    owners = owners_same _ x.links;
+    conns = refl;
+  };
+}
+
 -- an event of the loop's own
 pub part_own : {C S : Type 0} {face : Face C} {did : S → Call → S → Type 0} {gave : S → ℕ → Type 0} (e : Event) {x y : Serving C} {n m : S}
     → (face.stands x.core → face.takes x.core e) → IsGiven face did gave e x y n m → Part face did gave (OwnStep face e) x y n m
-part_own {C} {S} {face} {did} e {x} {y} {n} {m} takes given = record {
+part_own {C} {S} {face} {did} {gave} e {x} {y} {n} {m} takes given = record {
   from = λ s.
       let it = given.from s (takes s.stands) in record {
         steps = Own it.given ∷ [];
@@ -208,6 +233,8 @@ part_own {C} {S} {face} {did} e {x} {y} {n} {m} takes given = record {
         ready = it.ready;
         told = subst (λ (l : List ℕ). Tells x.journal y.journal l)
             (sym (append-nil (group_text it.given.event it.given.group))) it.told;
+        once = subst (λ (l : List Call). GivesOnce (gave n) (gave m) (links_given l)) (sym (append-nil it.given.calls)) it.once;
+        owners = it.owners;
         conns = it.conns;
       };
 }

@@ -13,7 +13,9 @@ use Rattle.served_links.specs.declared.row.Row.{Row}
 use Rattle.served_links.specs.Links.{owner_in, link_in, Opens, Closes}
 use Rattle.serve_loop.specs.declared.carry.Action.TheVariants as does
 use Rattle.serve_loop.specs.Carrying.{action, finish_calls, CloseLink, CarriesOne, Carries, Known, Carried}
+use Rattle.px_outside.specs.Net.{IsNew}
 use Rattle.serve_loop.proofs.Chains.{chain_append}
+use Rattle.serve_loop.proofs.Fresh.{once_none, once_one, once_then, owners_same, owners_then, owners_open, owners_close}
 
 -- a link that was given is known with its owner
 known_with : (gave : ℕ → Type 0) (link l : ℕ) (b : Bool) (o : Option Row) (r : Row) (v : Option Row)
@@ -47,17 +49,19 @@ known_close gave gave' a b link c s lasts closes known l r e =
 
 pub carried_nothing : {S : Type 0} {did : S → Call → S → Type 0} {gave : S → ℕ → Type 0} (a : Links) (n : S)
     → Carried did gave (CarriesOne does.Nothing) a a n n
-carried_nothing a n = record { calls = []; chain = refl; carried = (refl, refl); lasts = λ l g. g; known = λ k. k }
+carried_nothing a n =
+    record { calls = []; chain = refl; carried = (refl, refl); once = once_none (λ l g. g); owners = owners_same _ a; known = λ k. k }
 
 pub carried_connect : {S : Type 0} {did : S → Call → S → Type 0} {gave : S → ℕ → Type 0} (a b : Links) (n m : S)
-    (c link : ℕ) (to : Addr) → did n (Connect to (Ok link)) m → ((l : ℕ) → gave n l → gave m l) → gave m link
-    → Opens a b link c side.Server → Carried did gave (CarriesOne (does.Connects c to)) a b n m
-carried_connect {S} {did} {gave} a b n m c link to d lasts now opens = record {
+    (c link : ℕ) (to : Addr) → did n (Connect to (Ok link)) m → ((l : ℕ) → gave n l → gave m l)
+    → IsNew (gave n) (gave m) link → Opens a b link c side.Server → Carried did gave (CarriesOne (does.Connects c to)) a b n m
+carried_connect {S} {did} {gave} a b n m c link to d lasts new opens = record {
   calls = Connect to (Ok link) ∷ [];
   chain = (m, d, refl);
   carried = (link, refl, opens);
-  lasts = lasts;
-  known = known_open (gave n) (gave m) a b link c side.Server lasts now opens;
+  once = once_one link new lasts;
+  owners = owners_open (gave n) a b link c side.Server new.before opens;
+  known = known_open (gave n) (gave m) a b link c side.Server lasts new.now opens;
 }
 
 pub carried_finish : {S : Type 0} {did : S → Call → S → Type 0} {gave : S → ℕ → Type 0} (a : Links) (n m : S)
@@ -67,7 +71,8 @@ carried_finish a n m c link s is d lasts = record {
   calls = Finish link ∷ [];
   chain = (m, d, refl);
   carried = (sym (ap finish_calls is), refl);
-  lasts = lasts;
+  once = once_none lasts;
+  owners = owners_same _ a;
   known = λ k l r e. lasts l (k l r e);
 }
 
@@ -77,7 +82,8 @@ carried_no_finish a n c s is = record {
   calls = [];
   chain = refl;
   carried = (sym (ap finish_calls is), refl);
-  lasts = λ l g. g;
+  once = once_none (λ l g. g);
+  owners = owners_same _ a;
   known = λ k. k;
 }
 
@@ -88,7 +94,8 @@ carried_close {S} {did} {gave} a b n m c link s is d lasts closes = record {
   calls = Close link ∷ [];
   chain = (m, d, refl);
   carried = subst (λ o. CloseLink o c s a (Close link ∷ []) b) (sym is) (refl, closes);
-  lasts = lasts;
+  once = once_none lasts;
+  owners = owners_close (gave n) a b link c s closes;
   known = known_close (gave n) (gave m) a b link c s lasts closes;
 }
 
@@ -98,7 +105,8 @@ carried_no_close a n c s is = record {
   calls = [];
   chain = refl;
   carried = subst (λ o. CloseLink o c s a [] a) (sym is) (refl, refl);
-  lasts = λ l g. g;
+  once = once_none (λ l g. g);
+  owners = owners_same _ a;
   known = λ k. k;
 }
 
@@ -113,7 +121,8 @@ carries_start notes a n = record {
   calls = [];
   chain = refl;
   carried = λ rest d c. c;
-  lasts = λ l g. g;
+  once = once_none (λ l g. g);
+  owners = owners_same _ a;
   known = λ k. k;
 }
 
@@ -132,7 +141,8 @@ carries_next {S} {did} {gave} notes i j note a b c n m k front p q = record {
   calls = p.calls ++ q.calls;
   chain = chain_append did p.calls q.calls n m k p.chain q.chain;
   carried = first_then notes i j note front a p.calls b q.calls c p.carried q.carried;
-  lasts = λ l g. q.lasts l (p.lasts l g);
+  once = once_then (gave n) (gave m) (gave k) p.calls q.calls p.once q.once;
+  owners = owners_then (gave n) (gave m) a b c p.once.lasts p.owners q.owners;
   known = λ x. q.known (p.known x);
 }
 
@@ -143,6 +153,7 @@ carries_all {S} {did} {gave} notes i a b n m all p = record {
   chain = p.chain;
   carried = subst (λ (l : List Call). Carries notes a l b) (append-nil p.calls)
       (p.carried [] b (subst (λ (l : List Note). Carries l b [] b) (sym all) (refl, refl)));
-  lasts = p.lasts;
+  once = p.once;
+  owners = p.owners;
   known = p.known;
 }

@@ -3,6 +3,8 @@ use Rattle.std.proofs.Common.{◌≡◌, ℕ, List, [], ◌∷◌, ◌++◌, Boo
 use Rattle.std.proofs.lemmas.List.{append-nil}
 use Rattle.px_outside.specs.Net.{Call, Chain}
 use Rattle.serve_loop.proofs.Chains.{chain_append}
+use Rattle.serve_loop.proofs.Fresh.{once_none, once_then, owners_same, owners_then}
+use Rattle.serve_loop.specs.Fresh.{GivesOnce, links_given}
 use Rattle.serve_loop.specs.declared.journal.Journal.{Journal}
 use Rattle.serve_loop.specs.declared.serving.Serving.{Serving}
 use Rattle.serve_loop.specs.Events.{kept, Tells}
@@ -46,6 +48,13 @@ tells_then {a} {b} {c} {x} {y} p q = record {
 pub tells_nothing : (a : Journal) → Tells a a []
 tells_nothing a = record { text = kept_nothing a.recording a.text; same = refl }
 
+-- steps after steps
+pub once_steps : (gave mid gave' : ℕ → Type 0) (xs ys : List Step) → GivesOnce gave mid (links_given (calls_in xs))
+    → GivesOnce mid gave' (links_given (calls_in ys)) → GivesOnce gave gave' (links_given (calls_in (xs ++ ys)))
+once_steps gave mid gave' xs ys p q =
+    subst (λ (l : List Call). GivesOnce gave gave' (links_given l)) (sym (calls_append xs ys))
+    (once_then gave mid gave' (calls_in xs) (calls_in ys) p q)
+
 -- one part after another
 pub part_then : {C S : Type 0} {face : Face C} {did : S → Call → S → Type 0} {gave : S → ℕ → Type 0}
     {R Q : Around C → List Step → Around C → Type 0} {x y z : Serving C} {n m k : S}
@@ -61,6 +70,8 @@ part_then {C} {S} {face} {did} {gave} {R} {Q} {x} {y} {z} {n} {m} {k} p q = reco
         ready = two.ready;
         told = subst (λ t. Tells x.journal z.journal t) (sym (text_append one.steps two.steps))
             (tells_then one.told two.told);
+        once = once_steps (gave n) (gave m) (gave k) one.steps two.steps one.once two.once;
+        owners = owners_then (gave n) (gave m) x.links y.links z.links one.once.lasts one.owners two.owners;
         conns = two.conns ∙ one.conns;
       };
 }
@@ -78,6 +89,8 @@ part_less {C} {S} {face} {did} {gave} {R} {Q} {x} {y} less p = record {
         leads = less (stand x) it.steps (stand y) it.leads;
         ready = it.ready;
         told = it.told;
+        once = it.once;
+        owners = it.owners;
         conns = it.conns;
       };
 }
@@ -104,6 +117,8 @@ part_nothing R x n none = record {
     leads = none;
     ready = s;
     told = tells_nothing x.journal;
+    once = once_none (λ l there. there);
+    owners = owners_same _ x.links;
     conns = refl;
   };
 }
@@ -121,6 +136,8 @@ part_at less p = record {
         leads = less it.steps it.leads;
         ready = it.ready;
         told = it.told;
+        once = it.once;
+        owners = it.owners;
         conns = it.conns;
       };
 }

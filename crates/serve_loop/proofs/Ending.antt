@@ -1,6 +1,7 @@
 -- Turns are a walk, and where they end.
 use Rattle.std.proofs.Common.{◌≡◌, ◌⊎◌, ℕ, zero, suc, ◌+◌, ◌<◌, List, [], ◌∷◌, ◌++◌, Bool, true, false, not, Option, Some, None, inl, inr, refl, sym, ap, subst, ◌∙◌, append_assoc, add-one}
 use Rattle.std.proofs.lemmas.List.{append-nil}
+use Rattle.std.specs.Prelude.{Result, Ok, Err, OnErr}
 use Rattle.px_outside.specs.Net.{Call, Chain}
 use Rattle.px_outside.specs.Outside.{told_more}
 use Rattle.serve_loop.specs.declared.serving.Serving.{Serving}
@@ -10,10 +11,11 @@ use Rattle.serve_loop.specs.Server.{Running, OneTurn, Turns, Done, Walked, IsOve
 use Rattle.serve_loop.specs.Turn.{CanAccept}
 use Rattle.serve_loop.specs.Walk.{Around, Step, Walks, calls_in, text_in}
 use Rattle.serve_loop.proofs.Chains.{chain_append}
-use Rattle.serve_loop.proofs.Compose.{calls_append, text_append, walks_append}
+use Rattle.serve_loop.proofs.Compose.{calls_append, text_append, walks_append, once_steps}
+use Rattle.serve_loop.proofs.Fresh.{once_none, owners_same, owners_then}
 use Rattle.serve_loop.proofs.Walking.{rounds_walk}
 
-told_nothing : (o : Option (List ℕ)) → o ≡ told_more o []
+pub told_nothing : (o : Option (List ℕ)) → o ≡ told_more o []
 told_nothing None = refl
 told_nothing (Some text) = ap Some (sym (append-nil text))
 
@@ -26,7 +28,7 @@ pub turns_walk : {C S T : Type 0} (face : Face C) (did : S → Call → S → Ty
     (n : ℕ) (old new : Running C S T) → Turns face did gave ticked n old new → Walked face did gave old new
 turns_walk {C} {S} {T} face did gave ticked zero old new same ready none =
     subst (λ (x : Running C S T). Done face did gave (Walks face old.server.serving.conns) old.server.serving x.server.serving old.net x.net old.written x.written) (sym same)
-    (record { steps = []; chain = refl; leads = refl; ready = ready; told = told_nothing old.written; no_line_waits = none; conns = refl })
+    (record { steps = []; chain = refl; leads = refl; ready = ready; told = told_nothing old.written; once = once_none (λ l there. there); owners = owners_same _ old.server.serving.links; no_line_waits = none; conns = refl })
 turns_walk {C} {S} {T} face did gave ticked (suc n) old new turns ready none =
     let mid = turns.0 in
     let turn = turns.3.2 in
@@ -42,6 +44,8 @@ turns_walk {C} {S} {T} face did gave ticked (suc n) old new turns ready none =
       ready = two.ready;
       told = two.told ∙ ap (λ (o : Option (List ℕ)). told_more o (text_in two.steps)) one.told ∙ told_then old.written (text_in one.steps) (text_in two.steps)
           ∙ ap (λ (text : List ℕ). told_more old.written text) (sym (text_append one.steps two.steps));
+      once = once_steps (gave old.net) (gave mid.net) (gave new.net) one.steps two.steps one.once two.once;
+      owners = owners_then (gave old.net) (gave mid.net) old.server.serving.links mid.server.serving.links new.server.serving.links one.once.lasts one.owners two.owners;
       no_line_waits = two.no_line_waits;
       conns = two.conns ∙ one.conns;
     }
@@ -59,3 +63,7 @@ ends_over face s b is it = subst (IsOverOr face s) is it
 
 pub behind_next : {C : Type 0} (face : Face C) (n : ℕ) (s : Serving C) → GoesOn face s → Behind face (n + 1) s
 behind_next face n s goes = subst (λ (k : ℕ). Behind face k s) (sym (add-one n)) goes
+
+pub on_err : {A E : Type 0} {X : Type 0} (r : Result A E) → X → OnErr r X
+on_err (Ok a) x = tt
+on_err (Err e) x = x

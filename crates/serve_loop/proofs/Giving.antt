@@ -41,6 +41,8 @@ given_by {C} {S} {face} {did} {gave} e x y n m items b j taken moved stands carr
         chain = carried.chain;
         ready = record { stands = stands s.stands; known = carried.known s.known };
         told = tells_then one two;
+        once = carried.once;
+        owners = carried.owners;
         conns = conns;
       };
 }

@@ -1,4 +1,5 @@
 pub mod Chains
+pub mod Fresh
 pub mod Carried
 pub mod Compose
 pub mod Giving

@@ -12,7 +12,8 @@ use Rattle.serve_loop.specs.Often.{GaveOften, Tried, staying, Each}
 use Rattle.serve_loop.specs.Walk.{Around, Step, calls_in, Then}
 use Rattle.serve_loop.specs.Part.{stand, Part}
 use Rattle.serve_loop.proofs.Chains.{chain_append}
-use Rattle.serve_loop.proofs.Compose.{part_less, part_nothing, calls_append, text_append, tells_then}
+use Rattle.serve_loop.proofs.Compose.{part_less, part_nothing, calls_append, text_append, tells_then, once_steps}
+use Rattle.serve_loop.proofs.Fresh.{owners_then}
 
 -- one part after another, where the second is said by how many connections may be accepted
 pub part_next : {C S : Type 0} {face : Face C} {did : S → Call → S → Type 0} {gave : S → ℕ → Type 0}
@@ -36,6 +37,8 @@ part_next {C} {S} {face} {did} {gave} {R} Q {x} {y} {z} {n} {m} {k} p q = record
         ready = two.ready;
         told = subst (λ t. Tells x.journal z.journal t) (sym (text_append one.steps two.steps))
             (tells_then one.told two.told);
+        once = once_steps (gave n) (gave m) (gave k) one.steps two.steps one.once two.once;
+        owners = owners_then (gave n) (gave m) x.links y.links z.links one.once.lasts one.owners two.owners;
         conns = two.conns ∙ one.conns;
       };
 }

@@ -8,6 +8,7 @@ use Rattle.px_outside.specs.Net.{Call, Connect, Finish, Close, Chain}
 use Rattle.served_links.specs.declared.links.Links.{Links}
 use Rattle.served_links.specs.declared.row.Row.{Row}
 use Rattle.served_links.specs.Links.{owner_in, link_in, Opens, Closes}
+use Rattle.serve_loop.specs.Fresh.{GivesOnce, OwnersStay, links_given}
 use Rattle.serve_loop.specs.declared.carry.Action.{Action}
 use Rattle.serve_loop.specs.declared.carry.Action.TheVariants as does
 
@@ -51,5 +52,6 @@ pub record Carried {S : Type 0} (did : S → Call → S → Type 0) (gave : S �
   pub calls : List Call
   pub chain : Chain did net calls net'
   pub carried : R old calls new
-  pub lasts : (l : ℕ) → gave net l → gave net' l
+  pub once : GivesOnce (gave net) (gave net') (links_given calls)
+  pub owners : OwnersStay (gave net) old new
   pub known : Known (gave net) old → Known (gave net') new

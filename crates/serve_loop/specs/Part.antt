@@ -6,6 +6,7 @@ use Rattle.serve_loop.specs.declared.serving.Serving.{Serving}
 use Rattle.serve_loop.specs.Carrying.{Known}
 use Rattle.serve_loop.specs.Events.{Tells, group_text}
 use Rattle.serve_loop.specs.Face.{Face}
+use Rattle.serve_loop.specs.Fresh.{GivesOnce, OwnersStay, links_given}
 use Rattle.serve_loop.specs.Walk.{Around, Given, Step, Gives, calls_in, text_in}
 
 -- where the loop stands
@@ -18,7 +19,8 @@ pub record Ready {C : Type 0} (face : Face C) (gave : ℕ → Type 0) (s : Servi
   pub known : Known gave s.links
 
 -- The steps that were made: their calls are the net's, in order; they lead from there to here; their
--- events' lines were written down.
+-- events' lines were written down. Each link that the net gave is new, and no link that it gave before
+-- belongs to another connection than then.
 pub record Happens {C : Type 0} (face : Face C) {S : Type 0} (did : S → Call → S → Type 0)
     (gave : S → ℕ → Type 0) (R : Around C → List Step → Around C → Type 0)
     (old new : Serving C) (net net' : S) : Type 0 where
@@ -27,6 +29,8 @@ pub record Happens {C : Type 0} (face : Face C) {S : Type 0} (did : S → Call �
   pub leads : R (stand old) steps (stand new)
   pub ready : Ready face (gave net') new
   pub told : Tells old.journal new.journal (text_in steps)
+  pub once : GivesOnce (gave net) (gave net') (links_given (calls_in steps))
+  pub owners : OwnersStay (gave net) old.links new.links
   pub conns : new.conns ≡ old.conns
 
 -- wherever the loop stood
@@ -43,6 +47,8 @@ pub record Gave {C : Type 0} (face : Face C) {S : Type 0} (did : S → Call → 
   pub chain : Chain did net given.calls net'
   pub ready : Ready face (gave net') new
   pub told : Tells old.journal new.journal (group_text given.event given.group)
+  pub once : GivesOnce (gave net) (gave net') (links_given given.calls)
+  pub owners : OwnersStay (gave net) old.links new.links
   pub conns : new.conns ≡ old.conns
 
 pub record IsGiven {C : Type 0} (face : Face C) {S : Type 0} (did : S → Call → S → Type 0)

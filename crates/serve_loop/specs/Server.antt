@@ -11,6 +11,7 @@ use Rattle.serve_loop.specs.declared.fault.ServeEnd.TheVariants as ending
 use Rattle.serve_loop.specs.declared.server.Server.{Server}
 use Rattle.serve_loop.specs.declared.serving.Serving.{Serving}
 use Rattle.serve_loop.specs.Face.{Face}
+use Rattle.serve_loop.specs.Fresh.{GivesOnce, OwnersStay, links_given}
 use Rattle.serve_loop.specs.Often.{Each}
 use Rattle.serve_loop.specs.Part.{Part, Ready, stand}
 use Rattle.serve_loop.specs.Running.{Ran}
@@ -86,6 +87,8 @@ pub record Done {C : Type 0} (face : Face C) {S : Type 0} (did : S → Call → 
   pub leads : R (stand old) steps (stand new)
   pub ready : Ready face (gave net') new
   pub told : after ≡ told_more before (text_in steps)
+  pub once : GivesOnce (gave net) (gave net') (links_given (calls_in steps))
+  pub owners : OwnersStay (gave net) old.links new.links
   pub no_line_waits : new.journal.text ≡ []
   pub conns : new.conns ≡ old.conns
 
@@ -144,7 +147,7 @@ EndsAs face turns made s ending.Conns = (0 < made) × ((made ≤ turns) × IsOve
 EndsAs face turns made s ending.Turns = (made ≡ turns) × Behind face made s
 
 -- All steps of all turns: where a server began ready and no line waited, their calls are the net's, in order,
--- and their events' lines were written.
+-- their events' lines were written, and each link was given once.
 abbrev pub Walked : {C S T : Type 0} → Face C → (S → Call → S → Type 0) → (S → ℕ → Type 0)
     → Running C S T → Running C S T → Type 0
 Walked face did gave old new =
@@ -158,6 +161,25 @@ pub record Served {C S T : Type 0} (face : Face C) (did : S → Call → S → T
   pub turned : Turns face did gave ticked made old new
   pub walked : Walked face did gave old new
   pub ends : EndsAs face turns made new.server.serving end
+
+-- A turn that met a fault: a moment was asked for, and what was written of the journal grew.
+pub record Fell {T : Type 0} (ticked : T → ℕ → T → Type 0) (clock clock' : T) (before after : Option (List ℕ)) : Type 0 where
+  pub now : ℕ
+  pub asked : ticked clock now clock'
+  pub more : List ℕ
+  pub grew : after ≡ told_more before more
+
+-- Fewer turns than all were made, behind each of which it went on, and the next one met a fault. What those did is exact,
+-- and their lines stand in the journal.
+pub record Stopped {C S T : Type 0} (face : Face C) (did : S → Call → S → Type 0) (gave : S → ℕ → Type 0)
+    (ticked : T → ℕ → T → Type 0) (turns : ℕ) (old : Running C S T) (clock : T) (after : Option (List ℕ)) : Type 0 where
+  pub made : ℕ
+  pub fewer : made < turns
+  pub mid : Running C S T
+  pub turned : Turns face did gave ticked made old mid
+  pub behind : Behind face made mid.server.serving
+  pub walked : Walked face did gave old mid
+  pub fell : Fell ticked mid.clock clock mid.written after
 
 -- a listener for each virtual server that has an address
 abbrev pub listen_calls : ℕ → Option Addr → List Call

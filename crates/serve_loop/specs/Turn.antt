@@ -9,6 +9,8 @@ use Rattle.journal_text.specs.declared.event.Event.TheVariants as event
 use Rattle.served_links.specs.declared.row.Row.{Row}
 use Rattle.served_links.specs.Links.{owner_in}
 use Rattle.served_links.specs.Added.{added}
+use Rattle.serve_loop.specs.declared.work.Work.{Work}
+use Rattle.serve_loop.specs.declared.work.Work.TheVariants as work
 use Rattle.serve_loop.specs.Asking.{AskedOnce, MayNot, IsUnknown}
 use Rattle.serve_loop.specs.Face.{Face}
 use Rattle.serve_loop.specs.Often.{NotAsked, Tried}
@@ -108,3 +110,9 @@ pub record WritesAt {C : Type 0} (face : Face C) (conns c : ℕ) (stays : Bool) 
   pub server : Bool
   pub stays_is : stays ≡ either client server
   pub writes : Then (Wrote face conns c Client client) (Wrote face conns c Server server) a steps b
+
+-- what is done with a number, and whether it stays
+abbrev pub WorkAt : {C : Type 0} → Face C → Work → ℕ → ℕ → Bool → Around C → List Step → Around C → Type 0
+WorkAt face work.Listener = ListenerAt face
+WorkAt face work.Link = LinkAt face
+WorkAt face work.Writer = WritesAt face

@@ -1,7 +1,7 @@
 // Lines of the journal that wait to be written.
 
-ghost use Rattle.std.specs.Prelude.{◌≡◌, ◌≤◌, IfErr, OnOk, []};
-ghost use Rattle.px_outside.specs.Outside.{told_more};
+ghost use Rattle.std.specs.Prelude.{◌≡◌, ◌≤◌, IfErr, OnErr, OnOk, []};
+ghost use Rattle.px_outside.specs.Outside.{told_more, AddsPrefix};
 ghost use Rattle.journal_text.specs.Line.{event_line};
 ghost use Rattle.journal_text.specs.Notes.{note_lines};
 ghost use Rattle.serve_loop.specs.Events.{Tells};
@@ -58,6 +58,8 @@ impl Journal {
         ensures written { OnOk result
             (K.written sink.new ≡ told_more (K.written sink.old) self.old.text) }
         ensures none_waits { OnOk result (self.new.text ≡ []) }
+        ensures front { OnErr result
+            (AddsPrefix self.old.text (K.written sink.old) (K.written sink.new)) }
         ensures fails { IfErr result (FromSink (K.faults sink.old) (K.faults sink.new)) }
         ensures faults_never_fall { K.faults sink.old ≤ K.faults sink.new }
     {

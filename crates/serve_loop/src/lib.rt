@@ -19,6 +19,7 @@ mod serving;
 mod tick;
 mod turn;
 mod turns;
+mod work;
 mod write;
 
 pub use asked::Asked;

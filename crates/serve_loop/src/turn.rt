@@ -1,11 +1,12 @@
 // One turn, and turns.
 
-ghost use Rattle.std.specs.Prelude.{◌≡◌, ◌≤◌, ℕ, IfErr, OnOk};
+ghost use Rattle.std.specs.Prelude.{◌≡◌, ◌≤◌, ℕ, IfErr, OnErr, OnOk};
 ghost use Rattle.serve_loop.specs.Faults.{FromNet, FromNetOrSink};
-ghost use Rattle.serve_loop.specs.Server.{OneTurn, Turned};
+ghost use Rattle.serve_loop.specs.Server.{Fell, OneTurn, Turned};
 
 use crate::due::{due_links, due_slots};
 use crate::server::Server;
+use crate::work::Work;
 use crate::{Core, ServeFault};
 use px_bytes::Seq;
 use px_outside::{Clock, Net, Sink};
@@ -24,6 +25,8 @@ impl<C: Core + Drop> Server<C> {
             (K.written journal.old) (K.written journal.new)) }
         ensures fails { IfErr result (FromNetOrSink (N.faults net.old) (N.faults net.new)
             (K.faults journal.old) (K.faults journal.new)) }
+        ensures fell { OnErr result
+            (Fell T.gave clock.old clock.new (K.written journal.old) (K.written journal.new)) }
         ensures net_faults_never_fall { N.faults net.old ≤ N.faults net.new }
         ensures journal_faults_never_fall { K.faults journal.old ≤ K.faults journal.new }
         ensures clock_faults_never_fall { T.faults clock.old ≤ T.faults clock.new }
@@ -52,12 +55,12 @@ impl<C: Core + Drop> Server<C> {
         let links = due_links(alloc, self.links.as_slice(), self.listed.as_slice())?;
         self.slots.clear();
         self.links.clear();
-        self.serving.ask_listeners(net, &slots, &mut self.slots)?;
+        self.serving.each(net, Work::Listener, &slots, &mut self.room, &mut self.slots)?;
         self.serving
-            .ask_links(net, &links, &mut self.room, &mut self.links)?;
+            .each(net, Work::Link, &links, &mut self.room, &mut self.links)?;
         self.serving.run_pairs(net, &mut self.writers)?;
         let mut later = Seq::new(alloc);
-        self.serving.write_all(net, &self.writers, &mut later)?;
+        self.serving.each(net, Work::Writer, &self.writers, &mut self.room, &mut later)?;
         self.writers.clear();
         self.writers.add_all(later.as_slice())?;
         Ok(())

@@ -1,2 +1,4 @@
 pub mod Taking
+pub mod Growing
+pub mod Pieces
 pub mod Promising

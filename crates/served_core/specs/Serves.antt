@@ -1,10 +1,11 @@
 -- A configuration is served.
-use Rattle.std.specs.Prelude.{◌≡◌, ℕ, List, [], ◌∷◌, Option, Some, None}
+use Rattle.std.specs.Prelude.{◌≡◌, ◌⊎◌, ℕ, List, [], ◌∷◌, take, Option, Some, None}
 use Rattle.px_outside.specs.Net.{Call, Chain}
 use Rattle.px_outside.specs.Outside.{told_more}
+use Rattle.connection_model.specs.Item.{client_output}
 use Rattle.journal_text.specs.Notes.{note_lines}
 use Rattle.proxy_core.specs.Headline.{OutputMatchesEvaluator}
-use Rattle.proxy_core.specs.Past.{Happened, Past}
+use Rattle.proxy_core.specs.Past.{Happened, Past, heard}
 use Rattle.proxy_core.specs.Represents.{Represents}
 use Rattle.proxy_core.specs.Scheduler.{State, no_connections}
 use Rattle.proxy_core.specs.Setup.{init_notes}
@@ -12,9 +13,10 @@ use Rattle.proxy_core.specs.declared.config.Config.{Config}
 use Rattle.proxy_core.specs.declared.core_state.Core.{Core}
 use Rattle.serve_loop.specs.Part.{stand}
 use Rattle.serve_loop.specs.Walk.{Given, Step, Own, Asked, Walks, calls_in, text_in}
-use Rattle.serve_loop.specs.Server.{Begins, Served as IsServed}
+use Rattle.serve_loop.specs.Server.{Begins, Served as IsServed, Stopped}
 use Rattle.serve_loop.specs.declared.fault.ServeEnd.{ServeEnd}
 use Rattle.serve_loop.specs.declared.server.Server.{Server}
+use Rattle.served_core.specs.Pieces.{pieces_of}
 use Rattle.served_core.specs.Served.{served_face}
 use Rattle.served_core.specs.Told.{meaning}
 use Rattle.served_core.specs.declared.served.Served.{Served}
@@ -33,7 +35,8 @@ past_after (Asked call (Some g) ∷ steps) past = past_after steps (happened g �
 -- All that was done, step by step: the calls on the net are exactly those of the steps, in order; each step is
 -- what the loop may do there, and no event is refused; the journal grew by exactly the lines of the events and
 -- their notes. The core stands for the past of exactly these events, and the promise holds of it: what each client
--- took is a front of what the evaluator gives, and all that `OutputMatchesEvaluator` says.
+-- took is a front of what the evaluator gives, and all that `OutputMatchesEvaluator` says. The pieces that its link took,
+-- in order, are that front.
 pub record ServedEvents {S : Type 0} (did : S → Call → S → Type 0) (C : Config) (conns : ℕ)
     (first last : Server Served) (begun net : S) (before after : Option (List ℕ)) : Type 0 where
   pub steps : List Step
@@ -42,7 +45,40 @@ pub record ServedEvents {S : Type 0} (did : S → Call → S → Type 0) (C : Co
   pub written : after ≡ told_more before (text_in steps)
   pub state : State
   pub represents : Represents C (past_after steps []) state last.serving.core.core
+  pub took : (c : ℕ) → pieces_of c steps
+      ≡ take (heard c (past_after steps [])).client.took (client_output (state.places c))
   pub matches : OutputMatchesEvaluator C (past_after steps []) state
+
+-- so much of a text was written
+pub record WroteSome (text : List ℕ) (before after : Option (List ℕ)) : Type 0 where
+  pub count : ℕ
+  pub written : after ≡ told_more before (take count text)
+
+-- It stopped before the first turn: no moment was asked for, and a front of the notes of its start was written.
+pub record NeverServed {T : Type 0} (C : Config) (clock clock' : T) (before after : Option (List ℕ)) : Type 0 where
+  pub no_moment : clock' ≡ clock
+  pub wrote : WroteSome (note_lines (init_notes C)) before after
+
+-- It was served for fewer turns than all, and the next one met a fault: what those did is exact, and stands in the journal.
+pub record ServedSome {S T : Type 0} (did : S → Call → S → Type 0) (gave : S → ℕ → Type 0)
+    (ticked : T → ℕ → T → Type 0) (C : Config) (conns turns : ℕ) (net : S) (clock clock' : T)
+    (before after : Option (List ℕ)) : Type 0 where
+  pub core : Core
+  pub stands : Represents C [] no_connections core
+  pub first : Server Served
+  pub begun : S
+  pub begins : Begins served_face did (record { core = core }) conns net begun first
+  pub stopped : Stopped served_face did gave ticked turns
+      (record { server = first; net = begun; clock = clock; written = told_more before (note_lines (init_notes C)) })
+      clock' after
+  pub events : ServedEvents did C conns first stopped.mid.server begun stopped.mid.net
+      (told_more before (note_lines (init_notes C))) stopped.mid.written
+
+-- what was done before a fault
+abbrev pub StopsConfig : {S T : Type 0} → (S → Call → S → Type 0) → (S → ℕ → Type 0) → (T → ℕ → T → Type 0)
+    → Config → (conns turns : ℕ) → S → (clock clock' : T) → (before after : Option (List ℕ)) → Type 0
+StopsConfig did gave ticked C conns turns net clock clock' before after =
+    NeverServed C clock clock' before after ⊎ ServedSome did gave ticked C conns turns net clock clock' before after
 
 -- A core that stands for no event begins to be served, behind the notes of its start, and is served turn by turn.
 pub record ServesConfig {S T : Type 0} (did : S → Call → S → Type 0) (gave : S → ℕ → Type 0)

@@ -1,10 +1,10 @@
 // A configuration is served.
 
-ghost use Rattle.std.specs.Prelude.{◌≡◌, ◌≤◌, IfOk, IfErr, OnOk};
+ghost use Rattle.std.specs.Prelude.{◌≡◌, ◌≤◌, IfOk, IfErr, OnErr, OnOk};
 ghost use Rattle.journal_text.specs.Notes.{note_lines};
 ghost use Rattle.px_outside.specs.Outside.{told_more};
 ghost use Rattle.serve_loop.specs.Faults.{FromNetOrSink, FromSink};
-ghost use Rattle.served_core.specs.Serves.{ServesConfig};
+ghost use Rattle.served_core.specs.Serves.{ServesConfig, StopsConfig, WroteSome};
 
 use crate::served::Served;
 use connection_model::Note;
@@ -27,6 +27,8 @@ pub fn serve_config<N: Net, T: Clock, K: Sink>(
 ) -> Result<ServeEnd, ServeFault>
     ensures serves { IfOk result (ServesConfig N.did N.gave T.gave config conns turns net.old net.new
         clock.old clock.new (K.written journal.old) (K.written journal.new)) }
+    ensures stopped { OnErr result (StopsConfig N.did N.gave T.gave config conns turns net.old
+        clock.old clock.new (K.written journal.old) (K.written journal.new)) }
     ensures fails { IfErr result (FromNetOrSink (N.faults net.old) (N.faults net.new)
         (K.faults journal.old) (K.faults journal.new)) }
     ensures net_faults_never_fall { N.faults net.old ≤ N.faults net.new }
@@ -42,6 +44,8 @@ pub fn serve_config<N: Net, T: Clock, K: Sink>(
 fn write_start<K: Sink>(alloc: Global, notes: &[Note], journal: &mut K) -> Result<(), ServeFault>
     ensures written { OnOk result
         (K.written journal.new ≡ told_more (K.written journal.old) (note_lines notes.now)) }
+    ensures some { OnErr result
+        (WroteSome (note_lines notes.now) (K.written journal.old) (K.written journal.new)) }
     ensures fails { IfErr result (FromSink (K.faults journal.old) (K.faults journal.new)) }
     ensures faults_never_fall { K.faults journal.old ≤ K.faults journal.new }
 {

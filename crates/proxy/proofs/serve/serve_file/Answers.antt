@@ -25,4 +25,4 @@ returns g c =
     (record { net = c.args.net.now; clock = c.args.clock.now; written = g.K.Sink.written c.args.journal.now; reads = g.F.Files.faults c.args.files.now; net_faults = g.N.Net.faults c.args.net.now; writes = g.K.Sink.faults c.args.journal.now })
     (record { net = c.serve_config.new.net; clock = c.serve_config.new.clock; written = g.K.Sink.written c.serve_config.new.journal; reads = g.F.Files.faults c.read_config.new.files; net_faults = g.N.Net.faults c.serve_config.new.net; writes = g.K.Sink.faults c.serve_config.new.journal })
     c.args.serve.now c.in-Ok.loaded c.in-Some.config (rw c.as_bytes.ensures at c.in-Ok.ensures.answer) (sym (rw c.in-Some.is at c.in-Ok-core_config.ensures))
-    c.serve_config.result c.serve_config.ensures.serves c.serve_config.ensures.fails)
+    c.serve_config.result c.serve_config.ensures.serves c.serve_config.ensures.stopped c.serve_config.ensures.fails)

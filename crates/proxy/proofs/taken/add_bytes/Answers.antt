@@ -1,11 +1,13 @@
-use Rattle.proxy.proofs.TakenBytes.{none_there, added_there}
+use Rattle.proxy.specs.Taken.{took_on}
+use Rattle.proxy.proofs.TakenBytes.{changed_there, none_there, on_ok}
 use Rattle.proxy.proofs.taken.add_bytes.Goals as goal
 
-pub returns-in_default : goal.returns-in_default
-returns-in_default c rising =
-    none_there c.args.conn c.args.bytes.now c.args.all.now.items c.deref.result.now c.find.result c.deref.ensures.value (c.find.ensures.place (rw c.deref.ensures.value rising)) c.in_default.is
+pub returns-in-Some : goal.returns-in-Some
+returns-in-Some c =
+    let f = took_on c.args.side c.args.bytes.now in
+    on_ok c.add.result _ _ (λ added rising.
+    changed_there c.args.conn f c.in-Some.at c.args.all.now.items c.deref.result.now c.index_mut.result.now _ c.deref.ensures.value (c.in-Some.ensures.place (rw c.deref.ensures.value rising)) c.in-Some.ensures.within c.index_mut.ensures.value (rw (c.as_bytes.ensures) at added)) c.add.ensures
 
-pub returns : goal.returns
-returns c rising =
-    let p = c.in_ok-push.ensures in
-    added_there c.args.conn c.args.bytes.now c.as_bytes.result.now c.push.new.self c.in-Some.at c.args.all.now.items c.deref.result.now c.index_mut.result.now c.deref.ensures.value (c.in-Some.ensures.place (rw c.deref.ensures.value rising)) c.in-Some.ensures.within c.index_mut.ensures.value p.ok c.as_bytes.ensures
+pub returns-in-None : goal.returns-in-None
+returns-in-None c rising =
+    none_there c.args.conn (took_on c.args.side c.args.bytes.now) c.args.all.now.items c.deref.result.now c.find.result c.deref.ensures.value (c.find.ensures.place (rw c.deref.ensures.value rising)) c.in-None.is

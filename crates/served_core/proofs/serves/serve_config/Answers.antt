@@ -1,13 +1,16 @@
-use Rattle.std.proofs.lemmas.Result.{IfOk-weaker}
-use Rattle.std.proofs.Common.{List, ℕ, Option, ap, ◌∙◌, subst}
+use Rattle.std.proofs.lemmas.Result.{IfOk-weaker, on_err_weaker}
+use Rattle.std.proofs.Common.{◌≤◌, List, ℕ, Option, inl, inr, length, refl, ap, sym, ◌∙◌, subst, arith}
+use Rattle.std.proofs.lemmas.List.{take_all}
 use Rattle.px_outside.specs.Outside.{told_more}
 use Rattle.connection_model.specs.declared.note.Note.{Note}
 use Rattle.journal_text.specs.Notes.{note_lines}
-use Rattle.serve_loop.specs.Server.{Served}
+use Rattle.serve_loop.specs.Server.{Served, Stopped}
 use Rattle.serve_loop.specs.declared.fault.ServeEnd.{ServeEnd}
 use Rattle.served_core.specs.Served.{served_face}
 use Rattle.served_core.specs.Serves.{ServedEvents, ServesConfig}
 use Rattle.served_core.proofs.Promising.{fails_later, kept}
+use Rattle.serve_loop.proofs.Ending.{on_err}
+use Rattle.proxy_core.specs.Setup.{init_notes}
 use Rattle.served_core.proofs.serves.serve_config.Goals as goal
 
 pub returns-clause-serves : goal.returns-clause-serves
@@ -29,7 +32,10 @@ returns-clause-serves g c =
           (record { server = c.serve.new.server; net = c.serve.new.net; clock = c.serve.new.clock; written = g.K.Sink.written c.serve.new.journal }) end)
           written it;
       events = subst (λ (w : Option (List ℕ)). ServedEvents g.N.Net.did c.args.config c.args.conns c.in_ok-server.server c.serve.new.server c.new-2.new.net c.serve.new.net w (g.K.Sink.written c.serve.new.journal))
-          written (kept c.args.config c.in_ok-core.core c.in_ok-core.ensures.stands c.in_ok-server.ensures.begins it);
+          written (kept c.args.config c.in_ok-core.core
+          (record { server = c.in_ok-server.server; net = c.new-2.new.net; clock = c.args.clock.now; written = g.K.Sink.written c.write_start.new.journal })
+          (record { server = c.serve.new.server; net = c.serve.new.net; clock = c.serve.new.clock; written = g.K.Sink.written c.serve.new.journal })
+          c.in_ok-core.ensures.stands c.in_ok-server.ensures.begins it.walked);
     }) c.serve.ensures.served
 
 pub returns-clause-fails : goal.returns-clause-fails
@@ -37,3 +43,37 @@ returns-clause-fails g c =
     fails_later (g.N.Net.faults c.args.net.now) (g.N.Net.faults c.new-2.new.net) (g.N.Net.faults c.serve.new.net)
     (g.K.Sink.faults c.args.journal.now) (g.K.Sink.faults c.write_start.new.journal) (g.K.Sink.faults c.serve.new.journal) c.serve.result
     c.new-2.ensures.faults_never_fall c.write_start.ensures.faults_never_fall c.serve.ensures.fails
+
+pub returns-in_err-server-clause-stopped : goal.returns-in_err-server-clause-stopped
+returns-in_err-server-clause-stopped g c =
+    let text = note_lines (init_notes c.args.config) in
+    let written = c.in_ok-write_start.ensures.written
+    ∙ ap (λ (l : List Note). told_more (g.K.Sink.written c.args.journal.now) (note_lines l)) (c.as_slice.ensures ∙ c.in_ok-core.ensures.notes) in
+    let whole : length text ≤ length text = omega arith in
+    on_err c.from_residual-in_err-server.result (inl (record {
+      no_moment = refl;
+      wrote = record {
+        count = length text;
+        written = written ∙ ap (told_more (g.K.Sink.written c.args.journal.now)) (sym (take_all (length text) text whole));
+      };
+    }))
+
+pub returns-clause-stopped : goal.returns-clause-stopped
+returns-clause-stopped g c =
+    let written = c.in_ok-write_start.ensures.written
+    ∙ ap (λ (l : List Note). told_more (g.K.Sink.written c.args.journal.now) (note_lines l)) (c.as_slice.ensures ∙ c.in_ok-core.ensures.notes) in
+    on_err_weaker c.serve.result (λ it.
+    let stopped = subst (λ (w : Option (List ℕ)). Stopped served_face g.N.Net.did g.N.Net.gave g.T.Clock.gave c.args.turns
+    (record { server = c.in_ok-server.server; net = c.new-2.new.net; clock = c.args.clock.now; written = w })
+    c.serve.new.clock (g.K.Sink.written c.serve.new.journal)) written it in
+    inr (record {
+      core = c.in_ok-core.core;
+      stands = c.in_ok-core.ensures.stands;
+      first = c.in_ok-server.server;
+      begun = c.new-2.new.net;
+      begins = c.in_ok-server.ensures.begins;
+      stopped = stopped;
+      events = kept c.args.config c.in_ok-core.core
+          (record { server = c.in_ok-server.server; net = c.new-2.new.net; clock = c.args.clock.now; written = told_more (g.K.Sink.written c.args.journal.now) (note_lines (init_notes c.args.config)) })
+          stopped.mid c.in_ok-core.ensures.stands c.in_ok-server.ensures.begins stopped.walked;
+    })) c.serve.ensures.stopped

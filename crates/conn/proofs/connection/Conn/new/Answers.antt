@@ -3,6 +3,7 @@ use Rattle.irule_net.specs.State.{new_state}
 use Rattle.conn.specs.declared.connection.Conn.{Conn}
 use Rattle.conn.specs.Setups.{places_at}
 use Rattle.conn.specs.Stages.{is_asking}
+use Rattle.conn.specs.declared.ends.Link.TheVariants as link
 use Rattle.conn.specs.declared.events.At.TheVariants.{Accepted}
 use Rattle.conn.proofs.Beginning.{begins}
 use Rattle.conn.proofs.Fitting.{entered_awake}
@@ -15,4 +16,4 @@ returns-clause-begins c =
     begins c.args.setup.now c.args.from c.new-net.result new made c.enter.ensures c.new-3.ensures c.new-4.ensures c.new-5.ensures
 
 pub returns-clause-awake : goal.returns-clause-awake
-returns-clause-awake c = ap is_asking c.enter.ensures ∙ entered_awake Accepted c.new-net.result (places_at c.args.setup.now Accepted)
+returns-clause-awake c = ap is_asking c.enter.ensures ∙ entered_awake Accepted link.Absent c.new-net.result (places_at c.args.setup.now Accepted)

@@ -1,11 +1,12 @@
-use Rattle.std.proofs.Common.{◌≡◌, sym, ap, subst, [], ◌∷◌, ◌++◌, arith}
+use Rattle.std.proofs.Common.{◌≡◌, sym, ap, subst, [], ◌∷◌, ◌++◌, length, arith}
 use Rattle.connection_model.specs.declared.note.Note.TheVariants.{Finish}
 use Rattle.connection_model.specs.declared.note.Cause.TheVariants.{Memory}
 use Rattle.conn.specs.Acts.{Acted}
 use Rattle.conn.specs.Runs.{DropsQueued}
 use Rattle.conn.specs.declared.turn.Act.TheVariants as done
 use Rattle.conn.specs.declared.turn.ConnTurn.{ConnTurn}
-use Rattle.conn.proofs.Running.{drops_told, RunsBy, at_first, one_more, runs_more, runs_asks, runs_rests, runs_out, rests_whole, rests_bounded}
+use Rattle.conn.proofs.Advancing.{rests_quiet}
+use Rattle.conn.proofs.Running.{drops_told, RunsBy, at_first, one_more, runs_more, runs_asks, runs_rests, runs_out, rested_few, rests_whole, rests_bounded}
 use Rattle.conn.proofs.connection.Conn.run.Goals as goal
 
 pub loop-moved-init : goal.loop-moved-init
@@ -78,3 +79,17 @@ returns-in-OutOfMemory-clause-dropped g c =
 pub returns-in-Err-clause-dropped : goal.returns-in-Err-clause-dropped
 returns-in-Err-clause-dropped g c =
     drops_told c.args.number c.queued-pending.result c.advance.new.self c.fail.new.self (c.advance.new.notes.items ++ Finish c.args.number Memory ∷ []) c.fail.new.notes.items c.fail.result c.fail.ensures
+
+pub comes_to_rest-requires : goal.comes_to_rest-requires
+comes_to_rest-requires g c =
+    let acted : Acted c.args.setup.now c.args.number c.loop-moved.self c.advance.new.self c.loop-moved.notes.items c.advance.new.notes.items done.Rests = rw c.in-Ok-Rests.field-0-is at c.in-Ok-Rests.ensures.ok in
+    let same = ap length (rests_quiet c.args.setup.now c.args.number c.loop-moved.self c.advance.new.self c.loop-moved.notes.items c.advance.new.notes.items acted) in
+    let k = c.loop-moved.invariant in
+    omega (arith, same, c.advance.ensures.room, k.2, c.len.ensures, c.if-len-given-ge-MOST_NOTES.false)
+
+pub returns-in-Ok-Rests-clause-few_notes : goal.returns-in-Ok-Rests-clause-few_notes
+returns-in-Ok-Rests-clause-few_notes g c =
+    let acted : Acted c.args.setup.now c.args.number c.loop-moved.self c.advance.new.self c.loop-moved.notes.items c.advance.new.notes.items done.Rests = rw c.in-Ok-Rests.field-0-is at c.in-Ok-Rests.ensures.ok in
+    let same = ap length (rests_quiet c.args.setup.now c.args.number c.loop-moved.self c.advance.new.self c.loop-moved.notes.items c.advance.new.notes.items acted) in
+    let few = rested_few c.args.number c.advance.new.self c.comes_to_rest.new.self c.advance.new.notes.items c.comes_to_rest.new.notes.items c.comes_to_rest.result c.comes_to_rest.ensures.rested in
+    omega (arith, same, few, c.len-given.ensures, c.len.ensures, c.if-len-given-ge-MOST_NOTES.false)

@@ -15,9 +15,9 @@ returns-clause-turned g c =
     let slots = c.args.self.now.slots in
     let links = c.args.self.now.links in
     let listed = c.wait.new.listed in
-    let all_slots = c.in_ok-ask_listeners.ensures.all in
-    let all_links = c.in_ok-ask_links.ensures.all in
-    let all_writes = c.in_ok-write_all.ensures.all in
+    let all_slots = c.in_ok-each.ensures.all in
+    let all_links = c.in_ok-each-2.ensures.all in
+    let all_writes = c.in_ok-each-3.ensures.all in
     let r : Round = record {
       now = c.args.now;
       slots = slots;
@@ -37,8 +37,8 @@ returns-clause-turned g c =
     ∙ ap (λ (l : List ReadyAt). due_now slots (listed_slots l)) c.as_slice-4.ensures in
     let links_due = c.in_ok-links.ensures ∙ ap (λ (l : List ℕ). due_now l (listed_links c.as_slice-6.result.now)) c.as_slice-5.ensures
     ∙ ap (λ (l : List ReadyAt). due_now links (listed_links l)) c.as_slice-6.ensures in
-    let asks_slots = subst (λ (o : List ℕ). Part face g.N.Net.did g.N.Net.gave (Each (ListenerAt face c.wait.new.self.conns) o all_slots.stay) c.wait.new.self c.ask_listeners.new.self c.wait.new.net c.ask_listeners.new.net) slots_due all_slots.did in
-    let asks_links = subst (λ (o : List ℕ). Part face g.N.Net.did g.N.Net.gave (Each (LinkAt face c.ask_listeners.new.self.conns) o all_links.stay) c.ask_listeners.new.self c.ask_links.new.self c.ask_listeners.new.net c.ask_links.new.net) links_due all_links.did in
+    let asks_slots = subst (λ (o : List ℕ). Part face g.N.Net.did g.N.Net.gave (Each (ListenerAt face c.wait.new.self.conns) o all_slots.stay) c.wait.new.self c.each.new.self c.wait.new.net c.each.new.net) slots_due all_slots.did in
+    let asks_links = subst (λ (o : List ℕ). Part face g.N.Net.did g.N.Net.gave (Each (LinkAt face c.each.new.self.conns) o all_links.stay) c.each.new.self c.each-2.new.self c.each.new.net c.each-2.new.net) links_due all_links.did in
     let waits = part_at (λ steps w. record { until = until; waits = w }) c.in_ok-wait.ensures.part in
     record {
       round = r;

@@ -1,9 +1,22 @@
-use Rattle.std.proofs.Common.{List, Option, subst}
+use Rattle.std.proofs.Common.{List, Option, inl, inr, refl, subst}
 use Rattle.px_outside.specs.declared.answers.ReadyAt.TheVariants as ready
+use Rattle.serve_loop.specs.declared.asked.Asked.TheVariants as is
+use Rattle.serve_loop.specs.Asking.{AskedOnce}
 use Rattle.serve_loop.proofs.Calling.{part_unknown}
+use Rattle.serve_loop.proofs.Compose.{part_nothing}
 use Rattle.serve_loop.proofs.serving.Serving.accept.Goals as goal
 
 pub returns-in-None-clause-part : goal.returns-in-None-clause-part
 returns-in-None-clause-part g c =
     part_unknown c.args.self.now.conns (ready.Listener c.args.slot) c.args.self.now c.args.net.now
     (subst (λ (o : Option (List _)). g.C.Core.face.name c.args.self.now.core c.args.slot o) c.in-None.is c.in_ok-name.ensures)
+
+pub returns-in_default-clause-part : goal.returns-in_default-clause-part
+returns-in_default-clause-part g c =
+    part_nothing (AskedOnce g.C.Core.face c.args.self.now.conns (ready.Listener c.args.slot) is.Stays) c.args.self.now c.args.net.now
+    (record { none = refl; same = refl; because = inl c.in_default.ensures.next })
+
+pub returns-then-number-self-clause-part : goal.returns-then-number-self-clause-part
+returns-then-number-self-clause-part g c =
+    part_nothing (AskedOnce g.C.Core.face c.args.self.now.conns (ready.Listener c.args.slot) is.Stays) c.args.self.now c.args.net.now
+    (record { none = refl; same = refl; because = inr (c.in-Some.number, c.in-Some.ensures.next, c.if-number-self.true) })

@@ -5,6 +5,7 @@ use Rattle.px_outside.specs.Net.{Accept, GivesNew}
 use Rattle.px_outside.specs.declared.answers.Accepted.TheVariants as accepted
 use Rattle.px_outside.specs.declared.answers.ReadyAt.TheVariants as ready
 use Rattle.serve_loop.proofs.Carried.{known_open}
+use Rattle.serve_loop.proofs.Fresh.{once_none, once_one, owners_open}
 use Rattle.serve_loop.proofs.Calling.{part_quiet, part_heard, part_again, part_over}
 use Rattle.serve_loop.proofs.serving.Serving.accept_as.Goals as goal
 
@@ -12,7 +13,7 @@ pub returns-in-NotYet-clause-part : goal.returns-in-NotYet-clause-part
 returns-in-NotYet-clause-part g c =
     part_over (part_quiet (ready.Listener c.args.slot) c.args.self.now c.args.net.now c.accept.new.self (Accept c.args.slot (Ok accepted.NotYet))
     (subst (λ r. g.N.Net.did c.args.net.now (Accept c.args.slot r) c.accept.new.self) (c.in_ok-accept.was ∙ ap Ok c.in-NotYet.is) c.accept.ensures.did)
-    c.accept.ensures.lasts.given refl ((c.args.number, (c.requires.next, c.requires.within)), refl) refl)
+    (once_none c.accept.ensures.lasts.given) refl ((c.args.number, (c.requires.next, c.requires.within)), refl) refl)
 
 pub returns-in_ok-give-in-One-clause-part : goal.returns-in_ok-give-in-One-clause-part
 returns-in_ok-give-in-One-clause-part g c =
@@ -21,6 +22,8 @@ returns-in_ok-give-in-One-clause-part g c =
     part_again (part_heard (ready.Listener c.args.slot) c.args.self.now c.open.new.self c.give.new.self c.args.net.now c.accept.new.self c.give.new.net
     (Accept c.args.slot (Ok (accepted.One c.in-One.link c.in-One.from))) _
     (subst (λ r. g.N.Net.did c.args.net.now (Accept c.args.slot r) c.accept.new.self) answer c.accept.ensures.did)
+    (once_one c.in-One.link new c.accept.ensures.lasts.given)
+    (owners_open (g.N.Net.gave c.args.net.now) c.args.self.now.links c.open.new.self c.in-One.link c.args.number Client new.before c.in_ok-open-in-One.ensures.opens)
     (known_open (g.N.Net.gave c.args.net.now) (g.N.Net.gave c.accept.new.self) c.args.self.now.links c.open.new.self c.in-One.link c.args.number Client c.accept.ensures.lasts.given new.now c.in_ok-open-in-One.ensures.opens)
     refl (record { number = c.args.number; may = (c.requires.next, c.requires.within); name = c.args.vs; named = c.requires.named; becomes = refl })
     (c.args.number, c.requires.next, c.in_ok-open-in-One.ensures.opens) (c.requires.may c.in-One.from) c.in_ok-give-in-One.ensures.gives)

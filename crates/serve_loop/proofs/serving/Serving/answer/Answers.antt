@@ -3,25 +3,27 @@ use Rattle.px_outside.specs.Net.{Ask}
 use Rattle.px_outside.specs.declared.answers.ConnectAnswer.TheVariants as connect
 use Rattle.px_outside.specs.declared.answers.ReadyAt.TheVariants as ready
 use Rattle.serve_loop.proofs.Carried.{known_close}
+use Rattle.serve_loop.proofs.Fresh.{once_none, owners_same, owners_close}
 use Rattle.serve_loop.proofs.Calling.{part_quiet, part_heard, part_again, part_over}
 use Rattle.serve_loop.proofs.serving.Serving.answer.Goals as goal
 
 pub returns-in-NotYet-clause-part : goal.returns-in-NotYet-clause-part
 returns-in-NotYet-clause-part g c =
     part_over (part_quiet (ready.Link c.args.link) c.args.self.now c.args.net.now c.connect_answer.new.self (Ask c.args.link connect.NotYet)
-    c.in-NotYet.ensures.did c.connect_answer.ensures.lasts.given refl
+    c.in-NotYet.ensures.did (once_none c.connect_answer.ensures.lasts.given) refl
     (record { row = c.args.row; owned = c.requires.owned; is_server = c.requires.server; waits = c.requires.waits; becomes = refl }) refl)
 
 pub returns-in_ok-give-in-Connected-clause-part : goal.returns-in_ok-give-in-Connected-clause-part
 returns-in_ok-give-in-Connected-clause-part g c =
     part_again (part_heard (ready.Link c.args.link) c.args.self.now c.args.self.now.links c.give.new.self c.args.net.now c.connect_answer.new.self c.give.new.net (Ask c.args.link connect.Connected) _
-    c.in-Connected.ensures.did (λ known l r e. c.connect_answer.ensures.lasts.given l (known l r e)) refl
+    c.in-Connected.ensures.did (once_none c.connect_answer.ensures.lasts.given) (owners_same _ c.args.self.now.links) (λ known l r e. c.connect_answer.ensures.lasts.given l (known l r e)) refl
     (record { row = c.args.row; owned = c.requires.owned; is_server = c.requires.server; waits = c.requires.waits; becomes = refl }) refl
     c.requires.may.made c.in_ok-give-in-Connected.ensures.gives)
 
 pub returns-in_ok-give-in-Refused-clause-part : goal.returns-in_ok-give-in-Refused-clause-part
 returns-in_ok-give-in-Refused-clause-part g c =
     part_over (part_heard (ready.Link c.args.link) c.args.self.now c.close.new.self c.give-in-Refused.new.self c.args.net.now c.connect_answer.new.self c.give-in-Refused.new.net (Ask c.args.link connect.Refused) _
-    c.in-Refused.ensures.did (known_close (g.N.Net.gave c.args.net.now) (g.N.Net.gave c.connect_answer.new.self) c.args.self.now.links c.close.new.self c.args.link c.args.row.conn c.args.row.side c.connect_answer.ensures.lasts.given c.close.ensures) refl
+    c.in-Refused.ensures.did (once_none c.connect_answer.ensures.lasts.given)
+    (owners_close _ c.args.self.now.links c.close.new.self c.args.link c.args.row.conn c.args.row.side c.close.ensures) (known_close (g.N.Net.gave c.args.net.now) (g.N.Net.gave c.connect_answer.new.self) c.args.self.now.links c.close.new.self c.args.link c.args.row.conn c.args.row.side c.connect_answer.ensures.lasts.given c.close.ensures) refl
     (record { row = c.args.row; owned = c.requires.owned; is_server = c.requires.server; waits = c.requires.waits; becomes = refl })
     (c.args.row, c.requires.owned, c.close.ensures) c.requires.may.refused c.in_ok-give-in-Refused.ensures.gives)

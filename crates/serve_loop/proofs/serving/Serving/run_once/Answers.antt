@@ -1,7 +1,14 @@
-use Rattle.std.proofs.Common.{Bool, subst}
-use Rattle.serve_loop.proofs.Compose.{part_at}
+use Rattle.std.proofs.Common.{Bool, refl, subst}
+use Rattle.serve_loop.specs.declared.asked.Asked.TheVariants as is
+use Rattle.serve_loop.specs.Running.{PairOnce}
+use Rattle.serve_loop.proofs.Compose.{part_at, part_nothing}
 use Rattle.serve_loop.proofs.serving.Serving.run_once.Goals as goal
 
 pub returns-clause-part : goal.returns-clause-part
 returns-clause-part g c = let it = c.in_ok-note_ready.ensures in
     part_at (λ steps r. record { unsettled = subst (λ (b : Bool). g.C.Core.face.settled c.args.self.now.core b) c.if-settled.false c.settled.ensures; ready = it.0; is_ready = it.1; noted_is = it.2; events = r }) c.in_ok-pair.ensures.part
+
+pub returns-then-settled-clause-part : goal.returns-then-settled-clause-part
+returns-then-settled-clause-part g c =
+    part_nothing (PairOnce g.C.Core.face c.args.writers.now c.args.writers.now is.Over) c.args.self.now c.args.net.now
+    (refl, record { none = refl; same = refl; because = subst (λ (b : Bool). g.C.Core.face.settled c.args.self.now.core b) c.if-settled.true c.settled.ensures })

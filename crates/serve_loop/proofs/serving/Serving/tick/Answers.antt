@@ -1,10 +1,10 @@
-use Rattle.std.proofs.Common.{ℕ, ◌≤◌, ◌<◌, inl, subst, arith}
+use Rattle.std.proofs.Common.{ℕ, ◌≤◌, ◌<◌, inl, inr, refl, subst, arith}
 use Rattle.std.specs.Prelude.{min}
 use Rattle.journal_text.specs.declared.event.Event.TheVariants as event
 use Rattle.serve_loop.specs.Part.{Part}
 use Rattle.serve_loop.specs.Running.{OwnStep}
-use Rattle.serve_loop.specs.Turn.{tick_limit}
-use Rattle.serve_loop.proofs.Compose.{part_at}
+use Rattle.serve_loop.specs.Turn.{Ticks, tick_limit}
+use Rattle.serve_loop.proofs.Compose.{part_at, part_nothing}
 use Rattle.serve_loop.proofs.Calling.{part_own}
 use Rattle.serve_loop.proofs.serving.Serving.tick.Goals as goal
 
@@ -15,3 +15,11 @@ returns-clause-part g c =
     part_at (λ steps r. record { present = c.moment.result; is_present = c.moment.ensures.moment; ticks = inl (above, r) })
     (subst (λ (t : ℕ). Part g.C.Core.face g.N.Net.did g.N.Net.gave (OwnStep g.C.Core.face (event.Tick t)) c.args.self.now c.give.new.self c.args.net.now c.give.new.net) c.limited-moment.ensures
     (part_own (event.Tick c.limited-moment.result) (λ s. c.moment.ensures.takes c.limited-moment.result le) c.in_ok-give.ensures.gives))
+
+pub returns-then-moment-clause-part : goal.returns-then-moment-clause-part
+returns-then-moment-clause-part g c =
+    part_nothing (Ticks g.C.Core.face c.args.now) c.args.self.now c.args.net.now (record {
+      present = c.moment.result;
+      is_present = c.moment.ensures.moment;
+      ticks = inr (record { none = refl; same = refl; because = subst (λ (t : ℕ). t ≤ c.moment.result) c.limited-moment.ensures c.if-moment.true });
+    })

@@ -2,8 +2,12 @@ use Rattle.std.proofs.Common.{◌≡◌, ℕ, ◌≤◌, ◌+◌, length, subst,
 use Rattle.serve_loop.specs.Part.{Part}
 use Rattle.serve_loop.specs.Writing.{WroteOnce}
 use Rattle.serve_loop.proofs.Compose.{part_at}
-use Rattle.serve_loop.proofs.Trying.{often_next, tried_stays, tried_over, tried_all}
+use Rattle.serve_loop.proofs.Trying.{often_none, often_next, tried_stays, tried_over, tried_all}
 use Rattle.serve_loop.proofs.serving.Serving.write.Goals as goal
+
+pub loop-often-init : goal.loop-often-init
+loop-often-init g c =
+    (often_none (WroteOnce g.C.Core.face c.args.self.now.conns c.args.conn c.args.side) c.args.self.now c.args.net.now, omega arith)
 
 pub loop-often-preserved : goal.loop-often-preserved
 loop-often-preserved g c =

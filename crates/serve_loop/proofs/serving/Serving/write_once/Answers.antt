@@ -2,6 +2,7 @@ use Rattle.std.proofs.Common.{◌<◌, List, ℕ, length, inl, inr, sym, refl, s
 use Rattle.px_outside.specs.Net.{Write}
 use Rattle.serve_loop.specs.Part.{Part}
 use Rattle.serve_loop.specs.Writing.{WroteOnce}
+use Rattle.serve_loop.proofs.Fresh.{once_none, owners_same}
 use Rattle.serve_loop.proofs.Calling.{call_quiet, call_heard, nothing_to_write, part_wrote, takes_write, is_nothing, is_some}
 use Rattle.serve_loop.proofs.serving.Serving.write_once.Goals as goal
 
@@ -19,7 +20,7 @@ returns-in-None-clause-part g c =
     let some : 0 < length c.front-bytes.result.now = is_some c.front-bytes.result.now c.if-is_empty.ensures in
     subst (λ o. Part g.C.Core.face g.N.Net.did g.N.Net.gave (WroteOnce g.C.Core.face c.args.self.now.conns c.args.conn c.args.side o) c.args.self.now c.args.self.now c.args.net.now c.write-answer.new.self) (sym c.asked_of.ensures)
     (part_wrote c.args.conn c.args.side c.in-Some.link c.front-bytes.result.now c.write-answer.result (sym c.in-Some.ensures) c.front-bytes.ensures.queue
-    (call_quiet c.args.self.now c.args.net.now c.write-answer.new.self (Write c.in-Some.link c.front-bytes.result.now c.write-answer.result) c.write-answer.ensures.did c.write-answer.ensures.lasts.given
+    (call_quiet c.args.self.now c.args.net.now c.write-answer.new.self (Write c.in-Some.link c.front-bytes.result.now c.write-answer.result) c.write-answer.ensures.did (once_none c.write-answer.ensures.lasts.given)
     (record { conn = c.args.conn; side = c.args.side; linked = sym c.in-Some.ensures; queued = c.front-bytes.ensures.queue; some = some; becomes = c.in-None.ensures }) refl))
 
 pub returns-in_ok-give-in-Some-write_to_event-clause-part : goal.returns-in_ok-give-in-Some-write_to_event-clause-part
@@ -28,7 +29,7 @@ returns-in_ok-give-in-Some-write_to_event-clause-part g c =
     subst (λ o. Part g.C.Core.face g.N.Net.did g.N.Net.gave (WroteOnce g.C.Core.face c.args.self.now.conns c.args.conn c.args.side o) c.args.self.now c.give.new.self c.args.net.now c.give.new.net) (sym c.asked_of-in-Some-write_to_event.ensures)
     (part_wrote c.args.conn c.args.side c.in-Some.link c.front-bytes.result.now c.write-answer.result (sym c.in-Some.ensures) c.front-bytes.ensures.queue
     (call_heard c.args.self.now c.args.self.now.links c.give.new.self c.args.net.now c.write-answer.new.self c.give.new.net (Write c.in-Some.link c.front-bytes.result.now c.write-answer.result) c.in-Some-write_to_event.event
-    c.write-answer.ensures.did (λ known l r e. c.write-answer.ensures.lasts.given l (known l r e))
+    c.write-answer.ensures.did (once_none c.write-answer.ensures.lasts.given) (owners_same _ c.args.self.now.links) (λ known l r e. c.write-answer.ensures.lasts.given l (known l r e))
     (record { conn = c.args.conn; side = c.args.side; linked = sym c.in-Some.ensures; queued = c.front-bytes.ensures.queue; some = some; becomes = c.in-Some-write_to_event.ensures }) refl
     (takes_write c.args.conn c.args.side (length c.front-bytes.result.now) c.write-answer.result c.in-Some-write_to_event.event (c.front-bytes.ensures.takes some) c.write-answer.ensures.within (sym c.in-Some-write_to_event.ensures))
     c.in_ok-give-in-Some-write_to_event.ensures.gives))
