@@ -1,50 +1,23 @@
--- What a body leaves of the host's state, and how much it sends.
+-- What holds of the host's state and of what was sent to a side holds behind a body, where each command keeps it.
 use Rattle.std.proofs.Common.{◌≡◌, refl, sym, ap, subst, ◌∙◌, ℕ, zero, suc, ◌+◌, ◌≤◌, List, [], ◌∷◌, ◌++◌, length, map, take, Option, Some, None, arith}
 use Rattle.std.specs.Prelude.{slice_get}
 use Rattle.std.specs.List.{flat_map}
-use Rattle.std.proofs.lemmas.List.{length-append}
 use Rattle.px_bytes.specs.Host.{Effect, HostStep, Gives, Faults, Asks}
 use Rattle.px_bytes.specs.declared.addr.Side.{Side}
-use Rattle.rule_model.specs.Outcome.{Act, Did, Called, state}
-use Rattle.rule_model.specs.Laws.{state_after, StepShows, TableShows, ShowsActs}
+use Rattle.rule_model.specs.Outcome.{Act, Did, Called, Outcome, Ends, Waits, State, state}
+use Rattle.rule_model.specs.Laws.{SeenAs, meaning, outcome_seen, state_after, state_seen, step_seen, StepShows}
 use Rattle.rule_model.specs.Evaluator.{evaluate, inner_limit}
+use Rattle.rule_model.specs.Setting.{Setting}
 use Rattle.rule_model.proofs.Facts.{host_shows}
+use Rattle.rule_model.proofs.Pairs.{wider_agrees}
 use Rattle.irule_net.specs.Laws.{bytes_to, sent_to}
 use Rattle.connection_model.specs.Bodies.{run_body}
 use Rattle.connection_model.specs.Host.{HostState, body_setting, host_table}
 use Rattle.connection_model.specs.Setup.{Handler, Setup}
 use Rattle.connection_model.specs.State.{TraceState}
-use Rattle.connection_model.proofs.HostKeeps.{left, made, Kept, kept, count, command_kept, command_counts}
+use Rattle.connection_model.proofs.HostKeeps.{left, made}
 
--- ---- what each command keeps, a body keeps
-
-abbrev nothing : {M : Type 0} → Act → List M
-nothing a = []
-
-shows_nothing : {M : Type 0} (acts : List Act) → flat_map {A = M} nothing acts ≡ []
-shows_nothing [] = refl
-shows_nothing (a ∷ acts) = shows_nothing acts
-
-module _ {X : Type 0} (f : HostState → X) (g : Setup) (same : (h : HostState) (words : List (List ℕ)) → f (left (host_table g h words)) ≡ f h) where
-  abbrev one : HostState → List X
-  one h = f h ∷ []
-
-  step_shows : (h : HostState) (x : HostStep HostState) → f (left x) ≡ f h → StepShows nothing one h x
-  step_shows h (Gives v after effects) e = ap (λ y. y ∷ []) e ∙ sym (ap (λ r. f h ∷ r) (shows_nothing (map Did effects)))
-  step_shows h (Faults fault after effects) e = ap (λ y. y ∷ []) e ∙ sym (ap (λ r. f h ∷ r) (shows_nothing (map Did effects)))
-  step_shows h (Asks call after) e = λ path. ap (λ y. y ∷ []) e
-
-  pub body_keeps : (b : Handler) (l : TraceState) → f (state_after (run_body g b l)).host ≡ f l.host
-  unfolding evaluate
-  body_keeps b l =
-      let s = host_shows (body_setting g b.procedures) nothing one (λ h words. step_shows h (host_table g h words) (same h words)) inner_limit inner_limit b.body [] (state l.vars l.host l.answers.replies g.budget 0 []) in
-      let grown = s.grown ∙ ap (λ r. f l.host ∷ r) (shows_nothing s.new) in
-      cc
-
-pub body_kept : (g : Setup) (b : Handler) (l : TraceState) → kept (state_after (run_body g b l)).host ≡ kept l.host
-body_kept g b l = body_keeps kept g (command_kept g.groups) b l
-
--- ---- what a body sends
+-- ---- how much acts send
 
 -- how many bytes an act sends to a side
 abbrev pub act_bytes : Side → Act → ℕ
@@ -76,27 +49,66 @@ did_bytes : (side : Side) (effects : List Effect) → acts_bytes side (map Did e
 did_bytes side [] = refl
 did_bytes side (e ∷ effects) = ap (λ n. bytes_to side e + n) (did_bytes side effects)
 
-module _ (side : Side) (g : Setup) where
-  abbrev counted : HostState → List (Unit {0})
-  counted h = marks (count side h)
+-- ---- a host that also holds how much was sent to a side
+
+-- the host's state, how much was sent, and what holds of both
+record Ledger (Holds : HostState → ℕ → Type 0) : Type 0 where
+  host : HostState
+  sent : ℕ
+  holds : Holds host sent
+
+module _ (side : Side) (Holds : HostState → ℕ → Type 0) (g : Setup) (b : Handler)
+    (keeps : (h : HostState) (words : List (List ℕ)) (n : ℕ) → Holds h n → Holds (left (host_table g h words)) (n + sent_to side (made (host_table g h words)))) where
+  abbrev written : (k : Ledger Holds) (x : HostStep HostState) → Holds (left x) (k.sent + sent_to side (made x)) → HostStep (Ledger Holds)
+  written k (Gives v h effects) is = Gives v (record { host = h; sent = k.sent + sent_to side effects; holds = is }) effects
+  written k (Faults f h effects) is = Faults f (record { host = h; sent = k.sent + sent_to side effects; holds = is }) effects
+  written k (Asks call h) is = Asks call (record { host = h; sent = k.sent + 0; holds = is })
+
+  abbrev written_table : Ledger Holds → List (List ℕ) → HostStep (Ledger Holds)
+  written_table k words = written k (host_table g k.host words) (keeps k.host words k.sent k.holds)
+
+  abbrev setting : Setting (Ledger Holds)
+  setting = record { statics = Some g.statics; table = written_table; procedures = b.procedures }
+
+  abbrev host_of : Ledger Holds → HostState
+  host_of k = k.host
+
+  seen_step : (k : Ledger Holds) (x : HostStep HostState) (is : Holds (left x) (k.sent + sent_to side (made x))) → step_seen host_of (written k x is) ≡ x
+  seen_step k (Gives v h effects) is = refl
+  seen_step k (Faults f h effects) is = refl
+  seen_step k (Asks call h) is = refl
+
+  seen_as : SeenAs host_of setting (body_setting g b.procedures)
+  seen_as = record { statics = refl; procedures = refl; steps = λ k words. seen_step k (host_table g k.host words) (keeps k.host words k.sent k.holds) }
+
+  abbrev sent_marks : Ledger Holds → List (Unit {0})
+  sent_marks k = marks k.sent
 
   abbrev each : Act → List (Unit {0})
   each a = marks (act_bytes side a)
 
-  counts_step : (h : HostState) (x : HostStep HostState) → count side (left x) ≡ count side h + sent_to side (made x) → StepShows each counted h x
-  counts_step h (Gives v after effects) e = ap marks e ∙ marks_add (count side h) (sent_to side effects) ∙ ap (λ r. marks (count side h) ++ r) (ap marks (sym (did_bytes side effects)) ∙ sym (acts_marked side (map Did effects)))
-  counts_step h (Faults fault after effects) e = ap marks e ∙ marks_add (count side h) (sent_to side effects) ∙ ap (λ r. marks (count side h) ++ r) (ap marks (sym (did_bytes side effects)) ∙ sym (acts_marked side (map Did effects)))
-  counts_step h (Asks call after) e = λ path. ap marks e ∙ marks_add (count side h) 0
+  marks_step : (k : Ledger Holds) (x : HostStep HostState) (is : Holds (left x) (k.sent + sent_to side (made x))) → StepShows each sent_marks k (written k x is)
+  marks_step k (Gives v h effects) is = marks_add k.sent (sent_to side effects) ∙ ap (λ r. marks k.sent ++ r) (ap marks (sym (did_bytes side effects)) ∙ sym (acts_marked side (map Did effects)))
+  marks_step k (Faults f h effects) is = marks_add k.sent (sent_to side effects) ∙ ap (λ r. marks k.sent ++ r) (ap marks (sym (did_bytes side effects)) ∙ sym (acts_marked side (map Did effects)))
+  marks_step k (Asks call h) is = λ path. marks_add k.sent 0
 
-  -- what was counted before and what it sends is counted behind it
-  pub body_counts : (b : Handler) (l : TraceState) → count side (state_after (run_body g b l)).host ≡ count side l.host + acts_bytes side (state_after (run_body g b l)).acts
+  seen_after : (o : Outcome (Ledger Holds)) → state_after (outcome_seen host_of o) ≡ state_seen host_of (state_after o)
+  seen_after (Ends code st) = refl
+  seen_after (Waits path call st) = refl
+
+  pub body_holds : (l : TraceState) → Holds l.host 0 → Holds (state_after (run_body g b l)).host (acts_bytes side (state_after (run_body g b l)).acts)
   unfolding evaluate
-  body_counts b l =
-      let o = state_after (run_body g b l) in
-      let s = host_shows (body_setting g b.procedures) each counted (λ h words. counts_step h (host_table g h words) (command_counts side g.groups h words)) inner_limit inner_limit b.body [] (state l.vars l.host l.answers.replies g.budget 0 []) in
-      let new : o.acts ≡ s.new = s.acts in
-      let grown = ap length (s.grown ∙ ap (λ r. marks (count side l.host) ++ r) (acts_marked side s.new) ∙ sym (marks_add (count side l.host) (acts_bytes side s.new))) in
-      sym (marked (count side o.host)) ∙ grown ∙ marked (count side l.host + acts_bytes side s.new) ∙ ap (λ a. count side l.host + acts_bytes side a) (sym new)
+  body_holds l is =
+      let began : State (Ledger Holds) = state l.vars (record { host = l.host; sent = 0; holds = is }) l.answers.replies g.budget 0 [] in
+      let o = meaning setting inner_limit inner_limit b.body [] began in
+      let k = (state_after o).host in
+      let agrees = wider_agrees host_of setting (body_setting g b.procedures) seen_as inner_limit inner_limit b.body [] began in
+      let same : state_after (run_body g b l) ≡ state_seen host_of (state_after o) = ap state_after (sym agrees) ∙ seen_after o in
+      let s = host_shows setting each sent_marks (λ h words. marks_step h (host_table g h.host words) (keeps h.host words h.sent h.holds)) inner_limit inner_limit b.body [] began in
+      let new : (state_after o).acts ≡ s.new = s.acts in
+      let sent : k.sent ≡ acts_bytes side s.new = sym (marked k.sent) ∙ ap length (s.grown ∙ acts_marked side s.new) ∙ marked (acts_bytes side s.new) in
+      let all : k.sent ≡ acts_bytes side (state_after (run_body g b l)).acts = sent ∙ ap (acts_bytes side) (sym new) ∙ ap (λ (x : State HostState). acts_bytes side x.acts) (sym same) in
+      subst (λ n. Holds (state_after (run_body g b l)).host n) all (subst (λ h. Holds h k.sent) (ap (λ (x : State HostState). x.host) (sym same)) k.holds)
 
 -- ---- the first of them
 

@@ -21,6 +21,7 @@ pub mod Fair
 pub mod Sending
 pub mod HostKeeps
 pub mod BodyKeeps
+pub mod HostFits
 pub mod Unread
 pub mod PlacesFit
 pub mod PendingFits

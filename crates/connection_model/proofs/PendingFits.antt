@@ -1,12 +1,12 @@
 -- What is pending to a side, item by item.
-use Rattle.std.proofs.Common.{◌≡◌, refl, sym, ap, subst, ◌∙◌, ℕ, zero, suc, ◌+◌, ◌-◌, ◌<◌, ◌≤◌, List, [], ◌∷◌, length, take, nat_le, nat_lt, Bool, true, false, ◌&&◌, ◌||◌, not, true≢false, if◌then◌else◌, Option, Some, None, arith}
+use Rattle.std.proofs.Common.{◌≡◌, refl, sym, ap, subst, ◌∙◌, ℕ, zero, suc, ◌+◌, ◌<◌, ◌≤◌, List, [], ◌∷◌, length, take, nat_lt, Bool, true, false, ◌&&◌, ◌||◌, not, nat_le, true≢false, if◌then◌else◌, Option, Some, None, arith}
 use Rattle.std.specs.Prelude.{slice_get}
 use Rattle.std.proofs.lemmas.Bool.{and_parts}
+use Rattle.std.proofs.lemmas.List.{length-take}
 use Rattle.std.proofs.lemmas.Bool.Decides.{nat_tests}
 use Rattle.px_bytes.specs.declared.addr.Addr.{Addr}
 use Rattle.px_bytes.specs.declared.addr.Side.{Side}
 use Rattle.px_bytes.specs.declared.addr.Side.TheVariants.{Client, Server}
-use Rattle.px_bytes.specs.declared.fault.FaultKind.{FaultKind}
 use Rattle.px_bytes.specs.declared.fault.Reply.{Reply}
 use Rattle.px_bytes.specs.declared.fault.Reply.TheVariants as reply
 use Rattle.rule_model.specs.Host as effect
@@ -15,7 +15,7 @@ use Rattle.rule_model.specs.Outcome.{Act, Did, Outcome, Ends, Waits as Stops, un
 use Rattle.rule_model.specs.Laws.{state_after}
 use Rattle.event_order.specs.declared.event.EventName.{EventName}
 use Rattle.event_order.specs.declared.event.EventName.TheVariants.{ClientAccepted, ClientClosed, ServerConnected, ServerClosed, LbSelected, LbFailed}
-use Rattle.irule_net.specs.State.{respond_limit}
+use Rattle.irule_net.specs.State.{collected, respond_limit}
 use Rattle.irule_net.specs.Steps.{target_pool}
 use Rattle.irule_net.specs.declared.state.Asks.{Asks}
 use Rattle.irule_net.specs.declared.state.Asks.TheVariants.{NotAsked, Stated}
@@ -25,18 +25,19 @@ use Rattle.connection_model.specs.Bodies.{act_item, peer_of, run_body, ended_nex
 use Rattle.connection_model.specs.Bounds.{passed_by, PassWithin, pending_limit}
 use Rattle.connection_model.specs.Gates.{Counts, no_bytes, TakenCounts, other, untaken, taken_of, to_take, room_limit, has_room, may_give, sent_after, sent_from, Met}
 use Rattle.connection_model.specs.Host.{HostState, first_host, with_selected}
-use Rattle.connection_model.specs.Item.{Item, Choice, Reason, Closed, CutBy, Moved, Rejected}
-use Rattle.connection_model.specs.Places.{Place, at, is_closing, closed, enter, after_body, after_fault, data_event}
+use Rattle.connection_model.specs.Item.{Item, Choice, PassesOn, Fires, Reuses, Reason, Closed, CutBy, Moved, Rejected}
+use Rattle.connection_model.specs.Places.{at, is_closing, enter, data_event}
 use Rattle.connection_model.specs.Queries.{unread_limit}
-use Rattle.connection_model.specs.Relay.{incoming, RelayAct, BothDone, Passing, Firing, Resting, fired_host, relay_act, collect_act, behind_fires}
+use Rattle.connection_model.specs.Relay.{Incoming, incoming, is_done, passes, meets, RelayAct, BothDone, Passing, Firing, Resting, firing, by_side, chosen_act, fired_host, relay_act, collect_act, behind_fires}
 use Rattle.connection_model.specs.Selected.{addr_of}
 use Rattle.connection_model.specs.Setup.{Handler, Setup}
-use Rattle.connection_model.specs.State.{Bodies, Gated, Running, Failing, Fate, Forwards, Drops, Phase, Carrying, InEvent, Choosing, Selecting, Connecting, Answering, Releasing, Relaying, Collecting, Finishing, Draining, Stream, Absent, Up, link_of, Cut, Answers, TraceState, Next, Does, Waits, Over, stream_of, read_side}
-use Rattle.connection_model.specs.Trace.{unit_item, unit_next, carrying_next, finish, choosing_next, default_next, selected_next, selecting_next, answering_next, relay_next, fired_next, collect_next, collecting_next, phase_next, cut_takes, uncut, cut_open, cut_next, counted, next_item, Unfolds, start}
-use Rattle.connection_model.proofs.BodyKeeps.{act_bytes, acts_bytes, all_bytes, body_counts, body_kept, next_bytes, part_bytes}
+use Rattle.connection_model.specs.State.{Bodies, Gated, Running, Failing, Fate, Forwards, Drops, Phase, Carrying, InEvent, Choosing, Selecting, Connecting, Answering, Releasing, Relaying, Collecting, Finishing, Draining, Stream, Absent, Up, link_of, Cut, Answers, TraceState, Next, Does, Waits, Over, stream_of}
+use Rattle.connection_model.specs.Trace.{unit_next, carrying_next, finish, choosing_next, default_next, selected_next, selecting_next, answering_next, relay_next, fired_next, collect_next, collecting_next, phase_next, cut_takes, uncut, cut_open, cut_next, counted, next_item, Unfolds, start}
+use Rattle.connection_model.proofs.BodyKeeps.{act_bytes, acts_bytes, all_bytes, next_bytes, part_bytes}
 use Rattle.connection_model.proofs.Given.{sent_counted, sent_step}
-use Rattle.connection_model.proofs.HostKeeps.{Kept, kept, acts_on, count}
-use Rattle.connection_model.proofs.PlacesFit.{Uncollected, first_uncollected, selected_uncollected, released_uncollected, fired_uncollected, kept_uncollected, at_gate, PlaceFits, PhaseFits, body_fits, closed_fits, enter_fits, fault_fits}
+use Rattle.connection_model.proofs.HostFits.{BodyFits, HostFits, body_fits, closing_quiet, credit, credit_few, fired_fits, first_fits, loose_few, selected_fits as host_selected, unloosed_fits}
+use Rattle.connection_model.proofs.HostKeeps.{is_stream}
+use Rattle.connection_model.proofs.PlacesFit.{at_gate, PlaceFits, PhaseFits, body_fits as behind_fits, closed_fits, enter_begun, enter_fits, fault_fits}
 
 -- ---- how much an item adds
 
@@ -75,35 +76,58 @@ room_few took sent side e = few (to_take sent took side) e
     few : (n : ℕ) → nat_lt n room_limit ≡ true → n ≤ at_gate
     few n e = grind (arith, nat_tests)
 
+-- ---- a collect that fires is stated
+
+abbrev pub FiresStated : TraceState → RelayAct → Type 0
+FiresStated l (Firing side n more) = (collected side l.host.net).asks ≡ Stated n
+FiresStated l other = Unit {0}
+
+meets_stated : (asks : Asks) (unread : List ℕ) (n : ℕ) → meets asks unread ≡ Some n → asks ≡ Stated n
+meets_stated NotAsked unread n is = absurd (cc)
+meets_stated (Stated k) unread n is = by_test (nat_le k (length unread)) is
+  where
+    by_test : (b : Bool) → (if b then Some k else None) ≡ Some n → Stated k ≡ Stated n
+    by_test true e = let same : k ≡ n = cc in ap Stated same
+    by_test false e = absurd (cc)
+
+pub relay_stated : (l : TraceState) (choices : List Choice) → FiresStated l (relay_act (incoming Client l) (incoming Server l) choices)
+relay_stated l choices = by_done (is_done (incoming Client l) && is_done (incoming Server l)) choices
+  where
+    side_asks : (side : Side) → (by_side side (incoming Client l) (incoming Server l)).asks ≡ (collected side l.host.net).asks
+    side_asks Client = refl
+    side_asks Server = refl
+
+    fires : (side : Side) (more : List Choice) (o : Option ℕ) → meets (by_side side (incoming Client l) (incoming Server l)).asks (by_side side (incoming Client l) (incoming Server l)).stream.unread ≡ o → FiresStated l (firing side more o)
+    fires side more None is = tt
+    fires side more (Some n) is = sym (side_asks side) ∙ meets_stated (by_side side (incoming Client l) (incoming Server l)).asks (by_side side (incoming Client l) (incoming Server l)).stream.unread n is
+
+    passes_on : (b : Bool) (side : Side) (n : ℕ) (more : List Choice) → FiresStated l (if b then Passing side n more else Resting)
+    passes_on true side n more = tt
+    passes_on false side n more = tt
+
+    chosen : (choices : List Choice) → FiresStated l (chosen_act (incoming Client l) (incoming Server l) choices)
+    chosen [] = tt
+    chosen (PassesOn side n ∷ more) = passes_on (passes (by_side side (incoming Client l) (incoming Server l)).asks n (by_side side (incoming Client l) (incoming Server l)).stream.unread) side n more
+    chosen (Fires side ∷ more) = fires side more (meets (by_side side (incoming Client l) (incoming Server l)).asks (by_side side (incoming Client l) (incoming Server l)).stream.unread) refl
+    chosen (Reuses again ∷ more) = tt
+
+    by_done : (b : Bool) (choices : List Choice) → FiresStated l (if b then BothDone else chosen_act (incoming Client l) (incoming Server l) choices)
+    by_done true choices = tt
+    by_done false choices = chosen choices
+
+pub collect_stated : (l : TraceState) (n : ℕ) → l.host.net.client.asks ≡ Stated n → (more : Option (List Choice)) → FiresStated l (collect_act n l.client.unread more)
+collect_stated l n is None = tt
+collect_stated l n is (Some more) = by_test (nat_le n (length l.client.unread))
+  where
+    by_test : (b : Bool) → FiresStated l (if b then Firing Client n more else Resting)
+    by_test true = is
+    by_test false = tt
+
 -- ---- what is pending
 
 -- with all that the bodies of one event send
 abbrev pub at_most : ℕ
 at_most = 1179647
-
-record BodyFacts (l : TraceState) (o : Outcome HostState) : Type 0 where
-  same : kept (state_after o).host ≡ kept l.host
-  counts : (side : Side) → count side (state_after o).host ≡ count side l.host + acts_bytes side (state_after o).acts
-
-body_facts : (g : Setup) (b : Handler) (l : TraceState) → BodyFacts l (run_body g b l)
-body_facts g b l = record { same = body_kept g b l; counts = λ side. body_counts side g b l }
-
-few_counted : (side : Side) (h : HostState) → Uncollected h → count side h ≤ respond_limit
-few_counted side h u = by_event (acts_on side h.event)
-  where
-    few : (limit n : ℕ) → nat_lt limit n ≡ false → n ≤ limit
-    few limit n e = grind (arith, nat_tests)
-
-    by_event : (b : Bool) → (if b then h.net.wishes.sent else 0) ≤ respond_limit
-    by_event true = few respond_limit h.net.wishes.sent u.within
-    by_event false = omega arith
-
-closing_none : (side : Side) (e : EventName) → is_closing e ≡ true → acts_on side e ≡ false
-closing_none Client ServerClosed c = refl
-closing_none Client ClientClosed c = refl
-closing_none Server ServerClosed c = refl
-closing_none Server ClientClosed c = refl
-closing_none side e c = absurd (true≢false (sym c))
 
 module _ (g : Setup) (took : TakenCounts) where
   abbrev acts_of : Handler → TraceState → List Act
@@ -112,13 +136,13 @@ module _ (g : Setup) (took : TakenCounts) where
   -- in each phase
   abbrev InPhase : Phase → TraceState → Type 0
   InPhase (InEvent e (Gated b bs)) l = l.host.event ≡ e
-  InPhase (InEvent e (Running b bs n)) l = (l.host.event ≡ e) × (is_closing e ≡ false → (side : Side) → to_take l.sent took side ≤ at_gate + (count side l.host + acts_bytes side (take n (acts_of b l))))
+  InPhase (InEvent e (Running b bs n)) l = (l.host.event ≡ e) × (is_closing e ≡ false → (side : Side) → to_take l.sent took side ≤ at_gate + (credit e side l.host.net + acts_bytes side (take n (acts_of b l))))
   InPhase (InEvent e (Failing kind line bs)) l = l.host.event ≡ e
   InPhase other l = Unit {0}
 
   record Fits (l : TraceState) : Type 0 where
     phase : InPhase l.phase l
-    host : Uncollected l.host
+    host : HostFits l.host
     few : (side : Side) → to_take l.sent took side ≤ at_most
 
   -- an item that comes through its gate
@@ -133,7 +157,7 @@ module _ (g : Setup) (took : TakenCounts) where
   in_phase (InEvent e (Failing kind line bs)) l is = is
   in_phase other l is = tt
 
-  placed : (m : TraceState) → PhaseFits took m.sent m.phase m.host → Uncollected m.host → ((side : Side) → to_take m.sent took side ≤ at_most) → Fits m
+  placed : (m : TraceState) → PhaseFits took m.sent m.phase m.host → HostFits m.host → ((side : Side) → to_take m.sent took side ≤ at_most) → Fits m
   placed m phase host few = record { phase = in_phase m.phase m phase; host = host; few = few }
 
   finish_fits : (r : Reason) (l : TraceState) → Fits l → FitsNext l.sent (finish g r l)
@@ -142,59 +166,62 @@ module _ (g : Setup) (took : TakenCounts) where
   -- ---- bodies
 
   act_few : (e : EventName) (b : Handler) (n : ℕ) (l : TraceState) (a : Act) → Fits l → (l.host.event ≡ e) → slice_get (acts_of b l) n ≡ Some a
-      → (is_closing e ≡ false → (side : Side) → to_take l.sent took side ≤ at_gate + (count side l.host + acts_bytes side (take n (acts_of b l))))
+      → (is_closing e ≡ false → (side : Side) → to_take l.sent took side ≤ at_gate + (credit e side l.host.net + acts_bytes side (take n (acts_of b l))))
       → (side : Side) → to_take (sent_after (act_item l.sent.number a) l.sent) took side ≤ at_most
   act_few e b n l a k is there few side = by_closing (is_closing e) refl
     where
-      o : Outcome HostState
-      o = run_body g b l
+      facts : BodyFits l.host (state_after (run_body g b l)).host (λ side. acts_bytes side (acts_of b l))
+      facts = body_fits g b l k.host
 
       by_closing : (c : Bool) → is_closing e ≡ c → to_take (sent_after (act_item l.sent.number a) l.sent) took side ≤ at_most
       by_closing false c =
-          let all = (body_facts g b l).counts side in
-          let limit = few_counted side (state_after (run_body g b l)).host (kept_uncollected l.host (state_after (run_body g b l)).host (body_facts g b l).same k.host) in
+          let all = subst (λ v. credit v side l.host.net + acts_bytes side (acts_of b l) ≤ credit v side (state_after (run_body g b l)).host.net) is (facts.credits side) in
+          let limit = subst (λ v. credit v side (state_after (run_body g b l)).host.net ≤ respond_limit) (facts.event ∙ is) (credit_few side (state_after (run_body g b l)).host facts.fits) in
           let before = few c side in
           let adds = act_adds took l.sent a side in
           let one = next_bytes side n (acts_of b l) a there in
           let part = part_bytes side (n + 1) (acts_of b l) in
           omega (arith, all, limit, before, adds, one, part)
       by_closing true c =
-          let all = (body_facts g b l).counts side in
-          let event : (state_after (run_body g b l)).host.event ≡ e = ap (λ x. x.event) (body_facts g b l).same ∙ is in
-          let none : acts_on side (state_after (run_body g b l)).host.event ≡ false = ap (acts_on side) event ∙ closing_none side e c in
-          let behind : count side (state_after (run_body g b l)).host ≡ 0 = ap (λ b'. if b' then (state_after (run_body g b l)).host.net.wishes.sent else 0) none in
+          let none = facts.silent (subst (λ v. is_stream v ≡ false) (sym is) (closing_quiet e c)) side in
           let one = next_bytes side n (acts_of b l) a there in
           let part = part_bytes side (n + 1) (acts_of b l) in
           let adds = act_adds took l.sent a side in
           let before = k.few side in
-          omega (arith, all, behind, one, part, adds, before)
+          omega (arith, none, one, part, adds, before)
 
   act_fits : (e : EventName) (b : Handler) (bs : List Handler) (n : ℕ) (l : TraceState) (a : Act) → Fits l → InPhase (InEvent e (Running b bs n)) l → slice_get (acts_of b l) n ≡ Some a
       → Fits (record l { phase = InEvent e (Running b bs (n + 1)); sent = sent_after (act_item l.sent.number a) l.sent })
   act_fits e b bs n l a k is there = record {
-    phase = (is.0, λ open_event side. (
-      let before = is.1 open_event side in
-      let adds = act_adds took l.sent a side in
-      let one = next_bytes side n (acts_of b l) a there in
-      omega (arith, before, adds, one)
-    ));
+    phase = (
+      is.0,
+      λ open_event side. (
+          let before = is.1 open_event side in
+          let adds = act_adds took l.sent a side in
+          let one = next_bytes side n (acts_of b l) a there in
+          omega (arith, before, adds, one)
+          ),
+    );
     host = k.host;
     few = act_few e b n l a k is.0 there is.1;
   }
 
-  ended_fits : (e : EventName) (b : Handler) (bs : List Handler) (l : TraceState) (o : Outcome HostState) → Fits l → BodyFacts l o → l.host.event ≡ e
-      → (is_closing e ≡ false → (side : Side) → to_take l.sent took side ≤ at_gate + (count side l.host + acts_bytes side (state_after o).acts)) → FitsNext l.sent (ended_next g e b bs l o)
+  ended_fits : (e : EventName) (b : Handler) (bs : List Handler) (l : TraceState) (o : Outcome HostState) → Fits l → BodyFits l.host (state_after o).host (λ side. acts_bytes side (state_after o).acts) → l.host.event ≡ e
+      → (is_closing e ≡ false → (side : Side) → to_take l.sent took side ≤ at_gate + (credit e side l.host.net + acts_bytes side (state_after o).acts)) → FitsNext l.sent (ended_next g e b bs l o)
   ended_fits e b bs l (Stops path call st) k facts is few = tt
   ended_fits e b bs l (Ends code st) k facts is few = λ may small. (
-      let u = kept_uncollected l.host st.host facts.same k.host in
-      let p = body_fits took l.sent g e l.finished (link_of l.server) b bs (uncaught_of code) st.host u (ap (λ x. x.event) facts.same ∙ is)
-      (λ open_event side. (let before = few open_event side in let all = facts.counts side in omega (arith, before, all))) in
+      let p = behind_fits took l.sent g e l.finished (link_of l.server) b bs (uncaught_of code) st.host facts.fits (facts.event ∙ is)
+      (λ open_event side. (
+        let before = few open_event side in
+        let all = subst (λ v. credit v side l.host.net + acts_bytes side st.acts ≤ credit v side st.host.net) is (facts.credits side) in
+        omega (arith, before, all)
+      )) in
       placed _ p.phase p.host k.few)
 
   body_fits_next : (e : EventName) (b : Handler) (bs : List Handler) (n : ℕ) (l : TraceState) (v : Option Act) → Fits l → InPhase (InEvent e (Running b bs n)) l → slice_get (acts_of b l) n ≡ v
       → FitsNext l.sent (act_next e b bs n l v (ended_next g e b bs l (run_body g b l)))
   body_fits_next e b bs n l None k is there =
-      ended_fits e b bs l (run_body g b l) k (body_facts g b l) is.0 (λ open_event side. (let before = is.1 open_event side in let all = all_bytes side n (acts_of b l) there in omega (arith, before, all)))
+      ended_fits e b bs l (run_body g b l) k (body_fits g b l k.host) is.0 (λ open_event side. (let before = is.1 open_event side in let all = all_bytes side n (acts_of b l) there in omega (arith, before, all)))
   body_fits_next e b bs n l (Some a) k is there = λ may small. act_fits e b bs n l a k is there
 
   bodies_fit : (e : EventName) (bodies : Bodies) (l : TraceState) → Fits l → InPhase (InEvent e bodies) l → FitsNext l.sent (bodies_next g e bodies l)
@@ -214,10 +241,10 @@ module _ (g : Setup) (took : TakenCounts) where
   quiet : (p : Phase) (l : TraceState) → Fits l → InPhase p (record l { phase = p }) → Fits (record l { phase = p })
   quiet p l k is = record { phase = is; host = k.host; few = k.few }
 
-  enters : (e : EventName) (h : HostState) (l : TraceState) → Uncollected h → Fits l → Fits (at (enter g e (link_of l.server) h) l)
+  enters : (e : EventName) (h : HostState) (l : TraceState) → HostFits h → Fits l → Fits (at (enter g e (link_of l.server) h) l)
   enters e h l u k = let p = enter_fits took l.sent g e (link_of l.server) h u in placed _ p.phase p.host k.few
 
-  choosing_fits : (l : TraceState) (h : HostState) (target : Target) → Fits l → Uncollected h → FitsNext l.sent (choosing_next g l h target)
+  choosing_fits : (l : TraceState) (h : HostState) (target : Target) → Fits l → HostFits h → FitsNext l.sent (choosing_next g l h target)
   choosing_fits l h Default k u = by_pool h.net.pool
     where
       by_pool : (pool : List ℕ) → FitsNext l.sent (default_next g l h pool)
@@ -225,13 +252,13 @@ module _ (g : Setup) (took : TakenCounts) where
       by_pool (b ∷ bs) = λ may small. record { phase = tt; host = u; few = k.few }
   choosing_fits l h (PoolOf pool) k u = λ may small. record { phase = tt; host = u; few = k.few }
   choosing_fits l h (MemberOf pool a) k u = λ may small. record { phase = tt; host = u; few = k.few }
-  choosing_fits l h (NodeAt a) k u = λ may small. enters LbSelected (with_selected (Some (record { pool = []; addr = a })) h) l (selected_uncollected _ h u) k
+  choosing_fits l h (NodeAt a) k u = λ may small. enters LbSelected (with_selected (Some (record { pool = []; addr = a })) h) l (host_selected _ h u) k
 
   selected_fits : (l : TraceState) (more : List Reply) (a : Option Addr) → Fits l → FitsNext l.sent (selected_next g l more a)
   selected_fits l more None k = λ may small. (let p = enter_fits took l.sent g LbFailed (link_of l.server) l.host k.host in placed _ p.phase p.host k.few)
   selected_fits l more (Some a) k = λ may small. (
       let h = with_selected (Some (record { pool = target_pool l.host.net.pool l.host.net.target; addr = a })) l.host in
-      let p = enter_fits took l.sent g LbSelected (link_of l.server) h (selected_uncollected _ l.host k.host) in
+      let p = enter_fits took l.sent g LbSelected (link_of l.server) h (host_selected _ l.host k.host) in
       placed _ p.phase p.host k.few)
 
   selecting_fits : (call : List (List ℕ)) (l : TraceState) (replies : List Reply) → Fits l → FitsNext l.sent (selecting_next g call l replies)
@@ -251,14 +278,16 @@ module _ (g : Setup) (took : TakenCounts) where
       placed _ p.phase p.host (renewed_few l k))
   answering_fits l (None ∷ more) k = λ may small. (let p = enter_fits took l.sent g LbFailed Absent l.host k.host in placed _ p.phase p.host k.few)
 
-  fired_fits : (l : TraceState) (side : Side) (n : ℕ) (more : List Choice) → Fits l → FitsNext l.sent (fired_next g l side n more)
-  fired_fits l Client n more k = λ may small. (
-      let h = fired_host Client (take n l.client.unread) l.host in
-      let p = enter_fits took l.sent g (data_event Client) (link_of l.server) h (fired_uncollected Client _ l.host k.host) in
+  fired_next_fits : (l : TraceState) (side : Side) (n : ℕ) (more : List Choice) → Fits l → (collected side l.host.net).asks ≡ Stated n → FitsNext l.sent (fired_next g l side n more)
+  fired_next_fits l Client n more k asks = λ may small. (
+      let bytes = take n l.client.unread in
+      let few = length-take n l.client.unread in
+      let p = enter_begun took l.sent g (data_event Client) (link_of l.server) (fired_host Client bytes l.host) (fired_fits Client n bytes (data_event Client) (link_of l.server) l.host k.host asks (omega (arith, few))) in
       placed _ p.phase p.host k.few)
-  fired_fits l Server n more k = λ may small. (
-      let h = fired_host Server (take n (stream_of Server l).unread) l.host in
-      let p = enter_fits took l.sent g (data_event Server) (link_of l.server) h (fired_uncollected Server _ l.host k.host) in
+  fired_next_fits l Server n more k asks = λ may small. (
+      let bytes = take n (stream_of Server l).unread in
+      let few = length-take n (stream_of Server l).unread in
+      let p = enter_begun took l.sent g (data_event Server) (link_of l.server) (fired_host Server bytes l.host) (fired_fits Server n bytes (data_event Server) (link_of l.server) l.host k.host asks (omega (arith, few))) in
       placed _ p.phase p.host k.few)
 
   -- bytes that go over where the other side has room
@@ -269,22 +298,22 @@ module _ (g : Setup) (took : TakenCounts) where
   over_few l Server n bytes k room few Client = let r = room_few took l.sent Client room in let a = over_adds took l.sent Server n bytes Client in omega (arith, r, a, few)
   over_few l Server n bytes k room few Server = k.few Server
 
-  relay_fits : (l : TraceState) (a : RelayAct) → Fits l → FitsNext l.sent (relay_next g l a)
-  relay_fits l BothDone k = finish_fits Closed l k
-  relay_fits l (Passing Client n more) k = λ may small. record { phase = tt; host = k.host; few = over_few l Client n (take n l.client.unread) k may (omega (arith, small)) }
-  relay_fits l (Passing Server n more) k = λ may small. record { phase = tt; host = k.host; few = over_few l Server n (take n (stream_of Server l).unread) k may (omega (arith, small)) }
-  relay_fits l (Firing side n more) k = fired_fits l side n more k
-  relay_fits l Resting k = tt
+  relay_fits : (l : TraceState) (a : RelayAct) → Fits l → FiresStated l a → FitsNext l.sent (relay_next g l a)
+  relay_fits l BothDone k asks = finish_fits Closed l k
+  relay_fits l (Passing Client n more) k asks = λ may small. record { phase = tt; host = k.host; few = over_few l Client n (take n l.client.unread) k may (omega (arith, small)) }
+  relay_fits l (Passing Server n more) k asks = λ may small. record { phase = tt; host = k.host; few = over_few l Server n (take n (stream_of Server l).unread) k may (omega (arith, small)) }
+  relay_fits l (Firing side n more) k asks = fired_next_fits l side n more k asks
+  relay_fits l Resting k asks = tt
 
-  collect_fits : (l : TraceState) (a : RelayAct) → Fits l → FitsNext l.sent (collect_next g l a)
-  collect_fits l BothDone k = finish_fits Closed l k
-  collect_fits l (Passing side n more) k = tt
-  collect_fits l (Firing side n more) k = fired_fits l side n more k
-  collect_fits l Resting k = tt
+  collect_fits : (l : TraceState) (a : RelayAct) → Fits l → FiresStated l a → FitsNext l.sent (collect_next g l a)
+  collect_fits l BothDone k asks = finish_fits Closed l k
+  collect_fits l (Passing side n more) k asks = tt
+  collect_fits l (Firing side n more) k asks = fired_next_fits l side n more k asks
+  collect_fits l Resting k asks = tt
 
-  collecting_fits : (l : TraceState) (asks : Asks) → Fits l → FitsNext l.sent (collecting_next g l asks)
-  collecting_fits l NotAsked k = tt
-  collecting_fits l (Stated n) k = collect_fits l (collect_act n l.client.unread (behind_fires l.answers.choices)) k
+  collecting_fits : (l : TraceState) (asks : Asks) → l.host.net.client.asks ≡ asks → Fits l → FitsNext l.sent (collecting_next g l asks)
+  collecting_fits l NotAsked is k = tt
+  collecting_fits l (Stated n) is k = collect_fits l (collect_act n l.client.unread (behind_fires l.answers.choices)) k (collect_stated l n is (behind_fires l.answers.choices))
 
   unit_fits : (l : TraceState) (fate : Fate) (side : Side) (left : ℕ) (ended : Bool) (unread : List ℕ) → Fits l → FitsNext l.sent (unit_next g l fate side left ended unread)
   unit_fits l fate side left true [] k = finish_fits Rejected l k
@@ -301,14 +330,14 @@ module _ (g : Setup) (took : TakenCounts) where
   phase_fits : (p : Phase) (l : TraceState) → Fits l → InPhase p l → FitsNext l.sent (phase_next g p l)
   phase_fits (InEvent e bodies) l k is = bodies_fit e bodies l k is
   phase_fits (Carrying fate side left) l k is = carrying_fits l fate side left (stream_of side l) k
-  phase_fits Choosing l k is = choosing_fits l (with_selected None l.host) l.host.net.target k (selected_uncollected None l.host k.host)
+  phase_fits Choosing l k is = choosing_fits l (with_selected None l.host) l.host.net.target k (host_selected None l.host k.host)
   phase_fits (Selecting call) l k is = selecting_fits call l l.answers.replies k
   phase_fits (Connecting a) l k is = λ may small. record { phase = tt; host = k.host; few = k.few }
   phase_fits (Answering a) l k is = answering_fits l l.answers.connects k
   phase_fits Releasing l k is = λ may small.
-      record { phase = tt; host = released_uncollected l.host k.host; few = over_few l Client 0 l.host.net.loose k may (let none = ap length k.host.loose in omega (arith, none)) }
-  phase_fits Relaying l k is = relay_fits l (relay_act (incoming Client l) (incoming Server l) l.answers.choices) k
-  phase_fits Collecting l k is = collecting_fits l l.host.net.client.asks k
+      record { phase = tt; host = unloosed_fits l.host k.host; few = over_few l Client 0 l.host.net.loose k may (let few = loose_few l.host k.host in omega (arith, few)) }
+  phase_fits Relaying l k is = relay_fits l (relay_act (incoming Client l) (incoming Server l) l.answers.choices) k (relay_stated l l.answers.choices)
+  phase_fits Collecting l k is = collecting_fits l l.host.net.client.asks refl k
   phase_fits (Finishing r) l k is = finish_fits r l k
   phase_fits Draining l k is = tt
 
@@ -359,15 +388,15 @@ module _ (g : Setup) (took : TakenCounts) where
       items_fit mid m items (item_fits l mid i k step met.0 small.0) rest (subst (λ s. Met s took items) (sym (sent_step g l mid i step)) met.1) small.1
 
   start_fits : (client : Stream) (answers : Answers) → Fits (start g client answers)
-  start_fits client answers = let p = enter_fits took no_bytes g ClientAccepted Absent (first_host g) (first_uncollected g) in placed _ p.phase p.host none
+  start_fits client answers = let p = enter_fits took no_bytes g ClientAccepted Absent (first_host g) (first_fits g) in placed _ p.phase p.host none
     where
       none : (side : Side) → to_take no_bytes took side ≤ at_most
       none Client = let n = none_untaken took.client in omega (arith, n)
       none Server = let n = none_untaken (taken_of took.servers 0) in omega (arith, n)
 
--- where a trace stands whose items met their gates nothing is collected
-pub stands_uncollected : (g : Setup) (client : Stream) (answers : Answers) (m : TraceState) (items : List Item) (took : TakenCounts) → Unfolds g (start g client answers) items m → Met no_bytes took items → PassWithin unread_limit items → Uncollected m.host
-stands_uncollected g client answers m items took is met small = (items_fit g took (start g client answers) m items (start_fits g took client answers) is met small).host
+-- where a trace stands whose items met their gates
+pub stands_fit : (g : Setup) (client : Stream) (answers : Answers) (m : TraceState) (items : List Item) (took : TakenCounts) → Unfolds g (start g client answers) items m → Met no_bytes took items → PassWithin unread_limit items → HostFits m.host
+stands_fit g client answers m items took is met small = (items_fit g took (start g client answers) m items (start_fits g took client answers) is met small).host
 
 pub pending_bounded : (g : Setup) (client : Stream) (answers : Answers) (m : TraceState) (items : List Item) (took : TakenCounts) (side : Side) → Unfolds g (start g client answers) items m → Met no_bytes took items → PassWithin unread_limit items
     → to_take (sent_from no_bytes items) took side < pending_limit

@@ -1,5 +1,5 @@
--- Where an event leads nothing is collected, and the bytes that are pending fit what was sent in the event.
-use Rattle.std.proofs.Common.{◌≡◌, refl, sym, ap, ◌∙◌, ℕ, ◌+◌, ◌≤◌, List, [], ◌∷◌, Bool, true, false, nat_lt, true≢false, if◌then◌else◌, Option, Some, None, arith}
+-- Where an event leads what is held fits, and the bytes that are pending fit what was sent in the event.
+use Rattle.std.proofs.Common.{◌≡◌, refl, sym, ap, ◌∙◌, ℕ, ◌+◌, ◌≤◌, List, [], ◌∷◌, Bool, true, false, nat_lt, true≢false, if◌then◌else◌, Option, Some, None}
 use Rattle.px_bytes.specs.declared.addr.Side.{Side}
 use Rattle.px_bytes.specs.declared.addr.Side.TheVariants.{Client, Server}
 use Rattle.px_bytes.specs.declared.fault.FaultKind.{FaultKind}
@@ -17,42 +17,9 @@ use Rattle.connection_model.specs.Host.{HostState, first_host, with_selected, wi
 use Rattle.connection_model.specs.Item.{Tcl, Unselected}
 use Rattle.connection_model.specs.Places.{Place, place, is_closing, begun, bodies_left, closed_client, closed_server, closed, connecting, behind_accepted, behind_data, behind_connected, goes_on, unless_ended, after_server, after_event, entered, enter, next_body, after_fault, after_body}
 use Rattle.connection_model.specs.Relay.{fired_host}
-use Rattle.connection_model.specs.Setup.{Handler, Setup, uncaught_line}
-use Rattle.connection_model.specs.State.{Bodies, Gated, Running, Failing, Phase, InEvent, Choosing, Connecting, Releasing, Relaying, Collecting, Finishing, Draining, Link, Absent, Asked, Up, GivenUp}
-use Rattle.connection_model.proofs.HostKeeps.{Kept, kept, count}
-
--- ---- the host's state
-
--- nothing is collected, no bytes wait for a server, and no more was sent in the event than may
-pub record Uncollected (h : HostState) : Type 0 where
-  pub client : h.net.client.asks ≡ NotAsked
-  pub server : h.net.server.asks ≡ NotAsked
-  pub loose : h.net.loose ≡ []
-  pub within : nat_lt respond_limit h.net.wishes.sent ≡ false
-
-pub first_uncollected : (g : Setup) → Uncollected (first_host g)
-first_uncollected g = record { client = refl; server = refl; loose = refl; within = refl }
-
-pub begun_uncollected : (e : EventName) (link : Link) (h : HostState) → Uncollected h → Uncollected (begun e link h)
-begun_uncollected e link h u = record { client = u.client; server = u.server; loose = u.loose; within = refl }
-
-pub selected_uncollected : (s : Option Selected) (h : HostState) → Uncollected h → Uncollected (with_selected s h)
-selected_uncollected s h u = record { client = u.client; server = u.server; loose = u.loose; within = u.within }
-
-pub released_uncollected : (h : HostState) → Uncollected h → Uncollected (with_loose [] h)
-released_uncollected h u = record { client = u.client; server = u.server; loose = refl; within = u.within }
-
-pub fired_uncollected : (side : Side) (bytes : List ℕ) (h : HostState) → Uncollected h → Uncollected (fired_host side bytes h)
-fired_uncollected Client bytes h u = record { client = refl; server = u.server; loose = u.loose; within = u.within }
-fired_uncollected Server bytes h u = record { client = u.client; server = refl; loose = u.loose; within = u.within }
-
-pub kept_uncollected : (h k : HostState) → kept k ≡ kept h → Uncollected h → Uncollected k
-kept_uncollected h k e u = record {
-  client = ap (λ x. x.client.asks) e ∙ u.client;
-  server = ap (λ x. x.server.asks) e ∙ u.server;
-  loose = ap (λ x. x.loose) e ∙ u.loose;
-  within = ap (λ x. x.over) e ∙ u.within;
-}
+use Rattle.connection_model.specs.Setup.{Handler, Setup}
+use Rattle.connection_model.specs.State.{Gated, Running, Failing, Phase, InEvent, Choosing, Finishing, Draining, Link, Absent, Asked, Up, GivenUp}
+use Rattle.connection_model.proofs.HostFits.{HostFits, begun_fits, credit}
 
 -- ---- places
 
@@ -69,13 +36,13 @@ Outside other = Unit {0}
 -- more is pending than was at the gate and was sent in the event.
 abbrev pub PhaseFits : TakenCounts → Counts → Phase → HostState → Type 0
 PhaseFits took sent (InEvent e (Gated b bs)) h = h.event ≡ e
-PhaseFits took sent (InEvent e (Running b bs n)) h = (h.event ≡ e) × (is_closing e ≡ false → (side : Side) → to_take sent took side ≤ at_gate + count side h)
+PhaseFits took sent (InEvent e (Running b bs n)) h = (h.event ≡ e) × (is_closing e ≡ false → (side : Side) → to_take sent took side ≤ at_gate + credit e side h.net)
 PhaseFits took sent (InEvent e (Failing kind line bs)) h = h.event ≡ e
 PhaseFits took sent other h = Unit {0}
 
 pub record PlaceFits (took : TakenCounts) (sent : Counts) (p : Place) : Type 0 where
   pub phase : PhaseFits took sent p.phase p.host
-  pub host : Uncollected p.host
+  pub host : HostFits p.host
 
 module _ (took : TakenCounts) (sent : Counts) where
   outside : (p : Phase) (h : HostState) → Outside p → PhaseFits took sent p h
@@ -121,59 +88,63 @@ module _ (took : TakenCounts) (sent : Counts) where
   ended_out (Some Rejects) p o = tt
   ended_out (Some Closes) p o = tt
 
-  closed_client_fits : (g : Setup) (link : Link) (h : HostState) → Uncollected h → PlaceFits took sent (closed_client g link h)
+  closed_client_fits : (g : Setup) (link : Link) (h : HostState) → HostFits h → PlaceFits took sent (closed_client g link h)
   closed_client_fits g link h u = by_bodies (g.handlers ClientClosed)
     where
       by_bodies : (bs : List Handler) → PlaceFits took sent (bodies_left ClientClosed bs (begun ClientClosed link h) (place Draining (begun ClientClosed link h)))
-      by_bodies [] = record { phase = tt; host = begun_uncollected ClientClosed link h u }
-      by_bodies (b ∷ bs) = record { phase = (refl, λ e. absurd (true≢false e)); host = begun_uncollected ClientClosed link h u }
+      by_bodies [] = record { phase = tt; host = begun_fits ClientClosed link h u }
+      by_bodies (b ∷ bs) = record { phase = (refl, λ e. absurd (true≢false e)); host = begun_fits ClientClosed link h u }
 
-  closed_server_fits : (g : Setup) (link : Link) (h : HostState) → Uncollected h → PlaceFits took sent (closed_server g link h)
+  closed_server_fits : (g : Setup) (link : Link) (h : HostState) → HostFits h → PlaceFits took sent (closed_server g link h)
   closed_server_fits g link h u = by_bodies (g.handlers ServerClosed)
     where
       by_bodies : (bs : List Handler) → PlaceFits took sent (bodies_left ServerClosed bs (begun ServerClosed link h) (closed_client g link h))
       by_bodies [] = closed_client_fits g link h u
-      by_bodies (b ∷ bs) = record { phase = (refl, λ e. absurd (true≢false e)); host = begun_uncollected ServerClosed link h u }
+      by_bodies (b ∷ bs) = record { phase = (refl, λ e. absurd (true≢false e)); host = begun_fits ServerClosed link h u }
 
-  pub closed_fits : (g : Setup) (link : Link) (h : HostState) → Uncollected h → PlaceFits took sent (closed g link h)
+  pub closed_fits : (g : Setup) (link : Link) (h : HostState) → HostFits h → PlaceFits took sent (closed g link h)
   closed_fits g Absent h u = closed_client_fits g Absent h u
   closed_fits g Asked h u = closed_server_fits g Asked h u
   closed_fits g Up h u = closed_server_fits g Up h u
   closed_fits g GivenUp h u = closed_client_fits g GivenUp h u
 
-  after_server_fits : (g : Setup) (finished : Bool) (link : Link) (h : HostState) → Uncollected h → PlaceFits took sent (after_server g finished link h)
+  after_server_fits : (g : Setup) (finished : Bool) (link : Link) (h : HostState) → HostFits h → PlaceFits took sent (after_server g finished link h)
   after_server_fits g true link h u = closed_client_fits g link h u
   after_server_fits g false link h u = record { phase = tt; host = u }
 
-  on_fits : (e : EventName) (link : Link) (h : HostState) → Uncollected h → PlaceFits took sent (place (unless_ended h.net.wishes.ends (goes_on e link h)) h)
+  on_fits : (e : EventName) (link : Link) (h : HostState) → HostFits h → PlaceFits took sent (place (unless_ended h.net.wishes.ends (goes_on e link h)) h)
   on_fits e link h u = record { phase = outside _ h (ended_out h.net.wishes.ends (goes_on e link h) (goes_out e link h)); host = u }
 
-  after_event_fits : (g : Setup) (e : EventName) (finished : Bool) (link : Link) (h : HostState) → Uncollected h → PlaceFits took sent (after_event g e finished link h)
+  after_event_fits : (g : Setup) (e : EventName) (finished : Bool) (link : Link) (h : HostState) → HostFits h → PlaceFits took sent (after_event g e finished link h)
   after_event_fits g ServerClosed finished link h u = after_server_fits g finished link h u
   after_event_fits g ClientClosed finished link h u = record { phase = tt; host = u }
   after_event_fits g other finished link h u = on_fits other link h u
 
-  pub enter_fits : (g : Setup) (e : EventName) (link : Link) (h : HostState) → Uncollected h → PlaceFits took sent (enter g e link h)
-  enter_fits g e link h u = by_bodies (g.handlers e)
+  -- where the event's bodies begin on such a host
+  pub enter_begun : (g : Setup) (e : EventName) (link : Link) (h : HostState) → HostFits (begun e link h) → PlaceFits took sent (enter g e link h)
+  enter_begun g e link h u = by_bodies (g.handlers e)
     where
       by_bodies : (bs : List Handler) → PlaceFits took sent (entered g e link bs (begun e link h))
-      by_bodies [] = after_event_fits g e false link (begun e link h) (begun_uncollected e link h u)
-      by_bodies (b ∷ bs) = record { phase = refl; host = begun_uncollected e link h u }
+      by_bodies [] = after_event_fits g e false link (begun e link h) u
+      by_bodies (b ∷ bs) = record { phase = refl; host = u }
+
+  pub enter_fits : (g : Setup) (e : EventName) (link : Link) (h : HostState) → HostFits h → PlaceFits took sent (enter g e link h)
+  enter_fits g e link h u = enter_begun g e link h (begun_fits e link h u)
 
   -- behind a body
-  pub next_fits : (g : Setup) (e : EventName) (finished : Bool) (link : Link) (bs : List Handler) (h : HostState) → Uncollected h → h.event ≡ e
-      → (is_closing e ≡ false → (side : Side) → to_take sent took side ≤ at_gate + count side h) → PlaceFits took sent (next_body g e finished link bs h)
+  pub next_fits : (g : Setup) (e : EventName) (finished : Bool) (link : Link) (bs : List Handler) (h : HostState) → HostFits h → h.event ≡ e
+      → (is_closing e ≡ false → (side : Side) → to_take sent took side ≤ at_gate + credit e side h.net) → PlaceFits took sent (next_body g e finished link bs h)
   next_fits g e finished link [] h u is few = after_event_fits g e finished link h u
   next_fits g e finished link (b ∷ bs) h u is few = record { phase = (is, few); host = u }
 
-  pub fault_fits : (g : Setup) (e : EventName) (finished : Bool) (link : Link) (kind : FaultKind) (bs : List Handler) (h : HostState) → Uncollected h → h.event ≡ e → PlaceFits took sent (after_fault g e finished link kind bs h)
+  pub fault_fits : (g : Setup) (e : EventName) (finished : Bool) (link : Link) (kind : FaultKind) (bs : List Handler) (h : HostState) → HostFits h → h.event ≡ e → PlaceFits took sent (after_fault g e finished link kind bs h)
   fault_fits g e finished link kind bs h u is = by_closing (is_closing e) refl
     where
       by_closing : (b : Bool) → is_closing e ≡ b → PlaceFits took sent (if b then next_body g e finished link bs h else place (Finishing (Tcl kind)) h)
       by_closing true c = next_fits g e finished link bs h u is (λ n. absurd (true≢false (sym c ∙ n)))
       by_closing false c = record { phase = tt; host = u }
 
-  pub body_fits : (g : Setup) (e : EventName) (finished : Bool) (link : Link) (b : Handler) (bs : List Handler) (fault : Option TclFault) (h : HostState) → Uncollected h → h.event ≡ e
-      → (is_closing e ≡ false → (side : Side) → to_take sent took side ≤ at_gate + count side h) → PlaceFits took sent (after_body g e finished link b bs fault h)
+  pub body_fits : (g : Setup) (e : EventName) (finished : Bool) (link : Link) (b : Handler) (bs : List Handler) (fault : Option TclFault) (h : HostState) → HostFits h → h.event ≡ e
+      → (is_closing e ≡ false → (side : Side) → to_take sent took side ≤ at_gate + credit e side h.net) → PlaceFits took sent (after_body g e finished link b bs fault h)
   body_fits g e finished link b bs None h u is few = next_fits g e finished link bs h u is few
   body_fits g e finished link b bs (Some fault) h u is few = record { phase = is; host = u }
