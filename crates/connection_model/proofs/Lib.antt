@@ -25,3 +25,4 @@ pub mod HostFits
 pub mod Unread
 pub mod PlacesFit
 pub mod PendingFits
+pub mod Lying

@@ -76,11 +76,12 @@ room_few took sent side e = few (to_take sent took side) e
     few : (n : ℕ) → nat_lt n room_limit ≡ true → n ≤ at_gate
     few n e = grind (arith, nat_tests)
 
--- ---- a collect that fires is stated
+-- ---- what a relay does, by its collects
 
-abbrev pub FiresStated : TraceState → RelayAct → Type 0
-FiresStated l (Firing side n more) = (collected side l.host.net).asks ≡ Stated n
-FiresStated l other = Unit {0}
+abbrev pub ActAsks : TraceState → RelayAct → Type 0
+ActAsks l (Firing side n more) = (collected side l.host.net).asks ≡ Stated n
+ActAsks l (Passing side n more) = (collected side l.host.net).asks ≡ NotAsked
+ActAsks l other = Unit {0}
 
 meets_stated : (asks : Asks) (unread : List ℕ) (n : ℕ) → meets asks unread ≡ Some n → asks ≡ Stated n
 meets_stated NotAsked unread n is = absurd (cc)
@@ -90,36 +91,40 @@ meets_stated (Stated k) unread n is = by_test (nat_le k (length unread)) is
     by_test true e = let same : k ≡ n = cc in ap Stated same
     by_test false e = absurd (cc)
 
-pub relay_stated : (l : TraceState) (choices : List Choice) → FiresStated l (relay_act (incoming Client l) (incoming Server l) choices)
-relay_stated l choices = by_done (is_done (incoming Client l) && is_done (incoming Server l)) choices
+pub relay_asks : (l : TraceState) (choices : List Choice) → ActAsks l (relay_act (incoming Client l) (incoming Server l) choices)
+relay_asks l choices = by_done (is_done (incoming Client l) && is_done (incoming Server l)) choices
   where
     side_asks : (side : Side) → (by_side side (incoming Client l) (incoming Server l)).asks ≡ (collected side l.host.net).asks
     side_asks Client = refl
     side_asks Server = refl
 
-    fires : (side : Side) (more : List Choice) (o : Option ℕ) → meets (by_side side (incoming Client l) (incoming Server l)).asks (by_side side (incoming Client l) (incoming Server l)).stream.unread ≡ o → FiresStated l (firing side more o)
+    fires : (side : Side) (more : List Choice) (o : Option ℕ) → meets (by_side side (incoming Client l) (incoming Server l)).asks (by_side side (incoming Client l) (incoming Server l)).stream.unread ≡ o → ActAsks l (firing side more o)
     fires side more None is = tt
     fires side more (Some n) is = sym (side_asks side) ∙ meets_stated (by_side side (incoming Client l) (incoming Server l)).asks (by_side side (incoming Client l) (incoming Server l)).stream.unread n is
 
-    passes_on : (b : Bool) (side : Side) (n : ℕ) (more : List Choice) → FiresStated l (if b then Passing side n more else Resting)
-    passes_on true side n more = tt
-    passes_on false side n more = tt
+    not_asked : (asks : Asks) (n : ℕ) (unread : List ℕ) → passes asks n unread ≡ true → asks ≡ NotAsked
+    not_asked NotAsked n unread is = refl
+    not_asked (Stated k) n unread is = absurd (true≢false (sym is))
 
-    chosen : (choices : List Choice) → FiresStated l (chosen_act (incoming Client l) (incoming Server l) choices)
+    passes_on : (b : Bool) (side : Side) (n : ℕ) (more : List Choice) → passes (by_side side (incoming Client l) (incoming Server l)).asks n (by_side side (incoming Client l) (incoming Server l)).stream.unread ≡ b → ActAsks l (if b then Passing side n more else Resting)
+    passes_on true side n more is = sym (side_asks side) ∙ not_asked (by_side side (incoming Client l) (incoming Server l)).asks n (by_side side (incoming Client l) (incoming Server l)).stream.unread is
+    passes_on false side n more is = tt
+
+    chosen : (choices : List Choice) → ActAsks l (chosen_act (incoming Client l) (incoming Server l) choices)
     chosen [] = tt
-    chosen (PassesOn side n ∷ more) = passes_on (passes (by_side side (incoming Client l) (incoming Server l)).asks n (by_side side (incoming Client l) (incoming Server l)).stream.unread) side n more
+    chosen (PassesOn side n ∷ more) = passes_on (passes (by_side side (incoming Client l) (incoming Server l)).asks n (by_side side (incoming Client l) (incoming Server l)).stream.unread) side n more refl
     chosen (Fires side ∷ more) = fires side more (meets (by_side side (incoming Client l) (incoming Server l)).asks (by_side side (incoming Client l) (incoming Server l)).stream.unread) refl
     chosen (Reuses again ∷ more) = tt
 
-    by_done : (b : Bool) (choices : List Choice) → FiresStated l (if b then BothDone else chosen_act (incoming Client l) (incoming Server l) choices)
+    by_done : (b : Bool) (choices : List Choice) → ActAsks l (if b then BothDone else chosen_act (incoming Client l) (incoming Server l) choices)
     by_done true choices = tt
     by_done false choices = chosen choices
 
-pub collect_stated : (l : TraceState) (n : ℕ) → l.host.net.client.asks ≡ Stated n → (more : Option (List Choice)) → FiresStated l (collect_act n l.client.unread more)
-collect_stated l n is None = tt
-collect_stated l n is (Some more) = by_test (nat_le n (length l.client.unread))
+pub collect_asks : (l : TraceState) (n : ℕ) → l.host.net.client.asks ≡ Stated n → (more : Option (List Choice)) → ActAsks l (collect_act n l.client.unread more)
+collect_asks l n is None = tt
+collect_asks l n is (Some more) = by_test (nat_le n (length l.client.unread))
   where
-    by_test : (b : Bool) → FiresStated l (if b then Firing Client n more else Resting)
+    by_test : (b : Bool) → ActAsks l (if b then Firing Client n more else Resting)
     by_test true = is
     by_test false = tt
 
@@ -298,14 +303,14 @@ module _ (g : Setup) (took : TakenCounts) where
   over_few l Server n bytes k room few Client = let r = room_few took l.sent Client room in let a = over_adds took l.sent Server n bytes Client in omega (arith, r, a, few)
   over_few l Server n bytes k room few Server = k.few Server
 
-  relay_fits : (l : TraceState) (a : RelayAct) → Fits l → FiresStated l a → FitsNext l.sent (relay_next g l a)
+  relay_fits : (l : TraceState) (a : RelayAct) → Fits l → ActAsks l a → FitsNext l.sent (relay_next g l a)
   relay_fits l BothDone k asks = finish_fits Closed l k
   relay_fits l (Passing Client n more) k asks = λ may small. record { phase = tt; host = k.host; few = over_few l Client n (take n l.client.unread) k may (omega (arith, small)) }
   relay_fits l (Passing Server n more) k asks = λ may small. record { phase = tt; host = k.host; few = over_few l Server n (take n (stream_of Server l).unread) k may (omega (arith, small)) }
   relay_fits l (Firing side n more) k asks = fired_next_fits l side n more k asks
   relay_fits l Resting k asks = tt
 
-  collect_fits : (l : TraceState) (a : RelayAct) → Fits l → FiresStated l a → FitsNext l.sent (collect_next g l a)
+  collect_fits : (l : TraceState) (a : RelayAct) → Fits l → ActAsks l a → FitsNext l.sent (collect_next g l a)
   collect_fits l BothDone k asks = finish_fits Closed l k
   collect_fits l (Passing side n more) k asks = tt
   collect_fits l (Firing side n more) k asks = fired_next_fits l side n more k asks
@@ -313,7 +318,7 @@ module _ (g : Setup) (took : TakenCounts) where
 
   collecting_fits : (l : TraceState) (asks : Asks) → l.host.net.client.asks ≡ asks → Fits l → FitsNext l.sent (collecting_next g l asks)
   collecting_fits l NotAsked is k = tt
-  collecting_fits l (Stated n) is k = collect_fits l (collect_act n l.client.unread (behind_fires l.answers.choices)) k (collect_stated l n is (behind_fires l.answers.choices))
+  collecting_fits l (Stated n) is k = collect_fits l (collect_act n l.client.unread (behind_fires l.answers.choices)) k (collect_asks l n is (behind_fires l.answers.choices))
 
   unit_fits : (l : TraceState) (fate : Fate) (side : Side) (left : ℕ) (ended : Bool) (unread : List ℕ) → Fits l → FitsNext l.sent (unit_next g l fate side left ended unread)
   unit_fits l fate side left true [] k = finish_fits Rejected l k
@@ -336,7 +341,7 @@ module _ (g : Setup) (took : TakenCounts) where
   phase_fits (Answering a) l k is = answering_fits l l.answers.connects k
   phase_fits Releasing l k is = λ may small.
       record { phase = tt; host = unloosed_fits l.host k.host; few = over_few l Client 0 l.host.net.loose k may (let few = loose_few l.host k.host in omega (arith, few)) }
-  phase_fits Relaying l k is = relay_fits l (relay_act (incoming Client l) (incoming Server l) l.answers.choices) k (relay_stated l l.answers.choices)
+  phase_fits Relaying l k is = relay_fits l (relay_act (incoming Client l) (incoming Server l) l.answers.choices) k (relay_asks l l.answers.choices)
   phase_fits Collecting l k is = collecting_fits l l.host.net.client.asks refl k
   phase_fits (Finishing r) l k is = finish_fits r l k
   phase_fits Draining l k is = tt

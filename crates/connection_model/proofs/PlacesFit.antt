@@ -44,49 +44,53 @@ pub record PlaceFits (took : TakenCounts) (sent : Counts) (p : Place) : Type 0 w
   pub phase : PhaseFits took sent p.phase p.host
   pub host : HostFits p.host
 
+accepted_out : (asks : Asks) → Outside (behind_accepted asks)
+accepted_out NotAsked = tt
+accepted_out (Stated n) = tt
+
+data_out : (link : Link) (released : Bool) → Outside (behind_data link released)
+data_out Up released = tt
+data_out Absent true = tt
+data_out Absent false = tt
+data_out Asked true = tt
+data_out Asked false = tt
+data_out GivenUp true = tt
+data_out GivenUp false = tt
+
+selected_out : (s : Option Selected) → Outside (connecting s)
+selected_out None = tt
+selected_out (Some s) = tt
+
+connected_out : (loose : List ℕ) → Outside (behind_connected loose)
+connected_out [] = tt
+connected_out (b ∷ bs) = tt
+
+goes_out : (e : EventName) (link : Link) (h : HostState) → Outside (goes_on e link h)
+goes_out ClientAccepted link h = accepted_out h.net.client.asks
+goes_out ClientData link h = data_out link h.net.wishes.released
+goes_out LbSelected link h = selected_out h.net.selected
+goes_out LbFailed link h = by_again h.net.wishes.reselects
+  where
+    by_again : (b : Bool) → Outside (if b then Choosing else Finishing Unselected)
+    by_again true = tt
+    by_again false = tt
+goes_out ServerConnected link h = connected_out h.net.loose
+goes_out ServerData link h = tt
+goes_out other link h = tt
+
+ended_out : (ends : Option Ending) (p : Phase) → Outside p → Outside (unless_ended ends p)
+ended_out None p o = o
+ended_out (Some Rejects) p o = tt
+ended_out (Some Closes) p o = tt
+
+-- the phase after an event that has ended
+pub on_out : (e : EventName) (link : Link) (h : HostState) → Outside (unless_ended h.net.wishes.ends (goes_on e link h))
+on_out e link h = ended_out h.net.wishes.ends (goes_on e link h) (goes_out e link h)
+
 module _ (took : TakenCounts) (sent : Counts) where
   outside : (p : Phase) (h : HostState) → Outside p → PhaseFits took sent p h
   outside (InEvent e bodies) h o = absurd o
   outside other h o = tt
-
-  accepted_out : (asks : Asks) → Outside (behind_accepted asks)
-  accepted_out NotAsked = tt
-  accepted_out (Stated n) = tt
-
-  data_out : (link : Link) (released : Bool) → Outside (behind_data link released)
-  data_out Up released = tt
-  data_out Absent true = tt
-  data_out Absent false = tt
-  data_out Asked true = tt
-  data_out Asked false = tt
-  data_out GivenUp true = tt
-  data_out GivenUp false = tt
-
-  selected_out : (s : Option Selected) → Outside (connecting s)
-  selected_out None = tt
-  selected_out (Some s) = tt
-
-  connected_out : (loose : List ℕ) → Outside (behind_connected loose)
-  connected_out [] = tt
-  connected_out (b ∷ bs) = tt
-
-  goes_out : (e : EventName) (link : Link) (h : HostState) → Outside (goes_on e link h)
-  goes_out ClientAccepted link h = accepted_out h.net.client.asks
-  goes_out ClientData link h = data_out link h.net.wishes.released
-  goes_out LbSelected link h = selected_out h.net.selected
-  goes_out LbFailed link h = by_again h.net.wishes.reselects
-    where
-      by_again : (b : Bool) → Outside (if b then Choosing else Finishing Unselected)
-      by_again true = tt
-      by_again false = tt
-  goes_out ServerConnected link h = connected_out h.net.loose
-  goes_out ServerData link h = tt
-  goes_out other link h = tt
-
-  ended_out : (ends : Option Ending) (p : Phase) → Outside p → Outside (unless_ended ends p)
-  ended_out None p o = o
-  ended_out (Some Rejects) p o = tt
-  ended_out (Some Closes) p o = tt
 
   closed_client_fits : (g : Setup) (link : Link) (h : HostState) → HostFits h → PlaceFits took sent (closed_client g link h)
   closed_client_fits g link h u = by_bodies (g.handlers ClientClosed)
@@ -113,7 +117,7 @@ module _ (took : TakenCounts) (sent : Counts) where
   after_server_fits g false link h u = record { phase = tt; host = u }
 
   on_fits : (e : EventName) (link : Link) (h : HostState) → HostFits h → PlaceFits took sent (place (unless_ended h.net.wishes.ends (goes_on e link h)) h)
-  on_fits e link h u = record { phase = outside _ h (ended_out h.net.wishes.ends (goes_on e link h) (goes_out e link h)); host = u }
+  on_fits e link h u = record { phase = outside _ h (on_out e link h); host = u }
 
   after_event_fits : (g : Setup) (e : EventName) (finished : Bool) (link : Link) (h : HostState) → HostFits h → PlaceFits took sent (after_event g e finished link h)
   after_event_fits g ServerClosed finished link h u = after_server_fits g finished link h u
