@@ -172,6 +172,10 @@ two Q true b f g y p q r = p
 two Q false true f g y p q r = q
 two Q false false f g y p q r = r
 
+alone : {A : Type 0} (Q : Option A → Type 0) (a : Bool) (f : A) (y : Option A) → Q (Some f) → Q y → Q (if a then Some f else y)
+alone Q true f y p q = p
+alone Q false f y p q = q
+
 either_quick : (e : EventName) (s : NetState) (b : Bool) (x y : Step) → Quick e s x → Quick e s y → Quick e s (if b then x else y)
 either_quick e s true x y p q = p
 either_quick e s false x y p q = q
@@ -323,21 +327,35 @@ module _ (groups : Groups) (event : EventName) (s : NetState) (words : List (Lis
 
   reselect_quick : (ws : List (List ℕ)) → P (with_value (if allowed command.LbReselect then shaped command.LbReselect (reselect_form ws) (length words) else Err (not_here (codes "LB::reselect"))) (λ form. request_of groups s.port form words))
   reselect_quick [] = fitting P _ (allowed command.LbReselect) _ _ _ _ (does (reselects_quick s.target)) bad
-  reselect_quick (word ∷ ws) =
+  reselect_quick (word ∷ []) = unnamed P _ (allowed command.LbReselect) _ _ _ _ bad
+  reselect_quick (word ∷ (name ∷ [])) =
       two (λ o. P (with_value (if allowed command.LbReselect then shaped command.LbReselect o (length words) else Err (not_here (codes "LB::reselect"))) (λ form. request_of groups s.port form words)))
       (bytes_eq word (codes "pool")) (bytes_eq word (codes "node")) _ _ _
       (fitting P _ (allowed command.LbReselect) _ _ _ _ (reselect_pool_quick words) bad)
       (fitting P _ (allowed command.LbReselect) _ _ _ _ (reselect_node_quick words) bad)
       (unnamed P _ (allowed command.LbReselect) _ _ _ _ bad)
+  reselect_quick (word ∷ (addr ∷ (port ∷ []))) =
+      alone (λ o. P (with_value (if allowed command.LbReselect then shaped command.LbReselect o (length words) else Err (not_here (codes "LB::reselect"))) (λ form. request_of groups s.port form words)))
+      (bytes_eq word (codes "node")) _ _
+      (fitting P _ (allowed command.LbReselect) _ _ _ _ (reselect_node_quick words) bad)
+      (unnamed P _ (allowed command.LbReselect) _ _ _ _ bad)
+  reselect_quick (word ∷ (addr ∷ (port ∷ (other ∷ ws)))) = unnamed P _ (allowed command.LbReselect) _ _ _ _ bad
 
   payload_quick : (ws : List (List ℕ)) → P (with_value (if allowed command.TcpPayload then shaped command.TcpPayload (payload_form ws) (length words) else Err (not_here (codes "TCP::payload"))) (λ form. request_of groups s.port form words))
   payload_quick [] = fitting P _ (allowed command.TcpPayload) _ _ _ _ (tell_request (some_of (payload_form []) refl) _ refl) bad
-  payload_quick (word ∷ ws) =
-      two (λ o. P (with_value (if allowed command.TcpPayload then shaped command.TcpPayload o (length words) else Err (not_here (codes "TCP::payload"))) (λ form. request_of groups s.port form words)))
-      (bytes_eq word (codes "length")) (bytes_eq word (codes "replace")) _ _ _
+  payload_quick (word ∷ []) =
+      alone (λ o. P (with_value (if allowed command.TcpPayload then shaped command.TcpPayload o (length words) else Err (not_here (codes "TCP::payload"))) (λ form. request_of groups s.port form words)))
+      (bytes_eq word (codes "length")) _ _
       (fitting P _ (allowed command.TcpPayload) _ _ _ _ (tell_request (some_of (payload_form (codes "length" ∷ [])) refl) _ refl) bad)
+      (unnamed P _ (allowed command.TcpPayload) _ _ _ _ bad)
+  payload_quick (word ∷ (at ∷ [])) = unnamed P _ (allowed command.TcpPayload) _ _ _ _ bad
+  payload_quick (word ∷ (at ∷ (n ∷ []))) = unnamed P _ (allowed command.TcpPayload) _ _ _ _ bad
+  payload_quick (word ∷ (at ∷ (n ∷ (text ∷ [])))) =
+      alone (λ o. P (with_value (if allowed command.TcpPayload then shaped command.TcpPayload o (length words) else Err (not_here (codes "TCP::payload"))) (λ form. request_of groups s.port form words)))
+      (bytes_eq word (codes "replace")) _ _
       (fitting_when P _ (allowed command.TcpPayload) _ _ _ _ (λ ok. replace_quick (own_by ok) words) bad)
       (unnamed P _ (allowed command.TcpPayload) _ _ _ _ bad)
+  payload_quick (word ∷ (at ∷ (n ∷ (text ∷ (other ∷ ws))))) = unnamed P _ (allowed command.TcpPayload) _ _ _ _ bad
 
   command_quick : (c : HostCommand) → is_there c ≡ true → P (asked_by groups event s c words)
   command_quick command.Log there = fitting P _ (allowed command.Log) _ _ _ _ (log_quick words) bad

@@ -1,4 +1,5 @@
 pub mod Taking
 pub mod Growing
+pub mod ServerGrowing
 pub mod Pieces
 pub mod Promising

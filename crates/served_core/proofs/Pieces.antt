@@ -1,6 +1,7 @@
--- The piece that a write with its event tells a client to have taken.
-use Rattle.std.proofs.Common.{◌≡◌, ℕ, ◌<◌, List, [], ◌∷◌, length, take, drop, Bool, true, false, Option, Some, None, nat_eq, if◌then◌else◌, refl, ap, sym, ◌∙◌, subst, arith}
-use Rattle.std.specs.Prelude.{Ok, Err, unwrap_or}
+-- The piece that a write with its event tells a side to have taken.
+use Rattle.std.proofs.Common.{◌≡◌, ℕ, ◌<◌, ◌-◌, List, [], ◌∷◌, length, take, drop, Bool, true, false, Option, Some, None, nat_eq, if◌then◌else◌, inl, inr, refl, ap, sym, ◌∙◌, subst, arith}
+use Rattle.std.specs.Prelude.{Ok, Err, option_map, unwrap_or}
+use Rattle.std.proofs.lemmas.List.{length-drop}
 use Rattle.px_bytes.specs.declared.addr.Side.{Side}
 use Rattle.px_bytes.specs.declared.addr.Side.TheVariants.{Client, Server}
 use Rattle.px_outside.specs.declared.answers.Accepted.TheVariants as accepted
@@ -14,15 +15,23 @@ use Rattle.px_outside.specs.Net.{Call, Listen, Wait, Accept, Connect, Ask, Read,
 use Rattle.journal_text.specs.declared.event.Event.{Event}
 use Rattle.journal_text.specs.declared.event.Event.TheVariants as told
 use Rattle.connection_model.specs.Edges.{may_take}
-use Rattle.connection_model.specs.Heard.{taken_by}
-use Rattle.connection_model.specs.Item.{client_output}
+use Rattle.conn.specs.declared.connection.Conn.{Conn}
+use Rattle.connection_model.specs.Heard.{EventKind, Heard, has_made, taken_by}
+use Rattle.connection_model.specs.Item.{Item, client_output, server_output}
 use Rattle.proxy_core.specs.Asked.{edges_of, left_of}
 use Rattle.proxy_core.specs.Past.{Past, heard, kind_of, shared}
 use Rattle.proxy_core.specs.Ready.{is_in}
-use Rattle.proxy_core.specs.Represents.{Represents}
-use Rattle.proxy_core.specs.Scheduler.{State}
+use Rattle.proxy_core.specs.OneServer.{OneServer}
+use Rattle.proxy_core.specs.Queries.{queue_on}
+use Rattle.proxy_core.specs.Refusals.{live_at}
+use Rattle.proxy_core.specs.Represents.{AgreesAt, ConnectionContinues, HoldsQueues, Represents}
+use Rattle.proxy_core.specs.Scheduler.{State, Seen, last_took, seen}
 use Rattle.proxy_core.specs.declared.config.Config.{Config}
+use Rattle.proxy_core.specs.declared.core_state.Core.{Core}
+use Rattle.proxy_core.specs.declared.live.Live.{Live}
+use Rattle.proxy_core.proofs.Asked.{queue_told}
 use Rattle.proxy_core.proofs.Members.{eq_same}
+use Rattle.proxy_core.proofs.OneServer.{one_server}
 use Rattle.serve_loop.specs.Events.{read_event, write_event, connect_event}
 use Rattle.serve_loop.specs.Walk.{Around, IsOwn, MayCall}
 use Rattle.served_core.specs.Asked.{on_edge, to_write}
@@ -31,6 +40,7 @@ use Rattle.served_core.specs.Served.{served_face}
 use Rattle.served_core.specs.Told.{meaning}
 use Rattle.served_core.specs.declared.served.Served.{Served}
 use Rattle.served_core.proofs.Growing.{took_in}
+use Rattle.served_core.proofs.ServerGrowing.{server_in}
 
 no_byte : (bytes : List ℕ) → bytes ≡ [] → 0 < length bytes → ⊥
 no_byte bytes e some = let n : length bytes ≡ 0 = ap length e in omega (arith, some, n)
@@ -42,99 +52,181 @@ queued_by true true true t out bytes e some = absurd (no_byte bytes e some)
 queued_by true false reset t out bytes e some = absurd (no_byte bytes e some)
 queued_by false live reset t out bytes e some = absurd (no_byte bytes e some)
 
+reset_by : (reset : Bool) (queue out bytes : List ℕ) → queue ≡ out → bytes ≡ (if reset then [] else queue) → 0 < length bytes → bytes ≡ out
+reset_by true queue out bytes is e some = absurd (no_byte bytes e some)
+reset_by false queue out bytes is e some = e ∙ is
+
+queues_of : (C : Config) (z : Seen) (conn : Conn) → ConnectionContinues C z (Some conn) → HoldsQueues z.heard z.place conn.ends
+queues_of C z conn (inl k) = k.queues
+queues_of C z conn (inr k) = k.queues
+
+conn_by : (C : Config) (z : Seen) (o : Option Conn) (bytes : List ℕ) → ConnectionContinues C z o → bytes ≡ queue_on Server o → 0 < length bytes
+    → bytes ≡ drop (last_took z.heard.connects) (server_output 1 z.place)
+conn_by C z None bytes k e some = absurd (no_byte bytes e some)
+conn_by C z (Some conn) bytes k e some =
+    reset_by conn.ends.server.reset conn.ends.server.queued (drop (last_took z.heard.connects) (server_output 1 z.place)) bytes (queues_of C z conn k).server e some
+
+live_by : (C : Config) (z : Seen) (opened : Bool) (o : Option Live) (bytes : List ℕ) → AgreesAt C z o
+    → bytes ≡ (if opened then unwrap_or (option_map (λ l. queue_on Server l.conn) o) [] else []) → 0 < length bytes
+    → bytes ≡ drop (last_took z.heard.connects) (server_output 1 z.place)
+live_by C z false o bytes a e some = absurd (no_byte bytes e some)
+live_by C z true None bytes a e some = absurd (no_byte bytes e some)
+live_by C z true (Some l) bytes a e some = conn_by C z l.conn bytes a.continues e some
+
+-- ---- by the side
+
+-- how much a side took, of what was sent to it
+abbrev pub took_side : Side → Heard → ℕ
+took_side Client h = h.client.took
+took_side Server h = last_took h.connects
+
+abbrev pub sent_side : Side → List Item → List ℕ
+sent_side Client place = client_output place
+sent_side Server place = server_output 1 place
+
+-- how many bytes more an event says that the side took
+abbrev pub in_side : Side → ℕ → EventKind → ℕ
+in_side Client c v = took_in c v
+in_side Server c v = server_in c v
+
 -- what is pending is what was sent and not taken
-queued : (past : Past) (s : State) (c : ℕ) (bytes : List ℕ) → bytes ≡ to_write past s c Client → 0 < length bytes
-    → bytes ≡ drop (heard c past).client.took (client_output (s.places c))
-queued past s c bytes e some =
+queued : (C : Config) (past : Past) (s : State) (core : Core) (c : ℕ) (side : Side) (bytes : List ℕ) → Represents C past s core → bytes ≡ to_write past s c side
+    → 0 < length bytes → bytes ≡ drop (took_side side (heard c past)) (sent_side side (s.places c))
+queued C past s core c Client bytes r e some =
     queued_by (on_edge (edges_of past c) Client may_take) (is_in (shared past).live c) (heard c past).client.reset (heard c past).client.took
     (client_output (s.places c)) bytes e some
+queued C past s core c Server bytes r e some =
+    let opened = on_edge (edges_of past c) Server may_take in
+    live_by C (seen past s c) opened (live_at core.live.items c) bytes (r.agrees.each c)
+    (e ∙ ap (λ (o : Option (List ℕ)). if opened then unwrap_or o [] else []) (sym (queue_told C past s core c Server _ refl r))) some
 
 some_same : (x y : Event) → Some x ≡ Some y → x ≡ y
 some_same x y e = cc
 
--- no client took anything
+-- no side took anything
 abbrev IsQuiet : Event → Type 0
-IsQuiet e = (c : ℕ) → took_in c (kind_of (meaning e)) ≡ 0
+IsQuiet e = ((c : ℕ) → took_in c (kind_of (meaning e)) ≡ 0) × ((c : ℕ) → server_in c (kind_of (meaning e)) ≡ 0)
 
 quiet_as : (x e : Event) → Some e ≡ Some x → IsQuiet x → IsQuiet e
 quiet_as x e is quiet = subst IsQuiet (sym (some_same e x is)) quiet
 
 read_quiet : (d : ℕ) (side : Side) (answer : ReadAnswer) (bytes : List ℕ) (e : Event) → Some e ≡ read_event d side answer bytes → IsQuiet e
-read_quiet d Client (read.Got n) bytes e is = quiet_as (told.FromClient d bytes) e is (λ c. refl)
-read_quiet d Server (read.Got n) bytes e is = quiet_as (told.FromServer d bytes) e is (λ c. refl)
+read_quiet d Client (read.Got n) bytes e is = quiet_as (told.FromClient d bytes) e is (λ c. refl, λ c. refl)
+read_quiet d Server (read.Got n) bytes e is = quiet_as (told.FromServer d bytes) e is (λ c. refl, λ c. refl)
 read_quiet d side read.NotYet bytes e is = cc
-read_quiet d Client read.End bytes e is = quiet_as (told.ClientEnd d) e is (λ c. refl)
-read_quiet d Server read.End bytes e is = quiet_as (told.ServerEnd d) e is (λ c. refl)
-read_quiet d Client read.Reset bytes e is = quiet_as (told.ClientReset d) e is (λ c. refl)
-read_quiet d Server read.Reset bytes e is = quiet_as (told.ServerReset d) e is (λ c. refl)
+read_quiet d Client read.End bytes e is = quiet_as (told.ClientEnd d) e is (λ c. refl, λ c. refl)
+read_quiet d Server read.End bytes e is = quiet_as (told.ServerEnd d) e is (λ c. refl, λ c. refl)
+read_quiet d Client read.Reset bytes e is = quiet_as (told.ClientReset d) e is (λ c. refl, λ c. refl)
+read_quiet d Server read.Reset bytes e is = quiet_as (told.ServerReset d) e is (λ c. refl, λ c. refl)
 
 connect_quiet : (d : ℕ) (answer : ConnectAnswer) (e : Event) → Some e ≡ connect_event d answer → IsQuiet e
-connect_quiet d connect.Connected e is = quiet_as (told.Connected d) e is (λ c. refl)
-connect_quiet d connect.Refused e is = quiet_as (told.Refused d) e is (λ c. refl)
+connect_quiet d connect.Connected e is = quiet_as (told.Connected d) e is (λ c. refl, λ c. refl)
+connect_quiet d connect.Refused e is = quiet_as (told.Refused d) e is (λ c. refl, λ c. refl)
 connect_quiet d connect.NotYet e is = cc
 
-pub own_quiet : (e : Event) → IsOwn e → IsQuiet e
-own_quiet (told.Accept d vs from) own c = absurd own
-own_quiet (told.FromClient d bytes) own c = absurd own
-own_quiet (told.ClientEnd d) own c = absurd own
-own_quiet (told.ClientReset d) own c = absurd own
-own_quiet (told.Connected d) own c = absurd own
-own_quiet (told.Refused d) own c = absurd own
-own_quiet (told.FromServer d bytes) own c = absurd own
-own_quiet (told.ServerEnd d) own c = absurd own
-own_quiet (told.ServerReset d) own c = absurd own
-own_quiet (told.ClientTook d n) own c = absurd own
-own_quiet (told.ServerTook d n) own c = absurd own
-own_quiet (told.Tick moment) own c = refl
-own_quiet told.Turn own c = refl
-own_quiet told.Run own c = refl
-own_quiet (told.Mark pool member up) own c = absurd own
+own_quiet : (e : Event) → IsOwn e → IsQuiet e
+own_quiet (told.Accept d vs from) own = absurd own
+own_quiet (told.FromClient d bytes) own = absurd own
+own_quiet (told.ClientEnd d) own = absurd own
+own_quiet (told.ClientReset d) own = absurd own
+own_quiet (told.Connected d) own = absurd own
+own_quiet (told.Refused d) own = absurd own
+own_quiet (told.FromServer d bytes) own = absurd own
+own_quiet (told.ServerEnd d) own = absurd own
+own_quiet (told.ServerReset d) own = absurd own
+own_quiet (told.ClientTook d n) own = absurd own
+own_quiet (told.ServerTook d n) own = absurd own
+own_quiet (told.Tick moment) own = (λ c. refl, λ c. refl)
+own_quiet told.Turn own = (λ c. refl, λ c. refl)
+own_quiet told.Run own = (λ c. refl, λ c. refl)
+own_quiet (told.Mark pool member up) own = absurd own
 
--- nothing, where no client took anything
-pub no_piece : (e : Event) → IsQuiet e → (c : ℕ) (rest : List ℕ) → [] ≡ take (took_in c (kind_of (meaning e))) rest
-no_piece e quiet c rest = ap (λ k. take k rest) (sym (quiet c))
+-- the pieces that an event tells each side of each connection to have taken; a server took some only where one was made
+pub record PiecesAre (past : Past) (s : State) (e : Event) (piece : Side → ℕ → List ℕ) : Type 0 where
+  pub is : (side : Side) (c : ℕ)
+      → piece side c ≡ take (in_side side c (kind_of (meaning e))) (drop (took_side side (heard c past)) (sent_side side (s.places c)))
+  pub first : (c : ℕ) → has_made (heard c past).connects ≡ false → server_in c (kind_of (meaning e)) ≡ 0
 
-took_piece : (past : Past) (s : State) (d n : ℕ) (bytes : List ℕ) → bytes ≡ drop (heard d past).client.took (client_output (s.places d)) → (c : ℕ)
+by_side : (P : Side → Type 0) → P Client → P Server → (side : Side) → P side
+by_side P client server Client = client
+by_side P client server Server = server
+
+none_of : (k : ℕ) (piece rest : List ℕ) → piece ≡ [] → k ≡ 0 → piece ≡ take k rest
+none_of k piece rest none zero_more = none ∙ ap (λ n. take n rest) (sym zero_more)
+
+quiet_pieces : (past : Past) (s : State) (e : Event) (piece : Side → ℕ → List ℕ) → IsQuiet e → ((c : ℕ) → piece Client c ≡ []) → ((c : ℕ) → piece Server c ≡ [])
+    → PiecesAre past s e piece
+quiet_pieces past s e piece quiet client server = record {
+  is = by_side (λ side. (c : ℕ) → piece side c ≡ take (in_side side c (kind_of (meaning e))) (drop (took_side side (heard c past)) (sent_side side (s.places c))))
+      (λ c. none_of (took_in c (kind_of (meaning e))) (piece Client c) _ (client c) (quiet.0 c))
+      (λ c. none_of (server_in c (kind_of (meaning e))) (piece Server c) _ (server c) (quiet.1 c));
+  first = λ c none. quiet.1 c;
+}
+
+pub own_pieces : (past : Past) (s : State) (e : Event) → IsOwn e → PiecesAre past s e (λ side c. [])
+own_pieces past s e own = quiet_pieces past s e (λ side c. []) (own_quiet e own) (λ c. refl) (λ c. refl)
+
+took_piece : (side : Side) (past : Past) (s : State) (d n : ℕ) (bytes : List ℕ) → bytes ≡ drop (took_side side (heard d past)) (sent_side side (s.places d)) → (c : ℕ)
     → (b : Bool) → nat_eq d c ≡ b
-    → (if b then take n bytes else []) ≡ take (if b then n else 0) (drop (heard c past).client.took (client_output (s.places c)))
-took_piece past s d n bytes is c true f =
-    ap (take n) is ∙ ap (λ k. take n (drop (heard k past).client.took (client_output (s.places k)))) (eq_same d c f)
-took_piece past s d n bytes is c false f = refl
+    → (if b then take n bytes else []) ≡ take (if b then n else 0) (drop (took_side side (heard c past)) (sent_side side (s.places c)))
+took_piece side past s d n bytes is c true f =
+    ap (take n) is ∙ ap (λ k. take n (drop (took_side side (heard k past)) (sent_side side (s.places k)))) (eq_same d c f)
+took_piece side past s d n bytes is c false f = refl
+
+-- where bytes are pending to a server one was made
+made_there : (past : Past) (s : State) (d : ℕ) (bytes : List ℕ) → OneServer past s d → bytes ≡ drop (last_took (heard d past).connects) (server_output 1 (s.places d))
+    → 0 < length bytes → has_made (heard d past).connects ≡ false → ⊥
+made_there past s d bytes one is some none =
+    let left : length bytes ≡ length (server_output 1 (s.places d)) - last_took (heard d past).connects = ap length is ∙ length-drop (last_took (heard d past).connects) (server_output 1 (s.places d)) in
+    let zero_sent : length (server_output 1 (s.places d)) ≡ 0 = ap length (one.unsent none) in
+    omega (arith, some, left, zero_sent)
+
+made_first : (past : Past) (s : State) (d n : ℕ) (bytes : List ℕ) → OneServer past s d → bytes ≡ drop (last_took (heard d past).connects) (server_output 1 (s.places d))
+    → 0 < length bytes → (c : ℕ) → has_made (heard c past).connects ≡ false → (b : Bool) → nat_eq d c ≡ b → (if b then n else 0) ≡ 0
+made_first past s d n bytes one is some c none true f =
+    absurd (made_there past s d bytes one is some (let P : ℕ → Type 0 = λ k. has_made (heard k past).connects ≡ false in subst P (sym (eq_same d c f)) none))
+made_first past s d n bytes one is some c none false f = refl
 
 -- what a write told
-write_piece : (past : Past) (s : State) (d : ℕ) (side : Side) (link : ℕ) (bytes : List ℕ) (answer : WriteAnswer) (e : Event) → bytes ≡ to_write past s d side
-    → 0 < length bytes → Some e ≡ write_event d side answer → (c : ℕ)
-    → piece_of c (Write link bytes answer) e ≡ take (took_in c (kind_of (meaning e))) (drop (heard c past).client.took (client_output (s.places c)))
-write_piece past s d Client link bytes (write.Took n) e is some told_is c =
-    let P : Event → Type 0 = λ x. piece_of c (Write link bytes (write.Took n)) x ≡ take (took_in c (kind_of (meaning x))) (drop (heard c past).client.took (client_output (s.places c))) in
-    subst P (sym (some_same e (told.ClientTook d n) told_is)) (took_piece past s d n bytes (queued past s d bytes is some) c (nat_eq d c) refl)
-write_piece past s d Server link bytes (write.Took n) e is some told_is c =
-    let P : Event → Type 0 = λ x. piece_of c (Write link bytes (write.Took n)) x ≡ take (took_in c (kind_of (meaning x))) (drop (heard c past).client.took (client_output (s.places c))) in
-    subst P (sym (some_same e (told.ServerTook d n) told_is)) refl
-write_piece past s d side link bytes write.NotYet e is some told_is c = cc
-write_piece past s d Client link bytes write.Reset e is some told_is c =
-    let P : Event → Type 0 = λ x. piece_of c (Write link bytes write.Reset) x ≡ take (took_in c (kind_of (meaning x))) (drop (heard c past).client.took (client_output (s.places c))) in
-    subst P (sym (some_same e (told.ClientReset d) told_is)) refl
-write_piece past s d Server link bytes write.Reset e is some told_is c =
-    let P : Event → Type 0 = λ x. piece_of c (Write link bytes write.Reset) x ≡ take (took_in c (kind_of (meaning x))) (drop (heard c past).client.took (client_output (s.places c))) in
-    subst P (sym (some_same e (told.ServerReset d) told_is)) refl
+write_pieces : (past : Past) (s : State) (d : ℕ) (side : Side) (link : ℕ) (bytes : List ℕ) (answer : WriteAnswer) (e : Event) → OneServer past s d
+    → bytes ≡ drop (took_side side (heard d past)) (sent_side side (s.places d)) → 0 < length bytes → Some e ≡ write_event d side answer
+    → PiecesAre past s e (λ of c. piece_of c of (Write link bytes answer) e)
+write_pieces past s d Client link bytes (write.Took n) e one is some told_is =
+    subst (λ (x : Event). PiecesAre past s x (λ of c. piece_of c of (Write link bytes (write.Took n)) x)) (sym (some_same e (told.ClientTook d n) told_is)) (record {
+      is = by_side (λ of. (c : ℕ) → piece_of c of (Write link bytes (write.Took n)) (told.ClientTook d n) ≡ take (in_side of c (kind_of (meaning (told.ClientTook d n)))) (drop (took_side of (heard c past)) (sent_side of (s.places c))))
+          (λ c. took_piece Client past s d n bytes is c (nat_eq d c) refl) (λ c. refl);
+      first = λ c none. refl;
+    })
+write_pieces past s d Server link bytes (write.Took n) e one is some told_is =
+    subst (λ (x : Event). PiecesAre past s x (λ of c. piece_of c of (Write link bytes (write.Took n)) x)) (sym (some_same e (told.ServerTook d n) told_is)) (record {
+      is = by_side (λ of. (c : ℕ) → piece_of c of (Write link bytes (write.Took n)) (told.ServerTook d n) ≡ take (in_side of c (kind_of (meaning (told.ServerTook d n)))) (drop (took_side of (heard c past)) (sent_side of (s.places c))))
+          (λ c. refl) (λ c. took_piece Server past s d n bytes is c (nat_eq d c) refl);
+      first = λ c none. made_first past s d n bytes one is some c none (nat_eq d c) refl;
+    })
+write_pieces past s d side link bytes write.NotYet e one is some told_is = cc
+write_pieces past s d Client link bytes write.Reset e one is some told_is =
+    subst (λ (x : Event). PiecesAre past s x (λ of c. piece_of c of (Write link bytes write.Reset) x)) (sym (some_same e (told.ClientReset d) told_is))
+    (quiet_pieces past s (told.ClientReset d) (λ of c. piece_of c of (Write link bytes write.Reset) (told.ClientReset d)) (λ c. refl, λ c. refl) (λ c. refl) (λ c. refl))
+write_pieces past s d Server link bytes write.Reset e one is some told_is =
+    subst (λ (x : Event). PiecesAre past s x (λ of c. piece_of c of (Write link bytes write.Reset) x)) (sym (some_same e (told.ServerReset d) told_is))
+    (quiet_pieces past s (told.ServerReset d) (λ of c. piece_of c of (Write link bytes write.Reset) (told.ServerReset d)) (λ c. refl, λ c. refl) (λ c. refl) (λ c. refl))
 
 -- what a call told
-pub call_piece : (C : Config) (past : Past) (s : State) (conns : ℕ) (a : Around Served) (call : Call) (e : Event) → Represents C past s a.core.core
-    → MayCall served_face conns a call (Some e) → (c : ℕ)
-    → piece_of c call e ≡ take (took_in c (kind_of (meaning e))) (drop (heard c past).client.took (client_output (s.places c)))
-call_piece C past s conns a (Listen slot at answer) e r may c = absurd may
-call_piece C past s conns a (Wait until listed answer) e r may c = cc
-call_piece C past s conns a (Accept slot (Ok (accepted.One link from))) e r may c =
-    no_piece e (quiet_as (told.Accept may.number may.name from) e may.becomes (λ k. refl)) c (drop (heard c past).client.took (client_output (s.places c)))
-call_piece C past s conns a (Accept slot (Ok accepted.NotYet)) e r may c = let none = may.1 in cc
-call_piece C past s conns a (Accept slot (Err why)) e r may c = let none = may.1 in cc
-call_piece C past s conns a (Connect to answer) e r may c = absurd may
-call_piece C past s conns a (Ask link answer) e r may c =
-    no_piece e (connect_quiet may.row.conn answer e may.becomes) c (drop (heard c past).client.took (client_output (s.places c)))
-call_piece C past s conns a (Read link room answer bytes) e r may c =
-    no_piece e (read_quiet may.row.conn may.row.side answer bytes e may.becomes) c (drop (heard c past).client.took (client_output (s.places c)))
-call_piece C past s conns a (Write link bytes answer) e r may c =
-    write_piece past s may.conn may.side link bytes answer e (may.queued C past s r) may.some may.becomes c
-call_piece C past s conns a (Finish link) e r may c = absurd may
-call_piece C past s conns a (Close link) e r may c = absurd may
+pub call_pieces : (C : Config) (past : Past) (s : State) (conns : ℕ) (a : Around Served) (call : Call) (e : Event) → Represents C past s a.core.core
+    → MayCall served_face conns a call (Some e) → PiecesAre past s e (λ side c. piece_of c side call e)
+call_pieces C past s conns a (Listen slot at answer) e r may = absurd may
+call_pieces C past s conns a (Wait until listed answer) e r may = cc
+call_pieces C past s conns a (Accept slot (Ok (accepted.One link from))) e r may =
+    quiet_pieces past s e (λ side c. piece_of c side (Accept slot (Ok (accepted.One link from))) e) (quiet_as (told.Accept may.number may.name from) e may.becomes (λ k. refl, λ k. refl)) (λ c. refl) (λ c. refl)
+call_pieces C past s conns a (Accept slot (Ok accepted.NotYet)) e r may = let none = may.1 in cc
+call_pieces C past s conns a (Accept slot (Err why)) e r may = let none = may.1 in cc
+call_pieces C past s conns a (Connect to answer) e r may = absurd may
+call_pieces C past s conns a (Ask link answer) e r may =
+    quiet_pieces past s e (λ side c. piece_of c side (Ask link answer) e) (connect_quiet may.row.conn answer e may.becomes) (λ c. refl) (λ c. refl)
+call_pieces C past s conns a (Read link room answer bytes) e r may =
+    quiet_pieces past s e (λ side c. piece_of c side (Read link room answer bytes) e) (read_quiet may.row.conn may.row.side answer bytes e may.becomes) (λ c. refl) (λ c. refl)
+call_pieces C past s conns a (Write link bytes answer) e r may =
+    write_pieces past s may.conn may.side link bytes answer e (one_server C past s r.sound.leads may.conn)
+    (queued C past s a.core.core may.conn may.side bytes r (may.queued C past s r) may.some) may.some may.becomes
+call_pieces C past s conns a (Finish link) e r may = absurd may
+call_pieces C past s conns a (Close link) e r may = absurd may

@@ -2,12 +2,13 @@
 use Rattle.std.specs.Prelude.{◌≡◌, ◌⊎◌, ℕ, List, [], ◌∷◌, take, Option, Some, None}
 use Rattle.px_outside.specs.Net.{Call, Chain}
 use Rattle.px_outside.specs.Outside.{told_more}
-use Rattle.connection_model.specs.Item.{client_output}
+use Rattle.px_bytes.specs.declared.addr.Side.TheVariants as side
+use Rattle.connection_model.specs.Item.{client_output, server_output}
 use Rattle.journal_text.specs.Notes.{note_lines}
 use Rattle.proxy_core.specs.Headline.{OutputMatchesEvaluator}
 use Rattle.proxy_core.specs.Past.{Happened, Past, heard}
 use Rattle.proxy_core.specs.Represents.{Represents}
-use Rattle.proxy_core.specs.Scheduler.{State, no_connections}
+use Rattle.proxy_core.specs.Scheduler.{State, last_took, no_connections}
 use Rattle.proxy_core.specs.Setup.{init_notes}
 use Rattle.proxy_core.specs.declared.config.Config.{Config}
 use Rattle.proxy_core.specs.declared.core_state.Core.{Core}
@@ -36,7 +37,7 @@ past_after (Asked call (Some g) ∷ steps) past = past_after steps (happened g �
 -- what the loop may do there, and no event is refused; the journal grew by exactly the lines of the events and
 -- their notes. The core stands for the past of exactly these events, and the promise holds of it: what each client
 -- took is a front of what the evaluator gives, and all that `OutputMatchesEvaluator` says. The pieces that its link took,
--- in order, are that front.
+-- in order, are that front, and those of its server's link likewise: one at most is made.
 pub record ServedEvents {S : Type 0} (did : S → Call → S → Type 0) (C : Config) (conns : ℕ)
     (first last : Server Served) (begun net : S) (before after : Option (List ℕ)) : Type 0 where
   pub steps : List Step
@@ -45,8 +46,10 @@ pub record ServedEvents {S : Type 0} (did : S → Call → S → Type 0) (C : Co
   pub written : after ≡ told_more before (text_in steps)
   pub state : State
   pub represents : Represents C (past_after steps []) state last.serving.core.core
-  pub took : (c : ℕ) → pieces_of c steps
+  pub took : (c : ℕ) → pieces_of c side.Client steps
       ≡ take (heard c (past_after steps [])).client.took (client_output (state.places c))
+  pub server_took : (c : ℕ) → pieces_of c side.Server steps
+      ≡ take (last_took (heard c (past_after steps [])).connects) (server_output 1 (state.places c))
   pub matches : OutputMatchesEvaluator C (past_after steps []) state
 
 -- so much of a text was written

@@ -1,0 +1,176 @@
+-- What one event adds to what the server of a connection took.
+use Rattle.std.proofs.Common.{◌≡◌, ◌⊎◌, ℕ, suc, ◌+◌, ◌≤◌, List, [], ◌∷◌, ◌++◌, length, take, drop, Bool, true, false, Option, Some, None, nat_eq, if◌then◌else◌, inl, inr, refl, ap, sym, ◌∙◌, subst, arith}
+use Rattle.std.specs.Bool.{MatchBool}
+use Rattle.std.specs.Prelude.{◌||◌}
+use Rattle.std.proofs.Math.Seq.{take-add}
+use Rattle.std.proofs.lemmas.List.{append-nil, take-append-le}
+use Rattle.std.proofs.lemmas.Grind.{flat_map-append}
+use Rattle.px_bytes.specs.declared.addr.Side.{Side}
+use Rattle.px_bytes.specs.declared.addr.Side.TheVariants.{Client, Server}
+use Rattle.connection_model.specs.declared.note.Note.{Note}
+use Rattle.connection_model.specs.Further.{Coming}
+use Rattle.connection_model.specs.Heard.{Input, Bytes, Ends, Resets, Connects, Takes, EventKind, Accepts, Comes, Ticks, Turns, Runs, Marks}
+use Rattle.connection_model.specs.Heard.{Heard, SideHeard, Brought, at_last, brings_in, brought, brought_nothing, edges_met, event_brings, event_marks, accepts, fresh_side, has_made, hears, hears_by, hears_more, marks}
+use Rattle.connection_model.specs.Item.{Item, to_server, server_output}
+use Rattle.connection_model.specs.Tellings.{finish_told, notes_about}
+use Rattle.proxy_core.specs.Moves.{MovesBy, MovesFailed, MovesOn, MovesLacks}
+use Rattle.proxy_core.specs.OneServer.{OneServer}
+use Rattle.proxy_core.specs.Past.{Happened, Past, heard, kind_of}
+use Rattle.proxy_core.specs.Scheduler.{State, last_took}
+use Rattle.proxy_core.specs.Servers.{made, makes, servers_made}
+use Rattle.proxy_core.specs.declared.config.Config.{Config}
+use Rattle.proxy_core.proofs.HeardServers.{heard_servers}
+use Rattle.proxy_core.proofs.Meeting.{last_keeps, last_more, none_took, took_answered, took_refused}
+
+-- how many bytes more an event says that the server of connection c took
+abbrev pub server_in : ℕ → EventKind → ℕ
+server_in c (Comes d (Takes Server n)) = if nat_eq d c then n else 0
+server_in c other = 0
+
+none_more : (n : ℕ) → n ≡ n + 0
+none_more n = omega arith
+
+keeps : (b : Bool) (x h : Heard) → last_took x.connects ≡ last_took h.connects → last_took (if b then x else h).connects ≡ last_took h.connects + 0
+keeps true x h e = e ∙ none_more (last_took h.connects)
+keeps false x h e = none_more (last_took h.connects)
+
+adds : (b : Bool) (n : ℕ) (h : Heard) → (has_made h.connects ≡ false → (if b then n else 0) ≡ 0)
+    → last_took (if b then marks (Takes Server n) h else h).connects ≡ last_took h.connects + (if b then n else 0)
+adds false n h none = none_more (last_took h.connects)
+adds true n h none = by_made (has_made h.connects) refl
+  where
+    by_made : (m : Bool) → has_made h.connects ≡ m → last_took (marks (Takes Server n) h).connects ≡ last_took h.connects + n
+    by_made true e = last_more (λ s. record s { took = s.took + n }) n (λ s. refl) h.connects e
+    by_made false e =
+        let zero_more : n ≡ 0 = none e in
+        let P : ℕ → Type 0 = λ k. last_took (marks (Takes Server k) h).connects ≡ last_took h.connects + k in
+        subst P (sym zero_more) (last_keeps (λ s. record s { took = s.took + 0 }) (λ s. sym (none_more s.took)) h.connects ∙ none_more (last_took h.connects))
+
+marked : (c : ℕ) (v : EventKind) (h : Heard) → (has_made h.connects ≡ false → server_in c v ≡ 0)
+    → last_took (event_marks c v h).connects ≡ last_took h.connects + server_in c v
+marked c (Accepts d vs from) h none = keeps (nat_eq d c) (accepts vs from h) h refl
+marked c (Comes d (Bytes side bytes)) h none = keeps (nat_eq d c) (marks (Bytes side bytes) h) h refl
+marked c (Comes d (Ends side)) h none = keeps (nat_eq d c) (marks (Ends side) h) h refl
+marked c (Comes d (Resets Client)) h none = keeps (nat_eq d c) (marks (Resets Client) h) h refl
+marked c (Comes d (Resets Server)) h none =
+    keeps (nat_eq d c) (marks (Resets Server) h) h (last_keeps (λ s. record s { reset = true }) (λ s. refl) h.connects)
+marked c (Comes d (Connects answer)) h none = keeps (nat_eq d c) (marks (Connects answer) h) h refl
+marked c (Comes d (Takes Client n)) h none = keeps (nat_eq d c) (marks (Takes Client n) h) h refl
+marked c (Comes d (Takes Server n)) h none = adds (nat_eq d c) n h none
+marked c (Ticks moment) h none = none_more (last_took h.connects)
+marked c Turns h none = none_more (last_took h.connects)
+marked c Runs h none = none_more (last_took h.connects)
+marked c (Marks pool member up) h none = none_more (last_took h.connects)
+
+-- no answer to a connect, that there is no connection, or the first one that is made
+abbrev NewOne : List (Option SideHeard) → List (Option SideHeard) → Type 0
+NewOne cs new = (new ≡ []) ⊎ ((new ≡ None ∷ []) ⊎ ((new ≡ Some fresh_side ∷ []) × (has_made cs ≡ false)))
+
+kept_by : (f : SideHeard → SideHeard) → ((s : SideHeard) → (f s).took ≡ s.took) → (cs new : List (Option SideHeard)) → NewOne cs new
+    → last_took (at_last f cs ++ new) ≡ last_took cs
+kept_by f same cs new (inl e) =
+    ap (λ (l : List (Option SideHeard)). last_took (at_last f cs ++ l)) e ∙ ap last_took (append-nil (at_last f cs)) ∙ last_keeps f same cs
+kept_by f same cs new (inr (inl e)) =
+    ap (λ (l : List (Option SideHeard)). last_took (at_last f cs ++ l)) e ∙ took_refused (at_last f cs) ∙ last_keeps f same cs
+kept_by f same cs new (inr (inr (e, none))) =
+    ap (λ (l : List (Option SideHeard)). last_took (at_last f cs ++ l)) e ∙ took_answered (at_last f cs) ∙ sym (none_took cs none)
+
+same_either : (b : Bool) (h : Heard) → (if b then h else h) ≡ h
+same_either true h = refl
+same_either false h = refl
+
+-- a connection is made only where none was before
+abbrev pub FirstMade : ℕ → EventKind → Heard → Type 0
+FirstMade c v h = (d : ℕ) → v ≡ Comes d (Connects true) → nat_eq d c ≡ true → has_made h.connects ≡ false
+
+input_new : (c d : ℕ) (i : Input) (h : Heard) → FirstMade c (Comes d i) h → (b : Bool) → nat_eq d c ≡ b
+    → NewOne (event_marks c (Comes d i) h).connects (if b then brings_in i else brought_nothing).connects
+input_new c d i h first false is = inl refl
+input_new c d (Bytes Client bytes) h first true is = inl refl
+input_new c d (Bytes Server bytes) h first true is = inl refl
+input_new c d (Ends Client) h first true is = inl refl
+input_new c d (Ends Server) h first true is = inl refl
+input_new c d (Resets side) h first true is = inl refl
+input_new c d (Takes side n) h first true is = inl refl
+input_new c d (Connects false) h first true is = inr (inl refl)
+input_new c d (Connects true) h first true is =
+    inr (inr (refl, ap (λ (x : Heard). has_made x.connects) (same_either (nat_eq d c) h) ∙ first d refl is))
+
+event_new : (c : ℕ) (v : EventKind) (h : Heard) → FirstMade c v h → NewOne (event_marks c v h).connects (event_brings c v).connects
+event_new c (Accepts d vs from) h first = inl refl
+event_new c (Comes d i) h first = input_new c d i h first (nat_eq d c) refl
+event_new c (Ticks moment) h first = inl refl
+event_new c Turns h first = inl refl
+event_new c Runs h first = inl refl
+event_new c (Marks pool member up) h first = inl refl
+
+group_new : (c : ℕ) (v : EventKind) (h : Heard) → FirstMade c v h → (b : Bool)
+    → NewOne (event_marks c v h).connects (if b then brought_nothing else event_brings c v).connects
+group_new c v h first true = inl refl
+group_new c v h first false = event_new c v h first
+
+took_same : (b : Bool) (k : Coming) (s : SideHeard) → (hears_by b k s).took ≡ s.took
+took_same true k s = refl
+took_same false k s = refl
+
+pub server_heard : (c : ℕ) (h : Heard) (v : EventKind) (group : List Note) → (has_made h.connects ≡ false → server_in c v ≡ 0) → FirstMade c v h
+    → last_took (hears c h v group).connects ≡ last_took h.connects + server_in c v
+server_heard c h v group none first =
+    let b = brought c h v group in
+    kept_by (hears_more b.server) (λ s. took_same s.ended b.server s) (event_marks c v h).connects b.connects
+    (group_new c v h first (h.finished || finish_told (notes_about c group))) ∙ marked c v h none
+
+none_has : (cs : List (Option SideHeard)) → made cs ≤ 0 → has_made cs ≡ false
+none_has [] few = refl
+none_has (None ∷ more) few = none_has more few
+none_has (Some s ∷ more) few = absurd (omega (arith, few))
+
+-- where one server connection at most is made behind the event, it is the first one
+pub first_made : (c : ℕ) (past : Past) (x : Happened) → servers_made c (x ∷ past) ≤ 1 → FirstMade c (kind_of x.event) (heard c past)
+first_made c past x once d is same =
+    let one : makes c (kind_of x.event) ≡ 1 = ap (makes c) is ∙ ap (λ (b : Bool). if b then 1 else 0) same in
+    let few = (heard_servers c past).few in
+    none_has (heard c past).connects (omega (arith, once, one, few))
+
+-- ---- places
+
+come_stays : (C : Config) (input : Input) (before now : Heard) (d : ℕ) (group : List Note) (old new : State) (c : ℕ) → (b : Bool)
+    → MatchBool b (MovesFailed d group old new) (MovesOn C now d (edges_met input before.edges) group old new ⊎ MovesLacks input d group old new)
+    → new.places c ≡ old.places c
+come_stays C input before now d group old new c true k = ap (λ (y : State). y.places c) k.state
+come_stays C input before now d group old new c false (inl k) = ap (λ (y : State). y.places c) k.state
+come_stays C input before now d group old new c false (inr k) = ap (λ (y : State). y.places c) k.state
+
+plain_fits : (past : Past) (s : State) (c : ℕ) → OneServer past s c → last_took (heard c past).connects + 0 ≤ length (server_output 1 (s.places c))
+plain_fits past s c one = subst (λ k. k ≤ length (server_output 1 (s.places c))) (none_more (last_took (heard c past).connects)) one.within
+
+-- no server took more than was sent to it
+pub server_fits : (C : Config) (past : Past) (s next : State) (v : EventKind) (group : List Note) (c took : ℕ) → OneServer past s c
+    → MovesBy C past v group s next → took ≡ last_took (heard c past).connects + server_in c v → took ≤ length (server_output 1 (next.places c))
+    → last_took (heard c past).connects + server_in c v ≤ length (server_output 1 (s.places c))
+server_fits C past s next (Accepts d vs from) group c took one m sum le = plain_fits past s c one
+server_fits C past s next (Comes d (Bytes side bytes)) group c took one m sum le = plain_fits past s c one
+server_fits C past s next (Comes d (Ends side)) group c took one m sum le = plain_fits past s c one
+server_fits C past s next (Comes d (Resets side)) group c took one m sum le = plain_fits past s c one
+server_fits C past s next (Comes d (Connects answer)) group c took one m sum le = plain_fits past s c one
+server_fits C past s next (Comes d (Takes Client n)) group c took one m sum le = plain_fits past s c one
+server_fits C past s next (Comes d (Takes Server n)) group c took one m sum le =
+    let stays = come_stays C (Takes Server n) (heard d past) (hears d (heard d past) (Comes d (Takes Server n)) group) d group s next c (heard d past).failed m in
+    subst (λ k. k ≤ length (server_output 1 (s.places c))) sum
+    (subst (λ (p : List Item). took ≤ length (server_output 1 p)) stays le)
+server_fits C past s next (Ticks moment) group c took one m sum le = plain_fits past s c one
+server_fits C past s next Turns group c took one m sum le = plain_fits past s c one
+server_fits C past s next Runs group c took one m sum le = plain_fits past s c one
+server_fits C past s next (Marks pool member up) group c took one m sum le = plain_fits past s c one
+
+grown : (t : ℕ) (p more : List Item) → t ≤ length (server_output 1 p) → take t (server_output 1 (p ++ more)) ≡ take t (server_output 1 p)
+grown t p more le = ap (take t) (flat_map-append (to_server 1) p more) ∙ take-append-le t (server_output 1 p) (server_output 1 more) le
+
+-- what was taken before and one piece more is what is taken then
+pub one_more : (t n t' : ℕ) (before piece : List ℕ) (p more p' : List Item) → before ≡ take t (server_output 1 p)
+    → piece ≡ take n (drop t (server_output 1 p)) → t + n ≤ length (server_output 1 p) → t' ≡ t + n → p' ≡ p ++ more
+    → before ++ piece ≡ take t' (server_output 1 p')
+one_more t n t' before piece p more p' was is le sum place =
+    ap (λ (l : List ℕ). l ++ piece) was ∙ ap (λ (l : List ℕ). take t (server_output 1 p) ++ l) is ∙ sym (take-add t n (server_output 1 p))
+    ∙ sym (grown (t + n) p more le) ∙ ap (λ k. take k (server_output 1 (p ++ more))) (sym sum)
+    ∙ ap (λ (l : List Item). take t' (server_output 1 l)) (sym place)
