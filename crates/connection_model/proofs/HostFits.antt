@@ -1,5 +1,5 @@
 -- What is held of each side fits, in each event and behind its bodies, and what they send and release is within their limits.
-use Rattle.std.proofs.Common.{◌≡◌, refl, sym, ap, subst, ◌∙◌, ℕ, ◌+◌, ◌≤◌, List, [], ◌∷◌, ◌++◌, length, Bool, true, false, true≢false, if◌then◌else◌, Option, Some, None, arith, length-append}
+use Rattle.std.proofs.Common.{◌≡◌, refl, sym, ap, subst, ◌∙◌, ℕ, ◌+◌, ◌≤◌, List, [], length, Bool, true, false, true≢false, if◌then◌else◌, Option, arith, length-append}
 use Rattle.px_bytes.specs.Host.{Effect}
 use Rattle.px_bytes.specs.declared.addr.Side.{Side}
 use Rattle.px_bytes.specs.declared.addr.Side.TheVariants.{Client, Server}
@@ -9,9 +9,7 @@ use Rattle.rule_model.specs.Laws.{state_after}
 use Rattle.irule_net.specs.Laws.{Fits, sent_to}
 use Rattle.irule_net.specs.State as network
 use Rattle.irule_net.specs.State.{asked_bytes, collected, hold_limit, other, respond_limit, side_of}
-use Rattle.irule_net.specs.declared.state.Asks.{Asks}
-use Rattle.irule_net.specs.declared.state.Asks.TheVariants.{NotAsked, Stated}
-use Rattle.irule_net.specs.declared.state.Collected.{Collected}
+use Rattle.irule_net.specs.declared.state.Asks.TheVariants.{Stated}
 use Rattle.irule_net.specs.declared.state.NetState.{NetState}
 use Rattle.irule_net.specs.declared.state.Selected.{Selected}
 use Rattle.connection_model.specs.Bodies.{run_body}

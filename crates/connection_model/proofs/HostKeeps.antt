@@ -1,6 +1,6 @@
 -- What the commands that are there leave of the host's state: in an event of a side only the collect of
 -- that side changes, and what they send is counted; in any other event they collect and send nothing.
-use Rattle.std.proofs.Common.{◌≡◌, ◌⊎◌, inl, inr, refl, sym, ap, subst, ◌∙◌, ℕ, ◌+◌, ◌≤◌, List, [], ◌∷◌, length, ◌==◌, ℤ, Bool, true, false, ◌&&◌, not, true≢false, if◌then◌else◌, Option, Some, None, Result, Ok, Err, arith}
+use Rattle.std.proofs.Common.{◌≡◌, refl, sym, subst, ◌∙◌, ℕ, ◌+◌, ◌≤◌, List, [], ◌∷◌, length, ◌==◌, ℤ, Bool, true, false, ◌&&◌, not, true≢false, if◌then◌else◌, Option, Some, None, Result, Ok, Err, arith}
 use Rattle.std.specs.Prelude.{codes, nat_lt}
 use Rattle.std.specs.List.{list_any}
 use Rattle.std.specs.Option.{is_some}

@@ -1,5 +1,5 @@
 -- What lies unread of a side, and what of it a collect may hold, item by item.
-use Rattle.std.proofs.Common.{◌≡◌, ◌⊎◌, inl, inr, refl, sym, ap, subst, ◌∙◌, ℕ, zero, suc, ◌+◌, ◌-◌, ◌≤◌, List, [], ◌∷◌, length, take, drop, nat_le, Bool, true, false, ◌&&◌, ◌||◌, not, true≢false, if◌then◌else◌, Option, Some, None, arith}
+use Rattle.std.proofs.Common.{◌≡◌, ◌⊎◌, inl, inr, refl, sym, ap, subst, ◌∙◌, ℕ, zero, suc, ◌+◌, ◌≤◌, List, [], ◌∷◌, length, take, drop, nat_le, Bool, true, false, ◌||◌, not, true≢false, if◌then◌else◌, Option, Some, None, arith}
 use Rattle.std.specs.Prelude.{slice_get}
 use Rattle.std.proofs.lemmas.List.{length-drop, length-take}
 use Rattle.px_bytes.specs.declared.addr.Addr.{Addr}
@@ -28,13 +28,13 @@ use Rattle.connection_model.specs.Gates.{Counts, no_bytes, TakenCounts, none_tak
 use Rattle.connection_model.specs.Host.{HostState, first_host, with_loose, with_selected}
 use Rattle.connection_model.specs.Item.{Item, Choice, Reason, Closed, CutBy, Rejected, Tcl}
 use Rattle.connection_model.specs.Phases.{Orderly, OrderlyIn, Fits}
-use Rattle.connection_model.specs.Places.{Place, place, at, begun, bodies_left, closed_client, closed_server, closed, after_body, after_event, after_fault, after_server, data_event, enter, entered, is_closing, is_up, next_body, unless_ended, goes_on}
+use Rattle.connection_model.specs.Places.{Place, place, at, begun, bodies_left, closed_client, closed_server, closed, after_body, after_event, after_fault, enter, entered, is_closing, is_up, next_body, unless_ended, goes_on}
 use Rattle.connection_model.specs.Queries.{in_event_of, unread_limit}
 use Rattle.connection_model.specs.Relay.{incoming, RelayAct, BothDone, Passing, Firing, Resting, fired_host, relay_act, collect_act, behind_fires}
 use Rattle.connection_model.specs.Selected.{addr_of}
 use Rattle.connection_model.specs.Setup.{Handler, Setup}
 use Rattle.connection_model.specs.State.{Bodies, Gated, Running, Failing, Fate, Forwards, Drops, Phase, Carrying, InEvent, Choosing, Selecting, Connecting, Answering, Releasing, Relaying, Collecting, Finishing, Draining, Stream, ServerSide, NoServer, Sought, There, Retired, Link, Absent, Asked, Up, GivenUp, link_of, Cut, Answers, TraceState, Next, Does, Waits, Over, stream_of, server_stream, read_server, read_side}
-use Rattle.connection_model.specs.Trace.{unit_item, unit_next, carrying_next, finish, choosing_next, default_next, selected_next, selecting_next, answering_next, relay_next, fired_next, collect_next, collecting_next, phase_next, cut_takes, uncut, cut_open, cut_next, counted, next_item, Unfolds, start}
+use Rattle.connection_model.specs.Trace.{unit_item, unit_next, carrying_next, finish, choosing_next, default_next, selected_next, selecting_next, answering_next, relay_next, fired_next, collect_next, collecting_next, phase_next, cut_takes, uncut, cut_open, cut_next, counted, next_item, start}
 use Rattle.connection_model.proofs.BodyKeeps.{acts_bytes}
 use Rattle.connection_model.proofs.HostFits.{BodyFits, HostFits, begun_fits, body_fits, fired_fits, first_fits, selected_fits, unloosed_fits}
 use Rattle.connection_model.proofs.HostKeeps.{is_stream}
@@ -298,9 +298,11 @@ module _ (g : Setup) where
   ended_lies e b bs n l (Stops path call st) k at is fits facts = tt
   ended_lies e b bs n l (Ends code st) k at is fits facts =
       let q = after_body g e l.finished (link_of l.server) b bs (uncaught_of code) st.host in
-      let p = behind_fits none_taken no_bytes g e l.finished (link_of l.server) b bs (uncaught_of code) st.host facts.fits (facts.event ∙ is) (λ open_event side. nothing side (st.host)) in
-      (led_lies (λ side. own_event side e) q l _ k refl refl refl refl refl (event_of none_taken no_bytes _ _ p.phase) p.host st.host (body_led g e l.finished (link_of l.server) b bs (uncaught_of code) st.host)
-      (body_leaves l e (Running b bs n) st.host _ at is facts) (body_calm l e (Running b bs n) st.host _ at is facts k fits), none)
+      let p = behind_fits none_taken no_bytes g e l.finished (link_of l.server) b bs (uncaught_of code) st.host facts.fits (facts.event ∙ is) (λ open_event side. nothing side (st.host)) in (
+        led_lies (λ side. own_event side e) q l _ k refl refl refl refl refl (event_of none_taken no_bytes _ _ p.phase) p.host st.host (body_led g e l.finished (link_of l.server) b bs (uncaught_of code) st.host)
+            (body_leaves l e (Running b bs n) st.host _ at is facts) (body_calm l e (Running b bs n) st.host _ at is facts k fits),
+        none,
+      )
     where
       nothing : (side : Side) (h : HostState) → to_take no_bytes none_taken side ≤ Rattle.connection_model.proofs.PlacesFit.at_gate + Rattle.connection_model.proofs.HostFits.credit e side h.net
       nothing Client h = omega arith
@@ -322,9 +324,11 @@ module _ (g : Setup) where
   bodies_lie e (Gated b bs) l k at is o = (same_event l e (Gated b bs) (Running b bs 0) at k is, none)
   bodies_lie e (Running b bs n) l k at is o = running_lies e b bs n l (slice_get (state_after (run_body g b l)).acts n) k at is o.1
   bodies_lie e (Failing kind line bs) l k at is o =
-      let p = fault_fits none_taken no_bytes g e l.finished (link_of l.server) kind bs l.host k.host is in
-      (led_lies (λ side. own_event side e) (after_fault g e l.finished (link_of l.server) kind bs l.host) l _ k refl refl refl refl refl (event_of none_taken no_bytes _ _ p.phase) p.host l.host (fault_led g e l.finished (link_of l.server) kind bs l.host)
-      (failing_holds l e (Failing kind line bs) at) k.calm, none)
+      let p = fault_fits none_taken no_bytes g e l.finished (link_of l.server) kind bs l.host k.host is in (
+        led_lies (λ side. own_event side e) (after_fault g e l.finished (link_of l.server) kind bs l.host) l _ k refl refl refl refl refl (event_of none_taken no_bytes _ _ p.phase) p.host l.host (fault_led g e l.finished (link_of l.server) kind bs l.host)
+            (failing_holds l e (Failing kind line bs) at) k.calm,
+        none,
+      )
 
   -- an event of no side is entered
   enters : (e : EventName) (h : HostState) (l m : TraceState) → Lies l → m.phase ≡ (enter g e (link_of l.server) h).phase → m.host ≡ (enter g e (link_of l.server) h).host → m.client ≡ l.client → m.server ≡ l.server → m.answers.connects ≡ l.answers.connects
@@ -390,15 +394,17 @@ module _ (g : Setup) where
       let p = enter_fits none_taken no_bytes g ServerConnected Up l.host k.host in
       let led = enter_led g ServerConnected Up l.host in
       let m = at q (record l { server = There s; answers = record l.answers { connects = more } }) in
-      let client = allowed_less l m Client (inr (led.out Client refl, led.keeps Client)) in
-      (record {
-        event = event_of none_taken no_bytes _ _ p.phase;
-        host = p.host;
-        of_client = (let w = k.of_client in omega (arith, client, w));
-        of_server = (let w = made.0 in omega (arith, w));
-        of_made = made.1;
-        calm = λ e. absurd (true≢false e);
-      }, none)
+      let client = allowed_less l m Client (inr (led.out Client refl, led.keeps Client)) in (
+        record {
+          event = event_of none_taken no_bytes _ _ p.phase;
+          host = p.host;
+          of_client = (let w = k.of_client in omega (arith, client, w));
+          of_server = (let w = made.0 in omega (arith, w));
+          of_made = made.1;
+          calm = λ e. absurd (true≢false e);
+        },
+        none,
+      )
 
   -- ---- what is read
 
@@ -479,15 +485,17 @@ module _ (g : Setup) where
       let p = enter_begun none_taken no_bytes g ClientData link h (fired_fits Client n bytes ClientData link l.host k.host asks (omega (arith, few))) in
       let led = enter_led g ClientData link h in
       let m = at (enter g ClientData link h) (record l { client = record l.client { unread = drop n l.client.unread } }) in
-      let b = allowed_less l m Server (inr (led.out Server refl, led.keeps Server)) in
-      (record {
-        event = event_of none_taken no_bytes _ _ p.phase;
-        host = p.host;
-        of_client = (let d = length-drop n l.client.unread in let w = k.of_client in let a = allowed_by Client l (Stated n) asks in omega (arith, d, w, a));
-        of_server = few_server (unread_limit + allowed Server l) (unread_limit + allowed Server m) l.server (omega (arith, b)) k.of_server;
-        of_made = k.of_made;
-        calm = λ d. ap (λ c. c.asks) (led.keeps Server) ∙ k.calm d;
-      }, none)
+      let b = allowed_less l m Server (inr (led.out Server refl, led.keeps Server)) in (
+        record {
+          event = event_of none_taken no_bytes _ _ p.phase;
+          host = p.host;
+          of_client = (let d = length-drop n l.client.unread in let w = k.of_client in let a = allowed_by Client l (Stated n) asks in omega (arith, d, w, a));
+          of_server = few_server (unread_limit + allowed Server l) (unread_limit + allowed Server m) l.server (omega (arith, b)) k.of_server;
+          of_made = k.of_made;
+          calm = λ d. ap (λ c. c.asks) (led.keeps Server) ∙ k.calm d;
+        },
+        none,
+      )
   fired_lies l Server n more k up asks =
       let bytes = take n (stream_of Server l).unread in
       let few = length-take n (stream_of Server l).unread in
@@ -496,15 +504,17 @@ module _ (g : Setup) where
       let p = enter_begun none_taken no_bytes g ServerData link h (fired_fits Server n bytes ServerData link l.host k.host asks (omega (arith, few))) in
       let led = enter_led g ServerData link h in
       let m = at (enter g ServerData link h) (record l { server = read_server n l.server }) in
-      let a = allowed_less l m Client (inr (led.out Client refl, led.keeps Client)) in
-      (record {
-        event = event_of none_taken no_bytes _ _ p.phase;
-        host = p.host;
-        of_client = (let w = k.of_client in omega (arith, a, w));
-        of_server = fired_server (unread_limit + allowed Server m) l.server (up refl) (omega arith) (let w = k.of_server in few_server (unread_limit + allowed Server l) (unread_limit + n) l.server (let b = allowed_by Server l (Stated n) asks in omega (arith, b)) w);
-        of_made = k.of_made;
-        calm = λ d. ap (λ c. c.asks) (led.keeps Server);
-      }, none)
+      let a = allowed_less l m Client (inr (led.out Client refl, led.keeps Client)) in (
+        record {
+          event = event_of none_taken no_bytes _ _ p.phase;
+          host = p.host;
+          of_client = (let w = k.of_client in omega (arith, a, w));
+          of_server = fired_server (unread_limit + allowed Server m) l.server (up refl) (omega arith) (let w = k.of_server in few_server (unread_limit + allowed Server l) (unread_limit + n) l.server (let b = allowed_by Server l (Stated n) asks in omega (arith, b)) w);
+          of_made = k.of_made;
+          calm = λ d. ap (λ c. c.asks) (led.keeps Server);
+        },
+        none,
+      )
     where
       fired_server : (k : ℕ) (v : ServerSide) → is_up (link_of v) ≡ true → unread_limit ≤ k → FewOfServer (unread_limit + n) v → FewOfServer k (read_server n v)
       fired_server k NoServer is le w = tt
@@ -559,15 +569,17 @@ module _ (g : Setup) where
   phase_lies (Selecting call) l at k is before o = selecting_lies call l l.answers.replies k
   phase_lies (Connecting a) l at k is before o =
       let m = record l { phase = Answering a; server = Sought } in
-      let c = allowed_less l m Client (inr (refl, refl)) in
-      (record {
-        event = tt;
-        host = k.host;
-        of_client = (let w = k.of_client in omega (arith, c, w));
-        of_server = tt;
-        of_made = k.of_made;
-        calm = λ d. k.calm (before.connecting a at);
-      }, none)
+      let c = allowed_less l m Client (inr (refl, refl)) in (
+        record {
+          event = tt;
+          host = k.host;
+          of_client = (let w = k.of_client in omega (arith, c, w));
+          of_server = tt;
+          of_made = k.of_made;
+          calm = λ d. k.calm (before.connecting a at);
+        },
+        none,
+      )
   phase_lies (Answering a) l at k is before o = answering_lies a l l.answers.connects k at (before.answering a at) k.of_made
   phase_lies Releasing l at k is before o = (asks_on l Relaying (with_loose [] l.host) k tt tt (unloosed_fits l.host k.host) (loose_keeps l.host), none)
   phase_lies Relaying l at k is before o = relay_lies l (relay_act (incoming Client l) (incoming Server l) l.answers.choices) k o.1 (relay_asks l l.answers.choices)

@@ -14,7 +14,7 @@ use Rattle.rule_model.specs.Outcome as act
 use Rattle.rule_model.specs.Outcome.{Act, Did, Outcome, Ends, Waits as Stops, uncaught_of}
 use Rattle.rule_model.specs.Laws.{state_after}
 use Rattle.event_order.specs.declared.event.EventName.{EventName}
-use Rattle.event_order.specs.declared.event.EventName.TheVariants.{ClientAccepted, ClientClosed, ServerConnected, ServerClosed, LbSelected, LbFailed}
+use Rattle.event_order.specs.declared.event.EventName.TheVariants.{ClientAccepted, ServerConnected, LbSelected, LbFailed}
 use Rattle.irule_net.specs.State.{collected, respond_limit}
 use Rattle.irule_net.specs.Steps.{target_pool}
 use Rattle.irule_net.specs.declared.state.Asks.{Asks}
@@ -28,7 +28,7 @@ use Rattle.connection_model.specs.Host.{HostState, first_host, with_selected}
 use Rattle.connection_model.specs.Item.{Item, Choice, PassesOn, Fires, Reuses, Reason, Closed, CutBy, Moved, Rejected}
 use Rattle.connection_model.specs.Places.{at, is_closing, enter, data_event}
 use Rattle.connection_model.specs.Queries.{unread_limit}
-use Rattle.connection_model.specs.Relay.{Incoming, incoming, is_done, passes, meets, RelayAct, BothDone, Passing, Firing, Resting, firing, by_side, chosen_act, fired_host, relay_act, collect_act, behind_fires}
+use Rattle.connection_model.specs.Relay.{incoming, is_done, passes, meets, RelayAct, BothDone, Passing, Firing, Resting, firing, by_side, chosen_act, fired_host, relay_act, collect_act, behind_fires}
 use Rattle.connection_model.specs.Selected.{addr_of}
 use Rattle.connection_model.specs.Setup.{Handler, Setup}
 use Rattle.connection_model.specs.State.{Bodies, Gated, Running, Failing, Fate, Forwards, Drops, Phase, Carrying, InEvent, Choosing, Selecting, Connecting, Answering, Releasing, Relaying, Collecting, Finishing, Draining, Stream, Absent, Up, link_of, Cut, Answers, TraceState, Next, Does, Waits, Over, stream_of}
@@ -37,7 +37,7 @@ use Rattle.connection_model.proofs.BodyKeeps.{act_bytes, acts_bytes, all_bytes, 
 use Rattle.connection_model.proofs.Given.{sent_counted, sent_step}
 use Rattle.connection_model.proofs.HostFits.{BodyFits, HostFits, body_fits, closing_quiet, credit, credit_few, fired_fits, first_fits, loose_few, selected_fits as host_selected, unloosed_fits}
 use Rattle.connection_model.proofs.HostKeeps.{is_stream}
-use Rattle.connection_model.proofs.PlacesFit.{at_gate, PlaceFits, PhaseFits, body_fits as behind_fits, closed_fits, enter_begun, enter_fits, fault_fits}
+use Rattle.connection_model.proofs.PlacesFit.{at_gate, PhaseFits, body_fits as behind_fits, closed_fits, enter_begun, enter_fits, fault_fits}
 
 -- ---- how much an item adds
 
@@ -217,9 +217,9 @@ module _ (g : Setup) (took : TakenCounts) where
   ended_fits e b bs l (Ends code st) k facts is few = λ may small. (
       let p = behind_fits took l.sent g e l.finished (link_of l.server) b bs (uncaught_of code) st.host facts.fits (facts.event ∙ is)
       (λ open_event side. (
-        let before = few open_event side in
-        let all = subst (λ v. credit v side l.host.net + acts_bytes side st.acts ≤ credit v side st.host.net) is (facts.credits side) in
-        omega (arith, before, all)
+      let before = few open_event side in
+      let all = subst (λ v. credit v side l.host.net + acts_bytes side st.acts ≤ credit v side st.host.net) is (facts.credits side) in
+      omega (arith, before, all)
       )) in
       placed _ p.phase p.host k.few)
 

@@ -1,22 +1,19 @@
 -- Where an event leads what is held fits, and the bytes that are pending fit what was sent in the event.
-use Rattle.std.proofs.Common.{◌≡◌, refl, sym, ap, ◌∙◌, ℕ, ◌+◌, ◌≤◌, List, [], ◌∷◌, Bool, true, false, nat_lt, true≢false, if◌then◌else◌, Option, Some, None}
+use Rattle.std.proofs.Common.{◌≡◌, refl, sym, ◌∙◌, ℕ, ◌+◌, ◌≤◌, List, [], ◌∷◌, Bool, true, false, true≢false, if◌then◌else◌, Option, Some, None}
 use Rattle.px_bytes.specs.declared.addr.Side.{Side}
-use Rattle.px_bytes.specs.declared.addr.Side.TheVariants.{Client, Server}
 use Rattle.px_bytes.specs.declared.fault.FaultKind.{FaultKind}
 use Rattle.px_bytes.specs.declared.fault.TclFault.{TclFault}
 use Rattle.event_order.specs.declared.event.EventName.{EventName}
 use Rattle.event_order.specs.declared.event.EventName.TheVariants.{ClientAccepted, ClientData, ClientClosed, ServerConnected, ServerData, ServerClosed, LbSelected, LbFailed}
-use Rattle.irule_net.specs.State.{respond_limit}
 use Rattle.irule_net.specs.declared.state.Asks.{Asks}
 use Rattle.irule_net.specs.declared.state.Asks.TheVariants.{NotAsked, Stated}
 use Rattle.irule_net.specs.declared.state.Ending.{Ending}
 use Rattle.irule_net.specs.declared.state.Ending.TheVariants.{Rejects, Closes}
 use Rattle.irule_net.specs.declared.state.Selected.{Selected}
 use Rattle.connection_model.specs.Gates.{Counts, TakenCounts, to_take}
-use Rattle.connection_model.specs.Host.{HostState, first_host, with_selected, with_loose}
+use Rattle.connection_model.specs.Host.{HostState}
 use Rattle.connection_model.specs.Item.{Tcl, Unselected}
 use Rattle.connection_model.specs.Places.{Place, place, is_closing, begun, bodies_left, closed_client, closed_server, closed, connecting, behind_accepted, behind_data, behind_connected, goes_on, unless_ended, after_server, after_event, entered, enter, next_body, after_fault, after_body}
-use Rattle.connection_model.specs.Relay.{fired_host}
 use Rattle.connection_model.specs.Setup.{Handler, Setup}
 use Rattle.connection_model.specs.State.{Gated, Running, Failing, Phase, InEvent, Choosing, Finishing, Draining, Link, Absent, Asked, Up, GivenUp}
 use Rattle.connection_model.proofs.HostFits.{HostFits, begun_fits, credit}
