@@ -1,12 +1,11 @@
 -- What a body leaves of the host's state, and how much it sends.
-use Rattle.std.proofs.Common.{◌≡◌, refl, sym, ap, subst, ◌∙◌, ℕ, zero, suc, ◌+◌, ◌≤◌, List, [], ◌∷◌, ◌++◌, length, map, take, Option, Some, None, arith}
+use Rattle.std.proofs.Common.{◌≡◌, refl, sym, ap, ◌∙◌, ℕ, zero, suc, ◌+◌, ◌≤◌, List, [], ◌∷◌, ◌++◌, length, map, take, Some, None, arith}
 use Rattle.std.specs.Prelude.{slice_get}
 use Rattle.std.specs.List.{flat_map}
-use Rattle.std.proofs.lemmas.List.{length-append}
 use Rattle.px_bytes.specs.Host.{Effect, HostStep, Gives, Faults, Asks}
 use Rattle.px_bytes.specs.declared.addr.Side.{Side}
 use Rattle.rule_model.specs.Outcome.{Act, Did, Called, state}
-use Rattle.rule_model.specs.Laws.{state_after, StepShows, TableShows, ShowsActs}
+use Rattle.rule_model.specs.Laws.{state_after, StepShows}
 use Rattle.rule_model.specs.Evaluator.{evaluate, inner_limit}
 use Rattle.rule_model.proofs.Facts.{host_shows}
 use Rattle.irule_net.specs.Laws.{bytes_to, sent_to}
@@ -14,7 +13,7 @@ use Rattle.connection_model.specs.Bodies.{run_body}
 use Rattle.connection_model.specs.Host.{HostState, body_setting, host_table}
 use Rattle.connection_model.specs.Setup.{Handler, Setup}
 use Rattle.connection_model.specs.State.{TraceState}
-use Rattle.connection_model.proofs.HostKeeps.{left, made, Kept, kept, count, command_kept, command_counts}
+use Rattle.connection_model.proofs.HostKeeps.{left, made, kept, count, command_kept, command_counts}
 
 -- ---- what each command keeps, a body keeps
 

@@ -65,7 +65,7 @@ either_quiet side s false x y p q = q
 -- what an option holds that isn't empty
 abbrev some_of : {A : Type 0} (o : Option A) → is_some o ≡ true → A
 some_of (Some a) h = a
-some_of None h = absurd (cc)
+some_of None h = absurd (true≢false (sym h))
 
 -- a value that is tested, or tested twice, and the form of a command with its number of words
 one_test : {A C : Type 0} (P : Result C TclFault → Type 0) (x : Result A TclFault) (k : A → Result C TclFault) → ((a : A) → P (k a)) → ((e : TclFault) → P (Err e)) → P (with_value x k)

@@ -1,12 +1,11 @@
 -- What is pending to a side, item by item.
-use Rattle.std.proofs.Common.{◌≡◌, refl, sym, ap, subst, ◌∙◌, ℕ, zero, suc, ◌+◌, ◌-◌, ◌<◌, ◌≤◌, List, [], ◌∷◌, length, take, nat_le, nat_lt, Bool, true, false, ◌&&◌, ◌||◌, not, true≢false, if◌then◌else◌, Option, Some, None, arith}
+use Rattle.std.proofs.Common.{◌≡◌, refl, sym, ap, subst, ◌∙◌, ℕ, zero, suc, ◌+◌, ◌<◌, ◌≤◌, List, [], ◌∷◌, length, take, nat_lt, Bool, true, false, ◌||◌, not, true≢false, if◌then◌else◌, Option, Some, None, arith}
 use Rattle.std.specs.Prelude.{slice_get}
 use Rattle.std.proofs.lemmas.Bool.{and_parts}
 use Rattle.std.proofs.lemmas.Bool.Decides.{nat_tests}
 use Rattle.px_bytes.specs.declared.addr.Addr.{Addr}
 use Rattle.px_bytes.specs.declared.addr.Side.{Side}
 use Rattle.px_bytes.specs.declared.addr.Side.TheVariants.{Client, Server}
-use Rattle.px_bytes.specs.declared.fault.FaultKind.{FaultKind}
 use Rattle.px_bytes.specs.declared.fault.Reply.{Reply}
 use Rattle.px_bytes.specs.declared.fault.Reply.TheVariants as reply
 use Rattle.rule_model.specs.Host as effect
@@ -26,17 +25,17 @@ use Rattle.connection_model.specs.Bounds.{passed_by, PassWithin, pending_limit}
 use Rattle.connection_model.specs.Gates.{Counts, no_bytes, TakenCounts, other, untaken, taken_of, to_take, room_limit, has_room, may_give, sent_after, sent_from, Met}
 use Rattle.connection_model.specs.Host.{HostState, first_host, with_selected}
 use Rattle.connection_model.specs.Item.{Item, Choice, Reason, Closed, CutBy, Moved, Rejected}
-use Rattle.connection_model.specs.Places.{Place, at, is_closing, closed, enter, after_body, after_fault, data_event}
+use Rattle.connection_model.specs.Places.{at, is_closing, enter, data_event}
 use Rattle.connection_model.specs.Queries.{unread_limit}
 use Rattle.connection_model.specs.Relay.{incoming, RelayAct, BothDone, Passing, Firing, Resting, fired_host, relay_act, collect_act, behind_fires}
 use Rattle.connection_model.specs.Selected.{addr_of}
 use Rattle.connection_model.specs.Setup.{Handler, Setup}
-use Rattle.connection_model.specs.State.{Bodies, Gated, Running, Failing, Fate, Forwards, Drops, Phase, Carrying, InEvent, Choosing, Selecting, Connecting, Answering, Releasing, Relaying, Collecting, Finishing, Draining, Stream, Absent, Up, link_of, Cut, Answers, TraceState, Next, Does, Waits, Over, stream_of, read_side}
-use Rattle.connection_model.specs.Trace.{unit_item, unit_next, carrying_next, finish, choosing_next, default_next, selected_next, selecting_next, answering_next, relay_next, fired_next, collect_next, collecting_next, phase_next, cut_takes, uncut, cut_open, cut_next, counted, next_item, Unfolds, start}
+use Rattle.connection_model.specs.State.{Bodies, Gated, Running, Failing, Fate, Forwards, Drops, Phase, Carrying, InEvent, Choosing, Selecting, Connecting, Answering, Releasing, Relaying, Collecting, Finishing, Draining, Stream, Absent, Up, link_of, Cut, Answers, TraceState, Next, Does, Waits, Over, stream_of}
+use Rattle.connection_model.specs.Trace.{unit_next, carrying_next, finish, choosing_next, default_next, selected_next, selecting_next, answering_next, relay_next, fired_next, collect_next, collecting_next, phase_next, cut_takes, uncut, cut_open, cut_next, counted, next_item, Unfolds, start}
 use Rattle.connection_model.proofs.BodyKeeps.{act_bytes, acts_bytes, all_bytes, body_counts, body_kept, next_bytes, part_bytes}
 use Rattle.connection_model.proofs.Given.{sent_counted, sent_step}
-use Rattle.connection_model.proofs.HostKeeps.{Kept, kept, acts_on, count}
-use Rattle.connection_model.proofs.PlacesFit.{Uncollected, first_uncollected, selected_uncollected, released_uncollected, fired_uncollected, kept_uncollected, at_gate, PlaceFits, PhaseFits, body_fits, closed_fits, enter_fits, fault_fits}
+use Rattle.connection_model.proofs.HostKeeps.{kept, acts_on, count}
+use Rattle.connection_model.proofs.PlacesFit.{Uncollected, first_uncollected, selected_uncollected, released_uncollected, fired_uncollected, kept_uncollected, at_gate, PhaseFits, body_fits, closed_fits, enter_fits, fault_fits}
 
 -- ---- how much an item adds
 
@@ -172,12 +171,15 @@ module _ (g : Setup) (took : TakenCounts) where
   act_fits : (e : EventName) (b : Handler) (bs : List Handler) (n : ℕ) (l : TraceState) (a : Act) → Fits l → InPhase (InEvent e (Running b bs n)) l → slice_get (acts_of b l) n ≡ Some a
       → Fits (record l { phase = InEvent e (Running b bs (n + 1)); sent = sent_after (act_item l.sent.number a) l.sent })
   act_fits e b bs n l a k is there = record {
-    phase = (is.0, λ open_event side. (
-      let before = is.1 open_event side in
-      let adds = act_adds took l.sent a side in
-      let one = next_bytes side n (acts_of b l) a there in
-      omega (arith, before, adds, one)
-    ));
+    phase = (
+      is.0,
+      λ open_event side. (
+          let before = is.1 open_event side in
+          let adds = act_adds took l.sent a side in
+          let one = next_bytes side n (acts_of b l) a there in
+          omega (arith, before, adds, one)
+          ),
+    );
     host = k.host;
     few = act_few e b n l a k is.0 there is.1;
   }

@@ -1,5 +1,5 @@
 -- Where an event leads nothing is collected, and the bytes that are pending fit what was sent in the event.
-use Rattle.std.proofs.Common.{◌≡◌, refl, sym, ap, ◌∙◌, ℕ, ◌+◌, ◌≤◌, List, [], ◌∷◌, Bool, true, false, nat_lt, true≢false, if◌then◌else◌, Option, Some, None, arith}
+use Rattle.std.proofs.Common.{◌≡◌, refl, sym, ap, ◌∙◌, ℕ, ◌+◌, ◌≤◌, List, [], ◌∷◌, Bool, true, false, nat_lt, true≢false, if◌then◌else◌, Option, Some, None}
 use Rattle.px_bytes.specs.declared.addr.Side.{Side}
 use Rattle.px_bytes.specs.declared.addr.Side.TheVariants.{Client, Server}
 use Rattle.px_bytes.specs.declared.fault.FaultKind.{FaultKind}
@@ -17,9 +17,9 @@ use Rattle.connection_model.specs.Host.{HostState, first_host, with_selected, wi
 use Rattle.connection_model.specs.Item.{Tcl, Unselected}
 use Rattle.connection_model.specs.Places.{Place, place, is_closing, begun, bodies_left, closed_client, closed_server, closed, connecting, behind_accepted, behind_data, behind_connected, goes_on, unless_ended, after_server, after_event, entered, enter, next_body, after_fault, after_body}
 use Rattle.connection_model.specs.Relay.{fired_host}
-use Rattle.connection_model.specs.Setup.{Handler, Setup, uncaught_line}
-use Rattle.connection_model.specs.State.{Bodies, Gated, Running, Failing, Phase, InEvent, Choosing, Connecting, Releasing, Relaying, Collecting, Finishing, Draining, Link, Absent, Asked, Up, GivenUp}
-use Rattle.connection_model.proofs.HostKeeps.{Kept, kept, count}
+use Rattle.connection_model.specs.Setup.{Handler, Setup}
+use Rattle.connection_model.specs.State.{Gated, Running, Failing, Phase, InEvent, Choosing, Finishing, Draining, Link, Absent, Asked, Up, GivenUp}
+use Rattle.connection_model.proofs.HostKeeps.{kept, count}
 
 -- ---- the host's state
 

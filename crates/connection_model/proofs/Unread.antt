@@ -1,5 +1,5 @@
 -- No item lengthens what lies unread.
-use Rattle.std.proofs.Common.{◌≡◌, refl, sym, ap, subst, ◌∙◌, ℕ, zero, suc, ◌+◌, ◌≤◌, List, [], ◌∷◌, ◌++◌, length, take, drop, nat_le, Bool, true, false, ◌||◌, not, if◌then◌else◌, Option, Some, None, arith}
+use Rattle.std.proofs.Common.{◌≡◌, subst, ℕ, zero, suc, ◌≤◌, List, [], ◌∷◌, length, take, drop, Bool, true, false, ◌||◌, not, if◌then◌else◌, Option, Some, None, arith}
 use Rattle.std.specs.Prelude.{slice_get}
 use Rattle.std.proofs.lemmas.List.{length-drop, length-take}
 use Rattle.px_bytes.specs.declared.addr.Addr.{Addr}
@@ -17,7 +17,7 @@ use Rattle.irule_net.specs.declared.state.Asks.TheVariants.{NotAsked, Stated}
 use Rattle.irule_net.specs.declared.state.Target.{Target}
 use Rattle.irule_net.specs.declared.state.Target.TheVariants.{Default, PoolOf, MemberOf, NodeAt}
 use Rattle.connection_model.specs.Bodies.{act_item, run_body, ended_next, act_next, bodies_next}
-use Rattle.connection_model.specs.Bounds.{FewUnread, FewOfServer, FewLie, UnreadWithin, passed_by, PassWithin, ReadsOnly}
+use Rattle.connection_model.specs.Bounds.{FewOfServer, FewLie, UnreadWithin, passed_by, ReadsOnly}
 use Rattle.connection_model.specs.Gates.{Counts, may_give}
 use Rattle.connection_model.specs.Host.{HostState, with_selected}
 use Rattle.connection_model.specs.Item.{Item, Choice, Reason, CutBy}

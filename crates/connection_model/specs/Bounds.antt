@@ -1,5 +1,5 @@
--- How many bytes of a connection lie unread, and how many are pending to its sides (full proxy: a relay
--- holds no more of a side than its peer has room for).
+-- How many bytes of a connection lie unread, and how many are pending to its sides (flow control
+-- between the two TCP connections of a full proxy: each holds a bounded number of bytes).
 use Rattle.std.specs.Prelude.{ℕ, ◌<◌, ◌≤◌, List, [], ◌∷◌, length, Option, Some, None}
 use Rattle.px_bytes.specs.declared.addr.Side.{Side}
 use Rattle.connection_model.specs.Gates.{TakenCounts, no_bytes, to_take, sent_from, Met}
@@ -46,7 +46,7 @@ abbrev pub PassWithin : ℕ → List Item → Type 0
 PassWithin n [] = Unit {0}
 PassWithin n (i ∷ items) = (passed_by i ≤ n) × PassWithin n items
 
--- No item lengthens what lies unread, and none passes on more than that.
+-- no item lengthens what lies unread, and none passes on more than that
 pub record ReadsOnly (n : ℕ) (m : TraceState) (items : List Item) : Type 0 where
   pub within : UnreadWithin n m
   pub passes : PassWithin n items
