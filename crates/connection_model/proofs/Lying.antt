@@ -36,10 +36,10 @@ use Rattle.connection_model.specs.Setup.{Handler, Setup}
 use Rattle.connection_model.specs.State.{Bodies, Gated, Running, Failing, Fate, Forwards, Drops, Phase, Carrying, InEvent, Choosing, Selecting, Connecting, Answering, Releasing, Relaying, Collecting, Finishing, Draining, Stream, ServerSide, NoServer, Sought, There, Retired, Link, Absent, Asked, Up, GivenUp, link_of, Cut, Answers, TraceState, Next, Does, Waits, Over, stream_of, server_stream, read_server, read_side}
 use Rattle.connection_model.specs.Trace.{unit_item, unit_next, carrying_next, finish, choosing_next, default_next, selected_next, selecting_next, answering_next, relay_next, fired_next, collect_next, collecting_next, phase_next, cut_takes, uncut, cut_open, cut_next, counted, next_item, start}
 use Rattle.connection_model.proofs.BodyKeeps.{acts_bytes}
-use Rattle.connection_model.proofs.HostFits.{BodyFits, HostFits, begun_fits, body_fits, fired_fits, first_fits, selected_fits, unloosed_fits}
+use Rattle.connection_model.proofs.HostFits.{BodyFits, HostFits, body_fits, credit, fired_fits, first_fits, selected_fits, unloosed_fits}
 use Rattle.connection_model.proofs.HostKeeps.{is_stream}
 use Rattle.connection_model.proofs.PendingFits.{ActAsks, relay_asks}
-use Rattle.connection_model.proofs.PlacesFit.{Outside, PhaseFits, PlaceFits, closed_fits, enter_begun, enter_fits, fault_fits, body_fits as behind_fits, on_out}
+use Rattle.connection_model.proofs.PlacesFit.{Outside, PhaseFits, closed_fits, enter_begun, enter_fits, fault_fits, body_fits as behind_fits, on_out, at_gate}
 
 -- ---- events of a side
 
@@ -304,7 +304,7 @@ module _ (g : Setup) where
         none,
       )
     where
-      nothing : (side : Side) (h : HostState) → to_take no_bytes none_taken side ≤ Rattle.connection_model.proofs.PlacesFit.at_gate + Rattle.connection_model.proofs.HostFits.credit e side h.net
+      nothing : (side : Side) (h : HostState) → to_take no_bytes none_taken side ≤ at_gate + credit e side h.net
       nothing Client h = omega arith
       nothing Server h = omega arith
 
@@ -378,9 +378,6 @@ module _ (g : Setup) where
   selecting_lies call l (reply.Fault f ∷ more) k = selected_lies l more None k
 
   -- ---- a server's answer
-
-  connected_client : own_event Client ServerConnected ≡ false
-  connected_client = refl
 
   answering_lies : (a : Addr) (l : TraceState) (connects : List (Option Stream)) → Lies l → l.phase ≡ Answering a → is_up (link_of l.server) ≡ false → FewOfMade unread_limit connects → LiesNext (answering_next g l connects)
   answering_lies a l [] k was down made = tt
@@ -471,10 +468,6 @@ module _ (g : Setup) where
       let t = length-take n (stream_of side l).unread in omega (arith, w, a, t)
 
   -- ---- a collect that fires
-
-  held_keeps : (side : Side) (bytes : List ℕ) (h : HostState) → collected (Rattle.connection_model.specs.Gates.other side) (fired_host side bytes h).net ≡ collected (Rattle.connection_model.specs.Gates.other side) h.net
-  held_keeps Client bytes h = refl
-  held_keeps Server bytes h = refl
 
   fired_lies : (l : TraceState) (side : Side) (n : ℕ) (more : List Choice) → Lies l → (side ≡ Server → is_up (link_of l.server) ≡ true) → (collected side l.host.net).asks ≡ Stated n → LiesNext (fired_next g l side n more)
   fired_lies l Client n more k up asks =

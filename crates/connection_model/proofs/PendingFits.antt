@@ -399,10 +399,6 @@ module _ (g : Setup) (took : TakenCounts) where
       none Client = let n = none_untaken took.client in omega (arith, n)
       none Server = let n = none_untaken (taken_of took.servers 0) in omega (arith, n)
 
--- where a trace stands whose items met their gates
-pub stands_fit : (g : Setup) (client : Stream) (answers : Answers) (m : TraceState) (items : List Item) (took : TakenCounts) → Unfolds g (start g client answers) items m → Met no_bytes took items → PassWithin unread_limit items → HostFits m.host
-stands_fit g client answers m items took is met small = (items_fit g took (start g client answers) m items (start_fits g took client answers) is met small).host
-
 pub pending_bounded : (g : Setup) (client : Stream) (answers : Answers) (m : TraceState) (items : List Item) (took : TakenCounts) (side : Side) → Unfolds g (start g client answers) items m → Met no_bytes took items → PassWithin unread_limit items
     → to_take (sent_from no_bytes items) took side < pending_limit
 pending_bounded g client answers m items took side is met small =
