@@ -2,7 +2,6 @@
 use Rattle.std.proofs.Common.{◌≡◌, refl, sym, ap, subst, ◌∙◌, ℕ, List, [], ◌∷◌, true, false, not, Option, Some, None, codes}
 use Rattle.px_bytes.specs.Address.{ip_text}
 use Rattle.px_bytes.specs.declared.addr.Addr.{Addr}
-use Rattle.irule_net.specs.declared.state.Selected.{Selected}
 use Rattle.irule_net.specs.declared.state.Target.{Target}
 use Rattle.irule_net.specs.declared.state.Target.TheVariants.{Default, PoolOf, MemberOf, NodeAt}
 use Rattle.connection_model.specs.Host.{HostState}

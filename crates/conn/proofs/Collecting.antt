@@ -1,6 +1,5 @@
 -- Before there is a server the client's bytes are collected.
-use Rattle.std.proofs.Common.{◌≡◌, refl, sym, ap, subst, ◌∙◌, ℕ, ◌≤◌, List, [], ◌∷◌, ◌++◌, length, Bool, true, false, true≢false, ◌||◌, not, nat_le, Option, Some, None, if◌then◌else◌, arith, le-leb}
-use Rattle.std.proofs.lemmas.Bool.Decides.{nat_tests}
+use Rattle.std.proofs.Common.{◌≡◌, refl, sym, ap, subst, ◌∙◌, ℕ, List, [], ◌∷◌, ◌++◌, length, Bool, true, false, true≢false, not, nat_le, Option, Some, None, if◌then◌else◌}
 use Rattle.std.proofs.lemmas.Bool.{or_right}
 use Rattle.px_bytes.specs.declared.addr.Side.TheVariants.{Client}
 use Rattle.irule_net.specs.declared.state.Asks.{Asks}
@@ -9,22 +8,20 @@ use Rattle.connection_model.specs.Gates.{TakenCounts}
 use Rattle.connection_model.specs.Item.{Choice, Fires}
 use Rattle.connection_model.specs.Relay.{behind_fires, collect_act, meets, ready, Firing, Resting}
 use Rattle.connection_model.specs.Setup.{Setup}
-use Rattle.connection_model.specs.State.{Collecting, TraceState, Next, Waits, Over, ForCut, ForRelay, Nothing, IsMet, Ready, link_of, with_choices}
+use Rattle.connection_model.specs.State.{Collecting, TraceState, Waits, Over, ForRelay, Nothing, IsMet, Ready, link_of, with_choices}
 use Rattle.connection_model.specs.Trace.{GivesNoMore, collect_next, collecting_next, counted, fired_next, next_item}
 use Rattle.connection_model.specs.declared.note.CutReason.{CutReason}
 use Rattle.connection_model.specs.declared.note.Note.{Note}
 use Rattle.connection_model.specs.declared.note.Note.TheVariants as note
 use Rattle.conn.specs.Acts.{Collects, CollectsBy, cut_of}
 use Rattle.conn.specs.Ends.{is_sought, is_up}
-use Rattle.conn.specs.Holds.{Around, Between, Holds, Stands}
+use Rattle.conn.specs.Holds.{Around, Holds, Stands}
 use Rattle.conn.specs.Setups.{Serves}
 use Rattle.conn.specs.Stages.{fits, has_finished, is_in_body}
 use Rattle.conn.specs.declared.connection.Conn.{Conn}
-use Rattle.conn.specs.declared.ends.Link.TheVariants as link
 use Rattle.conn.specs.declared.setup.Setup as code_setup
 use Rattle.conn.specs.declared.stage.Stage.TheVariants as stage
 use Rattle.conn.specs.declared.turn.Act as step_act
-use Rattle.conn.specs.declared.turn.Act.TheVariants as done
 use Rattle.conn.proofs.Acting.{ActGave, rest_group, rest_noted, rests_gave}
 use Rattle.conn.proofs.Firing.{fires_client}
 use Rattle.conn.proofs.SelectItems.{next_in}

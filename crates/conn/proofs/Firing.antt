@@ -1,5 +1,5 @@
 -- A collect is met: its bytes are held, and their event is entered.
-use Rattle.std.proofs.Common.{◌≡◌, refl, sym, ap, subst, ◌∙◌, ℕ, List, [], ◌∷◌, ◌++◌, append-nil, take, Bool, true, false, true≢false, Option, None}
+use Rattle.std.proofs.Common.{◌≡◌, refl, sym, ap, ◌∙◌, ℕ, List, [], ◌∷◌, append-nil, take, true, false, true≢false, None}
 use Rattle.px_bytes.specs.declared.addr.Side.{Side}
 use Rattle.px_bytes.specs.declared.addr.Side.TheVariants.{Client, Server}
 use Rattle.connection_model.specs.Further.{choosing, longer}
@@ -8,13 +8,13 @@ use Rattle.connection_model.specs.Item.{Fired, Fires}
 use Rattle.connection_model.specs.Places.{at as put, data_event, enter}
 use Rattle.connection_model.specs.Relay.{fired_host as fires_host}
 use Rattle.connection_model.specs.Setup.{Setup}
-use Rattle.connection_model.specs.State.{Link as ModelLink, Stream, TraceState, Does, Next, link_of, read, read_server, read_side, server_stream, stream_of, with_choices}
+use Rattle.connection_model.specs.State.{Link as ModelLink, TraceState, Does, Next, link_of, read, read_server, server_stream, with_choices}
 use Rattle.connection_model.specs.Trace.{counted, fired_next, next_item}
 use Rattle.connection_model.specs.declared.note.Note.{Note}
 use Rattle.connection_model.specs.declared.note.Note.TheVariants as note
 use Rattle.conn.specs.Changes.{Enters}
-use Rattle.conn.specs.Ends.{arrived, connects_by, end_of, has_stream, is_up, link_by, server_by}
-use Rattle.conn.specs.Events.{data_at, event_of, is_closed}
+use Rattle.conn.specs.Ends.{connects_by, has_stream, is_up, link_by, server_by}
+use Rattle.conn.specs.Events.{event_of, is_closed}
 use Rattle.conn.specs.Holds.{Around, Between, Holds, HoldsEnds}
 use Rattle.conn.specs.Hosts.{fired_host, seen_host}
 use Rattle.conn.specs.Relaying.{Fires as FiresBytes, read_end, read_ends}

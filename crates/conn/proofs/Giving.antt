@@ -5,7 +5,7 @@ use Rattle.connection_model.specs.Edges.{edges_by, edges_noted}
 use Rattle.connection_model.specs.declared.edges.Edges.{Edges}
 use Rattle.connection_model.specs.declared.note.Note.{Note}
 use Rattle.connection_model.specs.Gates.{may_give}
-use Rattle.connection_model.specs.Item.{Item, listed, shown, calls_in, to_client, client_output, to_server, server_output, note_of, notes_of, choices_in}
+use Rattle.connection_model.specs.Item.{Item, listed, shown, calls_in, to_client, client_output, to_server, server_output, note_of, notes_of}
 use Rattle.connection_model.specs.Setup.{Setup}
 use Rattle.connection_model.specs.State.{TraceState, Does}
 use Rattle.connection_model.specs.Trace.{next_item}

@@ -20,7 +20,7 @@ use Rattle.conn.specs.Acts.{Relays, RelaysBy, Rests, cut_of}
 use Rattle.conn.specs.Ends.{arrived, connects_by, end_of, has_stream, is_sought, is_up, number_by, queue_of, server_by}
 use Rattle.conn.specs.Holds.{Around, Between, Holds, HoldsEnds, Stands}
 use Rattle.conn.specs.Hosts.{seen_host}
-use Rattle.conn.specs.Relaying.{Fires as FiresBytes, PassesOn as PassesBytes, incoming_of, moved, turn_plan, queue_end, read_end, relay_plan, round_begun, side_plan, to_pass}
+use Rattle.conn.specs.Relaying.{Fires as FiresBytes, PassesOn as PassesBytes, incoming_of, moved, plan_of, queue_end, read_end, relay_plan, round_begun, side_plan, to_pass}
 use Rattle.conn.specs.Setups.{Serves}
 use Rattle.conn.specs.Stages.{InEvent as HostIn, cause_for, fits, has_finished, is_asking}
 use Rattle.conn.specs.declared.connection.Conn.{Conn}
@@ -143,7 +143,7 @@ by_asks side c later from to here there count (Stated n) is = by_met (nat_le n (
         let room = nat_lt (length (queue_of (end_of (other side) c.ends))) room_limit in
         Waits (ap (λ x. may_relay (ready x (end_of side c.ends).unread) room) is ∙ ap (λ x. may_relay (ready (Stated n) x.unread) room) (sym here) ∙ unmet_waits n from.unread room e)
 
-of_side : (side : Side) (c : Conn) (later : Relay) → OfSide side c later (turn_plan side c.host.net c.ends later)
+of_side : (side : Side) (c : Conn) (later : Relay) → OfSide side c later (plan_of side c.host.net c.ends later)
 of_side Client c later = by_asks Client c later c.ends.client c.ends.server refl refl refl c.host.net.client.asks refl
 of_side Server c later = by_asks Server c later c.ends.server c.ends.client refl refl refl c.host.net.server.asks refl
 
@@ -309,12 +309,12 @@ module _ (s : code_setup.Setup) (g : Setup) (serves : Serves s g) (a : Around) (
       by_second _ more w (MayFire n asked met) (goes, k) = going_on _ goes (fires_side (other first) n before after more asked met k)
       by_second _ more w (Waits v) k = let ws = both first w v in rests before after did more ws.0 ws.1 k
 
-      by_first : (p : Relay) → left → OfSide first old (turn_plan (other first) old.host.net old.ends relay.Rest) p → RelaysBy p s c old new before after did → Gives p
+      by_first : (p : Relay) → left → OfSide first old (plan_of (other first) old.host.net old.ends relay.Rest) p → RelaysBy p s c old new before after did → Gives p
       by_first _ more (MayPass free some) (goes, k) = going_on _ goes (passes_side first before after more free some k)
       by_first _ more (MayFire n asked met) (goes, k) = going_on _ goes (fires_side first n before after more asked met k)
       by_first _ more (Waits w) k = by_second _ more w (of_side (other first) old relay.Rest) k
 
-      by_end : (o : Bool) → (is_done (of_client old) && is_done (of_server old)) ≡ o → RelaysBy (if o then relay.Done else turn_plan first old.host.net old.ends (turn_plan (other first) old.host.net old.ends relay.Rest)) s c old new before after did
-          → Gives (if o then relay.Done else turn_plan first old.host.net old.ends (turn_plan (other first) old.host.net old.ends relay.Rest))
+      by_end : (o : Bool) → (is_done (of_client old) && is_done (of_server old)) ≡ o → RelaysBy (if o then relay.Done else plan_of first old.host.net old.ends (plan_of (other first) old.host.net old.ends relay.Rest)) s c old new before after did
+          → Gives (if o then relay.Done else plan_of first old.host.net old.ends (plan_of (other first) old.host.net old.ends relay.Rest))
       by_end true over (goes, k) = going_on _ goes (finishes_gave s g serves a l c old new h b finish.Closed tt k.0 (relay_ends g (of_client old) (of_server old) l here over))
-      by_end false more k = by_first _ more (of_side first old (turn_plan (other first) old.host.net old.ends relay.Rest)) k
+      by_end false more k = by_first _ more (of_side first old (plan_of (other first) old.host.net old.ends relay.Rest)) k

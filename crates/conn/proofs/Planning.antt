@@ -1,5 +1,5 @@
 -- A relay passes on or collects bytes that lie unread.
-use Rattle.std.proofs.Common.{◌≡◌, refl, subst, ℕ, ◌≤◌, length, Bool, true, false, ◌&&◌, nat_le, nat_lt, arith, if◌then◌else◌}
+use Rattle.std.proofs.Common.{◌≡◌, refl, subst, ◌≤◌, length, Bool, true, false, ◌&&◌, nat_le, nat_lt, arith, if◌then◌else◌}
 use Rattle.std.proofs.lemmas.Bool.Decides.{nat_tests}
 use Rattle.px_bytes.specs.declared.addr.Side.{Side}
 use Rattle.px_bytes.specs.declared.addr.Side.TheVariants.{Client, Server}
@@ -9,7 +9,7 @@ use Rattle.irule_net.specs.declared.state.NetState.{NetState}
 use Rattle.connection_model.specs.Gates.{other}
 use Rattle.connection_model.specs.Relay.{is_done}
 use Rattle.conn.specs.Ends.{end_of}
-use Rattle.conn.specs.Relaying.{incoming_of, passes_now, turn_plan, relay_plan, side_plan, to_pass}
+use Rattle.conn.specs.Relaying.{incoming_of, passes_now, plan_of, relay_plan, side_plan, to_pass}
 use Rattle.conn.specs.declared.ends.End.{End}
 use Rattle.conn.specs.declared.ends.Ends.{Ends}
 use Rattle.conn.specs.declared.relay.Relay.{Relay}
@@ -36,13 +36,13 @@ side_within side e from to here (Stated n) later k = by_met (nat_le n (length fr
     by_met true is = let met : n ≤ length from.unread = grind (arith, nat_tests, is) in subst (λ x. n ≤ length x.unread) here met
     by_met false is = k
 
-turn_within : (side : Side) (net : NetState) (e : Ends) (later : Relay) → Within e later → Within e (turn_plan side net e later)
+turn_within : (side : Side) (net : NetState) (e : Ends) (later : Relay) → Within e later → Within e (plan_of side net e later)
 turn_within Client net e later k = side_within Client e e.client e.server refl net.client.asks later k
 turn_within Server net e later k = side_within Server e e.server e.client refl net.server.asks later k
 
 pub plan_within : (first : Side) (net : NetState) (e : Ends) → Within e (relay_plan first net e)
 plan_within first net e = by_end (is_done (incoming_of net.client.asks e.client) && is_done (incoming_of net.server.asks e.server))
   where
-    by_end : (b : Bool) → Within e (if b then relay.Done else turn_plan first net e (turn_plan (other first) net e relay.Rest))
+    by_end : (b : Bool) → Within e (if b then relay.Done else plan_of first net e (plan_of (other first) net e relay.Rest))
     by_end true = tt
-    by_end false = turn_within first net e (turn_plan (other first) net e relay.Rest) (turn_within (other first) net e relay.Rest tt)
+    by_end false = turn_within first net e (plan_of (other first) net e relay.Rest) (turn_within (other first) net e relay.Rest tt)

@@ -1,12 +1,12 @@
 -- A relay, by the fields of a trace's state.
-use Rattle.std.proofs.Common.{◌≡◌, refl, ap, ◌∙◌, ℕ, ◌-◌, ◌≤◌, ◌<◌, List, [], ◌∷◌, length, min, Bool, true, false, ◌&&◌, ◌||◌, not, nat_le, nat_lt, if◌then◌else◌, Option, Some, None, arith, le-leb, lt-ltb}
+use Rattle.std.proofs.Common.{◌≡◌, refl, ap, ◌∙◌, ℕ, ◌-◌, ◌≤◌, ◌<◌, List, [], ◌∷◌, length, min, Bool, true, false, ◌&&◌, ◌||◌, not, nat_le, nat_lt, if◌then◌else◌, Some, None, arith, le-leb, lt-ltb}
 use Rattle.std.proofs.lemmas.Bool.{and_from}
 use Rattle.std.proofs.lemmas.Bool.Decides.{nat_tests}
 use Rattle.px_bytes.specs.declared.addr.Side.{Side}
 use Rattle.px_bytes.specs.declared.addr.Side.TheVariants.{Client, Server}
 use Rattle.irule_net.specs.declared.state.Asks.{Asks}
 use Rattle.irule_net.specs.declared.state.Asks.TheVariants.{NotAsked, Stated}
-use Rattle.connection_model.specs.Gates.{Counts, TakenCounts, has_room, room_limit, to_take}
+use Rattle.connection_model.specs.Gates.{Counts, TakenCounts, has_room, room_limit}
 use Rattle.connection_model.specs.Item.{Choice, PassesOn, Fires, Closed}
 use Rattle.connection_model.specs.Relay.{Incoming, by_side, firing, is_done, meets, passes, ready, ready_of, BothDone, Firing, Passing, Resting, chosen_act, relay_act}
 use Rattle.connection_model.specs.Setup.{Setup}

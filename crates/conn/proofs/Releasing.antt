@@ -1,18 +1,17 @@
 -- The client's bytes that were released before there was a server go to it.
-use Rattle.std.proofs.Common.{◌≡◌, refl, sym, ap, subst, ◌∙◌, ℕ, ◌+◌, List, [], ◌∷◌, ◌++◌, append-nil, length, length-append, Bool, true, false, true≢false, nat_lt, Option, arith, eq-eqb, if◌then◌else◌}
+use Rattle.std.proofs.Common.{◌≡◌, refl, sym, ap, subst, ◌∙◌, ℕ, ◌+◌, List, [], ◌∷◌, ◌++◌, append-nil, length, length-append, Bool, true, false, true≢false, nat_lt, arith, eq-eqb, if◌then◌else◌}
 use Rattle.std.specs.Bool.{MatchBool}
 use Rattle.px_bytes.specs.declared.addr.Side.TheVariants.{Client, Server}
 use Rattle.connection_model.specs.Gates.{room_limit}
 use Rattle.connection_model.specs.Host.{HostState, with_loose}
 use Rattle.connection_model.specs.Item.{Moved, ToServer}
 use Rattle.connection_model.specs.Setup.{Setup}
-use Rattle.connection_model.specs.State.{Relaying, Releasing, TraceState, Does, Over}
+use Rattle.connection_model.specs.State.{Relaying, Releasing, TraceState, Does}
 use Rattle.connection_model.specs.Trace.{GivesNoMore, next_item}
-use Rattle.connection_model.specs.declared.note.CutReason.{CutReason}
 use Rattle.connection_model.specs.declared.note.Note.{Note}
 use Rattle.connection_model.proofs.Unfolding.{unfolds_one}
 use Rattle.conn.specs.Acts.{PassesReleased, Rests, cut_of}
-use Rattle.conn.specs.Ends.{connects_by, has_stream, is_up, link_by, number_by, queue_of, server_by}
+use Rattle.conn.specs.Ends.{connects_by, has_stream, is_up, link_by, number_by, server_by}
 use Rattle.conn.specs.Holds.{Around, Between, Holds, HoldsEnds, Stands}
 use Rattle.conn.specs.Hosts.{released_host, seen_host}
 use Rattle.conn.specs.Queues.{queue_in}
@@ -23,7 +22,6 @@ use Rattle.conn.specs.declared.connection.Conn.{Conn}
 use Rattle.conn.specs.declared.ends.Ends.{Ends}
 use Rattle.conn.specs.declared.ends.Link.TheVariants as link
 use Rattle.conn.specs.declared.setup.Setup as code_setup
-use Rattle.conn.specs.declared.stage.Stage.{Stage}
 use Rattle.conn.specs.declared.stage.Stage.TheVariants as stage
 use Rattle.conn.specs.declared.turn.Act as step_act
 use Rattle.conn.specs.declared.turn.Act.TheVariants as done

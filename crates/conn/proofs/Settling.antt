@@ -1,5 +1,5 @@
 -- What a connection owes the outside where it can't go on, by its fields and by its trace.
-use Rattle.std.proofs.Common.{◌≡◌, refl, sym, ap, subst, ◌∙◌, ℕ, zero, suc, ◌+◌, ◌-◌, List, [], ◌∷◌, ◌++◌, drop, length, Bool, true, false, true≢false, ◌&&◌, not, Option, Some, None, nat_eq, arith, if◌then◌else◌}
+use Rattle.std.proofs.Common.{◌≡◌, refl, sym, ap, ◌∙◌, ℕ, zero, suc, ◌+◌, ◌-◌, List, [], ◌∷◌, ◌++◌, drop, length, Bool, true, false, true≢false, ◌&&◌, not, Option, Some, None, nat_eq, arith, if◌then◌else◌}
 use Rattle.std.proofs.lemmas.Bool.{and_parts}
 use Rattle.std.specs.Prelude.{slice_get}
 use Rattle.px_bytes.specs.declared.addr.Addr.{Addr}

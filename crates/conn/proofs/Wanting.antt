@@ -3,7 +3,6 @@ use Rattle.std.proofs.Common.{◌≡◌, refl, sym, ap, ◌∙◌, ℕ, ◌-◌,
 use Rattle.std.specs.Prelude.{if◌then◌else◌}
 use Rattle.px_bytes.specs.declared.addr.Side.{Side}
 use Rattle.px_bytes.specs.declared.addr.Side.TheVariants.{Client, Server}
-use Rattle.event_order.specs.declared.event.EventName.{EventName}
 use Rattle.irule_net.specs.State.{collected}
 use Rattle.irule_net.specs.declared.state.Asks.{Asks}
 use Rattle.connection_model.specs.Queries as query

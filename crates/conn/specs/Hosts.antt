@@ -93,8 +93,8 @@ pub record KeepsCollects (e : EventName) (s t : NetState) : Type 0 where
   pub relays : t.relays ≡ s.relays
   pub kept : (side : Side) → collects_in side e ≡ false → collected side t ≡ collected side s
 
--- What its rules are told of a connection: the client's address, and that there is a server connection
--- only where one is.
+-- What its rules are told of a connection: the client's address, and that there is a server
+-- connection only where one is.
 pub record Told (g : Setup) (k : Link) (s : NetState) : Type 0 where
   pub from : s.from ≡ g.from
   pub relays : s.relays ≡ true → is_up k ≡ true

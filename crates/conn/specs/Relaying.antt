@@ -1,6 +1,6 @@
 -- Bytes are passed on both ways, and collected.
 use Rattle.std.specs.Prelude.{◌≡◌, ◌≤◌, ℕ, List, [], ◌∷◌, ◌++◌, length, min, take, drop, ◌&&◌}
-use Rattle.std.specs.Prelude.{Option, Some, None, nat_le, nat_lt, if◌then◌else◌}
+use Rattle.std.specs.Prelude.{nat_le, nat_lt, if◌then◌else◌}
 use Rattle.px_bytes.specs.declared.addr.Side.{Side}
 use Rattle.px_bytes.specs.declared.addr.Side.TheVariants.{Client, Server}
 use Rattle.irule_net.specs.declared.state.Asks.{Asks}
@@ -29,8 +29,8 @@ to_pass from to = min (length from.unread) (room_left to)
 abbrev pub passing : Side → ℕ → Relay → Relay
 passing side n later = if nat_lt 0 n then relay.Pass side n else later
 
--- what is done with the bytes of a side: while its collect is stated none are passed on, and where it
--- is met they are collected
+-- what is done with the bytes of a side: while its collect is stated none are passed on, and where
+-- it is met they are collected
 abbrev pub side_plan : Side → Asks → End → End → Relay → Relay
 side_plan side NotAsked from to later = passing side (to_pass from to) later
 side_plan side (Stated n) from to later =
@@ -40,16 +40,17 @@ side_plan side (Stated n) from to later =
 abbrev pub incoming_of : Asks → End → Incoming
 incoming_of asks e = record { asks = asks; stream = arrived e }
 
-abbrev pub turn_plan : Side → NetState → Ends → Relay → Relay
-turn_plan Client net e later = side_plan Client net.client.asks e.client e.server later
-turn_plan Server net e later = side_plan Server net.server.asks e.server e.client later
+abbrev pub plan_of : Side → NetState → Ends → Relay → Relay
+plan_of Client net e later = side_plan Client net.client.asks e.client e.server later
+plan_of Server net e later = side_plan Server net.server.asks e.server e.client later
 
 -- it is done where both ends are; the bytes of the side whose turn it is go first
 abbrev pub relay_plan : (first : Side) → NetState → Ends → Relay
 relay_plan first net e =
-    if is_done (incoming_of net.client.asks e.client) && is_done (incoming_of net.server.asks e.server)
+    if is_done (incoming_of net.client.asks e.client)
+    && is_done (incoming_of net.server.asks e.server)
     then relay.Done
-    else turn_plan first net e (turn_plan (other first) net e relay.Rest)
+    else plan_of first net e (plan_of (other first) net e relay.Rest)
 
 -- where it rests the next turn is the client's
 abbrev pub round_begun : Conn → Conn
@@ -91,8 +92,8 @@ read_ends Client n e = record e { client = read_end n e.client }
 read_ends Server n e = record e { server = read_end n e.server }
 
 -- the collect of a side is met: it holds the first n bytes, and their event is entered
-pub record Fires (s : Setup) (c : ℕ) (side : Side) (n : ℕ) (old new : Conn) (before after : List Note)
-    : Type 0 where
+pub record Fires (s : Setup) (c : ℕ) (side : Side) (n : ℕ) (old new : Conn)
+    (before after : List Note) : Type 0 where
   pub enters : Enters s (data_at side)
       (fired_host side (take n (end_of side old.ends).unread) old.host)
       (read_ends side n old.ends) old new

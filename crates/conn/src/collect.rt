@@ -68,7 +68,7 @@ impl Conn {
         Ok(())
     }
 
-    /// The client's bytes that were released before there was a server go to it, where there is room.
+    /// The client's bytes that were released before there was a server go to it, if there is room.
     pub(crate) fn release(
         &mut self,
         alloc: Global,

@@ -56,8 +56,8 @@ impl RuleHost {
         }
     }
 
-    /// The collect of a side is met by these bytes: it holds them, and is over. Out of memory nothing
-    /// changes.
+    /// The collect of a side is met by these bytes: it holds them, and is over. Out of memory
+    /// nothing changes.
     pub fn fire(&mut self, side: Side, bytes: &[u8]) -> M<()>
         ensures ok { OnOk result (self.new ≡ fired_host side bytes.now self.old) }
         ensures err { OnErr result (self.new ≡ self.old) }

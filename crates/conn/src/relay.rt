@@ -4,8 +4,8 @@ ghost use Rattle.std.specs.Prelude.{◌≡◌, ◌+◌, ◌≤◌, ◌++◌, len
 ghost use Rattle.conn.specs.Acts.{Relays};
 ghost use Rattle.connection_model.specs.Gates.{other};
 ghost use Rattle.connection_model.specs.Relay.{is_done};
-ghost use Rattle.conn.specs.Relaying.{incoming_of, moved, passes_now, turn_plan, relay_plan, side_plan};
-ghost use Rattle.conn.specs.Relaying.{to_pass};
+ghost use Rattle.conn.specs.Relaying.{incoming_of, moved, passes_now, plan_of, relay_plan};
+ghost use Rattle.conn.specs.Relaying.{side_plan, to_pass};
 
 use crate::connection::Conn;
 use crate::ends::{End, Ends};
@@ -84,12 +84,12 @@ impl Conn {
                 return Relay::Done;
             }
         }
-        let later = self.turn_plan(other(first), Relay::Rest);
-        self.turn_plan(first, later)
+        let later = self.plan_of(other(first), Relay::Rest);
+        self.plan_of(first, later)
     }
 
-    fn turn_plan(&self, side: Side, later: Relay) -> Relay
-        ensures { result ≡ turn_plan side self.now.host.net self.now.ends later }
+    fn plan_of(&self, side: Side, later: Relay) -> Relay
+        ensures { result ≡ plan_of side self.now.host.net self.now.ends later }
     {
         let (client, server) = (&self.ends.client, &self.ends.server);
         match side {

@@ -3,8 +3,8 @@
 ghost use Rattle.std.specs.Prelude.{◌≡◌};
 ghost use Rattle.conn.specs.Stages.{accepted_stage, after_stage, cause_for, connected_stage};
 ghost use Rattle.conn.specs.Stages.{connecting_stage, data_stage, dropped_in, ended_stage, failed};
-ghost use Rattle.conn.specs.Stages.{goes_on_stage, has_finished, in_event_of, is_asking, is_draining};
-ghost use Rattle.conn.specs.Stages.{is_relaying};
+ghost use Rattle.conn.specs.Stages.{goes_on_stage, has_finished, in_event_of, is_asking};
+ghost use Rattle.conn.specs.Stages.{is_draining, is_relaying};
 
 use crate::ends::Link;
 use crate::events::At;
@@ -80,8 +80,8 @@ pub enum Stage {
     Collecting,
     /// The client's bytes that were released before there was a server are to go to it.
     Releasing,
-    /// Bytes are passed on both ways, or collected. The sides take turns, and it is the turn of this
-    /// one.
+    /// Bytes are passed on both ways, or collected. The sides take turns, and it is the turn of
+    /// this one.
     Relaying(Side),
     /// It is to finish.
     Finishing(Finish),

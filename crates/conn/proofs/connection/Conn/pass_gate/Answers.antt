@@ -1,4 +1,4 @@
-use Rattle.std.proofs.Common.{◌≡◌, sym, subst, ap, ◌∙◌, Bool, true, false, ◌&&◌, nat_lt, length, arith}
+use Rattle.std.proofs.Common.{◌≡◌, ap, false, ◌&&◌, nat_lt, length, arith}
 use Rattle.std.proofs.lemmas.Bool.{and_right}
 use Rattle.std.proofs.lemmas.Bool.Decides.{nat_tests}
 use Rattle.px_bytes.specs.declared.addr.Side.TheVariants.{Client, Server}
