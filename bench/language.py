@@ -1,11 +1,12 @@
 #!/usr/bin/env python3
 """How long bodies take beside tclsh and jimsh, and that they grow linearly.
 
-    bench/language.py PROGRAM            PROGRAM is a built crates/tcl_vectors/out/tcl_vectors
+    bench/language.py PROGRAM [BEFORE]   PROGRAM is a built crates/tcl_vectors/out/tcl_vectors
 
 Each line is one body, run by `eval_plain` with a raised budget (the question `body`), by tclsh and by
 jimsh in a procedure, where they are installed. Times are the least of five runs less the time of an
-empty body, in milliseconds; then the ratios, and the ratio of the body of twice the size to it.
+empty body, in milliseconds; then the ratios, and the ratio of the body of twice the size to it. With BEFORE,
+the same program of another tree, each body is run by both in turns, and the ratio of PROGRAM to it is printed.
 """
 import os
 import shutil
@@ -53,6 +54,16 @@ def least(command, given, wanted):
     return best
 
 
+def in_turns(programs, given, wanted):
+    """The least time of each program, of three times as many runs, in turns."""
+    best = [None] * len(programs)
+    for _ in range(3):
+        for at, program in enumerate(programs):
+            spent = least([program], given, wanted)
+            best[at] = spent if best[at] is None else min(best[at], spent)
+    return best
+
+
 def question(body):
     return f"body {body.encode().hex()}\n".encode()
 
@@ -70,6 +81,13 @@ def main():
     folder = tempfile.mkdtemp()
     empty = least([program], question("return 0"), None)
     none = {shell: least(tcl(shell, "return 0", folder), b"", b"0") for shell in shells}
+    if len(sys.argv) > 2:
+        programs = [program, os.path.abspath(sys.argv[2])]
+        nothing = in_turns(programs, question("return 0"), None)
+        for name, body in bodies(100).items():
+            now, before = (t - n for t, n in zip(in_turns(programs, question(body), None), nothing))
+            print(f"{name:32} {now:8.1f}   before {before:8.1f} ({now / before:4.2f})", flush=True)
+        return
     twice = list(bodies(200).values())
     for at, (name, body) in enumerate(bodies(100).items()):
         wanted = subprocess.run(

@@ -19,3 +19,10 @@ pub mod Querying
 pub mod Units
 pub mod Fair
 pub mod Sending
+pub mod HostKeeps
+pub mod BodyKeeps
+pub mod HostFits
+pub mod Unread
+pub mod PlacesFit
+pub mod PendingFits
+pub mod Lying

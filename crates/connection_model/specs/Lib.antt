@@ -17,3 +17,4 @@ pub mod Heard
 pub mod HeardLaws
 pub mod Queries
 pub mod Units
+pub mod Bounds

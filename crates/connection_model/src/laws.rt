@@ -1,5 +1,6 @@
 // Laws of the trace.
 
+ghost use Rattle.connection_model.specs.Bounds.{PendingIsBounded, UnreadStaysWithin};
 ghost use Rattle.connection_model.specs.Laws.{
   ChoicesJoin,
   ClientIsRead,
@@ -232,4 +233,14 @@ pub fn selected_is_spelled()
 /// And each address is read as it is written.
 pub fn written_is_selected()
     ensures { WrittenIsSelected }
+{}
+
+/// No item lengthens what lies unread, and none passes on more than that.
+pub fn unread_stays_within()
+    ensures { UnreadStaysWithin }
+{}
+
+/// Where each item met its gate fewer than 2,400,000 bytes are pending to a side.
+pub fn pending_is_bounded()
+    ensures { PendingIsBounded }
 {}

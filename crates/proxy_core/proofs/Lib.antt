@@ -59,3 +59,5 @@ pub mod Waiting
 pub mod Wanted
 pub mod Stepping
 pub mod Asked
+pub mod Arriving
+pub mod BytesBounded

@@ -24,6 +24,7 @@ pub mod Asked
 pub mod Others
 pub mod Fitting
 pub mod OneServer
+pub mod Bounds
 pub mod Represents
 pub mod Steps
 pub mod Headline

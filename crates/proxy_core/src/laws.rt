@@ -1,5 +1,6 @@
 // What holds of every past.
 
+ghost use Rattle.proxy_core.specs.Bounds.{BytesAreBounded};
 ghost use Rattle.proxy_core.specs.Fitting.{NotesFitEdges};
 ghost use Rattle.proxy_core.specs.Headline.{EveryPastMatches};
 ghost use Rattle.proxy_core.specs.Laws.{BodiesRunInOrder, StaticsStay};
@@ -40,4 +41,10 @@ pub fn notes_fit_edges()
 /// was sent to it, and to one that wasn't heard of nothing was sent.
 pub fn one_server_is_made()
     ensures { OneServerIsMade }
+{}
+
+/// Behind every past, of each side of a connection no more than 65,536 bytes lie unread, and fewer than
+/// 2,400,000 are pending to it.
+pub fn bytes_are_bounded()
+    ensures { BytesAreBounded }
 {}

@@ -29,6 +29,6 @@ pub use connection_model::{Cause, Note, Notes};
 pub use core_state::Core;
 pub use event::{BadEvent, Event};
 pub use laws::{
-    bodies_run_in_order, notes_fit_edges, one_server_is_made, only_changed,
+    bodies_run_in_order, bytes_are_bounded, notes_fit_edges, one_server_is_made, only_changed,
     output_matches_evaluator, statics_stay,
 };
