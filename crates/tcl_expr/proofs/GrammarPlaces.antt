@@ -136,7 +136,7 @@ digits_on : (radix : ℕ) (text : List ℕ) (at : ℕ) → at ≤ digits_end rad
 unfolding digits_end
 digits_on radix text at = skip_onward (digit_stands radix text) (λ k. k + 1) (λ k. omega arith) (turns text) at
 
-digits_moves : (radix : ℕ) (text : List ℕ) (at : ℕ) → digit_stands radix text at ≡ true → at < digits_end radix text at
+pub digits_moves : (radix : ℕ) (text : List ℕ) (at : ℕ) → digit_stands radix text at ≡ true → at < digits_end radix text at
 unfolding digits_end skip
 digits_moves radix text at e =
     let on = skip_onward (digit_stands radix text) (λ k. k + 1) (λ k. omega arith) (length text) (at + 1) in
@@ -189,7 +189,7 @@ substituted_lies room text at (and_part p (and_part q ps)) last is = absurd is
 substituted_lies room text at (and_part p no_parts) last is =
     record { on = part_on room Quote text at p last (not_quote text at is.0) is.1; within = starts_within text at is.0 }
 
-token_lies : (room : ℕ) (text : List ℕ) (at : ℕ) (e : Expression) (last : ℕ) → SpellsToken room text at e last → Lies text at last
+pub token_lies : (room : ℕ) (text : List ℕ) (at : ℕ) (e : Expression) (last : ℕ) → SpellsToken room text at e last → Lies text at last
 token_lies room text at (literal bytes) last is = literal_lies text at last is.0
 token_lies room text at (joined ps) last (inl is) = quoted_lies room text at ps last is
 token_lies room text at (joined ps) last (inr (inl is)) = braced_lies room text at ps last is

@@ -3,6 +3,13 @@ pub mod ExpressionViews
 pub mod RowTurns
 pub mod ReadingCases
 pub mod Values
+pub mod Insertions
+pub mod InsertedTokens
+pub mod BlanksBetween
+pub mod CarriedTests
+pub mod CarriedUnits
+pub mod CarriedWords
+pub mod CarriedTokens
 pub mod DivisionAddsUp
 pub mod Exact
 pub mod Places
@@ -17,3 +24,8 @@ pub mod OperandSound
 pub mod ReadingIsGrammar
 pub mod Bindings
 pub mod Deeper
+pub mod Put
+pub mod Carried
+pub mod MovedWords
+pub mod VariableNames
+pub mod InsertedNumbers

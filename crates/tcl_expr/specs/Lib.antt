@@ -1,4 +1,5 @@
 pub mod Binding
+pub mod Blanks
 pub mod DivisionLaw
 pub mod Expression
 pub mod ExpressionReading
@@ -6,6 +7,7 @@ pub mod ExpressionView
 pub mod Grammar
 pub mod GrammarLaws
 pub mod OperatorFaults
+pub mod Moved
 pub mod Operators
 pub mod Outcome
 pub mod Precedence

@@ -1,6 +1,7 @@
 // What holds of expressions and operators.
 
 ghost use Rattle.tcl_expr.specs.Binding.{PrefixesBind, RowsBindInOrder, RowsGroupFromTheLeft};
+ghost use Rattle.tcl_expr.specs.Blanks.{BlanksChangeOnlyPlaces};
 ghost use Rattle.tcl_expr.specs.DivisionLaw.{DivisionAddsUp};
 ghost use Rattle.tcl_expr.specs.GrammarLaws.{MoreRoomIsSame, OneExpression, ReadingIsGrammar};
 ghost use Rattle.tcl_expr.specs.Precedence.{Precedence};
@@ -25,6 +26,11 @@ pub fn one_expression()
 /// With more room a text is the same expression: room does nothing but refuse.
 pub fn more_room_is_same()
     ensures { MoreRoomIsSame }
+{}
+
+/// The law that white space between the tokens of an expression changes nothing but places.
+pub fn blanks_change_only_places()
+    ensures { BlanksChangeOnlyPlaces }
 {}
 
 /// How operators bind.
