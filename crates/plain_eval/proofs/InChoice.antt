@@ -1,39 +1,22 @@
 -- The body that a `switch` chooses.
-use Rattle.std.proofs.Common.{◌≡◌, refl, sym, ap, ◌∙◌, ℕ, zero, suc, ◌+◌, List, [], ◌∷◌, drop}
-use Rattle.std.proofs.Common.{Bool, true, false, Option, Some, None, Result, Ok, Err}
-use Rattle.std.specs.Prelude.{if◌then◌else◌}
-use Rattle.px_bytes.specs.Gives.{Gives}
-use Rattle.px_bytes.specs.declared.fault.Raise.{Raise}
-use Rattle.px_bytes.specs.declared.fault.Raise.TheVariants as raise
-use Rattle.px_bytes.specs.declared.fault.TclFault.{TclFault}
-use Rattle.tcl_compile.specs.Tree.{Tree, trees_of}
-use Rattle.tcl_compile.specs.TreeView.{node_step, node_view, nodes_view}
-use Rattle.tcl_compile.specs.declared.node.Node.{Node, out-Node, map-Node, fold_out-Node}
-use Rattle.tcl_compile.specs.declared.node.Node.TheOpen.{Node-F}
-use Rattle.rule_model.specs.Children.{child, free, is_next}
-use Rattle.rule_model.specs.Control.{chosen, first_body, hit_of}
-use Rattle.rule_model.specs.Evaluator.{bodies, eval}
-use Rattle.rule_model.specs.Outcome.{Meaning}
-use Rattle.rule_model.specs.Setting.{Setting, Inner}
-use Rattle.rule_model.specs.declared.code.Code.TheVariants.{Value, Raised}
+use Rattle.plain_eval.proofs.Vocabulary
+use Vocabulary.{◌≡◌, refl, ap, ◌∙◌, ℕ, zero, suc, ◌+◌, List, [], ◌∷◌, drop, Bool, true, false}
+use Vocabulary.{Option, Some, None, Result, Ok, Err, if◌then◌else◌, Gives, Raise, trees_of}
+use Vocabulary.{node_view, nodes_view, Node, out-Node, Node-F, free, is_next, chosen, first_body}
+use Vocabulary.{hit_of, bodies, eval, Meaning, Setting, Inner, Value, Raised, kept, kept_end, Stand}
+use Vocabulary.{Ran, End, Halted}
 use Rattle.rule_steps.specs.Choice.{first_body_of, is_next_in}
-use Rattle.plain_eval.specs.End.{kept, kept_end, raise_end}
-use Rattle.plain_eval.specs.Stand.{Stand, from, Ran}
-use Rattle.plain_eval.specs.declared.run.End.{End}
+use Rattle.px_bytes.specs.declared.fault.Raise.TheVariants as raise
 use Rattle.plain_eval.specs.declared.run.End.TheVariants as end
-use Rattle.plain_eval.specs.declared.run.Halted.{Halted}
-use Rattle.plain_eval.proofs.InWords.{child_by}
+use Rattle.plain_eval.proofs.InWords.{child_by, step_of, view_is}
 use Rattle.plain_eval.proofs.Steps.{at_stand}
-
-abbrev step_of : Node-F Node → Tree
-step_of f = node_step (map-Node Node Tree node_view f)
 
 next_by : (f : Node-F Node) → is_next (step_of f) ≡ is_next_in f
 next_by Node-F.NextBody = refl
 next_by other = refl
 
 is_next_view : (n : Node) → is_next (node_view n) ≡ is_next_in (out-Node n)
-is_next_view n = ap is_next (fold_out-Node Tree node_step n) ∙ next_by (out-Node n)
+is_next_view n = ap is_next (view_is {n = n} refl) ∙ next_by (out-Node n)
 
 module _ {H : Type 0} (g : Setting H) (i : Inner H) where
   abbrev pub bodies_at : ℕ → List Node → List (Option (Meaning H))
@@ -82,11 +65,8 @@ module _ {H : Type 0} (g : Setting H) (i : Inner H) where
   pub chosen_none : (w : Bool) (front m : ℕ) (ns : List Node) (ws : List (List ℕ)) (s : Stand H) → hit_of front ws ≡ Ok None → Ran w (chosen (hit_of front ws) (bodies_at m ns)) s (end.Done (Value [])) s
   chosen_none w front m ns ws s hit = rw hit (record { by = λ path cost acts. at_stand w (Value []) s cost acts })
 
-  pub chosen_fault : (w : Bool) (front m : ℕ) (ns : List Node) (ws : List (List ℕ)) (s : Stand H) (e : Raise) → Gives {A = Option ℕ} (Err e) (hit_of front ws) → Ran w (chosen (hit_of front ws) (bodies_at m ns)) s (raise_end e) s
-  chosen_fault w front m ns ws s (raise.Fault f) told = rw told (record { by = λ path cost acts. at_stand w (Raised f) s cost acts })
-  chosen_fault w front m ns ws s raise.Memory told = record { by = λ path cost acts. tt }
-
   pub chosen_kept : (w : Bool) (front m : ℕ) (ns : List Node) (ws : List (List ℕ)) (s : Stand H) (r : Result (Option ℕ) Raise) (h : Halted) (end : End) → Err h ≡ kept r → Gives r (hit_of front ws)
       → Ran w (chosen (hit_of front ws) (bodies_at m ns)) s (kept_end r end) s
   chosen_kept w front m ns ws s (Ok k) h end none told = cc
-  chosen_kept w front m ns ws s (Err x) h end none told = chosen_fault w front m ns ws s x told
+  chosen_kept w front m ns ws s (Err (raise.Fault f)) h end none told = rw told (record { by = λ path cost acts. at_stand w (Raised f) s cost acts })
+  chosen_kept w front m ns ws s (Err raise.Memory) h end none told = record { by = λ path cost acts. tt }

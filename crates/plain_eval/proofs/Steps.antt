@@ -1,24 +1,13 @@
 -- What goes on from an outcome, and what an outcome stops.
-use Rattle.std.proofs.Common.{◌≡◌, refl, sym, ap, ◌∙◌, ℕ, ◌+◌, ◌-◌, ◌<◌, List, [], Bool, true, false}
-use Rattle.std.proofs.Common.{Result, Ok, Err, nat_eq, arith}
-use Rattle.std.specs.Prelude.{if◌then◌else◌, IfOk, IsErr, IsErrAnd}
-use Rattle.std.proofs.lemmas.Bool.Decides.{nat_tests}
-use Rattle.px_bytes.specs.FaultText.{budget_spent}
-use Rattle.px_bytes.specs.Gives.{Gives}
-use Rattle.px_bytes.specs.declared.fault.Raise.{Raise}
+use Rattle.plain_eval.proofs.Vocabulary
+use Vocabulary.{◌≡◌, refl, sym, ap, ◌∙◌, ℕ, ◌+◌, ◌-◌, ◌<◌, List, [], Bool, true, false, Result, Ok}
+use Vocabulary.{Err, nat_eq, arith, IfOk, IsErr, IsErrAnd, nat_tests, budget_spent, Gives, Raise}
+use Vocabulary.{TclFault, Memory, Act, State, Outcome, Ends, Waits, Meaning, ends, code_of, spend}
+use Vocabulary.{then_code, then_value, with_value, heard_code, unvalued, Code, Value, Raised}
+use Vocabulary.{GivesAs, Is, end_of, ended, fault_end, kept, value_in, Stand, from, EndsAs, Ran}
+use Vocabulary.{GoesOn, End, Halted}
 use Rattle.px_bytes.specs.declared.fault.Raise.TheVariants as raise
-use Rattle.px_bytes.specs.declared.fault.TclFault.{TclFault}
-use Rattle.px_bytes.specs.declared.memory.Memory.{Memory}
-use Rattle.rule_model.specs.Outcome.{Act, State, Outcome, Ends, Waits, Meaning, ends, code_of, spend}
-use Rattle.rule_model.specs.Outcome.{then_code, then_value, with_value, heard_code, unvalued, paid}
-use Rattle.rule_model.specs.declared.code.Code.{Code}
-use Rattle.rule_model.specs.declared.code.Code.TheVariants.{Value, Raised, Return, Break, Continue}
-use Rattle.rule_steps.specs.GivesAs.{GivesAs}
-use Rattle.plain_eval.specs.End.{Is, end_of, ended, fault_end, kept, raise_end, value_in}
-use Rattle.plain_eval.specs.Stand.{Stand, from, IsAt, EndsAs, Ran, GoesOn}
-use Rattle.plain_eval.specs.declared.run.End.{End}
 use Rattle.plain_eval.specs.declared.run.End.TheVariants as end
-use Rattle.plain_eval.specs.declared.run.Halted.{Halted}
 
 -- an end that is a value
 pub is_value : (e : End) (u : Unit {0}) → Ok u ≡ ended e → e ≡ end.Done (Value (value_in e))

@@ -1,17 +1,12 @@
-use Rattle.std.proofs.Common.{◌≡◌, ◌≤◌, ◌+◌, ◌-◌, ◌*◌, ◌++◌, length, drop, map, Ok, true, ℕ, List, Bool}
-use Rattle.std.specs.Prelude.{sum_by}
-use Rattle.px_bytes.specs.Limit.{text_limit}
-use Rattle.tcl_compile.specs.Tree.{Tree, operands_of, row, trees_of, script, values_of}
-use Rattle.tcl_compile.specs.TreeView.{node_view, nodes_view, operands_view, values_view}
-use Rattle.rule_model.specs.Children.{child, free, places_of}
-use Rattle.rule_model.specs.Control.{most_turns, row_loop}
-use Rattle.rule_model.specs.Evaluator.{eval}
-use Rattle.rule_model.specs.Outcome.{Meaning}
-use Rattle.rule_steps.specs.Rows.{row_view}
-use Rattle.plain_eval.specs.End.{ended, value_in}
-use Rattle.plain_eval.specs.Ran.{first_of, loop_tree, meaning_of, pieces_of, rows_of, turns_of, words_of}
-use Rattle.plain_eval.specs.Stand.{GoesOn, inner_of, setting_of, stand}
+use Rattle.plain_eval.proofs.Vocabulary
+use Vocabulary.{◌≡◌, ◌≤◌, ◌+◌, ◌-◌, ◌*◌, ◌++◌, length, drop, Ok, true, ℕ, List, Bool, sum_by}
+use Vocabulary.{text_limit, Tree, operands_of, trees_of, script, values_of, node_view, nodes_view}
+use Vocabulary.{operands_view, values_view, child, places_of, Meaning, ended, value_in, first_of}
+use Vocabulary.{loop_tree, meaning_of, pieces_of, rows_of, turns_of, words_of, GoesOn, inner_of}
+use Vocabulary.{setting_of, stand}
+use Rattle.tcl_compile.specs.Tree.{row}
 use Rattle.plain_eval.proofs.InExpressions.{first_left, operands_left}
+use Rattle.plain_eval.proofs.InRows.{rows_left}
 use Rattle.plain_eval.proofs.InScripts.{ScriptLeft}
 use Rattle.plain_eval.proofs.InWords.{pieces_left, words_left}
 use Rattle.plain_eval.proofs.+plain.Given as goal
@@ -132,4 +127,4 @@ abbrev pub invariant-loops::eval_rows-loop-number : goal.invariant-loops::eval_r
 invariant-loops::eval_rows-loop-number g l =
     let table = g.H.PlainHost.table in
     (k : ℕ) → GoesOn true (rows_of table l.context k l.rows l.body) (stand l.fn.run l.fn.host)
-    (row_loop (setting_of table l.context).statics (map row_view l.rows) (child free k (node_view l.body) (meaning_of table l.context (node_view l.body))) (l.number-end - l.number) l.number) (stand l.run l.host)
+    (rows_left table l.context l.rows l.body k (l.number-end - l.number) l.number) (stand l.run l.host)
