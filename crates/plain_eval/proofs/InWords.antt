@@ -63,15 +63,6 @@ module _ {H : Type 0} (g : Setting H) (i : Inner H) where
       → (path : List ℕ) (cost : ℕ) (acts : List Act) → EndsAs w (child p k t (eval g i t) path (from b cost acts)) e a
   child_by p k t r path cost acts = r.by (path ++ k ∷ []) (cost + p t) acts
 
-  pub word_next : (w : Bool) (finish : List (List ℕ) → Meaning H) (p : Tree → ℕ) (ns : List Node) (k m : ℕ) (n : Node) (done : List (List ℕ)) (e : End) (u : Unit {0}) {b mid : Stand H}
-      → k < length ns → n ≡ get_or ns k n → Ok u ≡ ended e → Word n b e mid → sum_by length (done ++ value_in e ∷ []) ≤ text_limit
-      → GoesOn w (words_left finish p ns k m done) b (words_left finish p ns (k + 1) (m + 1) (done ++ value_in e ∷ [])) mid
-  word_next w finish p ns k m n done e u there is value ran fits =
-      let t : nat_lt text_limit (sum_by length (done ++ value_in e ∷ [])) ≡ false = grind (arith, nat_tests) in
-      rw (split_at ns k n there is) (record { closes = λ end last r. record {
-        by = λ path cost acts. heard_goes _ _ e u _ w end last value (word_by p m n ran path cost acts) (λ c a. rw t (r.by path c a));
-      } })
-
   pub word_stops : (w : Bool) (finish : List (List ℕ) → Meaning H) (p : Tree → ℕ) (ns : List Node) (k m : ℕ) (n : Node) (done : List (List ℕ)) (e : End) (h : Halted) {b mid : Stand H}
       → k < length ns → n ≡ get_or ns k n → Err h ≡ ended e → Word n b e mid → Ran w (words_left finish p ns k m done) b e mid
   word_stops w finish p ns k m n done e h there is none ran = rw (split_at ns k n there is)
@@ -100,7 +91,10 @@ module _ {H : Type 0} (g : Setting H) (i : Inner H) where
       let all : name ++ new ≡ (name ++ values) ++ value_in e ∷ [] = ap (λ y. name ++ y) adds.2 ∙ sym (append_assoc name values (value_in e ∷ [])) in
       let long = long_of name values (value_in e) n total at sum in
       let fits : sum_by length ((name ++ values) ++ value_in e ∷ []) ≤ text_limit = omega (arith, long, adds.0, adds.1) in
-      rw (next, all) (word_next w (behind go name) p ns k (m + k) x (name ++ values) e u there is value ran fits)
+      let t : nat_lt text_limit (sum_by length ((name ++ values) ++ value_in e ∷ [])) ≡ false = grind (arith, nat_tests) in
+      rw (next, all, split_at ns k x there is) (record { closes = λ end last r. record {
+        by = λ path cost acts. heard_goes _ _ e u _ w end last value (word_by p (m + k) x ran path cost acts) (λ c a. rw t (r.by path c a));
+      } })
 
   -- the row is too long with it, or there is no memory
   refused_by : (w t : Bool) (e : End) (s : Stand H) (o : Outcome H) (c : ℕ) (a : List Act) → MatchBool t (Is (Raised too_long) e) (e ≡ end.Memory)

@@ -7,8 +7,7 @@ use Rattle.rule_model.specs.Evaluator.{evaluate}
 use Rattle.px_bytes.specs.declared.fault.Reply.{Reply}
 use Rattle.rule_model.specs.Laws.{state_after}
 use Rattle.rule_model.proofs.Facts.{acts_stay}
-use Rattle.plain_eval.specs.Plain.{IsOutcome}
-use Rattle.plain_eval.specs.Told.{IsTold}
+use Rattle.plain_eval.specs.Plain.{IsOutcome, IsTold}
 use Rattle.plain_eval.specs.declared.plain.Plain.{Plain}
 use Rattle.plain_eval.specs.declared.plain.Plain.TheVariants.{Done, Waits as WaitsFor}
 use Rattle.plain_eval.specs.declared.run.End.TheVariants as end
