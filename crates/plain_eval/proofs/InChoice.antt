@@ -27,39 +27,26 @@ module _ {H : Type 0} (g : Setting H) (i : Inner H) where
   drop_bodies (suc k) m [] = (m, refl)
   drop_bodies (suc k) m (n ∷ ns) = drop_bodies k (m + 1) ns
 
-  body_by : (b : Bool) (w : Bool) (n x : Node) (m : ℕ) (ns : List Node) {s : Stand H} {e : End} {a : Stand H} → is_next (node_view n) ≡ b → (if b then first_body_of ns else Some n) ≡ Some x
-      → Ran w (eval g i (node_view x)) s e a → (first_body_of ns ≡ Some x → Ran w (first_body (bodies_at (m + 1) ns)) s e a) → Ran w (first_body (bodies_at m (n ∷ ns))) s e a
-  body_by true w n x m ns is at ran more = rw is (more at)
-  body_by false w n x m ns is at ran more =
-      let same : n ≡ x = cc in
-      rw is (record { by = λ path cost acts. child_by g i free m (node_view n) (rw same ran) path cost acts })
+  -- the body that there is ends so, or else the empty value does
+  abbrev pub BodyEnds : Bool → Option Node → Stand H → End → Stand H → Type 0
+  BodyEnds w (Some x) s e a = Ran w (eval g i (node_view x)) s e a
+  BodyEnds w None s e a = (e ≡ end.Done (Value [])) × (a ≡ s)
 
-  pub body_ran : (w : Bool) (ns : List Node) (m : ℕ) (x : Node) {s : Stand H} {e : End} {a : Stand H} → first_body_of ns ≡ Some x → Ran w (eval g i (node_view x)) s e a → Ran w (first_body (bodies_at m ns)) s e a
-  body_ran w [] m x is ran = cc
-  body_ran w (n ∷ ns) m x is ran = body_by (is_next_in (out-Node n)) w n x m ns (is_next_view n) is ran (λ at. body_ran w ns (m + 1) x at ran)
+  body_by : (b w : Bool) (n : Node) (m : ℕ) (ns : List Node) {s : Stand H} {e : End} {a : Stand H} → is_next (node_view n) ≡ b → BodyEnds w (if b then first_body_of ns else Some n) s e a
+      → (BodyEnds w (first_body_of ns) s e a → Ran w (first_body (bodies_at (m + 1) ns)) s e a) → Ran w (first_body (bodies_at m (n ∷ ns))) s e a
+  body_by true w n m ns is ends more = rw is (more ends)
+  body_by false w n m ns is ends more = rw is (record { by = λ path cost acts. child_by g i free m (node_view n) ends path cost acts })
 
-  none_by : (b : Bool) (w : Bool) (n : Node) (m : ℕ) (ns : List Node) (s : Stand H) → is_next (node_view n) ≡ b → (if b then first_body_of ns else Some n) ≡ None
-      → (first_body_of ns ≡ None → Ran w (first_body (bodies_at (m + 1) ns)) s (end.Done (Value [])) s) → Ran w (first_body (bodies_at m (n ∷ ns))) s (end.Done (Value [])) s
-  none_by true w n m ns s is at more = rw is (more at)
-  none_by false w n m ns s is at more = cc
-
-  pub none_ran : (w : Bool) (ns : List Node) (m : ℕ) (s : Stand H) → first_body_of ns ≡ None → Ran w (first_body (bodies_at m ns)) s (end.Done (Value [])) s
-  none_ran w [] m s is = record { by = λ path cost acts. at_stand w (Value []) s cost acts }
-  none_ran w (n ∷ ns) m s is = none_by (is_next_in (out-Node n)) w n m ns s (is_next_view n) is (λ at. none_ran w ns (m + 1) s at)
+  body_ends : (w : Bool) (ns : List Node) (m : ℕ) {s : Stand H} {e : End} {a : Stand H} → BodyEnds w (first_body_of ns) s e a → Ran w (first_body (bodies_at m ns)) s e a
+  body_ends w [] m {s = s} ends = rw (ends.0, ends.1) (record { by = λ path cost acts. at_stand w (Value []) s cost acts })
+  body_ends w (n ∷ ns) m ends = body_by (is_next_in (out-Node n)) w n m ns (is_next_view n) ends (λ rest. body_ends w ns (m + 1) rest)
 
   -- what a `switch` does with its words, by the case that is hit
-  pub chosen_body : (w : Bool) (front m k : ℕ) (ns : List Node) (ws : List (List ℕ)) (x : Node) {s : Stand H} {e : End} {a : Stand H} → hit_of front ws ≡ Ok (Some k) → first_body_of (drop k ns) ≡ Some x
-      → Ran w (eval g i (node_view x)) s e a → Ran w (chosen (hit_of front ws) (bodies_at m ns)) s e a
-  chosen_body w front m k ns ws x hit at ran =
+  pub chosen_at : (w : Bool) (front m k : ℕ) (ns : List Node) (ws : List (List ℕ)) (o : Option Node) {s : Stand H} {e : End} {a : Stand H} → hit_of front ws ≡ Ok (Some k) → o ≡ first_body_of (drop k ns) → BodyEnds w o s e a
+      → Ran w (chosen (hit_of front ws) (bodies_at m ns)) s e a
+  chosen_at w front m k ns ws o {s = s} {e = e} {a = a} hit is ends =
       let d = drop_bodies k m ns in
-      let r = body_ran w (drop k ns) d.0 x at ran in
-      rw hit (record { by = λ path cost acts. rw d.1 (r.by path cost acts) })
-
-  pub chosen_last : (w : Bool) (front m k : ℕ) (ns : List Node) (ws : List (List ℕ)) (s : Stand H) → hit_of front ws ≡ Ok (Some k) → first_body_of (drop k ns) ≡ None
-      → Ran w (chosen (hit_of front ws) (bodies_at m ns)) s (end.Done (Value [])) s
-  chosen_last w front m k ns ws s hit at =
-      let d = drop_bodies k m ns in
-      let r = none_ran w (drop k ns) d.0 s at in
+      let r : Ran w (first_body (bodies_at d.0 (drop k ns))) s e a = body_ends w (drop k ns) d.0 (rw is at ends) in
       rw hit (record { by = λ path cost acts. rw d.1 (r.by path cost acts) })
 
   pub chosen_none : (w : Bool) (front m : ℕ) (ns : List Node) (ws : List (List ℕ)) (s : Stand H) → hit_of front ws ≡ Ok None → Ran w (chosen (hit_of front ws) (bodies_at m ns)) s (end.Done (Value [])) s

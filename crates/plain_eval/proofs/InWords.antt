@@ -1,13 +1,13 @@
 -- Words in order, and the pieces of a word.
 use Rattle.plain_eval.proofs.Vocabulary
 use Vocabulary.{◌≡◌, refl, sym, ap, ◌∙◌, ℕ, ◌+◌, ◌<◌, ◌≤◌, List, [], ◌∷◌, ◌++◌, length, Bool, true}
-use Vocabulary.{false, Ok, Err, nat_lt, arith, drop, get_or, subst, if◌then◌else◌, sum_by}
-use Vocabulary.{nat_tests, append-nil, append_assoc, drop_all, drop_more, too_long, text_limit}
-use Vocabulary.{Tree, trees_of, node_step, node_view, nodes_view, Node, out-Node, map-Node}
-use Vocabulary.{fold_out-Node, Node-F, child, one, eval, evals, parts, words, TclFault, Act}
-use Vocabulary.{Outcome, State, Ends, Meaning, then_value, Setting, Inner, after_piece, in_order}
-use Vocabulary.{in_word, told, word_at, Value, Raised, AddsPiece, AddsValue, Is, Limited, ended}
-use Vocabulary.{value_in, Stand, from, EndsAs, Ran, GoesOn, End, Halted}
+use Vocabulary.{false, Ok, Err, nat_lt, arith, drop, get_or, if◌then◌else◌, sum_by, nat_tests}
+use Vocabulary.{append-nil, append_assoc, drop_all, drop_more, too_long, text_limit, Tree, trees_of}
+use Vocabulary.{node_step, node_view, nodes_view, Node, out-Node, map-Node, fold_out-Node, Node-F}
+use Vocabulary.{child, one, eval, evals, parts, words, TclFault, Act, Outcome, State, Ends, Meaning}
+use Vocabulary.{then_value, Setting, Inner, after_piece, in_order, in_word, told, word_at, Value}
+use Vocabulary.{Raised, AddsPiece, AddsValue, Is, Limited, ended, value_in, Stand, from, EndsAs}
+use Vocabulary.{Ran, GoesOn, End, Halted}
 use Rattle.std.proofs.Math.Seq.{drop-append_seam}
 use Rattle.std.proofs.lemmas.List.Sums.{sum_by-append, sum_by_push}
 use Rattle.std.specs.Bool.{MatchBool}
@@ -153,20 +153,11 @@ module _ {H : Type 0} (g : Setting H) (i : Inner H) where
   limit_by e out o path mid m lim =
       rw lim (value_stops true true o (after_piece (in_word told []) [] path) e (record {}) mid refl m)
 
-  alone_at : (ns : List Node) (n : Node) → length ns ≡ 1 → n ≡ get_or ns 0 n → ns ≡ n ∷ []
-  alone_at ns n one is =
-      let some : 0 < length ns = omega (arith, one) in
-      let over : length ns ≤ 1 = omega (arith, one) in
-      split_at ns 0 n some is ∙ ap (λ x. n ∷ x) (drop_all 1 ns over)
-
-  alone_by : (p : Tree → ℕ) (n : Node) (e out : End) {b mid : Stand H} → Ran true (eval g i (node_view n)) b e mid → Limited e out → Ran true (pieces_left p (n ∷ []) 0 []) b out mid
-  alone_by p n e out {b = b} {mid = mid} ran lim = record {
-    by = λ path cost acts. limit_by e out (child p 0 (node_view n) (eval g i (node_view n)) path (from b cost acts)) path mid (child_by p 0 (node_view n) ran path cost acts) lim;
-  }
-
   pub piece_alone : (p : Tree → ℕ) (ns : List Node) (n : Node) (e out : End) {b mid : Stand H} → length ns ≡ 1 → n ≡ get_or ns 0 n → Ran true (eval g i (node_view n)) b e mid → Limited e out → Ran true (pieces_left p ns 0 []) b out mid
-  piece_alone p ns n e out {b = b} {mid = mid} one is ran lim =
-      subst (λ x. Ran true (pieces_left p x 0 []) b out mid) (sym (alone_at ns n one is)) (alone_by p n e out ran lim)
+  piece_alone p [] n e out one is ran lim = absurd (omega (arith, one))
+  piece_alone p (x ∷ []) n e out {mid = mid} one is ran lim =
+      record { by = λ path cost acts. limit_by e out _ path mid (child_by p 0 (node_view x) (rw is at ran) path cost acts) lim }
+  piece_alone p (x ∷ y ∷ ys) n e out one is ran lim = absurd (omega (arith, one))
 
 module _ {H : Type 0} where
   -- what is done with a word, where its text was told

@@ -1,8 +1,8 @@
 -- What the proofs speak of, passed on by one name.
 pub use Rattle.std.proofs.Common.{Bool, Err, List, None, Ok, Option, Result, Some, Vec, [], ap}
 pub use Rattle.std.proofs.Common.{arith, codes, drop, false, get_or, length, length-append, map}
-pub use Rattle.std.proofs.Common.{nat_eq, nat_lt, refl, subst, suc, sym, true, zero, ℕ, ◌*◌, ◌++◌}
-pub use Rattle.std.proofs.Common.{◌+◌, ◌-◌, ◌<◌, ◌∙◌, ◌∷◌, ◌≡◌, ◌≤◌}
+pub use Rattle.std.proofs.Common.{nat_eq, nat_lt, refl, suc, sym, true, zero, ℕ, ◌*◌, ◌++◌, ◌+◌}
+pub use Rattle.std.proofs.Common.{◌-◌, ◌<◌, ◌∙◌, ◌∷◌, ◌≡◌, ◌≤◌}
 pub use Rattle.std.proofs.lemmas.Bool.Decides.{nat_tests}
 pub use Rattle.std.proofs.lemmas.List.{append-nil, append_assoc, drop_all, drop_more}
 pub use Rattle.std.proofs.lemmas.List.{nil_from_length}

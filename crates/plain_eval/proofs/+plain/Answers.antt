@@ -5,7 +5,8 @@ use Vocabulary.{free, one, too_deep, caught_in, chosen_of, each_rows, list_rows,
 use Vocabulary.{call_view, rows_view, end_of, ended, fault_end, value_in, from, inner_of}
 use Vocabulary.{setting_of, stand, Err, trees_of, evals, read_element, nodes_view, count}
 use Rattle.tcl_compile.specs.declared.node.Node.{fold-roll-Node, the_lemmas}
-use Rattle.tcl_compile.specs.declared.node.Node.TheVariants.{rolls-Catch, rolls-CatchIn, rolls-Choice}
+use Rattle.tcl_compile.specs.declared.node.Node.TheVariants.{rolls-Catch, rolls-CatchIn}
+use Rattle.tcl_compile.specs.declared.node.Node.TheVariants.{rolls-Choice}
 use Rattle.tcl_compile.specs.declared.node.Node.TheVariants.{rolls-Expr, rolls-Foreach, rolls-If}
 use Rattle.tcl_compile.specs.declared.node.Node.TheVariants.{rolls-Loop, rolls-Prefixed, rolls-Row}
 use Rattle.plain_eval.proofs.InCalls as calls
@@ -355,12 +356,12 @@ choice::eval_switch-returns-in_default-clause-ran g t c =
 pub choice::eval_switch-returns-in-Some-first_body-clause-ran : goal.choice::eval_switch-returns-in-Some-first_body-clause-ran
 choice::eval_switch-returns-in-Some-first_body-clause-ran g t c =
     let hit = kept_is c.hit_of-hit.result (Some c.in-Some.number) _ (rw c.in-Some.is at c.in_ok-number.ensures.kept) (rw c.as_slice.ensures at c.hit_of-hit.ensures) in
-    record { by = λ path cost acts. (((c.in_ok-words.ensures.gave (codes "switch" ∷ []) 0 free refl).goes c.args.wanted (chosen_of c.args.front (choice.bodies_at _ _ _ c.args.bodies.now))).closes _ _ (choice.chosen_body _ _ c.args.wanted c.args.front _ c.in-Some.number c.args.bodies.now c.in_ok-words.words c.in-Some-first_body.body.now hit (sym (rw c.in-Some-first_body.is at c.first_body.ensures)) (rw c.in_ok-number.ensures.noted at c.eval_tree.ensures.ran))).by path (cost + 1) acts }
+    record { by = λ path cost acts. (((c.in_ok-words.ensures.gave (codes "switch" ∷ []) 0 free refl).goes c.args.wanted (chosen_of c.args.front (choice.bodies_at _ _ _ c.args.bodies.now))).closes _ _ (choice.chosen_at _ _ c.args.wanted c.args.front _ c.in-Some.number c.args.bodies.now c.in_ok-words.words (Some c.in-Some-first_body.body.now) hit (rw c.in-Some-first_body.is at c.first_body.ensures) (rw c.in_ok-number.ensures.noted at c.eval_tree.ensures.ran))).by path (cost + 1) acts }
 
 pub choice::eval_switch-returns-clause-ran : goal.choice::eval_switch-returns-clause-ran
 choice::eval_switch-returns-clause-ran g t c =
     let hit = kept_is c.hit_of-hit.result (Some c.in-Some.number) _ (rw c.in-Some.is at c.in_ok-number.ensures.kept) (rw c.as_slice.ensures at c.hit_of-hit.ensures) in
-    rw (c.nothing-in-None.ensures.noted, c.in_ok-number.ensures.noted) (record { by = λ path cost acts. (((c.in_ok-words.ensures.gave (codes "switch" ∷ []) 0 free refl).goes c.args.wanted (chosen_of c.args.front (choice.bodies_at _ _ _ c.args.bodies.now))).closes _ _ (choice.chosen_last _ _ c.args.wanted c.args.front _ c.in-Some.number c.args.bodies.now c.in_ok-words.words (stand c.eval_words.new.run c.eval_words.new.host) hit (sym (rw c.in-None.is at c.first_body.ensures)))).by path (cost + 1) acts })
+    rw (c.nothing-in-None.ensures.noted, c.in_ok-number.ensures.noted) (record { by = λ path cost acts. (((c.in_ok-words.ensures.gave (codes "switch" ∷ []) 0 free refl).goes c.args.wanted (chosen_of c.args.front (choice.bodies_at _ _ _ c.args.bodies.now))).closes _ _ (choice.chosen_at _ _ c.args.wanted c.args.front _ c.in-Some.number c.args.bodies.now c.in_ok-words.words None {s = stand c.eval_words.new.run c.eval_words.new.host} hit (rw c.in-None.is at c.first_body.ensures) (refl, refl))).by path (cost + 1) acts })
 
 pub loops::eval_each-returns-in_err-words-clause-ran : goal.loops::eval_each-returns-in_err-words-clause-ran
 loops::eval_each-returns-in_err-words-clause-ran g t c =
