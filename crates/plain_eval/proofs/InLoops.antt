@@ -25,17 +25,11 @@ by_goes goes.On go code st = go st
 by_goes goes.Over go code st = Ends (Value []) st
 by_goes goes.Ends go code st = Ends code st
 
-going_on : (g : Goes) → going g ≡ Ok true → g ≡ goes.On
-going_on goes.On h = refl
-going_on other h = cc
-
-going_over : (g : Goes) → going g ≡ Ok false → g ≡ goes.Over
-going_over goes.Over h = refl
-going_over other h = cc
-
-going_ends : (g : Goes) (h : Halted) → going g ≡ Err h → g ≡ goes.Ends
-going_ends goes.Ends h is = refl
-going_ends other h is = cc
+going_same : (g h : Goes) → going g ≡ going h → g ≡ h
+going_same goes.On goes.On e = refl
+going_same goes.Over goes.Over e = refl
+going_same goes.Ends goes.Ends e = refl
+going_same other another e = cc
 
 module _ {H : Type 0} where
   pub body_by : (go : State H → Outcome H) (c : Code) (st : State H) → after_body go c st ≡ by_goes (body_goes c) go c st
@@ -52,21 +46,21 @@ module _ {H : Type 0} where
     pub on_by : (o : Outcome H) (go : State H → Outcome H) (e : End) (mid : Stand H) (w : Bool) (end : End) (last : Stand H) → after_end of e ≡ Ok true → EndsAs false o e mid
         → ((c : ℕ) (a : List Act) → EndsAs w (go (from mid c a)) end last) → EndsAs w (then_code o (after go)) end last
     on_by o go (end.Done d) mid w end last is m h =
-        code_goes_unheard o (after go) d mid w end last (deaf go) m (λ c a. rw (by go d (from mid c a), going_on (of d) is) (h c a))
+        code_goes_unheard o (after go) d mid w end last (deaf go) m (λ c a. rw (by go d (from mid c a), going_same (of d) goes.On is) (h c a))
     on_by o go (end.Waits call) mid w end last is m h = cc
     on_by o go end.Memory mid w end last is m h = cc
 
     pub over_by : (o : Outcome H) (go : State H → Outcome H) (e : End) (mid : Stand H) (w : Bool) → after_end of e ≡ Ok false → EndsAs false o e mid
         → EndsAs w (then_code o (after go)) (end.Done (Value [])) mid
     over_by o go (end.Done d) mid w is m =
-        code_goes_unheard o (after go) d mid w (end.Done (Value [])) mid (deaf go) m (λ c a. rw (by go d (from mid c a), going_over (of d) is) (at_stand w (Value []) mid c a))
+        code_goes_unheard o (after go) d mid w (end.Done (Value [])) mid (deaf go) m (λ c a. rw (by go d (from mid c a), going_same (of d) goes.Over is) (at_stand w (Value []) mid c a))
     over_by o go (end.Waits call) mid w is m = cc
     over_by o go end.Memory mid w is m = cc
 
     pub ends_by : (o : Outcome H) (go : State H → Outcome H) (e : End) (h : Halted) (mid : Stand H) (w : Bool) → after_end of e ≡ Err h → EndsAs false o e mid
         → EndsAs w (then_code o (after go)) e mid
     ends_by o go (end.Done d) h mid w is m =
-        code_goes_unheard o (after go) d mid w (end.Done d) mid (deaf go) m (λ c a. rw (by go d (from mid c a), going_ends (of d) h is) (at_stand w d mid c a))
+        code_goes_unheard o (after go) d mid w (end.Done d) mid (deaf go) m (λ c a. rw (by go d (from mid c a), going_same (of d) goes.Ends is) (at_stand w d mid c a))
     ends_by (Ends c st) go (end.Waits call) h mid w is m = absurd m
     ends_by (Waits p asked st) go (end.Waits call) h mid w is m = m
     ends_by o go end.Memory h mid w is m = tt

@@ -61,14 +61,11 @@ module _ {E H : Type 0} (table : E → H → List (List ℕ) → HostStep H) (co
   abbrev turn_in : ℕ → ℕ → List ℕ → State H → Outcome H
   turn_in more k path s = then_value (changed (turn_assigned statics k rows s.vars) s) (λ v t. rest more k path t)
 
-  abbrev Set : ℕ → Stand H → Scopes → Type 0
-  Set k s new = IsOk (turn_assigned statics k rows s.vars).value × (new ≡ (turn_assigned statics k rows s.vars).vars)
-
-  in_turn : (most k : ℕ) (new : Scopes) {s out : Stand H} (e : End) → k < most → 0 < s.budget → Set k s new
+  in_turn : (most k : ℕ) (new : Scopes) {s out : Stand H} (e : End) (q : Result (Unit {0}) Raise) (u : Unit {0}) → k < most → 0 < s.budget → Ok u ≡ kept q → Does (turn_assigned statics k rows s.vars) q new
       → ((path : List ℕ) (c : ℕ) (a : List Act) → EndsAs true (rest (most - (k + 1)) k path (from (with_vars new (spent s)) c a)) e out) → Ran true (rows_left (most - k) k) s e out
-  in_turn most k new {s = s} {out = out} e there some set h = rw (one_less most k there) (record {
+  in_turn most k new {s = s} {out = out} e q u there some set did h = rw (one_less most k there) (record {
     by = λ path cost acts. spend_goes (turn_in (most - (k + 1)) k path) s cost acts true e out some
-        (change_goes (turn_assigned statics k rows s.vars) new (spent s) (cost + 1) acts (rest (most - (k + 1)) k path) true e out set (h path (cost + 1) acts));
+        (change_goes (turn_assigned statics k rows s.vars) new (spent s) (cost + 1) acts (rest (most - (k + 1)) k path) true e out (set_is _ q u new set did) (h path (cost + 1) acts));
   })
 
   -- a turn whose body went so: the next one follows, the loop is over, or it ends so
@@ -77,15 +74,15 @@ module _ {E H : Type 0} (table : E → H → List (List ℕ) → HostStep H) (co
   RowRan most k s (Ok false) e out = Ran true (rows_left (most - k) k) s (end.Done (Value [])) out
   RowRan most k s (Err h) e out = Ran true (rows_left (most - k) k) s e out
 
-  pub row_ran : (most k : ℕ) (new : Scopes) (s out : Stand H) (e : End) (r : Result Bool Halted) → k < most → 0 < s.budget → Set k s new → Ran false (meaning_of table context (node_view n)) (with_vars new (spent s)) e out → r ≡ after_end body_goes e
+  pub row_ran : (most k : ℕ) (new : Scopes) (s out : Stand H) (e : End) (q : Result (Unit {0}) Raise) (u : Unit {0}) (r : Result Bool Halted) → k < most → 0 < s.budget → Ok u ≡ kept q → Does (turn_assigned statics k rows s.vars) q new → Ran false (meaning_of table context (node_view n)) (with_vars new (spent s)) e out → r ≡ after_end body_goes e
       → RowRan most k s r e out
-  row_ran most k new s out e (Ok true) there some set ran is = record {
-    closes = λ end last r. in_turn most k new end there some set (λ path c a.
+  row_ran most k new s out e q u (Ok true) there some set did ran is = record {
+    closes = λ end last r. in_turn most k new end q u there some set did (λ path c a.
         on_by after_body body_goes body_by (λ go v st. refl) _ (rows_left (most - (k + 1)) (k + 1) path) e out true end last (sym is) (child_by _ _ free p (node_view n) ran path c a) (λ c a. r.by path c a));
   }
-  row_ran most k new s out e (Ok false) there some set ran is = in_turn most k new (end.Done (Value [])) there some set (λ path c a.
+  row_ran most k new s out e q u (Ok false) there some set did ran is = in_turn most k new (end.Done (Value [])) q u there some set did (λ path c a.
       over_by after_body body_goes body_by (λ go v st. refl) _ (rows_left (most - (k + 1)) (k + 1) path) e out true (sym is) (child_by _ _ free p (node_view n) ran path c a))
-  row_ran most k new s out e (Err h) there some set ran is = in_turn most k new e there some set (λ path c a.
+  row_ran most k new s out e q u (Err h) there some set did ran is = in_turn most k new e q u there some set did (λ path c a.
       ends_by after_body body_goes body_by (λ go v st. refl) _ (rows_left (most - (k + 1)) (k + 1) path) e h out true (sym is) (child_by _ _ free p (node_view n) ran path c a))
 
   pub rows_unset : (most k : ℕ) (new : Scopes) (s : Stand H) (r : Result (Unit {0}) Raise) (h : Halted) (end : End) → k < most → 0 < s.budget → Err h ≡ kept r → Does (turn_assigned statics k rows s.vars) r new

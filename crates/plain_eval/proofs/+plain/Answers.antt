@@ -1,9 +1,9 @@
 use Rattle.plain_eval.proofs.Vocabulary
 use Vocabulary.{◌≡◌, refl, sym, ◌∙◌, arith, length, ◌+◌, ◌-◌, ◌*◌, [], ◌∷◌, Ok, true, false, suc}
-use Vocabulary.{zero, None, Some, codes, slice_get, is_err, budget_spent, node_view, alone, child}
-use Vocabulary.{free, one, too_deep, caught_in, chosen_of, each_rows, list_rows, eval, Value}
-use Vocabulary.{call_view, rows_view, end_of, ended, fault_end, value_in, from, inner_of}
-use Vocabulary.{setting_of, stand, Err, trees_of, evals, read_element, nodes_view, count}
+use Vocabulary.{zero, None, Some, codes, slice_get, budget_spent, node_view, alone, child, free}
+use Vocabulary.{one, too_deep, caught_in, chosen_of, each_rows, list_rows, eval, Value, call_view}
+use Vocabulary.{rows_view, end_of, ended, fault_end, value_in, from, inner_of, setting_of, stand}
+use Vocabulary.{Err, trees_of, evals, read_element, nodes_view, count}
 use Rattle.tcl_compile.specs.declared.node.Node.{fold-roll-Node, the_lemmas}
 use Rattle.tcl_compile.specs.declared.node.Node.TheVariants.{rolls-Catch, rolls-CatchIn}
 use Rattle.tcl_compile.specs.declared.node.Node.TheVariants.{rolls-Choice}
@@ -319,25 +319,21 @@ expressions::eval_row-returns-in_err-value-clause-ran g t c =
 
 pub expressions::eval_row-returns-in-Some-clause-ran : goal.expressions::eval_row-returns-in-Some-clause-ran
 expressions::eval_row-returns-in-Some-clause-ran g t c =
-    let known = kept_is c.decide-decided.result (Some c.in-Some.value) _ (rw c.in-Some.is at c.in_ok-value.ensures.kept) (rw (c.as_bytes.ensures, c.take-left.ensures.value) at c.decide-decided.ensures) in
-    rw (c.settle.ensures.noted, c.in_ok-value.ensures.noted, c.take-left.ensures.noted) (c.loop-joint.invariant.left.closes _ _ (expressions.row_decided _ _ c.args.rest.now c.loop-joint.joint-index c.loop-joint-item.result (value_in c.loop-joint.run.end) c.in-Some.value (stand c.loop-joint.run c.loop-joint.host) c.loop-joint-test.true c.loop-joint-item.is known))
+    rw (c.settle.ensures.noted, c.in_ok-value.ensures.noted, c.take-left.ensures.noted) (c.loop-joint.invariant.left.closes _ _ (expressions.row_decided _ _ c.args.rest.now c.loop-joint.joint-index c.loop-joint-item.result (value_in c.loop-joint.run.end) c.in-Some.value (stand c.loop-joint.run c.loop-joint.host) c.loop-joint-test.true c.loop-joint-item.is (kept_is c.decide-decided.result (Some c.in-Some.value) _ (rw c.in-Some.is at c.in_ok-value.ensures.kept) (rw (c.as_bytes.ensures, c.take-left.ensures.value) at c.decide-decided.ensures))))
 
 pub expressions::eval_row-returns-in_err-eval_tree-2-clause-ran : goal.expressions::eval_row-returns-in_err-eval_tree-2-clause-ran
 expressions::eval_row-returns-in_err-eval_tree-2-clause-ran g t c =
-    let known = kept_is c.decide-decided.result None _ (rw c.in_default.is at c.in_ok-value.ensures.kept) (rw (c.as_bytes.ensures, c.take-left.ensures.value) at c.decide-decided.ensures) in
-    c.loop-joint.invariant.left.closes _ _ (expressions.row_stops _ _ c.args.rest.now c.loop-joint.joint-index c.loop-joint-item.result (value_in c.loop-joint.run.end) c.eval_tree-in-loop-joint.new.run.end _ c.loop-joint-test.true c.loop-joint-item.is known c.in_err-eval_tree-2.ensures.ended (rw (c.in_ok-value.ensures.noted, c.take-left.ensures.noted) at c.in_err-eval_tree-2.ensures.ran))
+    c.loop-joint.invariant.left.closes _ _ (expressions.row_stops _ _ c.args.rest.now c.loop-joint.joint-index c.loop-joint-item.result (value_in c.loop-joint.run.end) c.eval_tree-in-loop-joint.new.run.end _ c.loop-joint-test.true c.loop-joint-item.is (kept_is c.decide-decided.result None _ (rw c.in_default.is at c.in_ok-value.ensures.kept) (rw (c.as_bytes.ensures, c.take-left.ensures.value) at c.decide-decided.ensures)) c.in_err-eval_tree-2.ensures.ended (rw (c.in_ok-value.ensures.noted, c.take-left.ensures.noted) at c.in_err-eval_tree-2.ensures.ran))
 
 pub expressions::eval_row-returns-in_err-settle-clause-ran : goal.expressions::eval_row-returns-in_err-settle-clause-ran
 expressions::eval_row-returns-in_err-settle-clause-ran g t c =
-    let known = kept_is c.decide-decided.result None _ (rw c.in_default.is at c.in_ok-value.ensures.kept) (rw (c.as_bytes.ensures, c.take-left.ensures.value) at c.decide-decided.ensures) in
-    rw c.in_err-settle.ensures.noted (c.loop-joint.invariant.left.closes _ _ (expressions.row_unsettled _ _ c.args.rest.now c.loop-joint.joint-index c.loop-joint-item.result (value_in c.loop-joint.run.end) c.eval_tree-in-loop-joint.new.run.end _ c.both_text-value.result _ c.loop-joint-test.true c.loop-joint-item.is known c.in_ok-eval_tree-2.ensures.ended (rw (c.in_ok-value.ensures.noted, c.take-left.ensures.noted) at c.in_ok-eval_tree-2.ensures.ran) c.in_err-settle.ensures.ended (rw (c.take-left.ensures.value, c.value.ensures) at c.both_text-value.ensures)))
+    rw c.in_err-settle.ensures.noted (c.loop-joint.invariant.left.closes _ _ (expressions.row_unsettled _ _ c.args.rest.now c.loop-joint.joint-index c.loop-joint-item.result (value_in c.loop-joint.run.end) c.eval_tree-in-loop-joint.new.run.end _ c.both_text-value.result _ c.loop-joint-test.true c.loop-joint-item.is (kept_is c.decide-decided.result None _ (rw c.in_default.is at c.in_ok-value.ensures.kept) (rw (c.as_bytes.ensures, c.take-left.ensures.value) at c.decide-decided.ensures)) c.in_ok-eval_tree-2.ensures.ended (rw (c.in_ok-value.ensures.noted, c.take-left.ensures.noted) at c.in_ok-eval_tree-2.ensures.ran) c.in_err-settle.ensures.ended (rw (c.take-left.ensures.value, c.value.ensures) at c.both_text-value.ensures)))
 
 pub expressions::eval_row-loop-joint-preserved : goal.expressions::eval_row-loop-joint-preserved
 expressions::eval_row-loop-joint-preserved g t c =
-    let known = kept_is c.decide-decided.result None _ (rw c.in_default.is at c.in_ok-value.ensures.kept) (rw (c.as_bytes.ensures, c.take-left.ensures.value) at c.decide-decided.ensures) in
     rw c.in_ok-settle.ensures.noted (record {
       value = c.in_ok-settle.ensures.ended;
-      left = goes_then c.loop-joint.invariant.left (expressions.row_settled _ _ c.args.rest.now c.loop-joint.joint-index c.loop-joint-item.result (value_in c.loop-joint.run.end) c.eval_tree-in-loop-joint.new.run.end _ c.both_text-value.result _ c.loop-joint-test.true c.loop-joint-item.is known c.in_ok-eval_tree-2.ensures.ended (rw (c.in_ok-value.ensures.noted, c.take-left.ensures.noted) at c.in_ok-eval_tree-2.ensures.ran) c.in_ok-settle.ensures.ended (rw (c.take-left.ensures.value, c.value.ensures) at c.both_text-value.ensures));
+      left = goes_then c.loop-joint.invariant.left (expressions.row_settled _ _ c.args.rest.now c.loop-joint.joint-index c.loop-joint-item.result (value_in c.loop-joint.run.end) c.eval_tree-in-loop-joint.new.run.end _ c.both_text-value.result _ c.loop-joint-test.true c.loop-joint-item.is (kept_is c.decide-decided.result None _ (rw c.in_default.is at c.in_ok-value.ensures.kept) (rw (c.as_bytes.ensures, c.take-left.ensures.value) at c.decide-decided.ensures)) c.in_ok-eval_tree-2.ensures.ended (rw (c.in_ok-value.ensures.noted, c.take-left.ensures.noted) at c.in_ok-eval_tree-2.ensures.ran) c.in_ok-settle.ensures.ended (rw (c.take-left.ensures.value, c.value.ensures) at c.both_text-value.ensures));
     })
 
 pub choice::eval_switch-returns-in_err-words-clause-ran : goal.choice::eval_switch-returns-in_err-words-clause-ran
@@ -398,18 +394,15 @@ loops::eval_rows-returns-in_err-kept-clause-ran g t c =
 
 pub loops::eval_rows-returns-in_err-body_goes-clause-ran : goal.loops::eval_rows-returns-in_err-body_goes-clause-ran
 loops::eval_rows-returns-in_err-body_goes-clause-ran g t c =
-    let set = set_is _ c.set_turn-set.result _ c.set_turn-set.new.vars c.in_ok-kept.ensures.kept (rw c.in_ok-spend.ensures.spends.1 at c.set_turn-set.ensures) in
-    λ k. (c.loop-number.invariant k).closes _ _ (rows.row_ran g.H.PlainHost.table c.args.context.now c.args.rows.now c.args.body.now k c.most_turns-number-end.result c.loop-number.number c.set_turn-set.new.vars (stand c.loop-number.run c.loop-number.host) (stand c.eval_tree.new.run c.eval_tree.new.host) c.eval_tree.new.run.end (Err _) c.loop-number-test.true c.in_ok-spend.ensures.spends.0 set (rw (c.in_ok-kept.ensures.noted, c.in_ok-spend.ensures.spends.1) at c.eval_tree.ensures.ran) c.in_err-body_goes.ensures)
+    λ k. (c.loop-number.invariant k).closes _ _ (rows.row_ran g.H.PlainHost.table c.args.context.now c.args.rows.now c.args.body.now k c.most_turns-number-end.result c.loop-number.number c.set_turn-set.new.vars (stand c.loop-number.run c.loop-number.host) (stand c.eval_tree.new.run c.eval_tree.new.host) c.eval_tree.new.run.end c.set_turn-set.result _ (Err _) c.loop-number-test.true c.in_ok-spend.ensures.spends.0 c.in_ok-kept.ensures.kept (rw c.in_ok-spend.ensures.spends.1 at c.set_turn-set.ensures) (rw (c.in_ok-kept.ensures.noted, c.in_ok-spend.ensures.spends.1) at c.eval_tree.ensures.ran) c.in_err-body_goes.ensures)
 
 pub loops::eval_rows-returns-then-not-branch-clause-ran : goal.loops::eval_rows-returns-then-not-branch-clause-ran
 loops::eval_rows-returns-then-not-branch-clause-ran g t c =
-    let set = set_is _ c.set_turn-set.result _ c.set_turn-set.new.vars c.in_ok-kept.ensures.kept (rw c.in_ok-spend.ensures.spends.1 at c.set_turn-set.ensures) in
-    λ k. rw c.nothing.ensures.noted ((c.loop-number.invariant k).closes _ _ (rows.row_ran g.H.PlainHost.table c.args.context.now c.args.rows.now c.args.body.now k c.most_turns-number-end.result c.loop-number.number c.set_turn-set.new.vars (stand c.loop-number.run c.loop-number.host) (stand c.eval_tree.new.run c.eval_tree.new.host) c.eval_tree.new.run.end (Ok false) c.loop-number-test.true c.in_ok-spend.ensures.spends.0 set (rw (c.in_ok-kept.ensures.noted, c.in_ok-spend.ensures.spends.1) at c.eval_tree.ensures.ran) (rw c.if-not-branch.true at c.in_ok-body_goes.ensures)))
+    λ k. rw c.nothing.ensures.noted ((c.loop-number.invariant k).closes _ _ (rows.row_ran g.H.PlainHost.table c.args.context.now c.args.rows.now c.args.body.now k c.most_turns-number-end.result c.loop-number.number c.set_turn-set.new.vars (stand c.loop-number.run c.loop-number.host) (stand c.eval_tree.new.run c.eval_tree.new.host) c.eval_tree.new.run.end c.set_turn-set.result _ (Ok false) c.loop-number-test.true c.in_ok-spend.ensures.spends.0 c.in_ok-kept.ensures.kept (rw c.in_ok-spend.ensures.spends.1 at c.set_turn-set.ensures) (rw (c.in_ok-kept.ensures.noted, c.in_ok-spend.ensures.spends.1) at c.eval_tree.ensures.ran) (rw c.if-not-branch.true at c.in_ok-body_goes.ensures)))
 
 pub loops::eval_rows-loop-number-preserved : goal.loops::eval_rows-loop-number-preserved
 loops::eval_rows-loop-number-preserved g t c =
-    let set = set_is _ c.set_turn-set.result _ c.set_turn-set.new.vars c.in_ok-kept.ensures.kept (rw c.in_ok-spend.ensures.spends.1 at c.set_turn-set.ensures) in
-    λ k. goes_then (c.loop-number.invariant k) (rows.row_ran g.H.PlainHost.table c.args.context.now c.args.rows.now c.args.body.now k c.most_turns-number-end.result c.loop-number.number c.set_turn-set.new.vars (stand c.loop-number.run c.loop-number.host) (stand c.eval_tree.new.run c.eval_tree.new.host) c.eval_tree.new.run.end (Ok true) c.loop-number-test.true c.in_ok-spend.ensures.spends.0 set (rw (c.in_ok-kept.ensures.noted, c.in_ok-spend.ensures.spends.1) at c.eval_tree.ensures.ran) (rw c.if-not-branch.false at c.in_ok-body_goes.ensures))
+    λ k. goes_then (c.loop-number.invariant k) (rows.row_ran g.H.PlainHost.table c.args.context.now c.args.rows.now c.args.body.now k c.most_turns-number-end.result c.loop-number.number c.set_turn-set.new.vars (stand c.loop-number.run c.loop-number.host) (stand c.eval_tree.new.run c.eval_tree.new.host) c.eval_tree.new.run.end c.set_turn-set.result _ (Ok true) c.loop-number-test.true c.in_ok-spend.ensures.spends.0 c.in_ok-kept.ensures.kept (rw c.in_ok-spend.ensures.spends.1 at c.set_turn-set.ensures) (rw (c.in_ok-kept.ensures.noted, c.in_ok-spend.ensures.spends.1) at c.eval_tree.ensures.ran) (rw c.if-not-branch.false at c.in_ok-body_goes.ensures))
 
 pub loops::eval_rows-returns-clause-ran : goal.loops::eval_rows-returns-clause-ran
 loops::eval_rows-returns-clause-ran g t c =
@@ -450,11 +443,8 @@ calls::eval_call-returns-then-is_err-clause-ran g t c =
 
 pub calls::eval_call-returns-clause-ran : goal.calls::eval_call-returns-clause-ran
 calls::eval_call-returns-clause-ran g t c =
-    let known = kept_as call_view c.bound.result c.in_ok-call.call _ c.in_ok-call.ensures.kept c.bound.ensures in
-    let value = c.is_err.ensures.value in let told = c.if-is_err.false in
-    let fine : is_err c.enter_proc.result ≡ false = cc in
-    let entered = calls.entered_is c.enter_proc.result _ fine c.enter_proc.ensures.ok in
-    rw known (calls.call_ran _ c.args.wanted c.args.context.now.room.expressions c.args.context.now.room.calls (call_view c.in_ok-call.call) (stand c.args.run.now c.args.host.now) c.eval_procedure.new.run c.leave.new.run c.eval_procedure.new.host
+    let entered = calls.entered_is c.enter_proc.result _ (cc (c.is_err.ensures.value, c.if-is_err.false)) c.enter_proc.ensures.ok in
+    rw (kept_as call_view c.bound.result c.in_ok-call.call _ c.in_ok-call.ensures.kept c.bound.ensures) (calls.call_ran _ c.args.wanted c.args.context.now.room.expressions c.args.context.now.room.calls (call_view c.in_ok-call.call) (stand c.args.run.now c.args.host.now) c.eval_procedure.new.run c.leave.new.run c.eval_procedure.new.host
     (rw (entered, c.in_ok-call.ensures.noted) at c.eval_procedure.ensures.ran) c.leave.ensures.left)
 
 pub calls::eval_procedure-returns-in_err-kept-clause-ran : goal.calls::eval_procedure-returns-in_err-kept-clause-ran
@@ -463,13 +453,11 @@ calls::eval_procedure-returns-in_err-kept-clause-ran g t c =
 
 pub calls::eval_procedure-returns-in_default-clause-ran : goal.calls::eval_procedure-returns-in_default-clause-ran
 calls::eval_procedure-returns-in_default-clause-ran g t c =
-    let set = set_is _ c.set_parameters-set.result _ c.set_parameters-set.new.vars c.in_ok-kept.ensures.kept c.set_parameters-set.ensures in
-    rw (c.raise.ensures, c.in_ok-kept.ensures.noted) (calls.inside_deep _ c.args.wanted c.args.context.now.room.expressions c.args.context.now.room.calls (call_view c.args.call.now) c.set_parameters-set.new.vars (stand c.args.run.now c.args.host.now) (fault_end c.too_deep.result) (calls.none_more _ c.in_default.ensures) set (fault_is too_deep _ c.too_deep.ensures))
+    rw (c.raise.ensures, c.in_ok-kept.ensures.noted) (calls.inside_deep _ c.args.wanted c.args.context.now.room.expressions c.args.context.now.room.calls (call_view c.args.call.now) c.set_parameters-set.new.vars (stand c.args.run.now c.args.host.now) (fault_end c.too_deep.result) (calls.none_more _ c.in_default.ensures) (set_is _ c.set_parameters-set.result _ c.set_parameters-set.new.vars c.in_ok-kept.ensures.kept c.set_parameters-set.ensures) (fault_is too_deep _ c.too_deep.ensures))
 
 pub calls::eval_procedure-returns-clause-ran : goal.calls::eval_procedure-returns-clause-ran
 calls::eval_procedure-returns-clause-ran g t c =
-    let set = set_is _ c.set_parameters-set.result _ c.set_parameters-set.new.vars c.in_ok-kept.ensures.kept c.set_parameters-set.ensures in
-    calls.inside_ran _ c.args.wanted c.args.context.now.room.expressions c.args.context.now.room.calls c.in-Some.calls (call_view c.args.call.now) c.set_parameters-set.new.vars (stand c.args.run.now c.args.host.now) (stand c.eval_tree.new.run c.eval_tree.new.host) c.eval_tree.new.run.end (calls.one_more _ _ c.in-Some.ensures) set (rw c.in_ok-kept.ensures.noted at c.eval_tree.ensures.ran)
+    calls.inside_ran _ c.args.wanted c.args.context.now.room.expressions c.args.context.now.room.calls c.in-Some.calls (call_view c.args.call.now) c.set_parameters-set.new.vars (stand c.args.run.now c.args.host.now) (stand c.eval_tree.new.run c.eval_tree.new.host) c.eval_tree.new.run.end (calls.one_more _ _ c.in-Some.ensures) (set_is _ c.set_parameters-set.result _ c.set_parameters-set.new.vars c.in_ok-kept.ensures.kept c.set_parameters-set.ensures) (rw c.in_ok-kept.ensures.noted at c.eval_tree.ensures.ran)
 
 pub calls::eval_expression-returns-in_err-tree-clause-ran : goal.calls::eval_expression-returns-in_err-tree-clause-ran
 calls::eval_expression-returns-in_err-tree-clause-ran g t c =
@@ -477,18 +465,15 @@ calls::eval_expression-returns-in_err-tree-clause-ran g t c =
 
 pub calls::eval_expression-returns-in_default-clause-ran : goal.calls::eval_expression-returns-in_default-clause-ran
 calls::eval_expression-returns-in_default-clause-ran g t c =
-    let known = kept_as node_view c.read_expression.result c.in_ok-tree.tree _ c.in_ok-tree.ensures.kept c.read_expression.ensures in
-    rw (c.raise.ensures, c.in_ok-tree.ensures.noted, known) (calls.read_deep _ c.args.context.now.room.expressions c.args.context.now.room.calls (node_view c.in_ok-tree.tree) (fault_end c.too_deep.result) (stand c.args.run.now c.args.host.now) (calls.none_more _ c.in_default.ensures) (fault_is too_deep _ c.too_deep.ensures))
+    rw (c.raise.ensures, c.in_ok-tree.ensures.noted, kept_as node_view c.read_expression.result c.in_ok-tree.tree _ c.in_ok-tree.ensures.kept c.read_expression.ensures) (calls.read_deep _ c.args.context.now.room.expressions c.args.context.now.room.calls (node_view c.in_ok-tree.tree) (fault_end c.too_deep.result) (stand c.args.run.now c.args.host.now) (calls.none_more _ c.in_default.ensures) (fault_is too_deep _ c.too_deep.ensures))
 
 pub calls::eval_expression-returns-in_err-eval_tree-clause-ran : goal.calls::eval_expression-returns-in_err-eval_tree-clause-ran
 calls::eval_expression-returns-in_err-eval_tree-clause-ran g t c =
-    let known = kept_as node_view c.read_expression.result c.in_ok-tree.tree _ c.in_ok-tree.ensures.kept c.read_expression.ensures in
-    rw known (calls.read_stops _ c.args.context.now.room.expressions c.args.context.now.room.calls c.in-Some.expressions (node_view c.in_ok-tree.tree) c.eval_tree.new.run.end _ (calls.one_more _ _ c.in-Some.ensures) c.in_err-eval_tree.ensures.ended (rw c.in_ok-tree.ensures.noted at c.in_err-eval_tree.ensures.ran))
+    rw (kept_as node_view c.read_expression.result c.in_ok-tree.tree _ c.in_ok-tree.ensures.kept c.read_expression.ensures) (calls.read_stops _ c.args.context.now.room.expressions c.args.context.now.room.calls c.in-Some.expressions (node_view c.in_ok-tree.tree) c.eval_tree.new.run.end _ (calls.one_more _ _ c.in-Some.ensures) c.in_err-eval_tree.ensures.ended (rw c.in_ok-tree.ensures.noted at c.in_err-eval_tree.ensures.ran))
 
 pub calls::eval_expression-returns-clause-ran : goal.calls::eval_expression-returns-clause-ran
 calls::eval_expression-returns-clause-ran g t c =
-    let known = kept_as node_view c.read_expression.result c.in_ok-tree.tree _ c.in_ok-tree.ensures.kept c.read_expression.ensures in
-    rw (c.settle.ensures.noted, c.take-value.ensures.noted, known) (calls.read_ran _ c.args.context.now.room.expressions c.args.context.now.room.calls c.in-Some.expressions (node_view c.in_ok-tree.tree) c.eval_tree.new.run.end _ c.whole_text.result (calls.one_more _ _ c.in-Some.ensures) c.in_ok-eval_tree.ensures.ended (rw c.in_ok-tree.ensures.noted at c.in_ok-eval_tree.ensures.ran) (rw c.take-value.ensures.value at c.whole_text.ensures))
+    rw (c.settle.ensures.noted, c.take-value.ensures.noted, kept_as node_view c.read_expression.result c.in_ok-tree.tree _ c.in_ok-tree.ensures.kept c.read_expression.ensures) (calls.read_ran _ c.args.context.now.room.expressions c.args.context.now.room.calls c.in-Some.expressions (node_view c.in_ok-tree.tree) c.eval_tree.new.run.end _ c.whole_text.result (calls.one_more _ _ c.in-Some.ensures) c.in_ok-eval_tree.ensures.ended (rw c.in_ok-tree.ensures.noted at c.in_ok-eval_tree.ensures.ran) (rw c.take-value.ensures.value at c.whole_text.ensures))
 
 pub commands::eval_command-returns-in_err-words-clause-ran : goal.commands::eval_command-returns-in_err-words-clause-ran
 commands::eval_command-returns-in_err-words-clause-ran g t c =
