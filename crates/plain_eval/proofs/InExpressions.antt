@@ -14,7 +14,7 @@ use Rattle.rule_steps.specs.Operators.{if_truth, truth_read}
 use Rattle.px_bytes.specs.declared.fault.Raise.TheVariants as raise
 use Rattle.plain_eval.specs.declared.run.End.TheVariants as end
 use Rattle.plain_eval.proofs.InWords.{child_by, split_at}
-use Rattle.plain_eval.proofs.Steps.{at_stand, heard_goes, told_value, value_stops}
+use Rattle.plain_eval.proofs.Steps.{at_stand, goes_by, heard_goes, told_value, value_stops}
 
 if_some : (t : Option Bool) (v : List ℕ) (b : Bool) → if_truth t v ≡ Ok b → t ≡ Some b
 if_some (Some x) v b h = cc
@@ -41,15 +41,9 @@ module _ {H : Type 0} where
 
   pub test_told : {m : Meaning H} {b mid : Stand H} (e : End) (u : Unit {0}) (r : Result Bool Raise) → Ok u ≡ ended e → Ran true m b e mid → Gives r (truth_read (value_in e))
       → Gave (tested m) b (kept r) (kept_end r e) mid
-  test_told {m = m} {b = b} {mid = mid} e u (Ok holds) value ran told = record {
-    goes = λ w go. record {
-      closes = λ end last r. record {
-        by = λ path cost acts.
-            let is = if_some (truth (value_in e)) (value_in e) holds told in
-            heard_goes (m path (from b cost acts)) (go_on (λ holds t. go holds path t)) e u mid w end last value (ran.by path cost acts) (λ c a. rw is (r.by path c a));
-      };
-    };
-  }
+  test_told {m = m} {b = b} {mid = mid} e u (Ok holds) value ran told =
+      let is = if_some (truth (value_in e)) (value_in e) holds told in
+      record { goes = λ w go. goes_by (λ end last r path cost acts. heard_goes (m path (from b cost acts)) (go_on (λ holds t. go holds path t)) e u mid w end last value (ran.by path cost acts) (λ c a. rw is (r.by path c a))) }
   test_told {m = m} {b = b} {mid = mid} e u (Err (raise.Fault f)) value ran told = record {
     stops = λ w go. record {
       by = λ path cost acts.
@@ -122,11 +116,8 @@ module _ {H : Type 0} (g : Setting H) (i : Inner H) where
 
   pub first_next : (w : Bool) (n : ℕ) (p q : Tree → ℕ) (vs : List (Node × Node)) (k m : ℕ) (v : Node × Node) (last : Meaning H) {b mid : Stand H} → k < length vs → v ≡ get_or vs k v
       → Then (tested (eval g i (node_view v.0))) b false mid → GoesOn w (first_left n p q vs k m last) b (first_left n p q vs (k + 1) (m + 2) last) mid
-  first_next w n p q vs k m v last there is test = record {
-    closes = λ e after r. record {
-      by = λ path cost acts. rw (split_at vs k v there is) (then_goes (eval g i (node_view v.0)) w _ e after (path ++ m ∷ []) (cost + n + p (node_view v.0)) acts test (λ c a. r.by path c a));
-    };
-  }
+  first_next w n p q vs k m v last there is test = goes_by (λ e after r path cost acts. rw (split_at vs k v there is)
+      (then_goes (eval g i (node_view v.0)) w _ e after (path ++ m ∷ []) (cost + n + p (node_view v.0)) acts test (λ c a. r.by path c a)))
 
   pub first_holds : (w : Bool) (n : ℕ) (p q : Tree → ℕ) (vs : List (Node × Node)) (k m : ℕ) (v : Node × Node) (last : Meaning H) {b mid out : Stand H} {e : End} → k < length vs → v ≡ get_or vs k v
       → Then (tested (eval g i (node_view v.0))) b true mid → Ran w (eval g i (node_view v.1)) mid e out → Ran w (first_left n p q vs k m last) b e out

@@ -12,7 +12,8 @@ use Rattle.rule_steps.specs.declared.goes.Goes.TheVariants as goes
 use Rattle.plain_eval.specs.declared.run.End.TheVariants as end
 use Rattle.plain_eval.proofs.InExpressions.{tested, then_goes, then_stops}
 use Rattle.plain_eval.proofs.InWords.{child_by}
-use Rattle.plain_eval.proofs.Steps.{at_stand, code_goes_unheard, is_code, spend_fails, spend_goes}
+use Rattle.plain_eval.proofs.Steps.{at_stand, goes_by, code_goes_unheard, is_code, spend_fails}
+use Rattle.plain_eval.proofs.Steps.{spend_goes}
 use Rattle.plain_eval.proofs.Steps.{spent}
 use Rattle.plain_eval.proofs.Steps.{value_goes, value_stops}
 
@@ -149,11 +150,8 @@ module _ {H : Type 0} (g : Setting H) (i : Inner H) (parts : Loop) where
   -- the whole loop, from what starts it on
   pub loop_starts : {b mid : Stand H} (start : Node) (e : End) (u : Unit {0}) → Ok u ≡ ended e → Ran false (eval g i (node_view start)) b e mid
       → GoesOn true (eval g i (loop_tree start parts)) b (turns_left mid.budget) mid
-  loop_starts {mid = mid} start e u value ran = record {
-    closes = λ end last r. record {
-      by = λ path cost acts. value_goes false _ _ e u mid true end last value (child_by g i free 0 (node_view start) ran path (cost + 1) acts) (λ v c a same. r.by path c a);
-    };
-  }
+  loop_starts {mid = mid} start e u value ran = goes_by (λ end last r path cost acts.
+      value_goes false _ _ e u mid true end last value (child_by g i free 0 (node_view start) ran path (cost + 1) acts) (λ v c a same. r.by path c a))
 
   pub loop_stops : {b mid : Stand H} (start : Node) (e : End) (h : Halted) → Err h ≡ ended e → Ran false (eval g i (node_view start)) b e mid → Ran true (eval g i (loop_tree start parts)) b e mid
   loop_stops {mid = mid} start e h none ran =

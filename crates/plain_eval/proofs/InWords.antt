@@ -14,7 +14,7 @@ use Rattle.std.specs.Bool.{MatchBool}
 use Rattle.rule_steps.specs.Parts.{or_alone, parts_in}
 use Rattle.tcl_compile.specs.Tree as tree
 use Rattle.plain_eval.specs.declared.run.End.TheVariants as end
-use Rattle.plain_eval.proofs.Steps.{at_stand, goes_self, heard_goes, is_code, value_stops}
+use Rattle.plain_eval.proofs.Steps.{at_stand, goes_by, goes_self, heard_goes, is_code, value_stops}
 
 -- the node at a place, and those behind it
 pub split_at : {A : Type 0} (ns : List A) (k : ℕ) (n : A) → k < length ns → n ≡ get_or ns k n → drop k ns ≡ n ∷ drop (k + 1) ns
@@ -92,9 +92,7 @@ module _ {H : Type 0} (g : Setting H) (i : Inner H) where
       let long = long_of name values (value_in e) n total at sum in
       let fits : sum_by length ((name ++ values) ++ value_in e ∷ []) ≤ text_limit = omega (arith, long, adds.0, adds.1) in
       let t : nat_lt text_limit (sum_by length ((name ++ values) ++ value_in e ∷ [])) ≡ false = grind (arith, nat_tests) in
-      rw (next, all, split_at ns k x there is) (record { closes = λ end last r. record {
-        by = λ path cost acts. heard_goes _ _ e u _ w end last value (word_by p (m + k) x ran path cost acts) (λ c a. rw t (r.by path c a));
-      } })
+      rw (next, all, split_at ns k x there is) (goes_by (λ end last r path cost acts. heard_goes _ _ e u _ w end last value (word_by p (m + k) x ran path cost acts) (λ c a. rw t (r.by path c a))))
 
   -- the row is too long with it, or there is no memory
   refused_by : (w t : Bool) (e : End) (s : Stand H) (o : Outcome H) (c : ℕ) (a : List Act) → MatchBool t (Is (Raised too_long) e) (e ≡ end.Memory)
@@ -124,9 +122,7 @@ module _ {H : Type 0} (g : Setting H) (i : Inner H) where
       → GoesOn true (pieces_left p ns k text) b (pieces_left p ns (k + 1) (text ++ value_in e)) mid
   piece_next p ns k n text e u there is value ran fits =
       let t : nat_lt text_limit (length (text ++ value_in e)) ≡ false = grind (arith, nat_tests) in
-      rw (split_at ns k n there is) (record { closes = λ end last r. record {
-        by = λ path cost acts. heard_goes _ _ e u _ true end last value (child_by p k (node_view n) ran path cost acts) (λ c a. rw t (r.by path c a));
-      } })
+      rw (split_at ns k n there is) (goes_by (λ end last r path cost acts. heard_goes _ _ e u _ true end last value (child_by p k (node_view n) ran path cost acts) (λ c a. rw t (r.by path c a))))
 
   pub piece_stops : (p : Tree → ℕ) (ns : List Node) (k : ℕ) (n : Node) (text : List ℕ) (e : End) (h : Halted) {b mid : Stand H}
       → k < length ns → n ≡ get_or ns k n → Err h ≡ ended e → Ran true (eval g i (node_view n)) b e mid → Ran true (pieces_left p ns k text) b e mid

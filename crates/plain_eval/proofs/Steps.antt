@@ -131,6 +131,10 @@ module _ {H : Type 0} where
   pub goes_self : (w : Bool) (m : Meaning H) (b : Stand H) → GoesOn w m b m b
   goes_self w m b = record { closes = λ e last r. r }
 
+  -- whatever the rest comes to, the whole comes to at any path and cost
+  pub goes_by : {w : Bool} {m n : Meaning H} {b mid : Stand H} → ((e : End) (last : Stand H) → Ran w n mid e last → (path : List ℕ) (cost : ℕ) (acts : List Act) → EndsAs w (m path (from b cost acts)) e last) → GoesOn w m b n mid
+  goes_by h = record { closes = λ e last r. record { by = h e last r } }
+
   pub goes_then : {w : Bool} {m n o : Meaning H} {a b c : Stand H} → GoesOn w m a n b → GoesOn w n b o c → GoesOn w m a o c
   goes_then f g = record { closes = λ e last r. f.closes e last (g.closes e last r) }
 
