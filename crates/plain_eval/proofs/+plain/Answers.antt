@@ -1,9 +1,9 @@
 use Rattle.plain_eval.proofs.Vocabulary
-use Vocabulary.{◌≡◌, refl, sym, ◌∙◌, arith, length, ◌+◌, ◌-◌, ◌*◌, [], ◌∷◌, Ok, true, false, suc}
-use Vocabulary.{zero, None, Some, codes, slice_get, budget_spent, node_view, alone, child, free}
-use Vocabulary.{one, too_deep, caught_in, chosen_of, each_rows, list_rows, eval, Value, call_view}
-use Vocabulary.{rows_view, end_of, ended, fault_end, value_in, from, inner_of, setting_of, stand}
-use Vocabulary.{Err, trees_of, evals, read_element, nodes_view, count}
+use Vocabulary.{◌≡◌, refl, sym, arith, length, ◌+◌, ◌-◌, ◌*◌, [], ◌∷◌, Ok, true, false, suc, zero}
+use Vocabulary.{None, Some, codes, slice_get, budget_spent, node_view, alone, child, free, one}
+use Vocabulary.{too_deep, caught_in, chosen_of, each_rows, list_rows, eval, call_view, rows_view}
+use Vocabulary.{end_of, ended, fault_end, value_in, from, inner_of, setting_of, stand, Err}
+use Vocabulary.{trees_of, evals, read_element, nodes_view, count}
 use Rattle.tcl_compile.specs.declared.node.Node.{fold-roll-Node, the_lemmas}
 use Rattle.tcl_compile.specs.declared.node.Node.TheVariants.{rolls-Catch, rolls-CatchIn}
 use Rattle.tcl_compile.specs.declared.node.Node.TheVariants.{rolls-Choice}
@@ -18,25 +18,10 @@ use Rattle.plain_eval.proofs.InRows as rows
 use Rattle.plain_eval.proofs.InScripts as scripts
 use Rattle.plain_eval.proofs.InWords as words
 use Rattle.plain_eval.proofs.InRows.{set_is}
-use Rattle.plain_eval.proofs.Steps.{any_ran, at_stand, fault_is, gives_ends, goes_self, goes_then}
-use Rattle.plain_eval.proofs.Steps.{halted_is, heard_goes, kept_as, kept_is, no_memory, value_stops}
+use Rattle.plain_eval.proofs.Steps.{any_ran, fault_is, gives_ends, goes_then}
+use Rattle.plain_eval.proofs.Steps.{halted_is, heard_goes, kept_as, kept_is, value_stops}
+use Rattle.plain_eval.proofs.Steps.{goes_self}
 use Rattle.plain_eval.proofs.+plain.Goals as goal
-
-pub tree::eval_tree-returns-in_default-clause-ran : goal.tree::eval_tree-returns-in_default-clause-ran
-tree::eval_tree-returns-in_default-clause-ran g t c =
-    rw c.no_memory.ensures (no_memory _ _ _ _)
-
-pub tree::eval_tree-returns-in-Plain-clause-ran : goal.tree::eval_tree-returns-in-Plain-clause-ran
-tree::eval_tree-returns-in-Plain-clause-ran g t c =
-    rw (c.settle.ensures.noted, c.in-Plain.is) (simp the_lemmas (record { by = λ path cost acts. gives_ends _ _ (Ok _) _ cost acts c.literal.ensures }))
-
-pub tree::eval_tree-returns-in-Variable-clause-ran : goal.tree::eval_tree-returns-in-Variable-clause-ran
-tree::eval_tree-returns-in-Variable-clause-ran g t c =
-    rw (c.settle-in-Variable.ensures.noted, c.in-Variable.is) (simp the_lemmas (record { by = λ path cost acts. gives_ends _ _ _ _ cost acts c.variable-value.ensures }))
-
-pub tree::eval_tree-returns-in-NextBody-clause-ran : goal.tree::eval_tree-returns-in-NextBody-clause-ran
-tree::eval_tree-returns-in-NextBody-clause-ran g t c =
-    rw (c.nothing.ensures.noted, c.in-NextBody.is) (simp the_lemmas (record { by = λ path cost acts. at_stand c.args.wanted (Value []) (stand c.args.run.now c.args.host.now) cost acts }))
 
 pub tree::eval_tree-returns-in-Element-clause-ran : goal.tree::eval_tree-returns-in-Element-clause-ran
 tree::eval_tree-returns-in-Element-clause-ran g t c =
@@ -45,14 +30,6 @@ tree::eval_tree-returns-in-Element-clause-ran g t c =
 pub tree::eval_tree-returns-in-Word-clause-ran : goal.tree::eval_tree-returns-in-Word-clause-ran
 tree::eval_tree-returns-in-Word-clause-ran g t c =
     rw c.in-Word.is (simp the_lemmas (any_ran _ (rw c.deref-in-Word.ensures.value at (c.eval_word.ensures.ran one))))
-
-pub tree::eval_tree-returns-in-Script-clause-ran : goal.tree::eval_tree-returns-in-Script-clause-ran
-tree::eval_tree-returns-in-Script-clause-ran g t c =
-    rw c.in-Script.is (simp the_lemmas (rw c.deref-in-Script.ensures.value at c.eval_script.ensures.ran))
-
-pub tree::eval_tree-returns-in-Command-clause-ran : goal.tree::eval_tree-returns-in-Command-clause-ran
-tree::eval_tree-returns-in-Command-clause-ran g t c =
-    rw c.in-Command.is (simp the_lemmas (rw c.deref-in-Command.ensures.value at c.eval_command.ensures.ran))
 
 pub tree::eval_tree-returns-in-Expr-clause-ran : goal.tree::eval_tree-returns-in-Expr-clause-ran
 tree::eval_tree-returns-in-Expr-clause-ran g t c =
@@ -73,10 +50,6 @@ tree::eval_tree-returns-in-Loop-clause-ran g t c =
 pub tree::eval_tree-returns-in-Foreach-clause-ran : goal.tree::eval_tree-returns-in-Foreach-clause-ran
 tree::eval_tree-returns-in-Foreach-clause-ran g t c =
     rw (c.in-Foreach.is, ← rolls-Foreach, fold-roll-Node) (any_ran _ (rw (c.deref-in-Foreach.ensures.value, c.deref-in-Foreach-2.ensures) at c.eval_each.ensures.ran))
-
-pub tree::eval_tree-returns-in-Switch-clause-ran : goal.tree::eval_tree-returns-in-Switch-clause-ran
-tree::eval_tree-returns-in-Switch-clause-ran g t c =
-    rw c.in-Switch.is (simp the_lemmas (rw (c.deref-in-Switch.ensures.value, c.deref-in-Switch-2.ensures.value) at c.eval_switch.ensures.ran))
 
 pub tree::eval_tree-returns-in-Catch-clause-ran : goal.tree::eval_tree-returns-in-Catch-clause-ran
 tree::eval_tree-returns-in-Catch-clause-ran g t c =
@@ -121,14 +94,6 @@ tree::eval_script-returns-in_err-spend-2-clause-ran g t c =
 pub tree::eval_script-returns-clause-ran : goal.tree::eval_script-returns-clause-ran
 tree::eval_script-returns-clause-ran g t c =
     scripts.last_ends _ _ c.in-Some.last.now c.eval_tree-2.new.run.end c.loop-command.invariant (omega arith) c.in_ok-spend-2.ensures.spends.0 (rw c.in_ok-spend-2.ensures.spends.1 at c.eval_tree-2.ensures.ran)
-
-pub branches::eval_branches-returns-in_err-eval_test-clause-ended : goal.branches::eval_branches-returns-in_err-eval_test-clause-ended
-branches::eval_branches-returns-in_err-eval_test-clause-ended g t c =
-    halted_is c.from_residual.result c.in_err-eval_test.field-0.0 c.from_residual.ensures ∙ sym c.in_err-eval_test.ensures.halts
-
-pub branches::eval_branches-loop-condition-init : goal.branches::eval_branches-loop-condition-init
-branches::eval_branches-loop-condition-init g t c =
-    λ n p q r. goes_self _ _ _
 
 pub branches::eval_branches-loop-condition-preserved : goal.branches::eval_branches-loop-condition-preserved
 branches::eval_branches-loop-condition-preserved g t c =
@@ -290,10 +255,6 @@ words::eval_word-returns-in-len1-clause-ran g t c =
     let one : length c.args.parts.now ≡ 1 = omega (arith, c.in-len1.len_at_least, c.in-len1.len_below) in
     λ p. rw c.limit.ensures.same (words.piece_alone _ _ p c.args.parts.now c.part-item.result c.eval_tree.new.run.end c.limit.new.self.end one c.part-item.is c.eval_tree.ensures.ran c.limit.ensures.value)
 
-pub words::eval_word-loop-part-init : goal.words::eval_word-loop-part-init
-words::eval_word-loop-part-init g t c =
-    λ p. rw c.empty-text.ensures (goes_self _ _ _)
-
 pub words::eval_word-loop-part-preserved : goal.words::eval_word-loop-part-preserved
 words::eval_word-loop-part-preserved g t c =
     λ p. rw (c.in_ok-add_piece.ensures.same, c.in_ok-add_piece.ensures.adds.1) (goes_then (c.loop-part.invariant p)
@@ -436,10 +397,6 @@ catches::eval_catch_in-returns-clause-ran g t c =
 pub calls::eval_call-returns-in_err-call-clause-ran : goal.calls::eval_call-returns-in_err-call-clause-ran
 calls::eval_call-returns-in_err-call-clause-ran g t c =
     rw c.in_err-call.ensures.noted (calls.called_kept _ c.args.wanted c.args.context.now.room.expressions c.args.context.now.room.calls _ c.bound.result _ _ (stand c.args.run.now c.args.host.now) c.in_err-call.ensures.kept c.bound.ensures)
-
-pub calls::eval_call-returns-then-is_err-clause-ran : goal.calls::eval_call-returns-then-is_err-clause-ran
-calls::eval_call-returns-then-is_err-clause-ran g t c =
-    rw c.no_memory.ensures (no_memory _ _ _ _)
 
 pub calls::eval_call-returns-clause-ran : goal.calls::eval_call-returns-clause-ran
 calls::eval_call-returns-clause-ran g t c =
