@@ -1,42 +1,20 @@
 -- Calls of procedures, and expressions that are read when they run.
-use Rattle.std.proofs.Common.{◌≡◌, refl, sym, ap, ◌∙◌, ℕ, zero, suc, ◌+◌, ◌-◌, ◌<◌, ◌≤◌, List, [], map, arith}
-use Rattle.std.proofs.Common.{Bool, true, false, Result, Ok, Err}
-use Rattle.std.specs.Prelude.{IsOk, OnOk}
-use Rattle.std.specs.Result.{is_err}
-use Rattle.px_bytes.specs.declared.memory.Memory.{Memory}
-use Rattle.tcl_compile.specs.Procedures.{procedure_view}
-use Rattle.tcl_compile.specs.TreeView.{node_view}
-use Rattle.tcl_compile.specs.declared.node.Node.{Node}
-use Rattle.rule_steps.specs.Calls.{call_view}
+use Rattle.plain_eval.proofs.Vocabulary
+use Vocabulary.{◌≡◌, refl, sym, ap, ◌∙◌, ℕ, zero, suc, ◌+◌, ◌-◌, ◌≤◌, List, map, arith, Bool, true}
+use Vocabulary.{false, Result, Ok, Err, IsOk, OnOk, is_err, Memory, node_view, Node, call_view}
+use Vocabulary.{Gives, Raise, TclFault, Tree, Scopes, in_proc, out_of_proc, alone, Bound, called}
+use Vocabulary.{code_left, deeper, entered, expression_read, leave, too_deep, eval, inner, Outcome}
+use Vocabulary.{State, Ends, Waits, Meaning, changed, heard_code, then_code, then_value, unvalued}
+use Vocabulary.{Setting, Code, Value, Raised, GivesAs, Is, Leaves, end_of, ended, kept, kept_end}
+use Vocabulary.{value_in, Stand, stand, from, EndsAs, Ran, End, Halted, Run, Does}
 use Rattle.rule_steps.specs.declared.calls.Call.{Call}
-use Rattle.px_bytes.specs.Gives.{Gives}
-use Rattle.px_bytes.specs.declared.fault.Raise.{Raise}
-use Rattle.px_bytes.specs.declared.fault.Raise.TheVariants as raise
-use Rattle.px_bytes.specs.declared.fault.TclFault.{TclFault}
-use Rattle.tcl_compile.specs.Procedures.{Procedure}
-use Rattle.tcl_compile.specs.Tree.{Tree}
 use Rattle.tcl_compile.specs.WholeResult.{whole_result}
-use Rattle.tcl_vars.specs.Scopes.{Scopes, in_proc, out_of_proc}
 use Rattle.tcl_var_commands.specs.Assigning.{row_assigned}
-use Rattle.tcl_var_commands.specs.Changed.{Stops as Fails}
-use Rattle.rule_model.specs.Children.{alone}
-use Rattle.rule_model.specs.Commands.{Bound, called, code_left, deeper, entered, expression_read, leave}
-use Rattle.rule_model.specs.Commands.{too_deep}
-use Rattle.rule_model.specs.Evaluator.{eval, inner}
-use Rattle.rule_model.specs.Outcome.{Act, Outcome, State, Ends, Waits, Meaning, changed, heard_code, then_code}
-use Rattle.rule_model.specs.Outcome.{then_value, unvalued}
-use Rattle.rule_model.specs.Setting.{Setting}
-use Rattle.rule_model.specs.declared.code.Code.{Code}
-use Rattle.rule_model.specs.declared.code.Code.TheVariants.{Value, Raised, Return, Break, Continue}
-use Rattle.rule_steps.specs.GivesAs.{GivesAs}
-use Rattle.plain_eval.specs.End.{Is, Leaves, end_of, ended, kept, kept_end, raise_end, value_in}
-use Rattle.plain_eval.specs.Stand.{Stand, stand, from, EndsAs, Ran}
-use Rattle.plain_eval.specs.declared.run.End.{End}
+use Rattle.px_bytes.specs.declared.fault.Raise.TheVariants as raise
 use Rattle.plain_eval.specs.declared.run.End.TheVariants as end
-use Rattle.plain_eval.specs.declared.run.Halted.{Halted}
-use Rattle.plain_eval.specs.declared.run.Run.{Run}
 use Rattle.plain_eval.proofs.InRows.{change_fails, change_goes, with_vars}
-use Rattle.plain_eval.proofs.Steps.{at_stand, gives_ends, heard_goes, is_code, is_heard, value_stops}
+use Rattle.plain_eval.proofs.Steps.{at_stand, gives_ends, heard_goes, is_code, is_heard}
+use Rattle.plain_eval.proofs.Steps.{value_stops}
 
 -- a level was entered
 pub entered_is : (r : Result (Unit {0}) Memory) (P : Type 0) → is_err r ≡ false → OnOk r P → P
@@ -67,9 +45,10 @@ module _ {H : Type 0} (g : Setting H) where
       then_value (changed (row_assigned g.statics (map (λ q. q.name) b.procedure.parameters) b.values st.vars) st)
       (λ v t. deeper (inner g e n).call b.procedure.body path t)
 
-  pub inside_fails : (w : Bool) (e n : ℕ) (b : Bound) (x : Raise) (new : Scopes) (s : Stand H) → Fails (row_assigned g.statics (map (λ q. q.name) b.procedure.parameters) b.values s.vars) x new
-      → Ran w (inside e n b) s (raise_end x) (with_vars new s)
-  inside_fails w e n b x new s fails = record {
+  pub inside_fails : (w : Bool) (e n : ℕ) (b : Bound) (r : Result (Unit {0}) Raise) (h : Halted) (end : End) (new : Scopes) (s : Stand H) → Err h ≡ kept r → Does (row_assigned g.statics (map (λ q. q.name) b.procedure.parameters) b.values s.vars) r new
+      → Ran w (inside e n b) s (kept_end r end) (with_vars new s)
+  inside_fails w e n b (Ok u) h end new s none did = cc
+  inside_fails w e n b (Err x) h end new s none fails = record {
     by = λ path cost acts. change_fails (row_assigned g.statics (map (λ q. q.name) b.procedure.parameters) b.values s.vars) x new s cost acts (λ t. deeper (inner g e n).call b.procedure.body path t) w fails;
   }
 
@@ -130,18 +109,14 @@ module _ {H : Type 0} (g : Setting H) where
   finish v st = Ends (Value (whole_result v)) st
 
   pub read_stops : (e n d : ℕ) (tree : Tree) (end : End) (h : Halted) {s mid : Stand H} → e ≡ suc d → Err h ≡ ended end → Ran true (eval g (inner g d n) tree) s end mid → Ran true (read e n (Ok tree)) s end mid
-  read_stops e n d tree end h {s = s} {mid = mid} some none ran = rw some (record {
-    by = λ path cost acts.
-        let st = from s (cost + alone tree) acts in
-        value_stops true true (deeper (inner g (suc d) n).expression tree path st) finish end h mid none (rw (deeper_at d n tree path st) (ran.by path (cost + alone tree) acts));
+  read_stops e n d tree end h {mid = mid} some none ran = rw some (record {
+    by = λ path cost acts. value_stops true true _ finish end h mid none (rw (deeper_at d n tree path _) (ran.by path (cost + alone tree) acts));
   })
 
   pub read_ran : (e n d : ℕ) (tree : Tree) (end : End) (u : Unit {0}) (r : Result (List ℕ) Raise) {s mid : Stand H} → e ≡ suc d → Ok u ≡ ended end → Ran true (eval g (inner g d n) tree) s end mid → Gives r (Ok (whole_result (value_in end)))
       → Ran true (read e n (Ok tree)) s (end_of r) mid
-  read_ran e n d tree end u r {s = s} {mid = mid} some value ran told = rw some (record {
-    by = λ path cost acts.
-        let st = from s (cost + alone tree) acts in
-        heard_goes (deeper (inner g (suc d) n).expression tree path st) finish end u mid true (end_of r) mid value (rw (deeper_at d n tree path st) (ran.by path (cost + alone tree) acts))
+  read_ran e n d tree end u r {mid = mid} some value ran told = rw some (record {
+    by = λ path cost acts. heard_goes _ finish end u mid true (end_of r) mid value (rw (deeper_at d n tree path _) (ran.by path (cost + alone tree) acts))
         (λ c a. gives_ends true r (Ok (whole_result (value_in end))) mid c a told);
   })
 

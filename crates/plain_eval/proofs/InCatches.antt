@@ -1,17 +1,10 @@
 -- What a `catch` makes of a code.
-use Rattle.std.proofs.Common.{◌≡◌, refl, sym, ap, ◌∙◌, ℕ, List, [], Bool, true, false, Option, Some, None}
-use Rattle.std.specs.Prelude.{if◌then◌else◌}
-use Rattle.tcl_vars.specs.Scopes.{Level, Scopes}
-use Rattle.tcl_var_commands.specs.Changed.{Changed}
-use Rattle.rule_model.specs.Control.{caught, code_number, code_text, is_caught, number_changed}
-use Rattle.rule_model.specs.Outcome.{Act, Outcome, State, Ends, Waits, code_of, heard_code, then_code}
-use Rattle.rule_model.specs.declared.code.Code.{Code}
-use Rattle.rule_model.specs.declared.code.Code.TheVariants.{Value}
-use Rattle.plain_eval.specs.End.{Caught, CaughtBy, ChangeIs, Is, caught_code}
-use Rattle.plain_eval.specs.Stand.{Stand, stand, from, EndsAs}
-use Rattle.plain_eval.specs.declared.run.End.{End}
+use Rattle.plain_eval.proofs.Vocabulary
+use Vocabulary.{◌≡◌, refl, sym, ℕ, List, Bool, true, false, Option, Some, None, if◌then◌else◌}
+use Vocabulary.{Level, Changed, caught, code_number, is_caught, number_changed, Act, Outcome, Ends}
+use Vocabulary.{Waits, code_of, then_code, Code, Value, CaughtBy, ChangeIs, caught_code, Stand}
+use Vocabulary.{stand, from, EndsAs, End, Run}
 use Rattle.plain_eval.specs.declared.run.End.TheVariants as end
-use Rattle.plain_eval.specs.declared.run.Run.{Run}
 use Rattle.plain_eval.proofs.Steps.{at_stand, code_goes, code_goes_unheard, is_code}
 
 module _ {H : Type 0} where

@@ -1,35 +1,20 @@
 -- Conditions, operators, and the value beside the first condition that holds.
-use Rattle.std.proofs.Common.{◌≡◌, refl, sym, ap, ◌∙◌, ℕ, ◌+◌, ◌*◌, ◌<◌, ◌≤◌, List, [], ◌∷◌, ◌++◌, length}
-use Rattle.std.proofs.Common.{Bool, true, false, Option, Some, None, Result, Ok, Err, arith, drop, get_or}
-use Rattle.std.proofs.lemmas.List.{drop_all}
-use Rattle.px_bytes.specs.Gives.{Gives}
-use Rattle.px_bytes.specs.declared.fault.Raise.{Raise}
-use Rattle.px_bytes.specs.declared.fault.Raise.TheVariants as raise
-use Rattle.px_bytes.specs.declared.fault.TclFault.{TclFault}
+use Rattle.plain_eval.proofs.Vocabulary
+use Vocabulary.{◌≡◌, refl, ℕ, ◌+◌, ◌<◌, ◌≤◌, List, [], ◌∷◌, ◌++◌, length, Bool, true, false, Option}
+use Vocabulary.{Some, None, Result, Ok, Err, drop, get_or, drop_all, Gives, Raise, TclFault, Joint}
+use Vocabulary.{Tree, operands_of, values_of, node_view, operands_view, values_view, Node, child}
+use Vocabulary.{one, eval, joints, values, Act, Outcome, State, Meaning, Setting, Inner, Value}
+use Vocabulary.{Raised, end_of, ended, kept, kept_end, value_in, Stand, from, EndsAs, Ran, GoesOn}
+use Vocabulary.{Then, Stops, Gave, End, Halted}
 use Rattle.tcl_expr.specs.OperatorFaults.{not_truth}
 use Rattle.tcl_expr.specs.Truth.{truth}
-use Rattle.tcl_expr.specs.declared.expr.Joint.{Joint}
-use Rattle.tcl_expr.specs.declared.operator.Op1.{Op1}
-use Rattle.tcl_compile.specs.Tree.{Tree, Values, operands_of, values_of}
-use Rattle.tcl_compile.specs.TreeView.{node_view, operands_view, values_view}
-use Rattle.tcl_compile.specs.WholeResult.{whole_result}
-use Rattle.tcl_compile.specs.declared.node.Node.{Node}
-use Rattle.rule_model.specs.Children.{child, one}
-use Rattle.rule_model.specs.Evaluator.{eval, joints, values}
-use Rattle.rule_model.specs.Expressions.{after_operand, after_test, by_truth, decided_by, first_true}
-use Rattle.rule_model.specs.Expressions.{joined_value, joint_value, operands, prefixed_value, row}
-use Rattle.rule_model.specs.Expressions.{then_truth, whole}
-use Rattle.rule_model.specs.Outcome.{Act, Outcome, State, Ends, Meaning, ends, paid, then_value}
-use Rattle.rule_model.specs.Setting.{Setting, Inner}
-use Rattle.rule_model.specs.declared.code.Code.TheVariants.{Value, Raised}
+use Rattle.rule_model.specs.Expressions.{by_truth, decided_by, first_true, joined_value}
+use Rattle.rule_model.specs.Expressions.{joint_value, operands, row, then_truth}
 use Rattle.rule_steps.specs.Operators.{if_truth, truth_read}
-use Rattle.plain_eval.specs.End.{end_of, ended, kept, kept_end, raise_end, value_in}
-use Rattle.plain_eval.specs.Stand.{Stand, from, EndsAs, Ran, GoesOn, Then, Stops, Gave}
-use Rattle.plain_eval.specs.declared.run.End.{End}
+use Rattle.px_bytes.specs.declared.fault.Raise.TheVariants as raise
 use Rattle.plain_eval.specs.declared.run.End.TheVariants as end
-use Rattle.plain_eval.specs.declared.run.Halted.{Halted}
 use Rattle.plain_eval.proofs.InWords.{child_by, split_at}
-use Rattle.plain_eval.proofs.Steps.{at_stand, gives_ends, heard_goes, told_value, value_stops}
+use Rattle.plain_eval.proofs.Steps.{at_stand, goes_by, heard_goes, told_value, value_stops}
 
 if_some : (t : Option Bool) (v : List ℕ) (b : Bool) → if_truth t v ≡ Ok b → t ≡ Some b
 if_some (Some x) v b h = cc
@@ -54,26 +39,16 @@ module _ {H : Type 0} where
     };
   }
 
-  test_fault : (w : Bool) (v : List ℕ) (f : TclFault) (t : Option Bool) (go : Bool → State H → Outcome H) (s : Stand H) (c : ℕ) (a : List Act) → (t ≡ None) × (not_truth v ≡ f)
-      → EndsAs w (by_truth t v go (from s c a)) (end.Done (Raised f)) s
-  test_fault w v f t go s c a is = rw (is.0, is.1) (at_stand w (Raised f) s c a)
-
   pub test_told : {m : Meaning H} {b mid : Stand H} (e : End) (u : Unit {0}) (r : Result Bool Raise) → Ok u ≡ ended e → Ran true m b e mid → Gives r (truth_read (value_in e))
       → Gave (tested m) b (kept r) (kept_end r e) mid
-  test_told {m = m} {b = b} {mid = mid} e u (Ok holds) value ran told = record {
-    goes = λ w go. record {
-      closes = λ end last r. record {
-        by = λ path cost acts.
-            let is = if_some (truth (value_in e)) (value_in e) holds told in
-            heard_goes (m path (from b cost acts)) (go_on (λ holds t. go holds path t)) e u mid w end last value (ran.by path cost acts) (λ c a. rw is (r.by path c a));
-      };
-    };
-  }
+  test_told {m = m} {b = b} {mid = mid} e u (Ok holds) value ran told =
+      let is = if_some (truth (value_in e)) (value_in e) holds told in
+      record { goes = λ w go. goes_by (λ end last r path cost acts. heard_goes (m path (from b cost acts)) (go_on (λ holds t. go holds path t)) e u mid w end last value (ran.by path cost acts) (λ c a. rw is (r.by path c a))) }
   test_told {m = m} {b = b} {mid = mid} e u (Err (raise.Fault f)) value ran told = record {
     stops = λ w go. record {
       by = λ path cost acts.
           heard_goes (m path (from b cost acts)) (go_on (λ holds t. go holds path t)) e u mid w (end.Done (Raised f)) mid value (ran.by path cost acts)
-          (λ c a. test_fault w (value_in e) f (truth (value_in e)) (λ holds t. go holds path t) mid c a (if_none (truth (value_in e)) (value_in e) f told));
+          (λ c a. let is = if_none (truth (value_in e)) (value_in e) f told in rw (is.0, is.1) (at_stand w (Raised f) mid c a));
     };
   }
   test_told e u (Err raise.Memory) value ran told = record { stops = λ w go. record { by = λ path cost acts. tt } }
@@ -87,77 +62,48 @@ module _ {H : Type 0} where
       → Stops (tested m) b e mid → EndsAs w (then_truth (m path (from b cost acts)) go) e mid
   then_stops m w go path cost acts s = (s.stops w (λ holds p st. go holds st)).by path cost acts
 
-  -- a value, and what a call makes of it
-  pub value_made : {m : Meaning H} {b mid : Stand H} (e : End) (u : Unit {0}) (r : Result (List ℕ) Raise) (of : List ℕ → Result (List ℕ) TclFault) (n : ℕ) → Ok u ≡ ended e → Ran true m b e mid → Gives r (of (value_in e))
-      → (path : List ℕ) (cost : ℕ) (acts : List Act) → EndsAs true (then_value (m path (from b cost acts)) (λ v st. ends (of v) (paid n st))) (end_of r) mid
-  value_made {m = m} {b = b} {mid = mid} e u r of n value ran told path cost acts =
-      heard_goes (m path (from b cost acts)) (λ v st. ends (of v) (paid n st)) e u mid true (end_of r) mid value (ran.by path cost acts) (λ c a. gives_ends true r (of (value_in e)) mid (c + n) a told)
-
 module _ {H : Type 0} (g : Setting H) (i : Inner H) where
   -- the operands of a row from a place on, behind this value
   abbrev pub operands_left : List (Joint × Node) → ℕ → List ℕ → Meaning H
   operands_left os k v = operands (joints g i (k + 1) (operands_of (operands_view (drop k os)))) v
 
-  row_split : (os : List (Joint × Node)) (k : ℕ) (o : Joint × Node) (v : List ℕ) (P : Meaning H → Type 0) → k < length os → o ≡ get_or os k o
-      → P (operands (joints g i (k + 1) (operands_of (operands_view (o ∷ drop (k + 1) os)))) v) → P (operands_left os k v)
-  row_split os k o v P there is h = rw (split_at os k o there is) h
-
   pub row_decided : (os : List (Joint × Node)) (k : ℕ) (o : Joint × Node) (v x : List ℕ) (s : Stand H) → k < length os → o ≡ get_or os k o → decided_by o.0 v ≡ Ok (Some x)
       → Ran true (operands_left os k v) s (end.Done (Value x)) s
-  row_decided os k o v x s there is told = row_split os k o v (λ m. Ran true m s (end.Done (Value x)) s) there is
-      (record { by = λ path cost acts. rw told (at_stand true (Value x) s (cost + 1) acts) })
-
-  pub row_fault : (os : List (Joint × Node)) (k : ℕ) (o : Joint × Node) (v : List ℕ) (e : Raise) (s : Stand H) → k < length os → o ≡ get_or os k o → Gives {A = Option (List ℕ)} (Err e) (decided_by o.0 v)
-      → Ran true (operands_left os k v) s (raise_end e) s
-  row_fault os k o v (raise.Fault f) s there is told = row_split os k o v (λ m. Ran true m s (end.Done (Raised f)) s) there is
-      (record { by = λ path cost acts. rw told (at_stand true (Raised f) s (cost + 1) acts) })
-  row_fault os k o v raise.Memory s there is told = record { by = λ path cost acts. tt }
-
-  pub row_stops : (os : List (Joint × Node)) (k : ℕ) (o : Joint × Node) (v : List ℕ) (e : End) (h : Halted) {b mid : Stand H} → k < length os → o ≡ get_or os k o → decided_by o.0 v ≡ Ok None
-      → Err h ≡ ended e → Ran true (eval g i (node_view o.1)) b e mid → Ran true (operands_left os k v) b e mid
-  row_stops os k o v e h {b = b} {mid = mid} there is told none ran = row_split os k o v (λ m. Ran true m b e mid) there is
-      (record {
-        by = λ path cost acts.
-            let more = joints g i (k + 1 + 1) (operands_of (operands_view (drop (k + 1) os))) in
-            rw told (value_stops true true (child one (k + 1) (node_view o.1) (eval g i (node_view o.1)) path (from b (cost + 1) acts)) (joined_value (operands more) o.0 v path) e h mid none (child_by g i one (k + 1) (node_view o.1) ran path (cost + 1) acts));
-      })
-
-  pub row_halts : (os : List (Joint × Node)) (k : ℕ) (o : Joint × Node) (v : List ℕ) (e : End) (u : Unit {0}) (x : Raise) {b mid : Stand H} → k < length os → o ≡ get_or os k o → decided_by o.0 v ≡ Ok None
-      → Ok u ≡ ended e → Ran true (eval g i (node_view o.1)) b e mid → Gives {A = List ℕ} (Err x) (joint_value o.0 v (value_in e)) → Ran true (operands_left os k v) b (raise_end x) mid
-  row_halts os k o v e u (raise.Fault f) {b = b} {mid = mid} there is told value ran made = row_split os k o v (λ m. Ran true m b (end.Done (Raised f)) mid) there is
-      (record {
-        by = λ path cost acts.
-            let more = joints g i (k + 1 + 1) (operands_of (operands_view (drop (k + 1) os))) in
-            rw told (heard_goes (child one (k + 1) (node_view o.1) (eval g i (node_view o.1)) path (from b (cost + 1) acts)) (joined_value (operands more) o.0 v path) e u mid true (end.Done (Raised f)) mid value (child_by g i one (k + 1) (node_view o.1) ran path (cost + 1) acts)
-            (λ c a. rw made (at_stand true (Raised f) mid c a)));
-      })
-  row_halts os k o v e u raise.Memory there is told value ran made = record { by = λ path cost acts. tt }
-
-  pub row_next : (os : List (Joint × Node)) (k : ℕ) (o : Joint × Node) (v x : List ℕ) (e : End) (u : Unit {0}) {b mid : Stand H} → k < length os → o ≡ get_or os k o → decided_by o.0 v ≡ Ok None
-      → Ok u ≡ ended e → Ran true (eval g i (node_view o.1)) b e mid → joint_value o.0 v (value_in e) ≡ Ok x → GoesOn true (operands_left os k v) b (operands_left os (k + 1) x) mid
-  row_next os k o v x e u {b = b} {mid = mid} there is told value ran made = record {
-    closes = λ end last r. row_split os k o v (λ m. Ran true m b end last) there is
-        (record {
-          by = λ path cost acts.
-              let more = joints g i (k + 1 + 1) (operands_of (operands_view (drop (k + 1) os))) in
-              rw told (heard_goes (child one (k + 1) (node_view o.1) (eval g i (node_view o.1)) path (from b (cost + 1) acts)) (joined_value (operands more) o.0 v path) e u mid true end last value (child_by g i one (k + 1) (node_view o.1) ran path (cost + 1) acts)
-              (λ c a. rw made (r.by path c a)));
-        });
-  }
+  row_decided os k o v x s there is told = record { by = λ path cost acts. rw (split_at os k o there is, told) (at_stand true (Value x) s (cost + 1) acts) }
 
   pub row_fails : (os : List (Joint × Node)) (k : ℕ) (o : Joint × Node) (v : List ℕ) (r : Result (Option (List ℕ)) Raise) (h : Halted) (end : End) (s : Stand H) → k < length os → o ≡ get_or os k o → Err h ≡ kept r → Gives r (decided_by o.0 v)
       → Ran true (operands_left os k v) s (kept_end r end) s
   row_fails os k o v (Ok x) h end s there is none told = cc
-  row_fails os k o v (Err x) h end s there is none told = row_fault os k o v x s there is told
+  row_fails os k o v (Err (raise.Fault f)) h end s there is none told =
+      record { by = λ path cost acts. rw (split_at os k o there is, told) (at_stand true (Raised f) s (cost + 1) acts) }
+  row_fails os k o v (Err raise.Memory) h end s there is none told = record { by = λ path cost acts. tt }
+
+  pub row_stops : (os : List (Joint × Node)) (k : ℕ) (o : Joint × Node) (v : List ℕ) (e : End) (h : Halted) {b mid : Stand H} → k < length os → o ≡ get_or os k o → decided_by o.0 v ≡ Ok None
+      → Err h ≡ ended e → Ran true (eval g i (node_view o.1)) b e mid → Ran true (operands_left os k v) b e mid
+  row_stops os k o v e h there is told none ran = record {
+    by = λ path cost acts. rw (split_at os k o there is, told) (value_stops true true _ _ e h _ none (child_by g i one (k + 1) (node_view o.1) ran path (cost + 1) acts));
+  }
+
+  -- an operand's value, and what goes on behind it
+  row_joined : (os : List (Joint × Node)) (k : ℕ) (o : Joint × Node) (v : List ℕ) (e : End) (u : Unit {0}) {b mid last : Stand H} {end : End} → k < length os → o ≡ get_or os k o → decided_by o.0 v ≡ Ok None
+      → Ok u ≡ ended e → Ran true (eval g i (node_view o.1)) b e mid
+      → ((path : List ℕ) (c : ℕ) (a : List Act) → EndsAs true (joined_value (operands (joints g i (k + 1 + 1) (operands_of (operands_view (drop (k + 1) os))))) o.0 v path (value_in e) (from mid c a)) end last)
+      → Ran true (operands_left os k v) b end last
+  row_joined os k o v e u {mid = mid} {last = last} {end = end} there is told value ran h = record {
+    by = λ path cost acts. rw (split_at os k o there is, told) (heard_goes _ _ e u mid true end last value (child_by g i one (k + 1) (node_view o.1) ran path (cost + 1) acts) (h path));
+  }
 
   pub row_unsettled : (os : List (Joint × Node)) (k : ℕ) (o : Joint × Node) (v : List ℕ) (e : End) (u : Unit {0}) (r : Result (List ℕ) Raise) (h : Halted) {b mid : Stand H} → k < length os → o ≡ get_or os k o → decided_by o.0 v ≡ Ok None
       → Ok u ≡ ended e → Ran true (eval g i (node_view o.1)) b e mid → Err h ≡ ended (end_of r) → Gives r (joint_value o.0 v (value_in e)) → Ran true (operands_left os k v) b (end_of r) mid
   row_unsettled os k o v e u (Ok x) h there is told value ran none made = cc
-  row_unsettled os k o v e u (Err x) h there is told value ran none made = row_halts os k o v e u x there is told value ran made
+  row_unsettled os k o v e u (Err (raise.Fault f)) h {mid = mid} there is told value ran none made =
+      row_joined os k o v e u there is told value ran (λ path c a. rw made (at_stand true (Raised f) mid c a))
+  row_unsettled os k o v e u (Err raise.Memory) h there is told value ran none made = record { by = λ path cost acts. tt }
 
   pub row_settled : (os : List (Joint × Node)) (k : ℕ) (o : Joint × Node) (v : List ℕ) (e : End) (u : Unit {0}) (r : Result (List ℕ) Raise) (x : Unit {0}) {b mid : Stand H} → k < length os → o ≡ get_or os k o → decided_by o.0 v ≡ Ok None
       → Ok u ≡ ended e → Ran true (eval g i (node_view o.1)) b e mid → Ok x ≡ ended (end_of r) → Gives r (joint_value o.0 v (value_in e)) → GoesOn true (operands_left os k v) b (operands_left os (k + 1) (value_in (end_of r))) mid
-  row_settled os k o v e u (Ok y) x there is told value ran some made = row_next os k o v y e u there is told value ran made
+  row_settled os k o v e u (Ok y) x there is told value ran some made =
+      record { closes = λ end last r. row_joined os k o v e u there is told value ran (λ path c a. rw made (r.by path c a)) }
   row_settled os k o v e u (Err (raise.Fault f)) x there is told value ran some made = cc
   row_settled os k o v e u (Err raise.Memory) x there is told value ran some made = cc
 
@@ -170,32 +116,19 @@ module _ {H : Type 0} (g : Setting H) (i : Inner H) where
 
   pub first_next : (w : Bool) (n : ℕ) (p q : Tree → ℕ) (vs : List (Node × Node)) (k m : ℕ) (v : Node × Node) (last : Meaning H) {b mid : Stand H} → k < length vs → v ≡ get_or vs k v
       → Then (tested (eval g i (node_view v.0))) b false mid → GoesOn w (first_left n p q vs k m last) b (first_left n p q vs (k + 1) (m + 2) last) mid
-  first_next w n p q vs k m v last {b = b} there is test = record {
-    closes = λ e after r. record {
-      by = λ path cost acts.
-          let more = values g i p q (m + 2) (values_of (values_view (drop (k + 1) vs))) in
-          rw (split_at vs k v there is)
-          (then_goes (eval g i (node_view v.0)) w (after_test (child q (m + 1) (node_view v.1) (eval g i (node_view v.1))) (first_true n more last) path) e after (path ++ m ∷ []) (cost + n + p (node_view v.0)) acts test (λ c a. r.by path c a));
-    };
-  }
+  first_next w n p q vs k m v last there is test = goes_by (λ e after r path cost acts. rw (split_at vs k v there is)
+      (then_goes (eval g i (node_view v.0)) w _ e after (path ++ m ∷ []) (cost + n + p (node_view v.0)) acts test (λ c a. r.by path c a)))
 
   pub first_holds : (w : Bool) (n : ℕ) (p q : Tree → ℕ) (vs : List (Node × Node)) (k m : ℕ) (v : Node × Node) (last : Meaning H) {b mid out : Stand H} {e : End} → k < length vs → v ≡ get_or vs k v
       → Then (tested (eval g i (node_view v.0))) b true mid → Ran w (eval g i (node_view v.1)) mid e out → Ran w (first_left n p q vs k m last) b e out
-  first_holds w n p q vs k m v last {b = b} {out = out} {e = e} there is test ran = record {
-    by = λ path cost acts.
-        let more = values g i p q (m + 2) (values_of (values_view (drop (k + 1) vs))) in
-        rw (split_at vs k v there is)
-        (then_goes (eval g i (node_view v.0)) w (after_test (child q (m + 1) (node_view v.1) (eval g i (node_view v.1))) (first_true n more last) path) e out (path ++ m ∷ []) (cost + n + p (node_view v.0)) acts test (λ c a. child_by g i q (m + 1) (node_view v.1) ran path c a));
+  first_holds w n p q vs k m v last {out = out} {e = e} there is test ran = record {
+    by = λ path cost acts. rw (split_at vs k v there is) (then_goes (eval g i (node_view v.0)) w _ e out (path ++ m ∷ []) (cost + n + p (node_view v.0)) acts test (λ c a. child_by g i q (m + 1) (node_view v.1) ran path c a));
   }
 
   pub first_stops : (w : Bool) (n : ℕ) (p q : Tree → ℕ) (vs : List (Node × Node)) (k m : ℕ) (v : Node × Node) (last : Meaning H) {b mid : Stand H} {e : End} → k < length vs → v ≡ get_or vs k v
       → Stops (tested (eval g i (node_view v.0))) b e mid → Ran w (first_left n p q vs k m last) b e mid
-  first_stops w n p q vs k m v last {b = b} there is test = record {
-    by = λ path cost acts.
-        let more = values g i p q (m + 2) (values_of (values_view (drop (k + 1) vs))) in
-        rw (split_at vs k v there is)
-        (then_stops (eval g i (node_view v.0)) w (after_test (child q (m + 1) (node_view v.1) (eval g i (node_view v.1))) (first_true n more last) path) (path ++ m ∷ []) (cost + n + p (node_view v.0)) acts test);
-  }
+  first_stops w n p q vs k m v last there is test =
+      record { by = λ path cost acts. rw (split_at vs k v there is) (then_stops (eval g i (node_view v.0)) w _ (path ++ m ∷ []) (cost + n + p (node_view v.0)) acts test) }
 
   pub first_last : (w : Bool) (n : ℕ) (p q r : Tree → ℕ) (vs : List (Node × Node)) (k m j : ℕ) (last : Node) {b mid : Stand H} {e : End} → length vs ≤ k
       → Ran w (eval g i (node_view last)) b e mid → Ran w (first_left n p q vs k m (child r j (node_view last) (eval g i (node_view last)))) b e mid

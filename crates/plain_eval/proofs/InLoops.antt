@@ -1,31 +1,20 @@
 -- Loops.
-use Rattle.std.proofs.Common.{◌≡◌, refl, sym, ap, ◌∙◌, ℕ, zero, suc, ◌+◌, ◌-◌, ◌<◌, ◌≤◌, List, [], ◌∷◌, ◌++◌}
-use Rattle.std.proofs.Common.{Bool, true, false, Result, Ok, Err, arith}
-use Rattle.px_bytes.specs.FaultText.{budget_spent}
-use Rattle.tcl_compile.specs.TreeView.{node_view}
-use Rattle.tcl_compile.specs.declared.node.Node.{Node}
-use Rattle.rule_model.specs.Children.{alone, child, free}
-use Rattle.rule_model.specs.Control.{after_body, after_next, turn, turns}
-use Rattle.rule_model.specs.Evaluator.{eval}
-use Rattle.rule_model.specs.Expressions.{then_truth}
-use Rattle.rule_model.specs.Outcome.{Act, Outcome, State, Ends, Waits, Meaning, paid, then_code, then_value}
-use Rattle.rule_model.specs.Outcome.{heard_code}
-use Rattle.rule_model.specs.Setting.{Setting, Inner}
-use Rattle.rule_model.specs.declared.code.Code.{Code}
-use Rattle.rule_model.specs.declared.code.Code.TheVariants.{Value, Raised, Return, Break, Continue}
-use Rattle.rule_steps.specs.Goes.{body_goes, next_goes}
+use Rattle.plain_eval.proofs.Vocabulary
+use Vocabulary.{◌≡◌, refl, sym, ℕ, zero, suc, ◌+◌, ◌-◌, ◌<◌, ◌≤◌, List, [], ◌∷◌, ◌++◌, Bool, true}
+use Vocabulary.{false, Result, Ok, Err, arith, budget_spent, node_view, Node, alone, child, free}
+use Vocabulary.{after_body, after_next, turn, turns, eval, Act, Outcome, State, Ends, Waits}
+use Vocabulary.{Meaning, then_code, Setting, Inner, Code, Value, Raised, body_goes, next_goes, Is}
+use Vocabulary.{after_end, ended, going, TurnRan, loop_tree, Stand, from, EndsAs, Ran, GoesOn, Then}
+use Vocabulary.{Stops, End, Halted}
 use Rattle.rule_steps.specs.declared.goes.Goes.{Goes}
-use Rattle.rule_steps.specs.declared.goes.Goes.TheVariants as goes
-use Rattle.plain_eval.specs.End.{Is, after_end, ended, going, value_in}
-use Rattle.plain_eval.specs.Ran.{TurnRan, loop_tree}
-use Rattle.plain_eval.specs.Stand.{Stand, from, EndsAs, Ran, GoesOn, Then, Stops, Gave}
 use Rattle.plain_eval.specs.declared.loops.Loop.{Loop}
-use Rattle.plain_eval.specs.declared.run.End.{End}
+use Rattle.rule_steps.specs.declared.goes.Goes.TheVariants as goes
 use Rattle.plain_eval.specs.declared.run.End.TheVariants as end
-use Rattle.plain_eval.specs.declared.run.Halted.{Halted}
 use Rattle.plain_eval.proofs.InExpressions.{tested, then_goes, then_stops}
 use Rattle.plain_eval.proofs.InWords.{child_by}
-use Rattle.plain_eval.proofs.Steps.{at_stand, code_goes_unheard, goes_then, is_code, spend_fails, spend_goes, spent}
+use Rattle.plain_eval.proofs.Steps.{at_stand, goes_by, code_goes_unheard, is_code, spend_fails}
+use Rattle.plain_eval.proofs.Steps.{spend_goes}
+use Rattle.plain_eval.proofs.Steps.{spent}
 use Rattle.plain_eval.proofs.Steps.{value_goes, value_stops}
 
 abbrev Go : Type 0 → Type 0
@@ -37,20 +26,14 @@ by_goes goes.On go code st = go st
 by_goes goes.Over go code st = Ends (Value []) st
 by_goes goes.Ends go code st = Ends code st
 
-going_on : (g : Goes) → going g ≡ Ok true → g ≡ goes.On
-going_on goes.On h = refl
-going_on other h = cc
-
-going_over : (g : Goes) → going g ≡ Ok false → g ≡ goes.Over
-going_over goes.Over h = refl
-going_over other h = cc
-
-going_ends : (g : Goes) (h : Halted) → going g ≡ Err h → g ≡ goes.Ends
-going_ends goes.Ends h is = refl
-going_ends other h is = cc
+going_same : (g h : Goes) → going g ≡ going h → g ≡ h
+going_same goes.On goes.On e = refl
+going_same goes.Over goes.Over e = refl
+going_same goes.Ends goes.Ends e = refl
+going_same other another e = cc
 
 module _ {H : Type 0} where
-  body_by : (go : State H → Outcome H) (c : Code) (st : State H) → after_body go c st ≡ by_goes (body_goes c) go c st
+  pub body_by : (go : State H → Outcome H) (c : Code) (st : State H) → after_body go c st ≡ by_goes (body_goes c) go c st
   body_by go (Value v) st = refl
   body_by go other st = refl
 
@@ -61,39 +44,27 @@ module _ {H : Type 0} where
   -- a body that isn't heard, and what the loop does after its end
   module _ (after : Go H) (of : Code → Goes) (by : (go : State H → Outcome H) (c : Code) (st : State H) → after go c st ≡ by_goes (of c) go c st)
       (deaf : (go : State H → Outcome H) (v : List ℕ) (st : State H) → after go (Value v) st ≡ after go (Value []) st) where
-    on_by : (o : Outcome H) (go : State H → Outcome H) (e : End) (mid : Stand H) (w : Bool) (end : End) (last : Stand H) → after_end of e ≡ Ok true → EndsAs false o e mid
+    pub on_by : (o : Outcome H) (go : State H → Outcome H) (e : End) (mid : Stand H) (w : Bool) (end : End) (last : Stand H) → after_end of e ≡ Ok true → EndsAs false o e mid
         → ((c : ℕ) (a : List Act) → EndsAs w (go (from mid c a)) end last) → EndsAs w (then_code o (after go)) end last
     on_by o go (end.Done d) mid w end last is m h =
-        code_goes_unheard o (after go) d mid w end last (deaf go) m (λ c a. rw (by go d (from mid c a), going_on (of d) is) (h c a))
+        code_goes_unheard o (after go) d mid w end last (deaf go) m (λ c a. rw (by go d (from mid c a), going_same (of d) goes.On is) (h c a))
     on_by o go (end.Waits call) mid w end last is m h = cc
     on_by o go end.Memory mid w end last is m h = cc
 
-    over_by : (o : Outcome H) (go : State H → Outcome H) (e : End) (mid : Stand H) (w : Bool) → after_end of e ≡ Ok false → EndsAs false o e mid
+    pub over_by : (o : Outcome H) (go : State H → Outcome H) (e : End) (mid : Stand H) (w : Bool) → after_end of e ≡ Ok false → EndsAs false o e mid
         → EndsAs w (then_code o (after go)) (end.Done (Value [])) mid
     over_by o go (end.Done d) mid w is m =
-        code_goes_unheard o (after go) d mid w (end.Done (Value [])) mid (deaf go) m (λ c a. rw (by go d (from mid c a), going_over (of d) is) (at_stand w (Value []) mid c a))
+        code_goes_unheard o (after go) d mid w (end.Done (Value [])) mid (deaf go) m (λ c a. rw (by go d (from mid c a), going_same (of d) goes.Over is) (at_stand w (Value []) mid c a))
     over_by o go (end.Waits call) mid w is m = cc
     over_by o go end.Memory mid w is m = cc
 
-    ends_by : (o : Outcome H) (go : State H → Outcome H) (e : End) (h : Halted) (mid : Stand H) (w : Bool) → after_end of e ≡ Err h → EndsAs false o e mid
+    pub ends_by : (o : Outcome H) (go : State H → Outcome H) (e : End) (h : Halted) (mid : Stand H) (w : Bool) → after_end of e ≡ Err h → EndsAs false o e mid
         → EndsAs w (then_code o (after go)) e mid
     ends_by o go (end.Done d) h mid w is m =
-        code_goes_unheard o (after go) d mid w (end.Done d) mid (deaf go) m (λ c a. rw (by go d (from mid c a), going_ends (of d) h is) (at_stand w d mid c a))
+        code_goes_unheard o (after go) d mid w (end.Done d) mid (deaf go) m (λ c a. rw (by go d (from mid c a), going_same (of d) goes.Ends is) (at_stand w d mid c a))
     ends_by (Ends c st) go (end.Waits call) h mid w is m = absurd m
     ends_by (Waits p asked st) go (end.Waits call) h mid w is m = m
     ends_by o go end.Memory h mid w is m = tt
-
-  pub body_on : (o : Outcome H) (go : State H → Outcome H) (e : End) (mid : Stand H) (w : Bool) (end : End) (last : Stand H) → after_end body_goes e ≡ Ok true → EndsAs false o e mid
-      → ((c : ℕ) (a : List Act) → EndsAs w (go (from mid c a)) end last) → EndsAs w (then_code o (after_body go)) end last
-  body_on o go e mid w end last is m h = on_by after_body body_goes body_by (λ go v st. refl) o go e mid w end last is m h
-
-  pub body_over : (o : Outcome H) (go : State H → Outcome H) (e : End) (mid : Stand H) (w : Bool) → after_end body_goes e ≡ Ok false → EndsAs false o e mid
-      → EndsAs w (then_code o (after_body go)) (end.Done (Value [])) mid
-  body_over o go e mid w is m = over_by after_body body_goes body_by (λ go v st. refl) o go e mid w is m
-
-  pub body_ends : (o : Outcome H) (go : State H → Outcome H) (e : End) (h : Halted) (mid : Stand H) (w : Bool) → after_end body_goes e ≡ Err h → EndsAs false o e mid
-      → EndsAs w (then_code o (after_body go)) e mid
-  body_ends o go e h mid w is m = ends_by after_body body_goes body_by (λ go v st. refl) o go e h mid w is m
 
 -- ---- turns
 module _ {H : Type 0} (g : Setting H) (i : Inner H) (parts : Loop) where
@@ -152,18 +123,18 @@ module _ {H : Type 0} (g : Setting H) (i : Inner H) (parts : Loop) where
   pub body_breaks : {b mid out : Stand H} (n : ℕ) (e : End) → Tested b true mid → 0 < mid.budget → Ran false (eval g i (node_view parts.body.now)) (spent mid) e out → after_end body_goes e ≡ Ok false
       → Ran true (turns_left (suc n)) b (end.Done (Value [])) out
   body_breaks {mid = mid} {out = out} n e t some ran is = in_turn n (end.Done (Value [])) t some (λ path c a.
-      body_over (body_at path (from (spent mid) c a)) (behind n path) e out true is (child_by g i free 3 (node_view parts.body.now) ran path c a))
+      over_by after_body body_goes body_by (λ go v st. refl) (body_at path (from (spent mid) c a)) (behind n path) e out true is (child_by g i free 3 (node_view parts.body.now) ran path c a))
 
   pub body_halts : {b mid out : Stand H} (n : ℕ) (e : End) (h : Halted) → Tested b true mid → 0 < mid.budget → Ran false (eval g i (node_view parts.body.now)) (spent mid) e out → after_end body_goes e ≡ Err h
       → Ran true (turns_left (suc n)) b e out
   body_halts {mid = mid} {out = out} n e h t some ran is = in_turn n e t some (λ path c a.
-      body_ends (body_at path (from (spent mid) c a)) (behind n path) e h out true is (child_by g i free 3 (node_view parts.body.now) ran path c a))
+      ends_by after_body body_goes body_by (λ go v st. refl) (body_at path (from (spent mid) c a)) (behind n path) e h out true is (child_by g i free 3 (node_view parts.body.now) ran path c a))
 
   -- and what comes behind it
   behind_body : {b mid out last : Stand H} (n : ℕ) (e end : End) → Tested b true mid → 0 < mid.budget → Ran false (eval g i (node_view parts.body.now)) (spent mid) e out → after_end body_goes e ≡ Ok true
       → ((path : List ℕ) (c : ℕ) (a : List Act) → EndsAs true (behind n path (from out c a)) end last) → Ran true (turns_left (suc n)) b end last
   behind_body {mid = mid} {out = out} {last = last} n e end t some ran is h = in_turn n end t some (λ path c a.
-      body_on (body_at path (from (spent mid) c a)) (behind n path) e out true end last is (child_by g i free 3 (node_view parts.body.now) ran path c a) (h path))
+      on_by after_body body_goes body_by (λ go v st. refl) (body_at path (from (spent mid) c a)) (behind n path) e out true end last is (child_by g i free 3 (node_view parts.body.now) ran path c a) (h path))
 
   pub turn_ends : {b mid out last : Stand H} (e f : End) (r : Result Bool Halted) → Tested b true mid → 0 < mid.budget → Ran false (eval g i (node_view parts.body.now)) (spent mid) e out → after_end body_goes e ≡ Ok true
       → Ran false (eval g i (node_view parts.next.now)) out f last → r ≡ after_end next_goes f → TurnRan turns_left b r f last
@@ -179,23 +150,19 @@ module _ {H : Type 0} (g : Setting H) (i : Inner H) (parts : Loop) where
   -- the whole loop, from what starts it on
   pub loop_starts : {b mid : Stand H} (start : Node) (e : End) (u : Unit {0}) → Ok u ≡ ended e → Ran false (eval g i (node_view start)) b e mid
       → GoesOn true (eval g i (loop_tree start parts)) b (turns_left mid.budget) mid
-  loop_starts {b = b} {mid = mid} start e u value ran = record {
-    closes = λ end last r. record {
-      by = λ path cost acts.
-          value_goes false (child free 0 (node_view start) (eval g i (node_view start)) path (from b (cost + 1) acts)) (λ v t. turns_left t.budget path t) e u mid true end last value (child_by g i free 0 (node_view start) ran path (cost + 1) acts)
-          (λ v c a same. r.by path c a);
-    };
-  }
+  loop_starts {mid = mid} start e u value ran = goes_by (λ end last r path cost acts.
+      value_goes false _ _ e u mid true end last value (child_by g i free 0 (node_view start) ran path (cost + 1) acts) (λ v c a same. r.by path c a))
 
   pub loop_stops : {b mid : Stand H} (start : Node) (e : End) (h : Halted) → Err h ≡ ended e → Ran false (eval g i (node_view start)) b e mid → Ran true (eval g i (loop_tree start parts)) b e mid
-  loop_stops {b = b} {mid = mid} start e h none ran = record {
-    by = λ path cost acts.
-        value_stops false true (child free 0 (node_view start) (eval g i (node_view start)) path (from b (cost + 1) acts)) (λ v t. turns_left t.budget path t) e h mid none (child_by g i free 0 (node_view start) ran path (cost + 1) acts);
-  }
+  loop_stops {mid = mid} start e h none ran =
+      record { by = λ path cost acts. value_stops false true _ _ e h mid none (child_by g i free 0 (node_view start) ran path (cost + 1) acts) }
 
 -- a turn less is left
 pub one_less : (most k : ℕ) → k < most → most - k ≡ suc (most - (k + 1))
 one_less most k there = omega arith
+
+pub all_left : (most : ℕ) → most - 0 ≡ most
+all_left most = omega arith
 
 pub none_left : (most k : ℕ) → most ≤ k → most - k ≡ zero
 none_left most k over = omega arith

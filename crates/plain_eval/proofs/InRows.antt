@@ -1,37 +1,22 @@
 -- The turns of a `foreach`.
-use Rattle.std.proofs.Common.{◌≡◌, refl, sym, ap, ◌∙◌, ℕ, zero, suc, ◌+◌, ◌-◌, ◌<◌, ◌≤◌, List, []}
-use Rattle.std.proofs.Common.{Bool, true, false, Option, Result, Ok, Err, arith, length}
-use Rattle.std.proofs.Common.{Some, None, Vec, codes}
-use Rattle.std.specs.Prelude.{IsOk, map}
-use Rattle.std.specs.declared.alloc.Global.{Global}
-use Rattle.px_bytes.specs.FaultText.{syntax_error}
-use Rattle.rule_steps.specs.GivesAs.{GivesAs}
-use Rattle.rule_steps.specs.Rows.{if_some, rows_view}
+use Rattle.plain_eval.proofs.Vocabulary
+use Vocabulary.{◌≡◌, sym, ℕ, ◌+◌, ◌-◌, ◌<◌, List, [], Bool, true, false, Option, Result, Ok, Err}
+use Vocabulary.{Some, None, Vec, codes, IsOk, Global, syntax_error, GivesAs, if_some, rows_view}
+use Vocabulary.{budget_spent, Raise, TclFault, Level, Scopes, Changed, Does, Fails, after_body}
+use Vocabulary.{most_turns, Row, row_loop, rows_command, turn_assigned, Act, Outcome, State, Ends}
+use Vocabulary.{Meaning, changed, code_of, then_code, then_value, Value, Raised, body_goes, Is}
+use Vocabulary.{after_end, kept, kept_end, raise_end, Stand, from, EndsAs, Ran, GoesOn, End, Halted}
+use Vocabulary.{child, Node, node_view, free, refl, ◌≤◌, row_view, setting_of, meaning_of, map}
+use Rattle.rule_model.specs.Host.{HostStep}
 use Rattle.rule_steps.specs.declared.rows.Row as code
-use Rattle.px_bytes.specs.FaultText.{budget_spent}
-use Rattle.px_bytes.specs.declared.fault.Raise.{Raise}
+use Rattle.plain_eval.specs.declared.context.Context.{Context}
 use Rattle.px_bytes.specs.declared.fault.Raise.TheVariants as raise
-use Rattle.px_bytes.specs.declared.fault.TclFault.{TclFault}
-use Rattle.tcl_vars.specs.Scopes.{Level, Scopes}
-use Rattle.tcl_var_commands.specs.Changed.{Changed, Does, Stops as Fails}
-use Rattle.rule_model.specs.Control.{after_body, most_turns, Row, row_loop, rows_command, turn_assigned}
-use Rattle.rule_model.specs.Outcome.{Act, Outcome, State, Ends, Meaning, changed, code_of, then_code}
-use Rattle.rule_model.specs.Outcome.{then_value}
-use Rattle.rule_model.specs.declared.code.Code.TheVariants.{Value, Raised}
-use Rattle.rule_steps.specs.Goes.{body_goes}
-use Rattle.plain_eval.specs.End.{Is, after_end, kept, kept_end, raise_end}
-use Rattle.plain_eval.specs.Stand.{Stand, from, EndsAs, Ran, GoesOn}
-use Rattle.plain_eval.specs.declared.run.End.{End}
 use Rattle.plain_eval.specs.declared.run.End.TheVariants as end
-use Rattle.plain_eval.specs.declared.run.Halted.{Halted}
-use Rattle.plain_eval.proofs.InLoops.{body_ends, body_on, body_over}
+use Rattle.plain_eval.proofs.InLoops.{body_by, ends_by, none_left, on_by, one_less, over_by}
+use Rattle.plain_eval.proofs.InWords.{child_by}
 use Rattle.plain_eval.proofs.Steps.{at_stand, spend_fails, spend_goes, spent}
 
--- parameters, or what else changes variables: their fault, and that they are set
-pub set_fails : {A : Type 0} (ch : Changed) (r : Result A Raise) (h : Halted) (new : Scopes) → Err h ≡ kept r → Does ch r new → (end : End) → (P : End → Type 0) → ((x : Raise) → Fails ch x new → P (raise_end x)) → P (kept_end r end)
-set_fails ch (Ok x) h new is told end P k = cc
-set_fails ch (Err x) h new is told end P k = k x told
-
+-- what changes variables was done
 pub set_is : {A : Type 0} (ch : Changed) (r : Result A Raise) (a : A) (new : Scopes) → Ok a ≡ kept r → Does ch r new → IsOk ch.value × (new ≡ ch.vars)
 set_is ch (Ok x) a new is told = told
 set_is ch (Err x) a new is told = cc
@@ -56,65 +41,72 @@ module _ {H : Type 0} where
   change_fails ch (raise.Fault f) new s c a go w h = rw (h.0, h.1) (at_stand w (Raised f) (with_vars ch.vars s) c a)
   change_fails ch raise.Memory new s c a go w h = tt
 
-module _ {H : Type 0} (statics : Option Level) (rows : List Row) (body : Meaning H) where
+module _ {E H : Type 0} (table : E → H → List (List ℕ) → HostStep H) (context : Context E) (rs : List code.Row) (n : Node) (p : ℕ) where
+  abbrev rows : List Row
+  rows = map row_view rs
+
+  abbrev statics : Option Level
+  statics = (setting_of table context).statics
+
+  abbrev body : Meaning H
+  body = child free p (node_view n) (meaning_of table context (node_view n))
+
+  -- so many turns from this one on
+  abbrev pub rows_left : (more k : ℕ) → Meaning H
+  rows_left more k = row_loop statics rows body more k
+
   abbrev rest : ℕ → ℕ → List ℕ → State H → Outcome H
-  rest n k path t = then_code (body path t) (after_body (row_loop statics rows body n (k + 1) path))
+  rest more k path t = then_code (body path t) (after_body (rows_left more (k + 1) path))
 
   abbrev turn_in : ℕ → ℕ → List ℕ → State H → Outcome H
-  turn_in n k path s = then_value (changed (turn_assigned statics k rows s.vars) s) (λ v t. rest n k path t)
+  turn_in more k path s = then_value (changed (turn_assigned statics k rows s.vars) s) (λ v t. rest more k path t)
 
-  abbrev pub Set : ℕ → Stand H → Scopes → Type 0
-  Set k s new = IsOk (turn_assigned statics k rows s.vars).value × (new ≡ (turn_assigned statics k rows s.vars).vars)
+  in_turn : (most k : ℕ) (new : Scopes) {s out : Stand H} (e : End) (q : Result (Unit {0}) Raise) (u : Unit {0}) → k < most → 0 < s.budget → Ok u ≡ kept q → Does (turn_assigned statics k rows s.vars) q new
+      → ((path : List ℕ) (c : ℕ) (a : List Act) → EndsAs true (rest (most - (k + 1)) k path (from (with_vars new (spent s)) c a)) e out) → Ran true (rows_left (most - k) k) s e out
+  in_turn most k new {s = s} {out = out} e q u there some set did h = rw (one_less most k there) (record {
+    by = λ path cost acts. spend_goes (turn_in (most - (k + 1)) k path) s cost acts true e out some
+        (change_goes (turn_assigned statics k rows s.vars) new (spent s) (cost + 1) acts (rest (most - (k + 1)) k path) true e out (set_is _ q u new set did) (h path (cost + 1) acts));
+  })
 
-  abbrev pub Body : Stand H → End → Stand H → Type 0
-  Body b e out = (path : List ℕ) (c : ℕ) (a : List Act) → EndsAs false (body path (from b c a)) e out
+  -- a turn whose body went so: the next one follows, the loop is over, or it ends so
+  abbrev pub RowRan : (most k : ℕ) → Stand H → Result Bool Halted → End → Stand H → Type 0
+  RowRan most k s (Ok true) e out = GoesOn true (rows_left (most - k) k) s (rows_left (most - (k + 1)) (k + 1)) out
+  RowRan most k s (Ok false) e out = Ran true (rows_left (most - k) k) s (end.Done (Value [])) out
+  RowRan most k s (Err h) e out = Ran true (rows_left (most - k) k) s e out
 
-  in_turn : (n k : ℕ) (new : Scopes) (s out : Stand H) (e : End) → 0 < s.budget → Set k s new
-      → ((path : List ℕ) (c : ℕ) (a : List Act) → EndsAs true (rest n k path (from (with_vars new (spent s)) c a)) e out) → Ran true (row_loop statics rows body (suc n) k) s e out
-  in_turn n k new s out e some set h = record {
-    by = λ path cost acts. spend_goes (turn_in n k path) s cost acts true e out some
-        (change_goes (turn_assigned statics k rows s.vars) new (spent s) (cost + 1) acts (rest n k path) true e out set (h path (cost + 1) acts));
+  pub row_ran : (most k : ℕ) (new : Scopes) (s out : Stand H) (e : End) (q : Result (Unit {0}) Raise) (u : Unit {0}) (r : Result Bool Halted) → k < most → 0 < s.budget → Ok u ≡ kept q → Does (turn_assigned statics k rows s.vars) q new → Ran false (meaning_of table context (node_view n)) (with_vars new (spent s)) e out → r ≡ after_end body_goes e
+      → RowRan most k s r e out
+  row_ran most k new s out e q u (Ok true) there some set did ran is = record {
+    closes = λ end last r. in_turn most k new end q u there some set did (λ path c a.
+        on_by after_body body_goes body_by (λ go v st. refl) _ (rows_left (most - (k + 1)) (k + 1) path) e out true end last (sym is) (child_by _ _ free p (node_view n) ran path c a) (λ c a. r.by path c a));
   }
+  row_ran most k new s out e q u (Ok false) there some set did ran is = in_turn most k new (end.Done (Value [])) q u there some set did (λ path c a.
+      over_by after_body body_goes body_by (λ go v st. refl) _ (rows_left (most - (k + 1)) (k + 1) path) e out true (sym is) (child_by _ _ free p (node_view n) ran path c a))
+  row_ran most k new s out e q u (Err h) there some set did ran is = in_turn most k new e q u there some set did (λ path c a.
+      ends_by after_body body_goes body_by (λ go v st. refl) _ (rows_left (most - (k + 1)) (k + 1) path) e h out true (sym is) (child_by _ _ free p (node_view n) ran path c a))
 
-  pub rows_next : (n k : ℕ) (new : Scopes) (s out : Stand H) (e : End) → 0 < s.budget → Set k s new → Body (with_vars new (spent s)) e out → after_end body_goes e ≡ Ok true
-      → GoesOn true (row_loop statics rows body (suc n) k) s (row_loop statics rows body n (k + 1)) out
-  rows_next n k new s out e some set ran is = record {
-    closes = λ end last r. in_turn n k new s last end some set (λ path c a.
-        body_on (body path (from (with_vars new (spent s)) c a)) (row_loop statics rows body n (k + 1) path) e out true end last is (ran path c a) (λ c a. r.by path c a));
-  }
+  pub rows_unset : (most k : ℕ) (new : Scopes) (s : Stand H) (r : Result (Unit {0}) Raise) (h : Halted) (end : End) → k < most → 0 < s.budget → Err h ≡ kept r → Does (turn_assigned statics k rows s.vars) r new
+      → Ran true (rows_left (most - k) k) s (kept_end r end) (with_vars new (spent s))
+  rows_unset most k new s (Ok u) h end there some none did = cc
+  rows_unset most k new s (Err x) h end there some none fails = rw (one_less most k there) (record {
+    by = λ path cost acts. spend_goes (turn_in (most - (k + 1)) k path) s cost acts true (raise_end x) (with_vars new (spent s)) some
+        (change_fails (turn_assigned statics k rows s.vars) x new (spent s) (cost + 1) acts (rest (most - (k + 1)) k path) true fails);
+  })
 
-  pub rows_over : (n k : ℕ) (new : Scopes) (s out : Stand H) (e : End) → 0 < s.budget → Set k s new → Body (with_vars new (spent s)) e out → after_end body_goes e ≡ Ok false
-      → Ran true (row_loop statics rows body (suc n) k) s (end.Done (Value [])) out
-  rows_over n k new s out e some set ran is = in_turn n k new s out (end.Done (Value [])) some set (λ path c a.
-      body_over (body path (from (with_vars new (spent s)) c a)) (row_loop statics rows body n (k + 1) path) e out true is (ran path c a))
+  pub rows_unpaid : (most k : ℕ) (s : Stand H) (e : End) → k < most → s.budget ≡ 0 → Is (Raised budget_spent) e → Ran true (rows_left (most - k) k) s e s
+  rows_unpaid most k s e there none fault =
+      rw (one_less most k there) (record { by = λ path cost acts. spend_fails (turn_in (most - (k + 1)) k path) s e cost acts true none fault })
 
-  pub rows_halt : (n k : ℕ) (new : Scopes) (s out : Stand H) (e : End) (h : Halted) → 0 < s.budget → Set k s new → Body (with_vars new (spent s)) e out → after_end body_goes e ≡ Err h
-      → Ran true (row_loop statics rows body (suc n) k) s e out
-  rows_halt n k new s out e h some set ran is = in_turn n k new s out e some set (λ path c a.
-      body_ends (body path (from (with_vars new (spent s)) c a)) (row_loop statics rows body n (k + 1) path) e h out true is (ran path c a))
-
-  pub rows_unset : (n k : ℕ) (new : Scopes) (s : Stand H) (x : Raise) → 0 < s.budget → Fails (turn_assigned statics k rows s.vars) x new
-      → Ran true (row_loop statics rows body (suc n) k) s (raise_end x) (with_vars new (spent s))
-  rows_unset n k new s x some fails = record {
-    by = λ path cost acts. spend_goes (turn_in n k path) s cost acts true (raise_end x) (with_vars new (spent s)) some
-        (change_fails (turn_assigned statics k rows s.vars) x new (spent s) (cost + 1) acts (rest n k path) true fails);
-  }
-
-  pub rows_unpaid : (n k : ℕ) (s : Stand H) (e : End) → s.budget ≡ 0 → Is (Raised budget_spent) e → Ran true (row_loop statics rows body (suc n) k) s e s
-  rows_unpaid n k s e none fault = record { by = λ path cost acts. spend_fails (turn_in n k path) s e cost acts true none fault }
-
-  pub rows_done : (k : ℕ) (s : Stand H) → Ran true (row_loop statics rows body zero k) s (end.Done (Value [])) s
-  rows_done k s = record { by = λ path cost acts. at_stand true (Value []) s cost acts }
+  pub rows_done : (most k : ℕ) (s : Stand H) → most ≤ k → Ran true (rows_left (most - k) k) s (end.Done (Value [])) s
+  rows_done most k s over = rw (none_left most k over) (record { by = λ path cost acts. at_stand true (Value []) s cost acts })
 
 -- the rows of these words, or that they are none
-each_by : {H : Type 0} (statics : Option Level) (body : Meaning H) (o : Option (List Row)) (f : TclFault) (s : Stand H) → if_some o ≡ Err f → Ran true (rows_command statics body o) s (end.Done (Raised f)) s
-each_by statics body (Some rows) f s is = cc
-each_by statics body None f s is = let same : syntax_error (codes "foreach") ≡ f = cc in rw (sym same) (record { by = λ path cost acts. at_stand true (Raised (syntax_error (codes "foreach"))) s cost acts })
-
 pub each_kept : {H : Type 0} (statics : Option Level) (body : Meaning H) (o : Option (List Row)) (r : Result (Vec code.Row Global) Raise) (h : Halted) (end : End) (s : Stand H) → Err h ≡ kept r → GivesAs rows_view r (if_some o)
     → Ran true (rows_command statics body o) s (kept_end r end) s
 each_kept statics body o (Ok rows) h end s is told = cc
-each_kept statics body o (Err (raise.Fault f)) h end s is told = each_by statics body o f s told
+each_kept statics body (Some rows) (Err (raise.Fault f)) h end s is told = cc
+each_kept statics body None (Err (raise.Fault f)) h end s is told =
+    let same : syntax_error (codes "foreach") ≡ f = cc in rw (sym same) (record { by = λ path cost acts. at_stand true (Raised (syntax_error (codes "foreach"))) s cost acts })
 each_kept statics body o (Err raise.Memory) h end s is told = record { by = λ path cost acts. tt }
 
 pub each_rows_are : {H : Type 0} (statics : Option Level) (body : Meaning H) (o : Option (List Row)) (rows : List Row) {s : Stand H} {e : End} {a : Stand H} → if_some o ≡ Ok rows → Ran true (row_loop statics rows body (most_turns rows) 0) s e a

@@ -1,24 +1,14 @@
 -- Commands one after another.
-use Rattle.std.proofs.Common.{◌≡◌, refl, sym, ap, ◌∙◌, ℕ, ◌+◌, ◌<◌, ◌≤◌, List, [], ◌∷◌, ◌++◌, length}
-use Rattle.std.proofs.Common.{Bool, true, false, Result, Ok, Err, arith, drop, get_or}
-use Rattle.std.proofs.lemmas.List.{drop_all, nil_from_length}
-use Rattle.px_bytes.specs.FaultText.{budget_spent}
-use Rattle.tcl_compile.specs.Tree.{script, trees_of}
-use Rattle.tcl_compile.specs.TreeView.{node_view, nodes_view}
-use Rattle.tcl_compile.specs.declared.node.Node.{Node}
-use Rattle.rule_model.specs.Children.{child, free}
-use Rattle.rule_model.specs.Evaluator.{eval, evals}
-use Rattle.rule_model.specs.Outcome.{Meaning, Outcome, State, then_value, heard_code}
-use Rattle.rule_model.specs.Setting.{Setting, Inner}
-use Rattle.rule_model.specs.Words.{commands}
-use Rattle.rule_model.specs.declared.code.Code.TheVariants.{Value, Raised}
-use Rattle.plain_eval.specs.End.{Is, ended, value_in}
-use Rattle.plain_eval.specs.Stand.{Stand, from, EndsAs, Ran}
-use Rattle.plain_eval.specs.declared.run.End.{End}
+use Rattle.plain_eval.proofs.Vocabulary
+use Vocabulary.{◌≡◌, refl, ℕ, ◌+◌, ◌<◌, ◌≤◌, List, [], ◌∷◌, ◌++◌, length, Bool, false, Result, Ok}
+use Vocabulary.{Err, drop, get_or, drop_all, nil_from_length, budget_spent, script, trees_of}
+use Vocabulary.{node_view, nodes_view, Node, free, eval, evals, Meaning, heard_code, Setting, Inner}
+use Vocabulary.{commands, Value, Raised, Is, ended, value_in, Stand, from, Ran, End, Halted, State}
+use Vocabulary.{Outcome, then_value, child}
 use Rattle.plain_eval.specs.declared.run.End.TheVariants as end
-use Rattle.plain_eval.specs.declared.run.Halted.{Halted}
 use Rattle.plain_eval.proofs.InWords.{child_by, split_at}
-use Rattle.plain_eval.proofs.Steps.{at_stand, spend_fails, spend_goes, spent, told_value, value_goes, value_stops}
+use Rattle.plain_eval.proofs.Steps.{at_stand, spend_fails, spend_goes, spent, told_value}
+use Rattle.plain_eval.proofs.Steps.{value_goes, value_stops}
 
 module _ {H : Type 0} (g : Setting H) (i : Inner H) (last : Node) where
   -- the commands from a place before the last one on, behind this value
@@ -29,35 +19,29 @@ module _ {H : Type 0} (g : Setting H) (i : Inner H) (last : Node) where
   pub record ScriptLeft (w : Bool) (whole : Meaning H) (before : Stand H) (front : List Node) (k : ℕ) (mid : Stand H) : Type 0 where
     pub closes : (e : End) (after : Stand H) → ((v : List ℕ) → Ran w (commands_left front k v) mid e after) → Ran w whole before e after
 
+  -- a command and those behind it, once its unit is paid
+  abbrev paid_by : Node → List Node → ℕ → List ℕ → State H → Outcome H
+  paid_by n rest k path s = then_value (child free k (node_view n) (eval g i (node_view n)) path s) (λ y t. commands (evals g i free (k + 1) (trees_of (nodes_view rest))) y path t)
+
   next_by : (w x : Bool) (n : Node) (rest : List Node) (k : ℕ) (v : List ℕ) (e : End) (u : Unit {0}) {b mid : Stand H} {end : End} {after : Stand H} → 0 < b.budget
       → Ok u ≡ ended e → Ran x (eval g i (node_view n)) (spent b) e mid
       → ((y : List ℕ) → heard_code x (Value y) ≡ heard_code x (Value (value_in e)) → Ran w (commands (evals g i free (k + 1) (trees_of (nodes_view rest))) y) mid end after)
       → Ran w (commands (evals g i free k (trees_of (nodes_view (n ∷ rest)))) v) b end after
   next_by w x n rest k v e u {b = b} {mid = mid} {end = end} {after = after} some value ran r = record {
-    by = λ path cost acts.
-        let go = λ (y : List ℕ) (t : State H). commands (evals g i free (k + 1) (trees_of (nodes_view rest))) y path t in
-        spend_goes (λ s. then_value (child free k (node_view n) (eval g i (node_view n)) path s) go) b cost acts w end after some
-        (value_goes x (child free k (node_view n) (eval g i (node_view n)) path (from (spent b) (cost + 1) acts)) go e u mid w end after value (child_by g i free k (node_view n) ran path (cost + 1) acts)
-        (λ y c a same. (r y same).by path c a));
+    by = λ path cost acts. spend_goes (paid_by n rest k path) b cost acts w end after some
+        (value_goes x _ _ e u mid w end after value (child_by g i free k (node_view n) ran path (cost + 1) acts) (λ y c a same. (r y same).by path c a));
   }
 
   stops_by : (w x : Bool) (n : Node) (rest : List Node) (k : ℕ) (v : List ℕ) (e : End) (h : Halted) {b mid : Stand H} → 0 < b.budget
       → Err h ≡ ended e → Ran x (eval g i (node_view n)) (spent b) e mid
       → Ran w (commands (evals g i free k (trees_of (nodes_view (n ∷ rest)))) v) b e mid
   stops_by w x n rest k v e h {b = b} {mid = mid} some none ran = record {
-    by = λ path cost acts.
-        let go = λ (y : List ℕ) (t : State H). commands (evals g i free (k + 1) (trees_of (nodes_view rest))) y path t in
-        spend_goes (λ s. then_value (child free k (node_view n) (eval g i (node_view n)) path s) go) b cost acts w e mid some
-        (value_stops x w (child free k (node_view n) (eval g i (node_view n)) path (from (spent b) (cost + 1) acts)) go e h mid none (child_by g i free k (node_view n) ran path (cost + 1) acts));
+    by = λ path cost acts. spend_goes (paid_by n rest k path) b cost acts w e mid some (value_stops x w _ _ e h mid none (child_by g i free k (node_view n) ran path (cost + 1) acts));
   }
 
   unpaid_by : (w : Bool) (n : Node) (rest : List Node) (k : ℕ) (v : List ℕ) (e : End) {b : Stand H} → b.budget ≡ 0 → Is (Raised budget_spent) e
       → Ran w (commands (evals g i free k (trees_of (nodes_view (n ∷ rest)))) v) b e b
-  unpaid_by w n rest k v e {b = b} none fault = record {
-    by = λ path cost acts.
-        let go = λ (y : List ℕ) (t : State H). commands (evals g i free (k + 1) (trees_of (nodes_view rest))) y path t in
-        spend_fails (λ s. then_value (child free k (node_view n) (eval g i (node_view n)) path s) go) b e cost acts w none fault;
-  }
+  unpaid_by w n rest k v e {b = b} none fault = record { by = λ path cost acts. spend_fails (paid_by n rest k path) b e cost acts w none fault }
 
   -- a command before the last
   pub command_next : {w : Bool} {whole : Meaning H} {before mid out : Stand H} {front : List Node} {k : ℕ} (n : Node) (e : End) (u : Unit {0}) → ScriptLeft w whole before front k mid

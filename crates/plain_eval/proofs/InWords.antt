@@ -1,40 +1,31 @@
 -- Words in order, and the pieces of a word.
-use Rattle.std.proofs.Common.{◌≡◌, refl, sym, ap, ◌∙◌, ℕ, ◌+◌, ◌<◌, ◌≤◌, List, [], ◌∷◌, ◌++◌, length}
-use Rattle.std.proofs.Common.{Bool, true, false, Ok, Err, nat_lt, arith, drop, get_or, subst}
-use Rattle.std.specs.Prelude.{if◌then◌else◌, sum_by}
-use Rattle.std.proofs.lemmas.Bool.Decides.{nat_tests}
+use Rattle.plain_eval.proofs.Vocabulary
+use Vocabulary.{◌≡◌, refl, sym, ap, ◌∙◌, ℕ, ◌+◌, ◌<◌, ◌≤◌, List, [], ◌∷◌, ◌++◌, length, Bool, true}
+use Vocabulary.{false, Ok, Err, nat_lt, arith, drop, get_or, if◌then◌else◌, sum_by, nat_tests}
+use Vocabulary.{append-nil, append_assoc, drop_all, drop_more, too_long, text_limit, Tree, trees_of}
+use Vocabulary.{node_step, node_view, nodes_view, Node, out-Node, map-Node, fold_out-Node, Node-F}
+use Vocabulary.{child, one, eval, evals, parts, words, TclFault, Act, Outcome, State, Ends, Meaning}
+use Vocabulary.{then_value, Setting, Inner, after_piece, in_order, in_word, told, word_at, Value}
+use Vocabulary.{Raised, AddsPiece, AddsValue, Is, Limited, ended, value_in, Stand, from, EndsAs}
+use Vocabulary.{Ran, GoesOn, End, Halted}
 use Rattle.std.proofs.Math.Seq.{drop-append_seam}
-use Rattle.std.proofs.lemmas.List.{append-nil, append_assoc, drop_all, drop_more}
 use Rattle.std.proofs.lemmas.List.Sums.{sum_by-append, sum_by_push}
 use Rattle.std.specs.Bool.{MatchBool}
-use Rattle.px_bytes.specs.FaultText.{too_long}
-use Rattle.px_bytes.specs.Limit.{text_limit}
-use Rattle.tcl_compile.specs.Tree.{Tree, Trees, trees_of}
-use Rattle.tcl_compile.specs.Tree as tree
-use Rattle.tcl_compile.specs.TreeView.{node_step, node_view, nodes_view}
-use Rattle.tcl_compile.specs.declared.node.Node.{Node, out-Node, map-Node, fold_out-Node}
-use Rattle.tcl_compile.specs.declared.node.Node.TheOpen.{Node-F}
-use Rattle.rule_model.specs.Children.{child, one}
-use Rattle.rule_model.specs.Evaluator.{eval, evals, parts, words}
-use Rattle.px_bytes.specs.declared.fault.TclFault.{TclFault}
-use Rattle.rule_model.specs.Outcome.{Act, Outcome, State, Ends, Waits, Meaning, then_value}
-use Rattle.rule_model.specs.Setting.{Setting, Inner}
-use Rattle.rule_model.specs.Words.{after_piece, after_word, in_order, in_word, told, word_at}
-use Rattle.rule_model.specs.declared.code.Code.TheVariants.{Value, Raised, Return, Break, Continue}
 use Rattle.rule_steps.specs.Parts.{or_alone, parts_in}
-use Rattle.plain_eval.specs.End.{AddsPiece, AddsValue, Is, Limited, ended, value_in}
-use Rattle.plain_eval.specs.Stand.{Stand, from, EndsAs, Ran, GoesOn}
-use Rattle.plain_eval.specs.declared.run.End.{End}
+use Rattle.tcl_compile.specs.Tree as tree
 use Rattle.plain_eval.specs.declared.run.End.TheVariants as end
-use Rattle.plain_eval.specs.declared.run.Halted.{Halted}
-use Rattle.plain_eval.proofs.Steps.{at_stand, goes_self, heard_goes, is_code, no_memory, value_stops}
+use Rattle.plain_eval.proofs.Steps.{at_stand, goes_by, goes_self, heard_goes, is_code, value_stops}
 
 -- the node at a place, and those behind it
 pub split_at : {A : Type 0} (ns : List A) (k : ℕ) (n : A) → k < length ns → n ≡ get_or ns k n → drop k ns ≡ n ∷ drop (k + 1) ns
 split_at ns k n there is = drop_more ns k n there ∙ ap (λ x. x ∷ drop (k + 1) ns) (sym is)
 
-abbrev step_of : Node-F Node → Tree
+-- the tree of a node of this kind
+abbrev pub step_of : Node-F Node → Tree
 step_of f = node_step (map-Node Node Tree node_view f)
+
+pub view_is : {n m : Node} → n ≡ m → node_view n ≡ step_of (out-Node m)
+view_is {m = m} e = ap node_view e ∙ fold_out-Node Tree node_step m
 
 pub total_more : (n t u : ℕ) (vs new : List (List ℕ)) (v : List ℕ) → t ≡ n + sum_by length vs → u ≡ t + length v → new ≡ vs ++ v ∷ [] → u ≡ n + sum_by length new
 total_more n t u vs new v a b is = let s = sum_by_push length vs v in rw is (omega (arith, s, a, b))
@@ -72,40 +63,10 @@ module _ {H : Type 0} (g : Setting H) (i : Inner H) where
       → (path : List ℕ) (cost : ℕ) (acts : List Act) → EndsAs w (child p k t (eval g i t) path (from b cost acts)) e a
   child_by p k t r path cost acts = r.by (path ++ k ∷ []) (cost + p t) acts
 
-  pub word_next : (w : Bool) (finish : List (List ℕ) → Meaning H) (p : Tree → ℕ) (ns : List Node) (k m : ℕ) (n : Node) (done : List (List ℕ)) (e : End) (u : Unit {0}) {b mid : Stand H}
-      → k < length ns → n ≡ get_or ns k n → Ok u ≡ ended e → Word n b e mid → sum_by length (done ++ value_in e ∷ []) ≤ text_limit
-      → GoesOn w (words_left finish p ns k m done) b (words_left finish p ns (k + 1) (m + 1) (done ++ value_in e ∷ [])) mid
-  word_next w finish p ns k m n done e u {b = b} {mid = mid} there is value ran fits = record {
-    closes = λ end last r. record {
-      by = λ path cost acts.
-          let rest = words g i p (m + 1) (trees_of (nodes_view (drop (k + 1) ns))) in
-          let t : nat_lt text_limit (sum_by length (done ++ value_in e ∷ [])) ≡ false = grind (arith, nat_tests) in
-          rw (split_at ns k n there is)
-          (heard_goes (word_at m (parts g i p (node_view n) (eval g i (node_view n))) path (from b cost acts)) (after_word (in_order finish rest) done path) e u mid w end last value (word_by p m n ran path cost acts)
-          (λ c a. rw t (r.by path c a)));
-    };
-  }
-
   pub word_stops : (w : Bool) (finish : List (List ℕ) → Meaning H) (p : Tree → ℕ) (ns : List Node) (k m : ℕ) (n : Node) (done : List (List ℕ)) (e : End) (h : Halted) {b mid : Stand H}
       → k < length ns → n ≡ get_or ns k n → Err h ≡ ended e → Word n b e mid → Ran w (words_left finish p ns k m done) b e mid
-  word_stops w finish p ns k m n done e h {b = b} {mid = mid} there is none ran = record {
-    by = λ path cost acts.
-        let rest = words g i p (m + 1) (trees_of (nodes_view (drop (k + 1) ns))) in
-        rw (split_at ns k n there is)
-        (value_stops true w (word_at m (parts g i p (node_view n) (eval g i (node_view n))) path (from b cost acts)) (after_word (in_order finish rest) done path) e h mid none (word_by p m n ran path cost acts));
-  }
-
-  pub word_long : (w : Bool) (finish : List (List ℕ) → Meaning H) (p : Tree → ℕ) (ns : List Node) (k m : ℕ) (n : Node) (done : List (List ℕ)) (e end : End) (u : Unit {0}) {b mid : Stand H}
-      → k < length ns → n ≡ get_or ns k n → Ok u ≡ ended e → Word n b e mid → text_limit < sum_by length (done ++ value_in e ∷ []) → Is (Raised too_long) end
-      → Ran w (words_left finish p ns k m done) b end mid
-  word_long w finish p ns k m n done e end u {b = b} {mid = mid} there is value ran long fault = record {
-    by = λ path cost acts.
-        let rest = words g i p (m + 1) (trees_of (nodes_view (drop (k + 1) ns))) in
-        let t : nat_lt text_limit (sum_by length (done ++ value_in e ∷ [])) ≡ true = grind (arith, nat_tests) in
-        rw (split_at ns k n there is)
-        (heard_goes (word_at m (parts g i p (node_view n) (eval g i (node_view n))) path (from b cost acts)) (after_word (in_order finish rest) done path) e u mid w end mid value (word_by p m n ran path cost acts)
-        (λ c a. rw t (is_code w (Raised too_long) end mid c a fault)));
-  }
+  word_stops w finish p ns k m n done e h there is none ran = rw (split_at ns k n there is)
+      (record { by = λ path cost acts. value_stops true w _ _ e h _ none (word_by p m n ran path cost acts) })
 
   -- the words of a row as the code keeps them, behind a name
   abbrev behind : (List (List ℕ) → Meaning H) → List (List ℕ) → List (List ℕ) → Meaning H
@@ -130,22 +91,23 @@ module _ {H : Type 0} (g : Setting H) (i : Inner H) where
       let all : name ++ new ≡ (name ++ values) ++ value_in e ∷ [] = ap (λ y. name ++ y) adds.2 ∙ sym (append_assoc name values (value_in e ∷ [])) in
       let long = long_of name values (value_in e) n total at sum in
       let fits : sum_by length ((name ++ values) ++ value_in e ∷ []) ≤ text_limit = omega (arith, long, adds.0, adds.1) in
-      rw (next, all) (word_next w (behind go name) p ns k (m + k) x (name ++ values) e u there is value ran fits)
+      let t : nat_lt text_limit (sum_by length ((name ++ values) ++ value_in e ∷ [])) ≡ false = grind (arith, nat_tests) in
+      rw (next, all, split_at ns k x there is) (goes_by (λ end last r path cost acts. heard_goes _ _ e u _ w end last value (word_by p (m + k) x ran path cost acts) (λ c a. rw t (r.by path c a))))
 
-  refused_by : (w : Bool) (finish : List (List ℕ) → Meaning H) (p : Tree → ℕ) (ns : List Node) (k m n : ℕ) (x : Node) (done : List (List ℕ)) (e out : End) (u : Unit {0}) (t : Bool) {b mid : Stand H}
-      → k < length ns → x ≡ get_or ns k x → Ok u ≡ ended e → Word x b e mid → sum_by length (done ++ value_in e ∷ []) ≡ n → nat_lt text_limit n ≡ t → MatchBool t (Is (Raised too_long) out) (out ≡ end.Memory)
-      → Ran w (words_left finish p ns k m done) b out mid
-  refused_by w finish p ns k m n x done e out u true there is value ran long t fault =
-      let over : text_limit < sum_by length (done ++ value_in e ∷ []) = grind (arith, nat_tests) in
-      word_long w finish p ns k m x done e out u there is value ran over fault
-  refused_by w finish p ns k m n x done e out u false there is value ran long t none = rw none (no_memory _ _ _ _)
+  -- the row is too long with it, or there is no memory
+  refused_by : (w t : Bool) (e : End) (s : Stand H) (o : Outcome H) (c : ℕ) (a : List Act) → MatchBool t (Is (Raised too_long) e) (e ≡ end.Memory)
+      → EndsAs w (if t then Ends (Raised too_long) (from s c a) else o) e s
+  refused_by w true e s o c a fault = is_code w (Raised too_long) e s c a fault
+  refused_by w false e s o c a none = rw none tt
 
   pub words_refused : (w : Bool) (go : List (List ℕ) → Meaning H) (name values new : List (List ℕ)) (p : Tree → ℕ) (ns : List Node) (k m n total : ℕ) (x : Node) (e end : End) (u : Unit {0}) (h : Halted) {b mid : Stand H}
       → k < length ns → x ≡ get_or ns k x → Ok u ≡ ended e → Word x b e mid → sum_by length name ≡ n → total ≡ n + sum_by length values → AddsValue total (value_in e) values (Err h) new end
       → Ran w (words_left (behind go name) p ns k (m + k) (name ++ values)) b end mid
-  words_refused w go name values new p ns k m n total x e end u h there is value ran at sum adds =
-      refused_by w (behind go name) p ns k (m + k) (total + length (value_in e)) x (name ++ values) e end u (nat_lt text_limit (total + length (value_in e))) there is value ran
-      (long_of name values (value_in e) n total at sum) refl adds
+  words_refused w go name values new p ns k m n total x e end u h {mid = mid} there is value ran at sum adds =
+      let long = long_of name values (value_in e) n total at sum in
+      rw (split_at ns k x there is) (record {
+        by = λ path cost acts. heard_goes _ _ e u mid w end mid value (word_by p (m + k) x ran path cost acts) (λ c a. rw long (refused_by w _ end mid _ c a adds));
+      })
 
   all_done : (w : Bool) (m n : Meaning H) (s : Stand H) → m ≡ n → GoesOn w m s n s
   all_done w m n s is = rw is (goes_self _ _ _)
@@ -158,50 +120,20 @@ module _ {H : Type 0} (g : Setting H) (i : Inner H) where
   pub piece_next : (p : Tree → ℕ) (ns : List Node) (k : ℕ) (n : Node) (text : List ℕ) (e : End) (u : Unit {0}) {b mid : Stand H}
       → k < length ns → n ≡ get_or ns k n → Ok u ≡ ended e → Ran true (eval g i (node_view n)) b e mid → length (text ++ value_in e) ≤ text_limit
       → GoesOn true (pieces_left p ns k text) b (pieces_left p ns (k + 1) (text ++ value_in e)) mid
-  piece_next p ns k n text e u {b = b} {mid = mid} there is value ran fits = record {
-    closes = λ end last r. record {
-      by = λ path cost acts.
-          let rest = evals g i p (k + 1) (trees_of (nodes_view (drop (k + 1) ns))) in
-          let t : nat_lt text_limit (length (text ++ value_in e)) ≡ false = grind (arith, nat_tests) in
-          rw (split_at ns k n there is)
-          (heard_goes (child p k (node_view n) (eval g i (node_view n)) path (from b cost acts)) (after_piece (in_word told rest) text path) e u mid true end last value (child_by p k (node_view n) ran path cost acts)
-          (λ c a. rw t (r.by path c a)));
-    };
-  }
+  piece_next p ns k n text e u there is value ran fits =
+      let t : nat_lt text_limit (length (text ++ value_in e)) ≡ false = grind (arith, nat_tests) in
+      rw (split_at ns k n there is) (goes_by (λ end last r path cost acts. heard_goes _ _ e u _ true end last value (child_by p k (node_view n) ran path cost acts) (λ c a. rw t (r.by path c a))))
 
   pub piece_stops : (p : Tree → ℕ) (ns : List Node) (k : ℕ) (n : Node) (text : List ℕ) (e : End) (h : Halted) {b mid : Stand H}
       → k < length ns → n ≡ get_or ns k n → Err h ≡ ended e → Ran true (eval g i (node_view n)) b e mid → Ran true (pieces_left p ns k text) b e mid
-  piece_stops p ns k n text e h {b = b} {mid = mid} there is none ran = record {
-    by = λ path cost acts.
-        let rest = evals g i p (k + 1) (trees_of (nodes_view (drop (k + 1) ns))) in
-        rw (split_at ns k n there is)
-        (value_stops true true (child p k (node_view n) (eval g i (node_view n)) path (from b cost acts)) (after_piece (in_word told rest) text path) e h mid none (child_by p k (node_view n) ran path cost acts));
-  }
-
-  pub piece_long : (p : Tree → ℕ) (ns : List Node) (k : ℕ) (n : Node) (text : List ℕ) (e end : End) (u : Unit {0}) {b mid : Stand H}
-      → k < length ns → n ≡ get_or ns k n → Ok u ≡ ended e → Ran true (eval g i (node_view n)) b e mid → text_limit < length (text ++ value_in e) → Is (Raised too_long) end
-      → Ran true (pieces_left p ns k text) b end mid
-  piece_long p ns k n text e end u {b = b} {mid = mid} there is value ran long fault = record {
-    by = λ path cost acts.
-        let rest = evals g i p (k + 1) (trees_of (nodes_view (drop (k + 1) ns))) in
-        let t : nat_lt text_limit (length (text ++ value_in e)) ≡ true = grind (arith, nat_tests) in
-        rw (split_at ns k n there is)
-        (heard_goes (child p k (node_view n) (eval g i (node_view n)) path (from b cost acts)) (after_piece (in_word told rest) text path) e u mid true end mid value (child_by p k (node_view n) ran path cost acts)
-        (λ c a. rw t (is_code true (Raised too_long) end mid c a fault)));
-  }
-
-  piece_refused_by : (p : Tree → ℕ) (ns : List Node) (k : ℕ) (n : Node) (text : List ℕ) (e out : End) (u : Unit {0}) (t : Bool) {b mid : Stand H}
-      → k < length ns → n ≡ get_or ns k n → Ok u ≡ ended e → Ran true (eval g i (node_view n)) b e mid → nat_lt text_limit (length (text ++ value_in e)) ≡ t → MatchBool t (Is (Raised too_long) out) (out ≡ end.Memory)
-      → Ran true (pieces_left p ns k text) b out mid
-  piece_refused_by p ns k n text e out u true there is value ran t fault =
-      let over : text_limit < length (text ++ value_in e) = grind (arith, nat_tests) in
-      piece_long p ns k n text e out u there is value ran over fault
-  piece_refused_by p ns k n text e out u false there is value ran t none = rw none (no_memory _ _ _ _)
+  piece_stops p ns k n text e h there is none ran = rw (split_at ns k n there is)
+      (record { by = λ path cost acts. value_stops true true _ _ e h _ none (child_by p k (node_view n) ran path cost acts) })
 
   pub piece_refused : (p : Tree → ℕ) (ns : List Node) (k : ℕ) (n : Node) (text new : List ℕ) (e end : End) (u : Unit {0}) (h : Halted) {b mid : Stand H}
       → k < length ns → n ≡ get_or ns k n → Ok u ≡ ended e → Ran true (eval g i (node_view n)) b e mid → AddsPiece (text ++ value_in e) (Err h) new end → Ran true (pieces_left p ns k text) b end mid
-  piece_refused p ns k n text new e end u h there is value ran adds =
-      piece_refused_by p ns k n text e end u (nat_lt text_limit (length (text ++ value_in e))) there is value ran refl adds
+  piece_refused p ns k n text new e end u h {mid = mid} there is value ran adds = rw (split_at ns k n there is) (record {
+    by = λ path cost acts. heard_goes _ _ e u mid true end mid value (child_by p k (node_view n) ran path cost acts) (λ c a. refused_by true _ end mid _ c a adds);
+  })
 
   pub pieces_done : (p : Tree → ℕ) (ns : List Node) (k : ℕ) (text : List ℕ) (s : Stand H) → length ns ≤ k → Ran true (pieces_left p ns k text) s (end.Done (Value text)) s
   pieces_done p ns k text s over = rw (drop_all k ns over) (record { by = λ path cost acts. at_stand true (Value text) s cost acts })
@@ -217,20 +149,11 @@ module _ {H : Type 0} (g : Setting H) (i : Inner H) where
   limit_by e out o path mid m lim =
       rw lim (value_stops true true o (after_piece (in_word told []) [] path) e (record {}) mid refl m)
 
-  alone_at : (ns : List Node) (n : Node) → length ns ≡ 1 → n ≡ get_or ns 0 n → ns ≡ n ∷ []
-  alone_at ns n one is =
-      let some : 0 < length ns = omega (arith, one) in
-      let over : length ns ≤ 1 = omega (arith, one) in
-      split_at ns 0 n some is ∙ ap (λ x. n ∷ x) (drop_all 1 ns over)
-
-  alone_by : (p : Tree → ℕ) (n : Node) (e out : End) {b mid : Stand H} → Ran true (eval g i (node_view n)) b e mid → Limited e out → Ran true (pieces_left p (n ∷ []) 0 []) b out mid
-  alone_by p n e out {b = b} {mid = mid} ran lim = record {
-    by = λ path cost acts. limit_by e out (child p 0 (node_view n) (eval g i (node_view n)) path (from b cost acts)) path mid (child_by p 0 (node_view n) ran path cost acts) lim;
-  }
-
   pub piece_alone : (p : Tree → ℕ) (ns : List Node) (n : Node) (e out : End) {b mid : Stand H} → length ns ≡ 1 → n ≡ get_or ns 0 n → Ran true (eval g i (node_view n)) b e mid → Limited e out → Ran true (pieces_left p ns 0 []) b out mid
-  piece_alone p ns n e out {b = b} {mid = mid} one is ran lim =
-      subst (λ x. Ran true (pieces_left p x 0 []) b out mid) (sym (alone_at ns n one is)) (alone_by p n e out ran lim)
+  piece_alone p [] n e out one is ran lim = absurd (omega (arith, one))
+  piece_alone p (x ∷ []) n e out {mid = mid} one is ran lim =
+      record { by = λ path cost acts. limit_by e out _ path mid (child_by p 0 (node_view x) (rw is at ran) path cost acts) lim }
+  piece_alone p (x ∷ y ∷ ys) n e out one is ran lim = absurd (omega (arith, one))
 
 module _ {H : Type 0} where
   -- what is done with a word, where its text was told

@@ -1,5 +1,5 @@
+pub mod Vocabulary
 pub mod Steps
-pub mod Views
 pub mod InWords
 pub mod InScripts
 pub mod InExpressions

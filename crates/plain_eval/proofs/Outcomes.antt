@@ -1,21 +1,15 @@
 -- What the caller is told is the evaluator's outcome.
-use Rattle.std.proofs.Common.{◌≡◌, refl, sym, ap, ◌∙◌, ℕ, ◌+◌, ◌-◌, ◌≤◌, List, [], ◌∷◌, ◌++◌, length, drop, arith, length-append}
-use Rattle.std.specs.Prelude.{Result, Ok, Err, IfOk, true}
-use Rattle.px_bytes.specs.declared.memory.Memory.{Memory}
+use Rattle.plain_eval.proofs.Vocabulary
+use Vocabulary.{◌≡◌, refl, sym, ap, ◌∙◌, ℕ, ◌+◌, ◌-◌, ◌≤◌, List, [], ◌∷◌, ◌++◌, length, drop, arith}
+use Vocabulary.{length-append, Result, Ok, Err, IfOk, true, Memory, Tree, Scopes, eval, inner}
+use Vocabulary.{inner_limit, Outcome, Ends, Waits, state, Setting, Stand, EndsAs, Ran, End}
+use Rattle.rule_model.specs.Evaluator.{evaluate}
 use Rattle.px_bytes.specs.declared.fault.Reply.{Reply}
-use Rattle.tcl_compile.specs.Tree.{Tree}
-use Rattle.tcl_vars.specs.Scopes.{Scopes}
-use Rattle.rule_model.specs.Evaluator.{eval, inner, inner_limit, evaluate}
 use Rattle.rule_model.specs.Laws.{state_after}
-use Rattle.rule_model.specs.Outcome.{Outcome, Ends, Waits, state}
-use Rattle.rule_model.specs.Setting.{Setting}
 use Rattle.rule_model.proofs.Facts.{acts_stay}
-use Rattle.plain_eval.specs.Plain.{IsOutcome, code_of}
-use Rattle.plain_eval.specs.Stand.{Stand, EndsAs, Ran}
-use Rattle.plain_eval.specs.Told.{IsTold}
+use Rattle.plain_eval.specs.Plain.{IsOutcome, IsTold}
 use Rattle.plain_eval.specs.declared.plain.Plain.{Plain}
 use Rattle.plain_eval.specs.declared.plain.Plain.TheVariants.{Done, Waits as WaitsFor}
-use Rattle.plain_eval.specs.declared.run.End.{End}
 use Rattle.plain_eval.specs.declared.run.End.TheVariants as end
 
 behind_taken : {A : Type 0} (taken rest : List A) → rest ≡ drop (length taken) (taken ++ rest)

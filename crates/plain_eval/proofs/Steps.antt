@@ -1,24 +1,13 @@
 -- What goes on from an outcome, and what an outcome stops.
-use Rattle.std.proofs.Common.{◌≡◌, refl, sym, ap, ◌∙◌, ℕ, ◌+◌, ◌-◌, ◌<◌, List, [], Bool, true, false}
-use Rattle.std.proofs.Common.{Result, Ok, Err, nat_eq, arith}
-use Rattle.std.specs.Prelude.{if◌then◌else◌, IfOk, IsErr, IsErrAnd}
-use Rattle.std.proofs.lemmas.Bool.Decides.{nat_tests}
-use Rattle.px_bytes.specs.FaultText.{budget_spent}
-use Rattle.px_bytes.specs.Gives.{Gives}
-use Rattle.px_bytes.specs.declared.fault.Raise.{Raise}
+use Rattle.plain_eval.proofs.Vocabulary
+use Vocabulary.{◌≡◌, refl, sym, ap, ◌∙◌, ℕ, ◌+◌, ◌-◌, ◌<◌, List, [], Bool, true, false, Result, Ok}
+use Vocabulary.{Err, nat_eq, arith, IfOk, IsErr, IsErrAnd, nat_tests, budget_spent, Gives, Raise}
+use Vocabulary.{TclFault, Memory, Act, State, Outcome, Ends, Waits, Meaning, ends, spend, then_code}
+use Vocabulary.{then_value, with_value, heard_code, unvalued, Code, Value, Raised, GivesAs, Is}
+use Vocabulary.{end_of, ended, fault_end, kept, value_in, Stand, from, EndsAs, Ran, GoesOn, End}
+use Vocabulary.{Halted}
 use Rattle.px_bytes.specs.declared.fault.Raise.TheVariants as raise
-use Rattle.px_bytes.specs.declared.fault.TclFault.{TclFault}
-use Rattle.px_bytes.specs.declared.memory.Memory.{Memory}
-use Rattle.rule_model.specs.Outcome.{Act, State, Outcome, Ends, Waits, Meaning, ends, code_of, spend}
-use Rattle.rule_model.specs.Outcome.{then_code, then_value, with_value, heard_code, unvalued, paid}
-use Rattle.rule_model.specs.declared.code.Code.{Code}
-use Rattle.rule_model.specs.declared.code.Code.TheVariants.{Value, Raised, Return, Break, Continue}
-use Rattle.rule_steps.specs.GivesAs.{GivesAs}
-use Rattle.plain_eval.specs.End.{Is, end_of, ended, fault_end, kept, raise_end, value_in}
-use Rattle.plain_eval.specs.Stand.{Stand, from, IsAt, EndsAs, Ran, GoesOn}
-use Rattle.plain_eval.specs.declared.run.End.{End}
 use Rattle.plain_eval.specs.declared.run.End.TheVariants as end
-use Rattle.plain_eval.specs.declared.run.Halted.{Halted}
 
 -- an end that is a value
 pub is_value : (e : End) (u : Unit {0}) → Ok u ≡ ended e → e ≡ end.Done (Value (value_in e))
@@ -26,17 +15,12 @@ is_value (end.Done (Value v)) u h = refl
 is_value other u h = cc
 
 -- what stops stays
-stop_heard : (d : Code) (h : Halted) → Err h ≡ ended (end.Done d) → unvalued d ≡ d
-stop_heard (Value v) h is = cc
-stop_heard other h is = refl
-
-unvalued_stop : (c d : Code) (h : Halted) → Err h ≡ ended (end.Done d) → unvalued c ≡ d → c ≡ d
-unvalued_stop (Value v) d h is e = let f : ended (end.Done d) ≡ Ok tt = ap (λ x. ended (end.Done x)) (sym e) in cc
-unvalued_stop other d h is e = e
-
 stop_same : (x : Bool) (c d : Code) (h : Halted) → Err h ≡ ended (end.Done d) → heard_code x c ≡ heard_code x d → c ≡ d
 stop_same true c d h is e = e
-stop_same false c d h is e = unvalued_stop c d h is (e ∙ stop_heard d h is)
+stop_same false (Value v) (Value u) h is e = cc
+stop_same false (Value v) other h is e = cc
+stop_same false other (Value u) h is e = cc
+stop_same false other another h is e = e
 
 value_same : (x : Bool) (c : Code) (v : List ℕ) (P : Type 0) → heard_code x c ≡ heard_code x (Value v) → ((u : List ℕ) → c ≡ Value u → heard_code x (Value u) ≡ heard_code x (Value v) → P) → P
 value_same x (Value u) v P e k = k u refl e
@@ -58,12 +42,6 @@ pub kept_as : {A B : Type 0} (view : A → B) (r : Result A Raise) (a : A) (want
 kept_as view (Ok b) a wanted is told = let same : a ≡ b = cc in rw same told
 kept_as view (Err x) a wanted is told = cc
 
--- what a call gives
-gives_is : (r : Result (List ℕ) Raise) (wanted : Result (List ℕ) TclFault) → Gives r wanted → Is (code_of wanted) (end_of r)
-gives_is (Ok v) wanted h = rw h refl
-gives_is (Err (raise.Fault f)) wanted h = rw h refl
-gives_is (Err raise.Memory) wanted h = tt
-
 module _ {H : Type 0} where
   stop_passes : (d : Code) (h : Halted) (go : List ℕ → State H → Outcome H) (st : State H) → Err h ≡ ended (end.Done d) → with_value go d st ≡ Ends d st
   stop_passes (Value v) h go st is = cc
@@ -73,16 +51,14 @@ module _ {H : Type 0} where
   pub at_stand : (w : Bool) (d : Code) (s : Stand H) (cost : ℕ) (acts : List Act) → EndsAs w (Ends d (from s cost acts)) (end.Done d) s
   at_stand w d s cost acts = (refl, refl)
 
-  pub is_code : (w : Bool) (c : Code) (e : End) (s : Stand H) (cost : ℕ) (acts : List Act) → Is c e → EndsAs w (Ends c (from s cost acts)) e s
-  is_code w c (end.Done d) s cost acts h = (ap (heard_code w) (sym h), refl)
-  is_code w c (end.Waits call) s cost acts h = absurd h
-  is_code w c end.Memory s cost acts h = tt
-
-  -- the same where another code that is heard alike was noted
+  -- a code, or another that is heard alike
   pub is_heard : (w : Bool) (c d : Code) (e : End) (s : Stand H) (cost : ℕ) (acts : List Act) → Is d e → heard_code w c ≡ heard_code w d → EndsAs w (Ends c (from s cost acts)) e s
   is_heard w c d (end.Done x) s cost acts h same = (same ∙ ap (heard_code w) (sym h), refl)
   is_heard w c d (end.Waits call) s cost acts h same = absurd h
   is_heard w c d end.Memory s cost acts h same = tt
+
+  pub is_code : (w : Bool) (c : Code) (e : End) (s : Stand H) (cost : ℕ) (acts : List Act) → Is c e → EndsAs w (Ends c (from s cost acts)) e s
+  is_code w c e s cost acts h = is_heard w c c e s cost acts h refl
 
   -- a value that is heard as that of the end
   pub told_value : (w : Bool) (v : List ℕ) (e : End) (u : Unit {0}) (s : Stand H) (cost : ℕ) (acts : List Act) → Ok u ≡ ended e → heard_code w (Value v) ≡ heard_code w (Value (value_in e)) → EndsAs w (Ends (Value v) (from s cost acts)) e s
@@ -155,11 +131,17 @@ module _ {H : Type 0} where
   pub goes_self : (w : Bool) (m : Meaning H) (b : Stand H) → GoesOn w m b m b
   goes_self w m b = record { closes = λ e last r. r }
 
+  -- whatever the rest comes to, the whole comes to at any path and cost
+  pub goes_by : {w : Bool} {m n : Meaning H} {b mid : Stand H} → ((e : End) (last : Stand H) → Ran w n mid e last → (path : List ℕ) (cost : ℕ) (acts : List Act) → EndsAs w (m path (from b cost acts)) e last) → GoesOn w m b n mid
+  goes_by h = record { closes = λ e last r. record { by = h e last r } }
+
   pub goes_then : {w : Bool} {m n o : Meaning H} {a b c : Stand H} → GoesOn w m a n b → GoesOn w n b o c → GoesOn w m a o c
   goes_then f g = record { closes = λ e last r. f.closes e last (g.closes e last r) }
 
   pub gives_ends : (w : Bool) (r : Result (List ℕ) Raise) (wanted : Result (List ℕ) TclFault) (s : Stand H) (cost : ℕ) (acts : List Act) → Gives r wanted → EndsAs w (ends wanted (from s cost acts)) (end_of r) s
-  gives_ends w r wanted s cost acts h = is_code w (code_of wanted) (end_of r) s cost acts (gives_is r wanted h)
+  gives_ends w (Ok v) wanted s cost acts h = rw h (refl, refl)
+  gives_ends w (Err (raise.Fault f)) wanted s cost acts h = rw h (refl, refl)
+  gives_ends w (Err raise.Memory) wanted s cost acts h = tt
 
   -- a unit of budget
   abbrev pub spent : Stand H → Stand H

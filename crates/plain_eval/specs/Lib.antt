@@ -2,4 +2,3 @@ pub mod Plain
 pub mod End
 pub mod Stand
 pub mod Ran
-pub mod Told

@@ -1,8 +1,9 @@
 -- What the plain evaluator says of the evaluator's outcome.
-use Rattle.std.specs.Prelude.{◌≡◌, ℕ, ◌≤◌, List, length, drop, Option}
+use Rattle.std.specs.Prelude.{◌≡◌, ℕ, ◌≤◌, List, length, drop, Option, Result, Ok, Err}
 use Rattle.px_bytes.specs.declared.fault.Reply.{Reply}
 use Rattle.px_bytes.specs.declared.fault.HostAnswer.{HostAnswer}
 use Rattle.px_bytes.specs.declared.fault.HostAnswer.TheVariants as answer
+use Rattle.px_bytes.specs.declared.memory.Memory.{Memory}
 use Rattle.tcl_compile.specs.Procedures.{Procedure}
 use Rattle.tcl_vars.specs.Scopes.{Scopes, Level}
 use Rattle.rule_model.specs.Host.{HostStep, Gives, Faults, Asks}
@@ -14,6 +15,8 @@ use Rattle.plain_eval.specs.declared.plain.PlainCode.{PlainCode}
 use Rattle.plain_eval.specs.declared.plain.PlainCode.TheVariants as code
 use Rattle.plain_eval.specs.declared.plain.Plain.{Plain}
 use Rattle.plain_eval.specs.declared.plain.Plain.TheVariants.{Done, Waits as WaitsFor}
+use Rattle.plain_eval.specs.declared.run.End.{End}
+use Rattle.plain_eval.specs.declared.run.End.TheVariants as end
 
 -- A host's answer is what its table says, and its state after it the table's too. Only want of
 -- memory is free.
@@ -57,3 +60,14 @@ abbrev pub setting : {H : Type 0} → Option Level → (H → List (List ℕ) �
     → List Procedure → Setting H
 setting statics table procedures =
     record { statics = statics; table = table; procedures = procedures }
+
+-- the end that the caller is told: a code with this many replies taken, or the call that waits
+abbrev pub IsTold : End → ℕ → Result Plain Memory → Type 0
+IsTold (end.Done c) used (Ok (Done code n)) = (c ≡ code_of code) × (n ≡ used)
+IsTold (end.Done c) used (Ok (WaitsFor call)) = ⊥
+IsTold (end.Done c) used (Err m) = ⊥
+IsTold (end.Waits asked) used (Ok (Done code n)) = ⊥
+IsTold (end.Waits asked) used (Ok (WaitsFor call)) = asked ≡ call
+IsTold (end.Waits asked) used (Err m) = ⊥
+IsTold end.Memory used (Ok plain) = ⊥
+IsTold end.Memory used (Err m) = Unit {0}

@@ -1,5 +1,5 @@
 -- What the functions of the plain evaluator come to.
-use Rattle.std.specs.Prelude.{◌≡◌, ℕ, suc, List, [], length, drop, map, Bool, true, false, Result}
+use Rattle.std.specs.Prelude.{ℕ, suc, List, [], length, drop, map, Bool, true, false, Result}
 use Rattle.std.specs.Prelude.{Ok, Err}
 use Rattle.tcl_compile.specs.Procedures.{procedure_view}
 use Rattle.tcl_compile.specs.Tree.{Tree, loop, trees_of, values_of}

@@ -1,11 +1,10 @@
 -- Where the plain evaluator stands, and what a meaning comes to from there: the cost and what was
 -- done aren't told.
-use Rattle.std.specs.Prelude.{◌≡◌, ℕ, List, Bool, true, false, Result, Ok, Err, option_map}
+use Rattle.std.specs.Prelude.{◌≡◌, ℕ, List, Bool, Result, Ok, Err, option_map}
 use Rattle.px_bytes.specs.declared.fault.Reply.{Reply}
 use Rattle.tcl_compile.specs.Procedures.{procs_view}
 use Rattle.tcl_vars.specs.Scopes.{Scopes}
 use Rattle.rule_model.specs.Evaluator.{inner}
-use Rattle.rule_model.specs.Expressions.{then_truth}
 use Rattle.rule_model.specs.Host.{HostStep}
 use Rattle.rule_model.specs.Outcome.{Act, State, state, Outcome, Ends, Waits, Meaning, heard_code}
 use Rattle.rule_model.specs.Setting.{Setting, Inner}

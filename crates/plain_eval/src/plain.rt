@@ -5,8 +5,7 @@ ghost use Rattle.tcl_compile.specs.Procedures.{procs_view};
 ghost use Rattle.tcl_compile.specs.TreeView.{node_view};
 ghost use Rattle.rule_model.specs.Evaluator.{evaluate};
 ghost use Rattle.rule_model.specs.Outcome.{uncaught_of};
-ghost use Rattle.plain_eval.specs.Plain.{IsOutcome, code_of, setting};
-ghost use Rattle.plain_eval.specs.Told.{IsTold};
+ghost use Rattle.plain_eval.specs.Plain.{IsOutcome, IsTold, code_of, setting};
 
 use crate::context::{Context, Room};
 use crate::host::PlainHost;

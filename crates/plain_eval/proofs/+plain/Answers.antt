@@ -1,21 +1,14 @@
-use Rattle.std.proofs.Common.{◌≡◌, refl, sym, ap, ◌∙◌, arith, ℕ, List, length, drop, ◌+◌, ◌-◌, ◌*◌, ◌<◌, ◌≤◌, ◌++◌, [], ◌∷◌, Ok, Err, true, false, suc, zero, map}
-use Rattle.std.proofs.Common.{None, Some, codes}
-use Rattle.std.specs.Prelude.{slice_get}
-use Rattle.std.specs.Result.{is_err}
-use Rattle.px_bytes.specs.FaultText.{budget_spent}
-use Rattle.tcl_compile.specs.Tree.{trees_of}
-use Rattle.tcl_compile.specs.TreeView.{node_view, nodes_view}
-use Rattle.rule_model.specs.Children.{alone, child, count, free, one}
-use Rattle.rule_model.specs.Commands.{command, too_deep}
-use Rattle.rule_model.specs.Control.{caught_in, chosen_of, each_rows, row_loop, rows_of as list_rows}
-use Rattle.rule_model.specs.Evaluator.{eval, evals, read_element}
-use Rattle.rule_model.specs.Outcome.{Act}
-use Rattle.rule_model.specs.declared.code.Code.TheVariants.{Value}
-use Rattle.rule_steps.specs.Calls.{call_view}
-use Rattle.rule_steps.specs.Operators.{truth_read}
-use Rattle.rule_steps.specs.Rows.{row_view, rows_view}
-use Rattle.plain_eval.specs.End.{end_of, ended, fault_end, kept, kept_end, raise_end, value_in}
-use Rattle.plain_eval.specs.Stand.{Ran, from, inner_of, setting_of, stand}
+use Rattle.plain_eval.proofs.Vocabulary
+use Vocabulary.{◌≡◌, refl, sym, arith, length, ◌+◌, ◌-◌, ◌*◌, [], ◌∷◌, Ok, true, false, suc, zero}
+use Vocabulary.{None, Some, codes, slice_get, budget_spent, node_view, alone, child, free, one}
+use Vocabulary.{too_deep, caught_in, chosen_of, each_rows, list_rows, eval, call_view, rows_view}
+use Vocabulary.{end_of, ended, fault_end, value_in, from, inner_of, setting_of, stand, Err}
+use Vocabulary.{trees_of, evals, read_element, nodes_view, count}
+use Rattle.tcl_compile.specs.declared.node.Node.{fold-roll-Node, the_lemmas}
+use Rattle.tcl_compile.specs.declared.node.Node.TheVariants.{rolls-Catch, rolls-CatchIn}
+use Rattle.tcl_compile.specs.declared.node.Node.TheVariants.{rolls-Choice}
+use Rattle.tcl_compile.specs.declared.node.Node.TheVariants.{rolls-Expr, rolls-Foreach, rolls-If}
+use Rattle.tcl_compile.specs.declared.node.Node.TheVariants.{rolls-Loop, rolls-Prefixed, rolls-Row}
 use Rattle.plain_eval.proofs.InCalls as calls
 use Rattle.plain_eval.proofs.InCatches as catches
 use Rattle.plain_eval.proofs.InChoice as choice
@@ -24,87 +17,59 @@ use Rattle.plain_eval.proofs.InLoops as loops
 use Rattle.plain_eval.proofs.InRows as rows
 use Rattle.plain_eval.proofs.InScripts as scripts
 use Rattle.plain_eval.proofs.InWords as words
-use Rattle.plain_eval.proofs.InRows.{set_fails, set_is}
-use Rattle.plain_eval.proofs.Steps.{any_ran, at_stand, fault_is, gives_ends, goes_self, goes_then, halted_is, heard_goes, kept_as, kept_is, no_memory, spent, value_stops}
-use Rattle.plain_eval.proofs.Views as views
+use Rattle.plain_eval.proofs.InRows.{set_is}
+use Rattle.plain_eval.proofs.Steps.{any_ran, fault_is, gives_ends, goes_then}
+use Rattle.plain_eval.proofs.Steps.{halted_is, heard_goes, kept_as, kept_is, value_stops}
+use Rattle.plain_eval.proofs.Steps.{goes_self}
 use Rattle.plain_eval.proofs.+plain.Goals as goal
-
-pub tree::eval_tree-returns-in_default-clause-ran : goal.tree::eval_tree-returns-in_default-clause-ran
-tree::eval_tree-returns-in_default-clause-ran g t c =
-    rw c.no_memory.ensures (no_memory _ _ _ _)
-
-pub tree::eval_tree-returns-in-Plain-clause-ran : goal.tree::eval_tree-returns-in-Plain-clause-ran
-tree::eval_tree-returns-in-Plain-clause-ran g t c =
-    rw (c.settle.ensures.noted, ap node_view c.in-Plain.is ∙ views.view-Plain _) (record { by = λ path cost acts. gives_ends _ _ (Ok _) _ cost acts c.literal.ensures })
-
-pub tree::eval_tree-returns-in-Variable-clause-ran : goal.tree::eval_tree-returns-in-Variable-clause-ran
-tree::eval_tree-returns-in-Variable-clause-ran g t c =
-    rw (c.settle-in-Variable.ensures.noted, ap node_view c.in-Variable.is ∙ views.view-Variable _) (record { by = λ path cost acts. gives_ends _ _ _ _ cost acts c.variable-value.ensures })
-
-pub tree::eval_tree-returns-in-NextBody-clause-ran : goal.tree::eval_tree-returns-in-NextBody-clause-ran
-tree::eval_tree-returns-in-NextBody-clause-ran g t c =
-    rw (c.nothing.ensures.noted, ap node_view c.in-NextBody.is ∙ views.view-NextBody) (record { by = λ path cost acts. at_stand c.args.wanted (Value []) (stand c.args.run.now c.args.host.now) cost acts })
 
 pub tree::eval_tree-returns-in-Element-clause-ran : goal.tree::eval_tree-returns-in-Element-clause-ran
 tree::eval_tree-returns-in-Element-clause-ran g t c =
-    rw (ap node_view c.in-Element.is ∙ views.view-Element _ _) (any_ran _ (rw c.deref.ensures.value at c.eval_element.ensures.ran))
+    rw c.in-Element.is (simp the_lemmas (any_ran _ (rw c.deref.ensures.value at c.eval_element.ensures.ran)))
 
 pub tree::eval_tree-returns-in-Word-clause-ran : goal.tree::eval_tree-returns-in-Word-clause-ran
 tree::eval_tree-returns-in-Word-clause-ran g t c =
-    rw (ap node_view c.in-Word.is ∙ views.view-Word _) (any_ran _ (rw c.deref-in-Word.ensures.value at (c.eval_word.ensures.ran one)))
-
-pub tree::eval_tree-returns-in-Script-clause-ran : goal.tree::eval_tree-returns-in-Script-clause-ran
-tree::eval_tree-returns-in-Script-clause-ran g t c =
-    rw (ap node_view c.in-Script.is ∙ views.view-Script _) (rw c.deref-in-Script.ensures.value at c.eval_script.ensures.ran)
-
-pub tree::eval_tree-returns-in-Command-clause-ran : goal.tree::eval_tree-returns-in-Command-clause-ran
-tree::eval_tree-returns-in-Command-clause-ran g t c =
-    rw (ap node_view c.in-Command.is ∙ views.view-Command _ _) (rw c.deref-in-Command.ensures.value at c.eval_command.ensures.ran)
+    rw c.in-Word.is (simp the_lemmas (any_ran _ (rw c.deref-in-Word.ensures.value at (c.eval_word.ensures.ran one))))
 
 pub tree::eval_tree-returns-in-Expr-clause-ran : goal.tree::eval_tree-returns-in-Expr-clause-ran
 tree::eval_tree-returns-in-Expr-clause-ran g t c =
-    rw (ap node_view c.in-Expr.is ∙ views.view-Expr _) (any_ran _ (rw c.deref-in-Expr.ensures at c.eval_expr.ensures.ran))
+    rw (c.in-Expr.is, ← rolls-Expr, fold-roll-Node) (any_ran _ (rw c.deref-in-Expr.ensures at c.eval_expr.ensures.ran))
 
 pub tree::eval_tree-returns-in-If-clause-ran : goal.tree::eval_tree-returns-in-If-clause-ran
 tree::eval_tree-returns-in-If-clause-ran g t c =
-    rw (ap node_view c.in-If.is ∙ views.view-If _ _) (record { by = λ path cost acts. (rw (c.deref-in-If.ensures.value, c.deref-in-If-2.ensures) at (c.eval_branches.ensures.ran 0 alone free free)).by path (cost + 1) acts })
+    rw (c.in-If.is, ← rolls-If, fold-roll-Node) (record { by = λ path cost acts. (rw (c.deref-in-If.ensures.value, c.deref-in-If-2.ensures) at (c.eval_branches.ensures.ran 0 alone free free)).by path (cost + 1) acts })
 
 pub tree::eval_tree-returns-in-Choice-clause-ran : goal.tree::eval_tree-returns-in-Choice-clause-ran
 tree::eval_tree-returns-in-Choice-clause-ran g t c =
-    rw (ap node_view c.in-Choice.is ∙ views.view-Choice _ _) (record { by = λ path cost acts. (rw (c.deref-in-Choice.ensures.value, c.deref-in-Choice-2.ensures) at (c.eval_branches-in-Choice.ensures.ran 1 one one one)).by path cost acts })
+    rw (c.in-Choice.is, ← rolls-Choice, fold-roll-Node) (record { by = λ path cost acts. (rw (c.deref-in-Choice.ensures.value, c.deref-in-Choice-2.ensures) at (c.eval_branches-in-Choice.ensures.ran 1 one one one)).by path cost acts })
 
 pub tree::eval_tree-returns-in-Loop-clause-ran : goal.tree::eval_tree-returns-in-Loop-clause-ran
 tree::eval_tree-returns-in-Loop-clause-ran g t c =
-    rw (ap node_view c.in-Loop.is ∙ views.view-Loop _ _ _ _) (any_ran _ (rw (c.deref-in-Loop.ensures, c.deref-in-Loop-2.ensures, c.deref-in-Loop-3.ensures, c.deref-in-Loop-4.ensures) at c.eval_loop.ensures.ran))
+    rw (c.in-Loop.is, ← rolls-Loop, fold-roll-Node) (any_ran _ (rw (c.deref-in-Loop.ensures, c.deref-in-Loop-2.ensures, c.deref-in-Loop-3.ensures, c.deref-in-Loop-4.ensures) at c.eval_loop.ensures.ran))
 
 pub tree::eval_tree-returns-in-Foreach-clause-ran : goal.tree::eval_tree-returns-in-Foreach-clause-ran
 tree::eval_tree-returns-in-Foreach-clause-ran g t c =
-    rw (ap node_view c.in-Foreach.is ∙ views.view-Foreach _ _) (any_ran _ (rw (c.deref-in-Foreach.ensures.value, c.deref-in-Foreach-2.ensures) at c.eval_each.ensures.ran))
-
-pub tree::eval_tree-returns-in-Switch-clause-ran : goal.tree::eval_tree-returns-in-Switch-clause-ran
-tree::eval_tree-returns-in-Switch-clause-ran g t c =
-    rw (ap node_view c.in-Switch.is ∙ views.view-Switch _ _ _) (rw (c.deref-in-Switch.ensures.value, c.deref-in-Switch-2.ensures.value) at c.eval_switch.ensures.ran)
+    rw (c.in-Foreach.is, ← rolls-Foreach, fold-roll-Node) (any_ran _ (rw (c.deref-in-Foreach.ensures.value, c.deref-in-Foreach-2.ensures) at c.eval_each.ensures.ran))
 
 pub tree::eval_tree-returns-in-Catch-clause-ran : goal.tree::eval_tree-returns-in-Catch-clause-ran
 tree::eval_tree-returns-in-Catch-clause-ran g t c =
-    rw (ap node_view c.in-Catch.is ∙ views.view-Catch _) (any_ran _ (rw c.deref-in-Catch.ensures at c.eval_catch.ensures.ran))
+    rw (c.in-Catch.is, ← rolls-Catch, fold-roll-Node) (any_ran _ (rw c.deref-in-Catch.ensures at c.eval_catch.ensures.ran))
 
 pub tree::eval_tree-returns-in-CatchIn-clause-ran : goal.tree::eval_tree-returns-in-CatchIn-clause-ran
 tree::eval_tree-returns-in-CatchIn-clause-ran g t c =
-    rw (ap node_view c.in-CatchIn.is ∙ views.view-CatchIn _ _) (any_ran _ (rw (c.deref-in-CatchIn.ensures, c.deref-in-CatchIn-2.ensures) at c.eval_catch_in.ensures.ran))
+    rw (c.in-CatchIn.is, ← rolls-CatchIn, fold-roll-Node) (any_ran _ (rw (c.deref-in-CatchIn.ensures, c.deref-in-CatchIn-2.ensures) at c.eval_catch_in.ensures.ran))
 
 pub tree::eval_tree-returns-in-Prefixed-clause-ran : goal.tree::eval_tree-returns-in-Prefixed-clause-ran
 tree::eval_tree-returns-in-Prefixed-clause-ran g t c =
-    rw (ap node_view c.in-Prefixed.is ∙ views.view-Prefixed _ _) (any_ran _ (rw (c.deref-in-Prefixed.ensures.value, c.deref-in-Prefixed-2.ensures) at c.eval_prefixed.ensures.ran))
+    rw (c.in-Prefixed.is, ← rolls-Prefixed, fold-roll-Node) (any_ran _ (rw (c.deref-in-Prefixed.ensures.value, c.deref-in-Prefixed-2.ensures) at c.eval_prefixed.ensures.ran))
 
 pub tree::eval_tree-returns-in-Row-clause-ran : goal.tree::eval_tree-returns-in-Row-clause-ran
 tree::eval_tree-returns-in-Row-clause-ran g t c =
-    rw (ap node_view c.in-Row.is ∙ views.view-Row _ _) (any_ran _ (rw (c.deref-in-Row-2.ensures.value, c.deref-in-Row.ensures) at c.eval_row.ensures.ran))
+    rw (c.in-Row.is, ← rolls-Row, fold-roll-Node) (any_ran _ (rw (c.deref-in-Row-2.ensures.value, c.deref-in-Row.ensures) at c.eval_row.ensures.ran))
 
 pub tree::eval_script-returns-in_default-clause-ran : goal.tree::eval_script-returns-in_default-clause-ran
 tree::eval_script-returns-in_default-clause-ran g t c =
-    let table = g.H.PlainHost.table in let s = setting_of table c.args.context.now in let i = inner_of table c.args.context.now in
-    rw c.nothing.ensures.noted (scripts.no_commands s i c.args.wanted c.args.commands.now (stand c.args.run.now c.args.host.now) (rw c.in_default.is at c.split_last.ensures.cases))
+    rw c.nothing.ensures.noted (scripts.no_commands _ _ c.args.wanted c.args.commands.now (stand c.args.run.now c.args.host.now) (rw c.in_default.is at c.split_last.ensures.cases))
 
 pub tree::eval_script-loop-command-init : goal.tree::eval_script-loop-command-init
 tree::eval_script-loop-command-init g t c =
@@ -112,118 +77,83 @@ tree::eval_script-loop-command-init g t c =
 
 pub tree::eval_script-loop-command-preserved : goal.tree::eval_script-loop-command-preserved
 tree::eval_script-loop-command-preserved g t c =
-    let table = g.H.PlainHost.table in let s = setting_of table c.args.context.now in let i = inner_of table c.args.context.now in
-    let paid = c.in_ok-spend.ensures.spends in
-    scripts.command_next s i c.in-Some.last.now c.command-item.result c.eval_tree.new.run.end _ c.loop-command.invariant c.loop-command-test.true c.command-item.is paid.0 c.in_ok-eval_tree.ensures.ended (rw paid.1 at c.in_ok-eval_tree.ensures.ran)
+    scripts.command_next _ _ c.in-Some.last.now c.command-item.result c.eval_tree.new.run.end _ c.loop-command.invariant c.loop-command-test.true c.command-item.is c.in_ok-spend.ensures.spends.0 c.in_ok-eval_tree.ensures.ended (rw c.in_ok-spend.ensures.spends.1 at c.in_ok-eval_tree.ensures.ran)
 
 pub tree::eval_script-returns-in_err-eval_tree-clause-ran : goal.tree::eval_script-returns-in_err-eval_tree-clause-ran
 tree::eval_script-returns-in_err-eval_tree-clause-ran g t c =
-    let table = g.H.PlainHost.table in let s = setting_of table c.args.context.now in let i = inner_of table c.args.context.now in
-    let paid = c.in_ok-spend.ensures.spends in
-    scripts.command_stops s i c.in-Some.last.now c.command-item.result c.eval_tree.new.run.end _ c.loop-command.invariant c.loop-command-test.true c.command-item.is paid.0 c.in_err-eval_tree.ensures.ended (rw paid.1 at c.in_err-eval_tree.ensures.ran)
+    scripts.command_stops _ _ c.in-Some.last.now c.command-item.result c.eval_tree.new.run.end _ c.loop-command.invariant c.loop-command-test.true c.command-item.is c.in_ok-spend.ensures.spends.0 c.in_err-eval_tree.ensures.ended (rw c.in_ok-spend.ensures.spends.1 at c.in_err-eval_tree.ensures.ran)
 
 pub tree::eval_script-returns-in_err-spend-clause-ran : goal.tree::eval_script-returns-in_err-spend-clause-ran
 tree::eval_script-returns-in_err-spend-clause-ran g t c =
-    let table = g.H.PlainHost.table in let s = setting_of table c.args.context.now in let i = inner_of table c.args.context.now in
-    let h = c.in_err-spend.ensures.spends in
-    rw h.2 (scripts.command_unpaid s i c.in-Some.last.now c.command-item.result c.spend.new.self.end c.loop-command.invariant c.loop-command-test.true c.command-item.is h.0 h.1)
+    rw c.in_err-spend.ensures.spends.2 (scripts.command_unpaid _ _ c.in-Some.last.now c.command-item.result c.spend.new.self.end c.loop-command.invariant c.loop-command-test.true c.command-item.is c.in_err-spend.ensures.spends.0 c.in_err-spend.ensures.spends.1)
 
 pub tree::eval_script-returns-in_err-spend-2-clause-ran : goal.tree::eval_script-returns-in_err-spend-2-clause-ran
 tree::eval_script-returns-in_err-spend-2-clause-ran g t c =
-    let table = g.H.PlainHost.table in let s = setting_of table c.args.context.now in let i = inner_of table c.args.context.now in
-    let h = c.in_err-spend-2.ensures.spends in let over : length c.in-Some.front.now ≤ c.loop-command.command-index = omega arith in
-    rw h.2 (scripts.last_unpaid s i c.in-Some.last.now c.spend-2.new.self.end c.loop-command.invariant over h.0 h.1)
+    rw c.in_err-spend-2.ensures.spends.2 (scripts.last_unpaid _ _ c.in-Some.last.now c.spend-2.new.self.end c.loop-command.invariant (omega arith) c.in_err-spend-2.ensures.spends.0 c.in_err-spend-2.ensures.spends.1)
 
 pub tree::eval_script-returns-clause-ran : goal.tree::eval_script-returns-clause-ran
 tree::eval_script-returns-clause-ran g t c =
-    let table = g.H.PlainHost.table in let s = setting_of table c.args.context.now in let i = inner_of table c.args.context.now in
-    let paid = c.in_ok-spend-2.ensures.spends in let over : length c.in-Some.front.now ≤ c.loop-command.command-index = omega arith in
-    scripts.last_ends s i c.in-Some.last.now c.eval_tree-2.new.run.end c.loop-command.invariant over paid.0 (rw paid.1 at c.eval_tree-2.ensures.ran)
-
-pub branches::eval_branches-returns-in_err-eval_test-clause-ended : goal.branches::eval_branches-returns-in_err-eval_test-clause-ended
-branches::eval_branches-returns-in_err-eval_test-clause-ended g t c =
-    halted_is c.from_residual.result c.in_err-eval_test.field-0.0 c.from_residual.ensures ∙ sym c.in_err-eval_test.ensures.halts
-
-pub branches::eval_branches-loop-condition-init : goal.branches::eval_branches-loop-condition-init
-branches::eval_branches-loop-condition-init g t c =
-    λ n p q r. goes_self _ _ _
+    scripts.last_ends _ _ c.in-Some.last.now c.eval_tree-2.new.run.end c.loop-command.invariant (omega arith) c.in_ok-spend-2.ensures.spends.0 (rw c.in_ok-spend-2.ensures.spends.1 at c.eval_tree-2.ensures.ran)
 
 pub branches::eval_branches-loop-condition-preserved : goal.branches::eval_branches-loop-condition-preserved
 branches::eval_branches-loop-condition-preserved g t c =
-    let table = g.H.PlainHost.table in let s = setting_of table c.args.context.now in let i = inner_of table c.args.context.now in
-    let k = c.loop-condition.condition-index in let e : (k + 1) * 2 ≡ k * 2 + 2 = omega arith in
-    λ n p q r. rw e (goes_then (c.loop-condition.invariant n p q r) (expressions.first_next s i c.args.wanted n p q c.args.values.now k (k * 2) c.loop-condition-item.result _ c.loop-condition-test.true c.loop-condition-item.is (rw c.if-branch.false at c.in_ok-eval_test.ensures.gave)))
+    let e : (c.loop-condition.condition-index + 1) * 2 ≡ c.loop-condition.condition-index * 2 + 2 = omega arith in
+    λ n p q r. rw e (goes_then (c.loop-condition.invariant n p q r) (expressions.first_next _ _ c.args.wanted n p q c.args.values.now c.loop-condition.condition-index (c.loop-condition.condition-index * 2) c.loop-condition-item.result _ c.loop-condition-test.true c.loop-condition-item.is (rw c.if-branch.false at c.in_ok-eval_test.ensures.gave)))
 
 pub branches::eval_branches-returns-then-branch-clause-ran : goal.branches::eval_branches-returns-then-branch-clause-ran
 branches::eval_branches-returns-then-branch-clause-ran g t c =
-    let table = g.H.PlainHost.table in let s = setting_of table c.args.context.now in let i = inner_of table c.args.context.now in
-    let k = c.loop-condition.condition-index in
-    λ n p q r. (c.loop-condition.invariant n p q r).closes _ _ (expressions.first_holds s i c.args.wanted n p q c.args.values.now k (k * 2) c.loop-condition-item.result _ c.loop-condition-test.true c.loop-condition-item.is (rw c.if-branch.true at c.in_ok-eval_test.ensures.gave) c.eval_tree.ensures.ran)
+    λ n p q r. (c.loop-condition.invariant n p q r).closes _ _ (expressions.first_holds _ _ c.args.wanted n p q c.args.values.now c.loop-condition.condition-index (c.loop-condition.condition-index * 2) c.loop-condition-item.result _ c.loop-condition-test.true c.loop-condition-item.is (rw c.if-branch.true at c.in_ok-eval_test.ensures.gave) c.eval_tree.ensures.ran)
 
 pub branches::eval_branches-returns-in_err-eval_test-clause-ran : goal.branches::eval_branches-returns-in_err-eval_test-clause-ran
 branches::eval_branches-returns-in_err-eval_test-clause-ran g t c =
-    let table = g.H.PlainHost.table in let s = setting_of table c.args.context.now in let i = inner_of table c.args.context.now in
-    let k = c.loop-condition.condition-index in
-    λ n p q r. (c.loop-condition.invariant n p q r).closes _ _ (expressions.first_stops s i c.args.wanted n p q c.args.values.now k (k * 2) c.loop-condition-item.result _ c.loop-condition-test.true c.loop-condition-item.is c.in_err-eval_test.ensures.gave)
+    λ n p q r. (c.loop-condition.invariant n p q r).closes _ _ (expressions.first_stops _ _ c.args.wanted n p q c.args.values.now c.loop-condition.condition-index (c.loop-condition.condition-index * 2) c.loop-condition-item.result _ c.loop-condition-test.true c.loop-condition-item.is c.in_err-eval_test.ensures.gave)
 
 pub branches::eval_branches-returns-clause-ran : goal.branches::eval_branches-returns-clause-ran
 branches::eval_branches-returns-clause-ran g t c =
-    let table = g.H.PlainHost.table in let s = setting_of table c.args.context.now in let i = inner_of table c.args.context.now in
-    let k = c.loop-condition.condition-index in let over : length c.args.values.now ≤ k = omega arith in
-    λ n p q r. (c.loop-condition.invariant n p q r).closes _ _ (expressions.first_last s i c.args.wanted n p q r c.args.values.now k (k * 2) _ c.args.last.now over c.eval_tree-2.ensures.ran)
+    λ n p q r. (c.loop-condition.invariant n p q r).closes _ _ (expressions.first_last _ _ c.args.wanted n p q r c.args.values.now c.loop-condition.condition-index (c.loop-condition.condition-index * 2) _ c.args.last.now (omega arith) c.eval_tree-2.ensures.ran)
 
 pub words::eval_words-loop-word-init : goal.words::eval_words-loop-word-init
 words::eval_words-loop-word-init g t c =
-    let table = g.H.PlainHost.table in let s = setting_of table c.args.context.now in let i = inner_of table c.args.context.now in
     record {
       total = rw c.new-values.ensures (omega arith);
       fits = c.requires;
-      left = λ w name k p go is. words.words_begin s i w go name c.new-values.result k p c.args.words.now (stand c.args.run.now c.args.host.now) c.new-values.ensures;
+      left = λ w name k p go is. words.words_begin _ _ w go name c.new-values.result k p c.args.words.now (stand c.args.run.now c.args.host.now) c.new-values.ensures;
     }
 
 pub words::eval_words-loop-word-preserved : goal.words::eval_words-loop-word-preserved
 words::eval_words-loop-word-preserved g t c =
-    let table = g.H.PlainHost.table in let s = setting_of table c.args.context.now in let i = inner_of table c.args.context.now in
-    let adds = c.in_ok-total.ensures.adds in let k = c.loop-word.word-index in record {
-      total = words.total_more c.args.name_len c.loop-word.total c.in_ok-total.total c.loop-word.values c.add_value.new.values (value_in c.eval_word.new.run.end) c.loop-word.invariant.total adds.0 adds.2;
-      fits = adds.1;
+    record {
+      total = words.total_more c.args.name_len c.loop-word.total c.in_ok-total.total c.loop-word.values c.add_value.new.values (value_in c.eval_word.new.run.end) c.loop-word.invariant.total c.in_ok-total.ensures.adds.0 c.in_ok-total.ensures.adds.2;
+      fits = c.in_ok-total.ensures.adds.1;
       left = λ w name m p go is. rw c.in_ok-total.ensures.same (goes_then (c.loop-word.invariant.left w name m p go is)
-          (words.words_more s i w go name c.loop-word.values c.add_value.new.values p c.args.words.now k m c.args.name_len c.loop-word.total c.in_ok-total.total c.word-item.result c.eval_word.new.run.end c.add_value.new.self.end _
-          c.loop-word-test.true c.word-item.is c.in_ok-eval_word.ensures.ended (λ q. rw c.parts.ensures at (c.in_ok-eval_word.ensures.ran q)) is c.loop-word.invariant.total adds));
+          (words.words_more _ _ w go name c.loop-word.values c.add_value.new.values p c.args.words.now c.loop-word.word-index m c.args.name_len c.loop-word.total c.in_ok-total.total c.word-item.result c.eval_word.new.run.end c.add_value.new.self.end _
+          c.loop-word-test.true c.word-item.is c.in_ok-eval_word.ensures.ended (λ q. rw c.parts.ensures at (c.in_ok-eval_word.ensures.ran q)) is c.loop-word.invariant.total c.in_ok-total.ensures.adds));
     }
 
 pub words::eval_words-returns-clause-gave : goal.words::eval_words-returns-clause-gave
 words::eval_words-returns-clause-gave g t c =
-    let table = g.H.PlainHost.table in let s = setting_of table c.args.context.now in let i = inner_of table c.args.context.now in
-    let k = c.loop-word.word-index in let over : length c.args.words.now ≤ k = omega arith in
-    λ name m p is. record { goes = λ w go. goes_then (c.loop-word.invariant.left w name m p go is) (words.words_done s i w go name c.loop-word.values p c.args.words.now k (m + k) (stand c.loop-word.run c.loop-word.host) over) }
+    λ name m p is. record { goes = λ w go. goes_then (c.loop-word.invariant.left w name m p go is) (words.words_done _ _ w go name c.loop-word.values p c.args.words.now c.loop-word.word-index (m + c.loop-word.word-index) (stand c.loop-word.run c.loop-word.host) (omega arith)) }
 
 pub words::eval_words-returns-in_err-eval_word-clause-gave : goal.words::eval_words-returns-in_err-eval_word-clause-gave
 words::eval_words-returns-in_err-eval_word-clause-gave g t c =
-    let table = g.H.PlainHost.table in let s = setting_of table c.args.context.now in let i = inner_of table c.args.context.now in
-    λ name k p is. rw (halted_is c.from_residual.result c.in_err-eval_word.field-0.0 c.from_residual.ensures) (record { stops = λ w go. (c.loop-word.invariant.left w name k p go is).closes _ _ (words.word_stops s i w _ p c.args.words.now c.loop-word.word-index (k + c.loop-word.word-index) c.word-item.result _ _ _ c.loop-word-test.true c.word-item.is c.in_err-eval_word.ensures.ended (λ p. rw c.parts.ensures at (c.in_err-eval_word.ensures.ran p))) })
+    λ name k p is. rw (halted_is c.from_residual.result c.in_err-eval_word.field-0.0 c.from_residual.ensures) (record { stops = λ w go. (c.loop-word.invariant.left w name k p go is).closes _ _ (words.word_stops _ _ w _ p c.args.words.now c.loop-word.word-index (k + c.loop-word.word-index) c.word-item.result _ _ _ c.loop-word-test.true c.word-item.is c.in_err-eval_word.ensures.ended (λ p. rw c.parts.ensures at (c.in_err-eval_word.ensures.ran p))) })
 
 pub words::eval_words-returns-in_err-total-clause-gave : goal.words::eval_words-returns-in_err-total-clause-gave
 words::eval_words-returns-in_err-total-clause-gave g t c =
-    let table = g.H.PlainHost.table in let s = setting_of table c.args.context.now in let i = inner_of table c.args.context.now in
-    let k = c.loop-word.word-index in
     λ name m p is. rw (halted_is c.from_residual-in_err-total.result c.in_err-total.field-0.0 c.from_residual-in_err-total.ensures) (record {
       stops = λ w go. rw c.in_err-total.ensures.same ((c.loop-word.invariant.left w name m p go is).closes _ _
-          (words.words_refused s i w go name c.loop-word.values c.add_value.new.values p c.args.words.now k m c.args.name_len c.loop-word.total c.word-item.result c.eval_word.new.run.end c.add_value.new.self.end _ _
+          (words.words_refused _ _ w go name c.loop-word.values c.add_value.new.values p c.args.words.now c.loop-word.word-index m c.args.name_len c.loop-word.total c.word-item.result c.eval_word.new.run.end c.add_value.new.self.end _ _
           c.loop-word-test.true c.word-item.is c.in_ok-eval_word.ensures.ended (λ q. rw c.parts.ensures at (c.in_ok-eval_word.ensures.ran q)) is c.loop-word.invariant.total c.in_err-total.ensures.adds));
     })
 
 pub words::eval_element-returns-in_err-eval_word-clause-ran : goal.words::eval_element-returns-in_err-eval_word-clause-ran
 words::eval_element-returns-in_err-eval_word-clause-ran g t c =
-    let table = g.H.PlainHost.table in let s = setting_of table c.args.context.now in let i = inner_of table c.args.context.now in
-    words.word_halts (read_element s c.args.name.now) (evals s i one 0 (trees_of (nodes_view c.args.index.now))) c.eval_word.new.run.end _ c.in_err-eval_word.ensures.ended (c.in_err-eval_word.ensures.ran one)
+    words.word_halts (read_element (setting_of g.H.PlainHost.table c.args.context.now) c.args.name.now) (evals _ _ one 0 (trees_of (nodes_view c.args.index.now))) c.eval_word.new.run.end _ c.in_err-eval_word.ensures.ended (c.in_err-eval_word.ensures.ran one)
 
 pub words::eval_element-returns-clause-ran : goal.words::eval_element-returns-clause-ran
 words::eval_element-returns-clause-ran g t c =
-    let table = g.H.PlainHost.table in let s = setting_of table c.args.context.now in let i = inner_of table c.args.context.now in
-    let told = rw (c.take-index.ensures.noted, c.take-index.ensures.value) at c.element-value.ensures in
-    rw (c.settle.ensures.noted, c.take-index.ensures.noted) (words.word_made (read_element s c.args.name.now) (evals s i one 0 (trees_of (nodes_view c.args.index.now))) c.eval_word.new.run.end (end_of c.element-value.result) _ c.in_ok-eval_word.ensures.ended (c.in_ok-eval_word.ensures.ran one)
-    (λ path cost acts. gives_ends true c.element-value.result _ (stand c.eval_word.new.run c.eval_word.new.host) cost acts told))
+    rw (c.settle.ensures.noted, c.take-index.ensures.noted) (words.word_made (read_element (setting_of g.H.PlainHost.table c.args.context.now) c.args.name.now) (evals _ _ one 0 (trees_of (nodes_view c.args.index.now))) c.eval_word.new.run.end (end_of c.element-value.result) _ c.in_ok-eval_word.ensures.ended (c.in_ok-eval_word.ensures.ran one)
+    (λ path cost acts. gives_ends true c.element-value.result _ (stand c.eval_word.new.run c.eval_word.new.host) cost acts (rw (c.take-index.ensures.noted, c.take-index.ensures.value) at c.element-value.ensures)))
 
 pub expressions::eval_test-returns-in_err-eval_tree-clause-gave : goal.expressions::eval_test-returns-in_err-eval_tree-clause-gave
 expressions::eval_test-returns-in_err-eval_tree-clause-gave g t c =
@@ -235,236 +165,160 @@ expressions::eval_test-returns-clause-gave g t c =
 
 pub expressions::eval_expr-returns-in_err-eval_tree-clause-ran : goal.expressions::eval_expr-returns-in_err-eval_tree-clause-ran
 expressions::eval_expr-returns-in_err-eval_tree-clause-ran g t c =
-    let table = g.H.PlainHost.table in let s = setting_of table c.args.context.now in let i = inner_of table c.args.context.now in
-    record { by = λ path cost acts. value_stops true true _ _ _ _ _ c.in_err-eval_tree.ensures.ended (words.child_by s i alone 0 (node_view c.args.expression.now) c.in_err-eval_tree.ensures.ran path (cost + 1) acts) }
+    record { by = λ path cost acts. value_stops true true _ _ _ _ _ c.in_err-eval_tree.ensures.ended (words.child_by _ _ alone 0 (node_view c.args.expression.now) c.in_err-eval_tree.ensures.ran path (cost + 1) acts) }
 
 pub expressions::eval_expr-returns-clause-ran : goal.expressions::eval_expr-returns-clause-ran
 expressions::eval_expr-returns-clause-ran g t c =
-    let table = g.H.PlainHost.table in let s = setting_of table c.args.context.now in let i = inner_of table c.args.context.now in
-    let made = rw c.take-value.ensures.value at c.whole_text.ensures in
-    rw (c.settle.ensures.noted, c.take-value.ensures.noted) (record { by = λ path cost acts. heard_goes _ _ _ _ _ true _ _ c.in_ok-eval_tree.ensures.ended (words.child_by s i alone 0 (node_view c.args.expression.now) c.in_ok-eval_tree.ensures.ran path (cost + 1) acts) (λ c' a. gives_ends true _ _ _ c' a made) })
+    rw (c.settle.ensures.noted, c.take-value.ensures.noted) (record { by = λ path cost acts. heard_goes _ _ _ _ _ true _ _ c.in_ok-eval_tree.ensures.ended (words.child_by _ _ alone 0 (node_view c.args.expression.now) c.in_ok-eval_tree.ensures.ran path (cost + 1) acts) (λ c' a. gives_ends true _ _ _ c' a (rw c.take-value.ensures.value at c.whole_text.ensures)) })
 
 pub expressions::eval_prefixed-returns-in_err-eval_tree-clause-ran : goal.expressions::eval_prefixed-returns-in_err-eval_tree-clause-ran
 expressions::eval_prefixed-returns-in_err-eval_tree-clause-ran g t c =
-    let table = g.H.PlainHost.table in let s = setting_of table c.args.context.now in let i = inner_of table c.args.context.now in
-    record { by = λ path cost acts. value_stops true true _ _ _ _ _ c.in_err-eval_tree.ensures.ended (words.child_by s i one 0 (node_view c.args.operand.now) c.in_err-eval_tree.ensures.ran path cost acts) }
+    record { by = λ path cost acts. value_stops true true _ _ _ _ _ c.in_err-eval_tree.ensures.ended (words.child_by _ _ one 0 (node_view c.args.operand.now) c.in_err-eval_tree.ensures.ran path cost acts) }
 
 pub expressions::eval_prefixed-returns-clause-ran : goal.expressions::eval_prefixed-returns-clause-ran
 expressions::eval_prefixed-returns-clause-ran g t c =
-    let table = g.H.PlainHost.table in let s = setting_of table c.args.context.now in let i = inner_of table c.args.context.now in
-    let made = rw c.take-value.ensures.value at c.prefixed_text.ensures in
-    rw (c.settle.ensures.noted, c.take-value.ensures.noted) (record { by = λ path cost acts. heard_goes _ _ _ _ _ true _ _ c.in_ok-eval_tree.ensures.ended (words.child_by s i one 0 (node_view c.args.operand.now) c.in_ok-eval_tree.ensures.ran path cost acts) (λ c' a. gives_ends true _ _ _ _ a made) })
+    rw (c.settle.ensures.noted, c.take-value.ensures.noted) (record { by = λ path cost acts. heard_goes _ _ _ _ _ true _ _ c.in_ok-eval_tree.ensures.ended (words.child_by _ _ one 0 (node_view c.args.operand.now) c.in_ok-eval_tree.ensures.ran path cost acts) (λ c' a. gives_ends true _ _ _ _ a (rw c.take-value.ensures.value at c.prefixed_text.ensures)) })
 
 pub expressions::eval_row-returns-in_err-eval_tree-clause-ran : goal.expressions::eval_row-returns-in_err-eval_tree-clause-ran
 expressions::eval_row-returns-in_err-eval_tree-clause-ran g t c =
-    let table = g.H.PlainHost.table in let s = setting_of table c.args.context.now in let i = inner_of table c.args.context.now in
-    record { by = λ path cost acts. value_stops true true _ _ _ _ _ c.in_err-eval_tree.ensures.ended (words.child_by s i one 0 (node_view c.args.first.now) c.in_err-eval_tree.ensures.ran path cost acts) }
+    record { by = λ path cost acts. value_stops true true _ _ _ _ _ c.in_err-eval_tree.ensures.ended (words.child_by _ _ one 0 (node_view c.args.first.now) c.in_err-eval_tree.ensures.ran path cost acts) }
 
 pub expressions::eval_row-loop-joint-init : goal.expressions::eval_row-loop-joint-init
 expressions::eval_row-loop-joint-init g t c =
-    let table = g.H.PlainHost.table in let s = setting_of table c.args.context.now in let i = inner_of table c.args.context.now in
     record {
       value = c.in_ok-eval_tree.ensures.ended;
-      left = record { closes = λ e last r. record { by = λ path cost acts. heard_goes _ _ _ _ _ true _ _ c.in_ok-eval_tree.ensures.ended (words.child_by s i one 0 (node_view c.args.first.now) c.in_ok-eval_tree.ensures.ran path cost acts) (λ c' a. r.by path c' a) } };
+      left = record { closes = λ e last r. record { by = λ path cost acts. heard_goes _ _ _ _ _ true _ _ c.in_ok-eval_tree.ensures.ended (words.child_by _ _ one 0 (node_view c.args.first.now) c.in_ok-eval_tree.ensures.ran path cost acts) (λ c' a. r.by path c' a) } };
     }
 
 pub expressions::eval_row-returns-clause-ran : goal.expressions::eval_row-returns-clause-ran
 expressions::eval_row-returns-clause-ran g t c =
-    let table = g.H.PlainHost.table in let s = setting_of table c.args.context.now in let i = inner_of table c.args.context.now in
-    let over : length c.args.rest.now ≤ c.loop-joint.joint-index = omega arith in
-    c.loop-joint.invariant.left.closes _ _ (expressions.row_done s i c.args.rest.now c.loop-joint.joint-index c.loop-joint.run.end _ _ over c.loop-joint.invariant.value)
+    c.loop-joint.invariant.left.closes _ _ (expressions.row_done _ _ c.args.rest.now c.loop-joint.joint-index c.loop-joint.run.end _ _ (omega arith) c.loop-joint.invariant.value)
 
 pub loops::eval_loop-returns-in_err-eval_tree-clause-ran : goal.loops::eval_loop-returns-in_err-eval_tree-clause-ran
 loops::eval_loop-returns-in_err-eval_tree-clause-ran g t c =
-    let table = g.H.PlainHost.table in let s = setting_of table c.args.context.now in let i = inner_of table c.args.context.now in
-    loops.loop_stops s i c.args.parts.now c.args.start.now _ _ c.in_err-eval_tree.ensures.ended c.in_err-eval_tree.ensures.ran
+    loops.loop_stops _ _ c.args.parts.now c.args.start.now _ _ c.in_err-eval_tree.ensures.ended c.in_err-eval_tree.ensures.ran
 
 pub loops::eval_loop-loop-init : goal.loops::eval_loop-loop-init
 loops::eval_loop-loop-init g t c =
-    let table = g.H.PlainHost.table in let s = setting_of table c.args.context.now in let i = inner_of table c.args.context.now in
-    let e : c.eval_tree.new.run.budget - 0 ≡ c.eval_tree.new.run.budget = omega arith in
-    rw e (loops.loop_starts s i c.args.parts.now c.args.start.now _ _ c.in_ok-eval_tree.ensures.ended c.in_ok-eval_tree.ensures.ran)
+    rw (loops.all_left c.eval_tree.new.run.budget) (loops.loop_starts _ _ c.args.parts.now c.args.start.now _ _ c.in_ok-eval_tree.ensures.ended c.in_ok-eval_tree.ensures.ran)
 
 pub loops::eval_loop-loop-preserved : goal.loops::eval_loop-loop-preserved
 loops::eval_loop-loop-preserved g t c =
-    let table = g.H.PlainHost.table in let s = setting_of table c.args.context.now in let i = inner_of table c.args.context.now in
-    let e = loops.one_less c.eval_tree.new.run.budget c.loop.counter c.loop-test.true in
-    goes_then c.loop.invariant (rw e ((rw c.if-not-branch.false at c.in_ok-eval_turn.ensures.turned) _))
+    goes_then c.loop.invariant (rw (loops.one_less c.eval_tree.new.run.budget c.loop.counter c.loop-test.true) ((rw c.if-not-branch.false at c.in_ok-eval_turn.ensures.turned) _))
 
 pub loops::eval_loop-returns-in_err-eval_turn-clause-ran : goal.loops::eval_loop-returns-in_err-eval_turn-clause-ran
 loops::eval_loop-returns-in_err-eval_turn-clause-ran g t c =
-    let table = g.H.PlainHost.table in let s = setting_of table c.args.context.now in let i = inner_of table c.args.context.now in
-    let e = loops.one_less c.eval_tree.new.run.budget c.loop.counter c.loop-test.true in
-    c.loop.invariant.closes _ _ (rw e (c.in_err-eval_turn.ensures.turned _))
+    c.loop.invariant.closes _ _ (rw (loops.one_less c.eval_tree.new.run.budget c.loop.counter c.loop-test.true) (c.in_err-eval_turn.ensures.turned _))
 
 pub loops::eval_loop-returns-then-not-branch-clause-ran : goal.loops::eval_loop-returns-then-not-branch-clause-ran
 loops::eval_loop-returns-then-not-branch-clause-ran g t c =
-    let table = g.H.PlainHost.table in let s = setting_of table c.args.context.now in let i = inner_of table c.args.context.now in
-    let e = loops.one_less c.eval_tree.new.run.budget c.loop.counter c.loop-test.true in
-    rw c.nothing.ensures.noted (c.loop.invariant.closes _ _ (rw e ((rw c.if-not-branch.true at c.in_ok-eval_turn.ensures.turned) _)))
+    rw c.nothing.ensures.noted (c.loop.invariant.closes _ _ (rw (loops.one_less c.eval_tree.new.run.budget c.loop.counter c.loop-test.true) ((rw c.if-not-branch.true at c.in_ok-eval_turn.ensures.turned) _)))
 
 pub loops::eval_loop-returns-in_err-eval_test-clause-ran : goal.loops::eval_loop-returns-in_err-eval_test-clause-ran
 loops::eval_loop-returns-in_err-eval_test-clause-ran g t c =
-    let table = g.H.PlainHost.table in let s = setting_of table c.args.context.now in let i = inner_of table c.args.context.now in
-    let e = loops.none_left c.eval_tree.new.run.budget c.loop.counter c.loop-test.false in
-    c.loop.invariant.closes _ _ (rw e (loops.turns_stop s i c.args.parts.now zero c.in_err-eval_test.ensures.gave))
+    c.loop.invariant.closes _ _ (rw (loops.none_left c.eval_tree.new.run.budget c.loop.counter c.loop-test.false) (loops.turns_stop _ _ c.args.parts.now zero c.in_err-eval_test.ensures.gave))
 
 pub loops::eval_loop-returns-then-branch-clause-ran : goal.loops::eval_loop-returns-then-branch-clause-ran
 loops::eval_loop-returns-then-branch-clause-ran g t c =
-    let table = g.H.PlainHost.table in let s = setting_of table c.args.context.now in let i = inner_of table c.args.context.now in
-    let e = loops.none_left c.eval_tree.new.run.budget c.loop.counter c.loop-test.false in
-    rw c.raise.ensures (c.loop.invariant.closes _ _ (rw e (loops.turns_spent s i c.args.parts.now _ (rw c.if-branch.true at c.in_ok-eval_test.ensures.gave) (fault_is budget_spent _ c.budget_spent.ensures))))
+    rw c.raise.ensures (c.loop.invariant.closes _ _ (rw (loops.none_left c.eval_tree.new.run.budget c.loop.counter c.loop-test.false) (loops.turns_spent _ _ c.args.parts.now _ (rw c.if-branch.true at c.in_ok-eval_test.ensures.gave) (fault_is budget_spent _ c.budget_spent.ensures))))
 
 pub loops::eval_loop-returns-clause-ran : goal.loops::eval_loop-returns-clause-ran
 loops::eval_loop-returns-clause-ran g t c =
-    let table = g.H.PlainHost.table in let s = setting_of table c.args.context.now in let i = inner_of table c.args.context.now in
-    let e = loops.none_left c.eval_tree.new.run.budget c.loop.counter c.loop-test.false in
-    rw c.nothing-2.ensures.noted (c.loop.invariant.closes _ _ (rw e (loops.turns_over s i c.args.parts.now zero (rw c.if-branch.false at c.in_ok-eval_test.ensures.gave))))
+    rw c.nothing-2.ensures.noted (c.loop.invariant.closes _ _ (rw (loops.none_left c.eval_tree.new.run.budget c.loop.counter c.loop-test.false) (loops.turns_over _ _ c.args.parts.now zero (rw c.if-branch.false at c.in_ok-eval_test.ensures.gave))))
 
 pub loops::eval_turn-returns-in_err-eval_test-clause-turned : goal.loops::eval_turn-returns-in_err-eval_test-clause-turned
 loops::eval_turn-returns-in_err-eval_test-clause-turned g t c =
-    let table = g.H.PlainHost.table in let s = setting_of table c.args.context.now in let i = inner_of table c.args.context.now in
-    rw (halted_is c.from_residual.result c.in_err-eval_test.field-0.0 c.from_residual.ensures) (λ n. loops.turns_stop s i c.args.parts.now (suc n) c.in_err-eval_test.ensures.gave)
+    rw (halted_is c.from_residual.result c.in_err-eval_test.field-0.0 c.from_residual.ensures) (λ n. loops.turns_stop _ _ c.args.parts.now (suc n) c.in_err-eval_test.ensures.gave)
 
 pub loops::eval_turn-returns-then-not-branch-clause-turned : goal.loops::eval_turn-returns-then-not-branch-clause-turned
 loops::eval_turn-returns-then-not-branch-clause-turned g t c =
-    let table = g.H.PlainHost.table in let s = setting_of table c.args.context.now in let i = inner_of table c.args.context.now in
-    λ n. loops.turns_over s i c.args.parts.now (suc n) (rw c.if-not-branch.true at c.in_ok-eval_test.ensures.gave)
+    λ n. loops.turns_over _ _ c.args.parts.now (suc n) (rw c.if-not-branch.true at c.in_ok-eval_test.ensures.gave)
 
 pub loops::eval_turn-returns-in_err-spend-clause-turned : goal.loops::eval_turn-returns-in_err-spend-clause-turned
 loops::eval_turn-returns-in_err-spend-clause-turned g t c =
-    let table = g.H.PlainHost.table in let s = setting_of table c.args.context.now in let i = inner_of table c.args.context.now in
-    let h = c.in_err-spend.ensures.spends in
-    rw (halted_is c.from_residual-in_err-spend.result c.in_err-spend.field-0.0 c.from_residual-in_err-spend.ensures) (rw h.2 (λ n. loops.turns_unpaid s i c.args.parts.now n _ (rw c.if-not-branch.false at c.in_ok-eval_test.ensures.gave) h.0 h.1))
+    rw (halted_is c.from_residual-in_err-spend.result c.in_err-spend.field-0.0 c.from_residual-in_err-spend.ensures) (rw c.in_err-spend.ensures.spends.2 (λ n. loops.turns_unpaid _ _ c.args.parts.now n _ (rw c.if-not-branch.false at c.in_ok-eval_test.ensures.gave) c.in_err-spend.ensures.spends.0 c.in_err-spend.ensures.spends.1))
 
 pub loops::eval_turn-returns-then-not-branch-2-clause-turned : goal.loops::eval_turn-returns-then-not-branch-2-clause-turned
 loops::eval_turn-returns-then-not-branch-2-clause-turned g t c =
-    let table = g.H.PlainHost.table in let s = setting_of table c.args.context.now in let i = inner_of table c.args.context.now in
-    let paid = c.in_ok-spend.ensures.spends in
-    λ n. loops.body_breaks s i c.args.parts.now n c.eval_tree.new.run.end (rw c.if-not-branch.false at c.in_ok-eval_test.ensures.gave) paid.0 (rw paid.1 at c.eval_tree.ensures.ran) (sym (rw c.if-not-branch-2.true at c.in_ok-body_goes.ensures))
+    λ n. loops.body_breaks _ _ c.args.parts.now n c.eval_tree.new.run.end (rw c.if-not-branch.false at c.in_ok-eval_test.ensures.gave) c.in_ok-spend.ensures.spends.0 (rw c.in_ok-spend.ensures.spends.1 at c.eval_tree.ensures.ran) (sym (rw c.if-not-branch-2.true at c.in_ok-body_goes.ensures))
 
 pub loops::eval_turn-returns-in_err-body_goes-clause-turned : goal.loops::eval_turn-returns-in_err-body_goes-clause-turned
 loops::eval_turn-returns-in_err-body_goes-clause-turned g t c =
-    let table = g.H.PlainHost.table in let s = setting_of table c.args.context.now in let i = inner_of table c.args.context.now in
-    let paid = c.in_ok-spend.ensures.spends in
-    rw (halted_is c.from_residual-in_err-body_goes.result c.in_err-body_goes.field-0.0 c.from_residual-in_err-body_goes.ensures) (λ n. loops.body_halts s i c.args.parts.now n c.eval_tree.new.run.end _ (rw c.if-not-branch.false at c.in_ok-eval_test.ensures.gave) paid.0 (rw paid.1 at c.eval_tree.ensures.ran) (sym c.in_err-body_goes.ensures))
+    rw (halted_is c.from_residual-in_err-body_goes.result c.in_err-body_goes.field-0.0 c.from_residual-in_err-body_goes.ensures) (λ n. loops.body_halts _ _ c.args.parts.now n c.eval_tree.new.run.end _ (rw c.if-not-branch.false at c.in_ok-eval_test.ensures.gave) c.in_ok-spend.ensures.spends.0 (rw c.in_ok-spend.ensures.spends.1 at c.eval_tree.ensures.ran) (sym c.in_err-body_goes.ensures))
 
 pub loops::eval_turn-returns-clause-turned : goal.loops::eval_turn-returns-clause-turned
 loops::eval_turn-returns-clause-turned g t c =
-    let table = g.H.PlainHost.table in let s = setting_of table c.args.context.now in let i = inner_of table c.args.context.now in
-    let paid = c.in_ok-spend.ensures.spends in
-    loops.turn_ends s i c.args.parts.now c.eval_tree.new.run.end c.eval_tree-2.new.run.end c.next_goes.result (rw c.if-not-branch.false at c.in_ok-eval_test.ensures.gave) paid.0 (rw paid.1 at c.eval_tree.ensures.ran) (sym (rw c.if-not-branch-2.false at c.in_ok-body_goes.ensures)) c.eval_tree-2.ensures.ran c.next_goes.ensures
+    loops.turn_ends _ _ c.args.parts.now c.eval_tree.new.run.end c.eval_tree-2.new.run.end c.next_goes.result (rw c.if-not-branch.false at c.in_ok-eval_test.ensures.gave) c.in_ok-spend.ensures.spends.0 (rw c.in_ok-spend.ensures.spends.1 at c.eval_tree.ensures.ran) (sym (rw c.if-not-branch-2.false at c.in_ok-body_goes.ensures)) c.eval_tree-2.ensures.ran c.next_goes.ensures
 
 pub words::eval_word-returns-in-len1-clause-ran : goal.words::eval_word-returns-in-len1-clause-ran
 words::eval_word-returns-in-len1-clause-ran g t c =
-    let table = g.H.PlainHost.table in let s = setting_of table c.args.context.now in let i = inner_of table c.args.context.now in
     let one : length c.args.parts.now ≡ 1 = omega (arith, c.in-len1.len_at_least, c.in-len1.len_below) in
-    λ p. rw c.limit.ensures.same (words.piece_alone s i p c.args.parts.now c.part-item.result c.eval_tree.new.run.end c.limit.new.self.end one c.part-item.is c.eval_tree.ensures.ran c.limit.ensures.value)
-
-pub words::eval_word-loop-part-init : goal.words::eval_word-loop-part-init
-words::eval_word-loop-part-init g t c =
-    λ p. rw c.empty-text.ensures (goes_self _ _ _)
+    λ p. rw c.limit.ensures.same (words.piece_alone _ _ p c.args.parts.now c.part-item.result c.eval_tree.new.run.end c.limit.new.self.end one c.part-item.is c.eval_tree.ensures.ran c.limit.ensures.value)
 
 pub words::eval_word-loop-part-preserved : goal.words::eval_word-loop-part-preserved
 words::eval_word-loop-part-preserved g t c =
-    let table = g.H.PlainHost.table in let s = setting_of table c.args.context.now in let i = inner_of table c.args.context.now in
-    let adds = c.in_ok-add_piece.ensures.adds in
-    λ p. rw (c.in_ok-add_piece.ensures.same, adds.1) (goes_then (c.loop-part.invariant p)
-    (words.piece_next s i p c.args.parts.now c.loop-part.part-index c.part-item-in-loop-part.result c.loop-part.text c.eval_tree-in-loop-part.new.run.end _ c.loop-part-test.true c.part-item-in-loop-part.is c.in_ok-eval_tree.ensures.ended c.in_ok-eval_tree.ensures.ran adds.0))
+    λ p. rw (c.in_ok-add_piece.ensures.same, c.in_ok-add_piece.ensures.adds.1) (goes_then (c.loop-part.invariant p)
+    (words.piece_next _ _ p c.args.parts.now c.loop-part.part-index c.part-item-in-loop-part.result c.loop-part.text c.eval_tree-in-loop-part.new.run.end _ c.loop-part-test.true c.part-item-in-loop-part.is c.in_ok-eval_tree.ensures.ended c.in_ok-eval_tree.ensures.ran c.in_ok-add_piece.ensures.adds.0))
 
 pub words::eval_word-returns-in_err-eval_tree-clause-ran : goal.words::eval_word-returns-in_err-eval_tree-clause-ran
 words::eval_word-returns-in_err-eval_tree-clause-ran g t c =
-    let table = g.H.PlainHost.table in let s = setting_of table c.args.context.now in let i = inner_of table c.args.context.now in
     λ p. (c.loop-part.invariant p).closes _ _
-    (words.piece_stops s i p c.args.parts.now c.loop-part.part-index c.part-item-in-loop-part.result c.loop-part.text c.eval_tree-in-loop-part.new.run.end _ c.loop-part-test.true c.part-item-in-loop-part.is c.in_err-eval_tree.ensures.ended c.in_err-eval_tree.ensures.ran)
+    (words.piece_stops _ _ p c.args.parts.now c.loop-part.part-index c.part-item-in-loop-part.result c.loop-part.text c.eval_tree-in-loop-part.new.run.end _ c.loop-part-test.true c.part-item-in-loop-part.is c.in_err-eval_tree.ensures.ended c.in_err-eval_tree.ensures.ran)
 
 pub words::eval_word-returns-in_err-add_piece-clause-ran : goal.words::eval_word-returns-in_err-add_piece-clause-ran
 words::eval_word-returns-in_err-add_piece-clause-ran g t c =
-    let table = g.H.PlainHost.table in let s = setting_of table c.args.context.now in let i = inner_of table c.args.context.now in
     λ p. rw c.in_err-add_piece.ensures.same ((c.loop-part.invariant p).closes _ _
-    (words.piece_refused s i p c.args.parts.now c.loop-part.part-index c.part-item-in-loop-part.result c.loop-part.text c.add_piece.new.text c.eval_tree-in-loop-part.new.run.end c.add_piece.new.self.end _ _ c.loop-part-test.true c.part-item-in-loop-part.is c.in_ok-eval_tree.ensures.ended c.in_ok-eval_tree.ensures.ran c.in_err-add_piece.ensures.adds))
+    (words.piece_refused _ _ p c.args.parts.now c.loop-part.part-index c.part-item-in-loop-part.result c.loop-part.text c.add_piece.new.text c.eval_tree-in-loop-part.new.run.end c.add_piece.new.self.end _ _ c.loop-part-test.true c.part-item-in-loop-part.is c.in_ok-eval_tree.ensures.ended c.in_ok-eval_tree.ensures.ran c.in_err-add_piece.ensures.adds))
 
 pub words::eval_word-returns-clause-ran : goal.words::eval_word-returns-clause-ran
 words::eval_word-returns-clause-ran g t c =
-    let table = g.H.PlainHost.table in let s = setting_of table c.args.context.now in let i = inner_of table c.args.context.now in
-    let over : length c.args.parts.now ≤ c.loop-part.part-index = omega arith in
-    λ p. rw c.settle.ensures.noted ((c.loop-part.invariant p).closes _ _ (words.pieces_done s i p c.args.parts.now c.loop-part.part-index c.loop-part.text (stand c.loop-part.run c.loop-part.host) over))
+    λ p. rw c.settle.ensures.noted ((c.loop-part.invariant p).closes _ _ (words.pieces_done _ _ p c.args.parts.now c.loop-part.part-index c.loop-part.text (stand c.loop-part.run c.loop-part.host) (omega arith)))
 
 pub expressions::eval_row-returns-in_err-value-clause-ran : goal.expressions::eval_row-returns-in_err-value-clause-ran
 expressions::eval_row-returns-in_err-value-clause-ran g t c =
-    let table = g.H.PlainHost.table in let s = setting_of table c.args.context.now in let i = inner_of table c.args.context.now in
-    let decide = rw (c.as_bytes.ensures, c.take-left.ensures.value) at c.decide-decided.ensures in
-    rw (c.in_err-value.ensures.noted, c.take-left.ensures.noted) (c.loop-joint.invariant.left.closes _ _ (expressions.row_fails s i c.args.rest.now c.loop-joint.joint-index c.loop-joint-item.result (value_in c.loop-joint.run.end) c.decide-decided.result _ _ (stand c.loop-joint.run c.loop-joint.host) c.loop-joint-test.true c.loop-joint-item.is c.in_err-value.ensures.kept decide))
+    rw (c.in_err-value.ensures.noted, c.take-left.ensures.noted) (c.loop-joint.invariant.left.closes _ _ (expressions.row_fails _ _ c.args.rest.now c.loop-joint.joint-index c.loop-joint-item.result (value_in c.loop-joint.run.end) c.decide-decided.result _ _ (stand c.loop-joint.run c.loop-joint.host) c.loop-joint-test.true c.loop-joint-item.is c.in_err-value.ensures.kept (rw (c.as_bytes.ensures, c.take-left.ensures.value) at c.decide-decided.ensures)))
 
 pub expressions::eval_row-returns-in-Some-clause-ran : goal.expressions::eval_row-returns-in-Some-clause-ran
 expressions::eval_row-returns-in-Some-clause-ran g t c =
-    let table = g.H.PlainHost.table in let s = setting_of table c.args.context.now in let i = inner_of table c.args.context.now in
-    let decide = rw (c.as_bytes.ensures, c.take-left.ensures.value) at c.decide-decided.ensures in
-    let known = kept_is c.decide-decided.result (Some c.in-Some.value) _ (rw c.in-Some.is at c.in_ok-value.ensures.kept) decide in
-    rw (c.settle.ensures.noted, c.in_ok-value.ensures.noted, c.take-left.ensures.noted) (c.loop-joint.invariant.left.closes _ _ (expressions.row_decided s i c.args.rest.now c.loop-joint.joint-index c.loop-joint-item.result (value_in c.loop-joint.run.end) c.in-Some.value (stand c.loop-joint.run c.loop-joint.host) c.loop-joint-test.true c.loop-joint-item.is known))
+    rw (c.settle.ensures.noted, c.in_ok-value.ensures.noted, c.take-left.ensures.noted) (c.loop-joint.invariant.left.closes _ _ (expressions.row_decided _ _ c.args.rest.now c.loop-joint.joint-index c.loop-joint-item.result (value_in c.loop-joint.run.end) c.in-Some.value (stand c.loop-joint.run c.loop-joint.host) c.loop-joint-test.true c.loop-joint-item.is (kept_is c.decide-decided.result (Some c.in-Some.value) _ (rw c.in-Some.is at c.in_ok-value.ensures.kept) (rw (c.as_bytes.ensures, c.take-left.ensures.value) at c.decide-decided.ensures))))
 
 pub expressions::eval_row-returns-in_err-eval_tree-2-clause-ran : goal.expressions::eval_row-returns-in_err-eval_tree-2-clause-ran
 expressions::eval_row-returns-in_err-eval_tree-2-clause-ran g t c =
-    let table = g.H.PlainHost.table in let s = setting_of table c.args.context.now in let i = inner_of table c.args.context.now in
-    let decide = rw (c.as_bytes.ensures, c.take-left.ensures.value) at c.decide-decided.ensures in
-    let known = kept_is c.decide-decided.result None _ (rw c.in_default.is at c.in_ok-value.ensures.kept) decide in
-    c.loop-joint.invariant.left.closes _ _ (expressions.row_stops s i c.args.rest.now c.loop-joint.joint-index c.loop-joint-item.result (value_in c.loop-joint.run.end) c.eval_tree-in-loop-joint.new.run.end _ c.loop-joint-test.true c.loop-joint-item.is known c.in_err-eval_tree-2.ensures.ended (rw (c.in_ok-value.ensures.noted, c.take-left.ensures.noted) at c.in_err-eval_tree-2.ensures.ran))
+    c.loop-joint.invariant.left.closes _ _ (expressions.row_stops _ _ c.args.rest.now c.loop-joint.joint-index c.loop-joint-item.result (value_in c.loop-joint.run.end) c.eval_tree-in-loop-joint.new.run.end _ c.loop-joint-test.true c.loop-joint-item.is (kept_is c.decide-decided.result None _ (rw c.in_default.is at c.in_ok-value.ensures.kept) (rw (c.as_bytes.ensures, c.take-left.ensures.value) at c.decide-decided.ensures)) c.in_err-eval_tree-2.ensures.ended (rw (c.in_ok-value.ensures.noted, c.take-left.ensures.noted) at c.in_err-eval_tree-2.ensures.ran))
 
 pub expressions::eval_row-returns-in_err-settle-clause-ran : goal.expressions::eval_row-returns-in_err-settle-clause-ran
 expressions::eval_row-returns-in_err-settle-clause-ran g t c =
-    let table = g.H.PlainHost.table in let s = setting_of table c.args.context.now in let i = inner_of table c.args.context.now in
-    let decide = rw (c.as_bytes.ensures, c.take-left.ensures.value) at c.decide-decided.ensures in
-    let known = kept_is c.decide-decided.result None _ (rw c.in_default.is at c.in_ok-value.ensures.kept) decide in
-    let made = rw (c.take-left.ensures.value, c.value.ensures) at c.both_text-value.ensures in
-    rw c.in_err-settle.ensures.noted (c.loop-joint.invariant.left.closes _ _ (expressions.row_unsettled s i c.args.rest.now c.loop-joint.joint-index c.loop-joint-item.result (value_in c.loop-joint.run.end) c.eval_tree-in-loop-joint.new.run.end _ c.both_text-value.result _ c.loop-joint-test.true c.loop-joint-item.is known c.in_ok-eval_tree-2.ensures.ended (rw (c.in_ok-value.ensures.noted, c.take-left.ensures.noted) at c.in_ok-eval_tree-2.ensures.ran) c.in_err-settle.ensures.ended made))
+    rw c.in_err-settle.ensures.noted (c.loop-joint.invariant.left.closes _ _ (expressions.row_unsettled _ _ c.args.rest.now c.loop-joint.joint-index c.loop-joint-item.result (value_in c.loop-joint.run.end) c.eval_tree-in-loop-joint.new.run.end _ c.both_text-value.result _ c.loop-joint-test.true c.loop-joint-item.is (kept_is c.decide-decided.result None _ (rw c.in_default.is at c.in_ok-value.ensures.kept) (rw (c.as_bytes.ensures, c.take-left.ensures.value) at c.decide-decided.ensures)) c.in_ok-eval_tree-2.ensures.ended (rw (c.in_ok-value.ensures.noted, c.take-left.ensures.noted) at c.in_ok-eval_tree-2.ensures.ran) c.in_err-settle.ensures.ended (rw (c.take-left.ensures.value, c.value.ensures) at c.both_text-value.ensures)))
 
 pub expressions::eval_row-loop-joint-preserved : goal.expressions::eval_row-loop-joint-preserved
 expressions::eval_row-loop-joint-preserved g t c =
-    let table = g.H.PlainHost.table in let s = setting_of table c.args.context.now in let i = inner_of table c.args.context.now in
-    let decide = rw (c.as_bytes.ensures, c.take-left.ensures.value) at c.decide-decided.ensures in
-    let known = kept_is c.decide-decided.result None _ (rw c.in_default.is at c.in_ok-value.ensures.kept) decide in
-    let made = rw (c.take-left.ensures.value, c.value.ensures) at c.both_text-value.ensures in
     rw c.in_ok-settle.ensures.noted (record {
       value = c.in_ok-settle.ensures.ended;
-      left = goes_then c.loop-joint.invariant.left (expressions.row_settled s i c.args.rest.now c.loop-joint.joint-index c.loop-joint-item.result (value_in c.loop-joint.run.end) c.eval_tree-in-loop-joint.new.run.end _ c.both_text-value.result _ c.loop-joint-test.true c.loop-joint-item.is known c.in_ok-eval_tree-2.ensures.ended (rw (c.in_ok-value.ensures.noted, c.take-left.ensures.noted) at c.in_ok-eval_tree-2.ensures.ran) c.in_ok-settle.ensures.ended made);
+      left = goes_then c.loop-joint.invariant.left (expressions.row_settled _ _ c.args.rest.now c.loop-joint.joint-index c.loop-joint-item.result (value_in c.loop-joint.run.end) c.eval_tree-in-loop-joint.new.run.end _ c.both_text-value.result _ c.loop-joint-test.true c.loop-joint-item.is (kept_is c.decide-decided.result None _ (rw c.in_default.is at c.in_ok-value.ensures.kept) (rw (c.as_bytes.ensures, c.take-left.ensures.value) at c.decide-decided.ensures)) c.in_ok-eval_tree-2.ensures.ended (rw (c.in_ok-value.ensures.noted, c.take-left.ensures.noted) at c.in_ok-eval_tree-2.ensures.ran) c.in_ok-settle.ensures.ended (rw (c.take-left.ensures.value, c.value.ensures) at c.both_text-value.ensures));
     })
 
 pub choice::eval_switch-returns-in_err-words-clause-ran : goal.choice::eval_switch-returns-in_err-words-clause-ran
 choice::eval_switch-returns-in_err-words-clause-ran g t c =
-    let table = g.H.PlainHost.table in let s = setting_of table c.args.context.now in let i = inner_of table c.args.context.now in
-    let name = codes "switch" ∷ [] in let m = count (trees_of (nodes_view c.args.words.now)) in let go = chosen_of c.args.front (choice.bodies_at s i m c.args.bodies.now) in
-    let gave = c.in_err-words.ensures.gave name 0 free refl in record { by = λ path cost acts. (gave.stops c.args.wanted go).by path (cost + 1) acts }
+    record { by = λ path cost acts. ((c.in_err-words.ensures.gave (codes "switch" ∷ []) 0 free refl).stops c.args.wanted (chosen_of c.args.front (choice.bodies_at _ _ _ c.args.bodies.now))).by path (cost + 1) acts }
 
 pub choice::eval_switch-returns-in_err-number-clause-ran : goal.choice::eval_switch-returns-in_err-number-clause-ran
 choice::eval_switch-returns-in_err-number-clause-ran g t c =
-    let table = g.H.PlainHost.table in let s = setting_of table c.args.context.now in let i = inner_of table c.args.context.now in
-    let name = codes "switch" ∷ [] in let m = count (trees_of (nodes_view c.args.words.now)) in let go = chosen_of c.args.front (choice.bodies_at s i m c.args.bodies.now) in
-    let gave = c.in_ok-words.ensures.gave name 0 free refl in
-    rw c.in_err-number.ensures.noted (record { by = λ path cost acts. ((gave.goes c.args.wanted go).closes _ _ (choice.chosen_kept s i c.args.wanted c.args.front m c.args.bodies.now c.in_ok-words.words (stand c.eval_words.new.run c.eval_words.new.host) c.hit_of-hit.result _ _ c.in_err-number.ensures.kept (rw c.as_slice.ensures at c.hit_of-hit.ensures))).by path (cost + 1) acts })
+    rw c.in_err-number.ensures.noted (record { by = λ path cost acts. (((c.in_ok-words.ensures.gave (codes "switch" ∷ []) 0 free refl).goes c.args.wanted (chosen_of c.args.front (choice.bodies_at _ _ _ c.args.bodies.now))).closes _ _ (choice.chosen_kept _ _ c.args.wanted c.args.front _ c.args.bodies.now c.in_ok-words.words (stand c.eval_words.new.run c.eval_words.new.host) c.hit_of-hit.result _ _ c.in_err-number.ensures.kept (rw c.as_slice.ensures at c.hit_of-hit.ensures))).by path (cost + 1) acts })
 
 pub choice::eval_switch-returns-in_default-clause-ran : goal.choice::eval_switch-returns-in_default-clause-ran
 choice::eval_switch-returns-in_default-clause-ran g t c =
-    let table = g.H.PlainHost.table in let s = setting_of table c.args.context.now in let i = inner_of table c.args.context.now in
-    let name = codes "switch" ∷ [] in let m = count (trees_of (nodes_view c.args.words.now)) in let go = chosen_of c.args.front (choice.bodies_at s i m c.args.bodies.now) in
-    let gave = c.in_ok-words.ensures.gave name 0 free refl in
     let hit = kept_is c.hit_of-hit.result None _ (rw c.in_default.is at c.in_ok-number.ensures.kept) (rw c.as_slice.ensures at c.hit_of-hit.ensures) in
-    rw (c.nothing.ensures.noted, c.in_ok-number.ensures.noted) (record { by = λ path cost acts. ((gave.goes c.args.wanted go).closes _ _ (choice.chosen_none s i c.args.wanted c.args.front m c.args.bodies.now c.in_ok-words.words (stand c.eval_words.new.run c.eval_words.new.host) hit)).by path (cost + 1) acts })
+    rw (c.nothing.ensures.noted, c.in_ok-number.ensures.noted) (record { by = λ path cost acts. (((c.in_ok-words.ensures.gave (codes "switch" ∷ []) 0 free refl).goes c.args.wanted (chosen_of c.args.front (choice.bodies_at _ _ _ c.args.bodies.now))).closes _ _ (choice.chosen_none _ _ c.args.wanted c.args.front _ c.args.bodies.now c.in_ok-words.words (stand c.eval_words.new.run c.eval_words.new.host) hit)).by path (cost + 1) acts })
 
 pub choice::eval_switch-returns-in-Some-first_body-clause-ran : goal.choice::eval_switch-returns-in-Some-first_body-clause-ran
 choice::eval_switch-returns-in-Some-first_body-clause-ran g t c =
-    let table = g.H.PlainHost.table in let s = setting_of table c.args.context.now in let i = inner_of table c.args.context.now in
-    let name = codes "switch" ∷ [] in let m = count (trees_of (nodes_view c.args.words.now)) in let go = chosen_of c.args.front (choice.bodies_at s i m c.args.bodies.now) in
-    let gave = c.in_ok-words.ensures.gave name 0 free refl in
     let hit = kept_is c.hit_of-hit.result (Some c.in-Some.number) _ (rw c.in-Some.is at c.in_ok-number.ensures.kept) (rw c.as_slice.ensures at c.hit_of-hit.ensures) in
-    record { by = λ path cost acts. ((gave.goes c.args.wanted go).closes _ _ (choice.chosen_body s i c.args.wanted c.args.front m c.in-Some.number c.args.bodies.now c.in_ok-words.words c.in-Some-first_body.body.now hit (sym (rw c.in-Some-first_body.is at c.first_body.ensures)) (rw c.in_ok-number.ensures.noted at c.eval_tree.ensures.ran))).by path (cost + 1) acts }
+    record { by = λ path cost acts. (((c.in_ok-words.ensures.gave (codes "switch" ∷ []) 0 free refl).goes c.args.wanted (chosen_of c.args.front (choice.bodies_at _ _ _ c.args.bodies.now))).closes _ _ (choice.chosen_at _ _ c.args.wanted c.args.front _ c.in-Some.number c.args.bodies.now c.in_ok-words.words (Some c.in-Some-first_body.body.now) hit (rw c.in-Some-first_body.is at c.first_body.ensures) (rw c.in_ok-number.ensures.noted at c.eval_tree.ensures.ran))).by path (cost + 1) acts }
 
 pub choice::eval_switch-returns-clause-ran : goal.choice::eval_switch-returns-clause-ran
 choice::eval_switch-returns-clause-ran g t c =
-    let table = g.H.PlainHost.table in let s = setting_of table c.args.context.now in let i = inner_of table c.args.context.now in
-    let name = codes "switch" ∷ [] in let m = count (trees_of (nodes_view c.args.words.now)) in let go = chosen_of c.args.front (choice.bodies_at s i m c.args.bodies.now) in
-    let gave = c.in_ok-words.ensures.gave name 0 free refl in
     let hit = kept_is c.hit_of-hit.result (Some c.in-Some.number) _ (rw c.in-Some.is at c.in_ok-number.ensures.kept) (rw c.as_slice.ensures at c.hit_of-hit.ensures) in
-    rw (c.nothing-in-None.ensures.noted, c.in_ok-number.ensures.noted) (record { by = λ path cost acts. ((gave.goes c.args.wanted go).closes _ _ (choice.chosen_last s i c.args.wanted c.args.front m c.in-Some.number c.args.bodies.now c.in_ok-words.words (stand c.eval_words.new.run c.eval_words.new.host) hit (sym (rw c.in-None.is at c.first_body.ensures)))).by path (cost + 1) acts })
+    rw (c.nothing-in-None.ensures.noted, c.in_ok-number.ensures.noted) (record { by = λ path cost acts. (((c.in_ok-words.ensures.gave (codes "switch" ∷ []) 0 free refl).goes c.args.wanted (chosen_of c.args.front (choice.bodies_at _ _ _ c.args.bodies.now))).closes _ _ (choice.chosen_at _ _ c.args.wanted c.args.front _ c.in-Some.number c.args.bodies.now c.in_ok-words.words None {s = stand c.eval_words.new.run c.eval_words.new.host} hit (rw c.in-None.is at c.first_body.ensures) (refl, refl))).by path (cost + 1) acts })
 
 pub loops::eval_each-returns-in_err-words-clause-ran : goal.loops::eval_each-returns-in_err-words-clause-ran
 loops::eval_each-returns-in_err-words-clause-ran g t c =
@@ -489,70 +343,37 @@ loops::eval_each-returns-clause-ran g t c =
 
 pub loops::eval_rows-loop-number-init : goal.loops::eval_rows-loop-number-init
 loops::eval_rows-loop-number-init g t c =
-    λ k. let e : c.most_turns-number-end.result - 0 ≡ c.most_turns-number-end.result = omega arith in rw (e, c.most_turns-number-end.ensures) (goes_self _ _ _)
+    λ k. rw (loops.all_left c.most_turns-number-end.result, c.most_turns-number-end.ensures) (goes_self _ _ _)
 
 pub loops::eval_rows-returns-in_err-spend-clause-ran : goal.loops::eval_rows-returns-in_err-spend-clause-ran
 loops::eval_rows-returns-in_err-spend-clause-ran g t c =
-    let table = g.H.PlainHost.table in let s = setting_of table c.args.context.now in let i = inner_of table c.args.context.now in
-    let body = λ (k : ℕ). child free k (node_view c.args.body.now) (eval s i (node_view c.args.body.now)) in let n = c.loop-number.number in let rs = map row_view c.args.rows.now in
-    let e = loops.one_less c.most_turns-number-end.result n c.loop-number-test.true in
-    let h = c.in_err-spend.ensures.spends in
-    λ k. rw h.2 ((c.loop-number.invariant k).closes _ _ (rw e (rows.rows_unpaid s.statics rs (body k) _ n (stand c.loop-number.run c.loop-number.host) c.spend.new.self.end h.0 h.1)))
+    λ k. rw c.in_err-spend.ensures.spends.2 ((c.loop-number.invariant k).closes _ _ (rows.rows_unpaid g.H.PlainHost.table c.args.context.now c.args.rows.now c.args.body.now k _ c.loop-number.number (stand c.loop-number.run c.loop-number.host) c.spend.new.self.end c.loop-number-test.true c.in_err-spend.ensures.spends.0 c.in_err-spend.ensures.spends.1))
 
 pub loops::eval_rows-returns-in_err-kept-clause-ran : goal.loops::eval_rows-returns-in_err-kept-clause-ran
 loops::eval_rows-returns-in_err-kept-clause-ran g t c =
-    let table = g.H.PlainHost.table in let s = setting_of table c.args.context.now in let i = inner_of table c.args.context.now in
-    let body = λ (k : ℕ). child free k (node_view c.args.body.now) (eval s i (node_view c.args.body.now)) in let n = c.loop-number.number in let rs = map row_view c.args.rows.now in
-    let e = loops.one_less c.most_turns-number-end.result n c.loop-number-test.true in
-    let paid = c.in_ok-spend.ensures.spends in let set = rw paid.1 at c.set_turn-set.ensures in
-    let at = stand c.loop-number.run c.loop-number.host in let vars = c.set_turn-set.new.vars in
-    λ k. rw (c.in_err-kept.ensures.noted, paid.1) ((c.loop-number.invariant k).closes _ _ (rw e (set_fails _ c.set_turn-set.result _ vars c.in_err-kept.ensures.kept set _
-    (λ x. Ran true (row_loop s.statics rs (body k) (suc (c.most_turns-number-end.result - (n + 1))) n) at x (rows.with_vars vars (spent at)))
-    (λ x fails. rows.rows_unset s.statics rs (body k) _ n vars at x paid.0 fails))))
+    λ k. rw (c.in_err-kept.ensures.noted, c.in_ok-spend.ensures.spends.1) ((c.loop-number.invariant k).closes _ _ (rows.rows_unset g.H.PlainHost.table c.args.context.now c.args.rows.now c.args.body.now k _ c.loop-number.number c.set_turn-set.new.vars (stand c.loop-number.run c.loop-number.host) c.set_turn-set.result _ _ c.loop-number-test.true c.in_ok-spend.ensures.spends.0 c.in_err-kept.ensures.kept (rw c.in_ok-spend.ensures.spends.1 at c.set_turn-set.ensures)))
 
 pub loops::eval_rows-returns-in_err-body_goes-clause-ran : goal.loops::eval_rows-returns-in_err-body_goes-clause-ran
 loops::eval_rows-returns-in_err-body_goes-clause-ran g t c =
-    let table = g.H.PlainHost.table in let s = setting_of table c.args.context.now in let i = inner_of table c.args.context.now in
-    let body = λ (k : ℕ). child free k (node_view c.args.body.now) (eval s i (node_view c.args.body.now)) in let n = c.loop-number.number in let rs = map row_view c.args.rows.now in
-    let e = loops.one_less c.most_turns-number-end.result n c.loop-number-test.true in
-    let paid = c.in_ok-spend.ensures.spends in let set = rw paid.1 at c.set_turn-set.ensures in
-    let is = set_is _ c.set_turn-set.result _ c.set_turn-set.new.vars c.in_ok-kept.ensures.kept set in
-    let ran = λ (k : ℕ) (path : List ℕ) (c' : ℕ) (a : List Act). words.child_by s i free k (node_view c.args.body.now) (rw (c.in_ok-kept.ensures.noted, paid.1) at c.eval_tree.ensures.ran) path c' a in
-    λ k. (c.loop-number.invariant k).closes _ _ (rw e (rows.rows_halt s.statics rs (body k) _ n c.set_turn-set.new.vars (stand c.loop-number.run c.loop-number.host) (stand c.eval_tree.new.run c.eval_tree.new.host) c.eval_tree.new.run.end _ paid.0 is (ran k) (sym c.in_err-body_goes.ensures)))
+    λ k. (c.loop-number.invariant k).closes _ _ (rows.row_ran g.H.PlainHost.table c.args.context.now c.args.rows.now c.args.body.now k c.most_turns-number-end.result c.loop-number.number c.set_turn-set.new.vars (stand c.loop-number.run c.loop-number.host) (stand c.eval_tree.new.run c.eval_tree.new.host) c.eval_tree.new.run.end c.set_turn-set.result _ (Err _) c.loop-number-test.true c.in_ok-spend.ensures.spends.0 c.in_ok-kept.ensures.kept (rw c.in_ok-spend.ensures.spends.1 at c.set_turn-set.ensures) (rw (c.in_ok-kept.ensures.noted, c.in_ok-spend.ensures.spends.1) at c.eval_tree.ensures.ran) c.in_err-body_goes.ensures)
 
 pub loops::eval_rows-returns-then-not-branch-clause-ran : goal.loops::eval_rows-returns-then-not-branch-clause-ran
 loops::eval_rows-returns-then-not-branch-clause-ran g t c =
-    let table = g.H.PlainHost.table in let s = setting_of table c.args.context.now in let i = inner_of table c.args.context.now in
-    let body = λ (k : ℕ). child free k (node_view c.args.body.now) (eval s i (node_view c.args.body.now)) in let n = c.loop-number.number in let rs = map row_view c.args.rows.now in
-    let e = loops.one_less c.most_turns-number-end.result n c.loop-number-test.true in
-    let paid = c.in_ok-spend.ensures.spends in let set = rw paid.1 at c.set_turn-set.ensures in
-    let is = set_is _ c.set_turn-set.result _ c.set_turn-set.new.vars c.in_ok-kept.ensures.kept set in
-    let ran = λ (k : ℕ) (path : List ℕ) (c' : ℕ) (a : List Act). words.child_by s i free k (node_view c.args.body.now) (rw (c.in_ok-kept.ensures.noted, paid.1) at c.eval_tree.ensures.ran) path c' a in
-    λ k. rw c.nothing.ensures.noted ((c.loop-number.invariant k).closes _ _ (rw e (rows.rows_over s.statics rs (body k) _ n c.set_turn-set.new.vars (stand c.loop-number.run c.loop-number.host) (stand c.eval_tree.new.run c.eval_tree.new.host) c.eval_tree.new.run.end paid.0 is (ran k) (sym (rw c.if-not-branch.true at c.in_ok-body_goes.ensures)))))
+    λ k. rw c.nothing.ensures.noted ((c.loop-number.invariant k).closes _ _ (rows.row_ran g.H.PlainHost.table c.args.context.now c.args.rows.now c.args.body.now k c.most_turns-number-end.result c.loop-number.number c.set_turn-set.new.vars (stand c.loop-number.run c.loop-number.host) (stand c.eval_tree.new.run c.eval_tree.new.host) c.eval_tree.new.run.end c.set_turn-set.result _ (Ok false) c.loop-number-test.true c.in_ok-spend.ensures.spends.0 c.in_ok-kept.ensures.kept (rw c.in_ok-spend.ensures.spends.1 at c.set_turn-set.ensures) (rw (c.in_ok-kept.ensures.noted, c.in_ok-spend.ensures.spends.1) at c.eval_tree.ensures.ran) (rw c.if-not-branch.true at c.in_ok-body_goes.ensures)))
 
 pub loops::eval_rows-loop-number-preserved : goal.loops::eval_rows-loop-number-preserved
 loops::eval_rows-loop-number-preserved g t c =
-    let table = g.H.PlainHost.table in let s = setting_of table c.args.context.now in let i = inner_of table c.args.context.now in
-    let body = λ (k : ℕ). child free k (node_view c.args.body.now) (eval s i (node_view c.args.body.now)) in let n = c.loop-number.number in let rs = map row_view c.args.rows.now in
-    let e = loops.one_less c.most_turns-number-end.result n c.loop-number-test.true in
-    let paid = c.in_ok-spend.ensures.spends in let set = rw paid.1 at c.set_turn-set.ensures in
-    let is = set_is _ c.set_turn-set.result _ c.set_turn-set.new.vars c.in_ok-kept.ensures.kept set in
-    let ran = λ (k : ℕ) (path : List ℕ) (c' : ℕ) (a : List Act). words.child_by s i free k (node_view c.args.body.now) (rw (c.in_ok-kept.ensures.noted, paid.1) at c.eval_tree.ensures.ran) path c' a in
-    λ k. goes_then (c.loop-number.invariant k) (rw e (rows.rows_next s.statics rs (body k) _ n c.set_turn-set.new.vars (stand c.loop-number.run c.loop-number.host) (stand c.eval_tree.new.run c.eval_tree.new.host) c.eval_tree.new.run.end paid.0 is (ran k) (sym (rw c.if-not-branch.false at c.in_ok-body_goes.ensures))))
+    λ k. goes_then (c.loop-number.invariant k) (rows.row_ran g.H.PlainHost.table c.args.context.now c.args.rows.now c.args.body.now k c.most_turns-number-end.result c.loop-number.number c.set_turn-set.new.vars (stand c.loop-number.run c.loop-number.host) (stand c.eval_tree.new.run c.eval_tree.new.host) c.eval_tree.new.run.end c.set_turn-set.result _ (Ok true) c.loop-number-test.true c.in_ok-spend.ensures.spends.0 c.in_ok-kept.ensures.kept (rw c.in_ok-spend.ensures.spends.1 at c.set_turn-set.ensures) (rw (c.in_ok-kept.ensures.noted, c.in_ok-spend.ensures.spends.1) at c.eval_tree.ensures.ran) (rw c.if-not-branch.false at c.in_ok-body_goes.ensures))
 
 pub loops::eval_rows-returns-clause-ran : goal.loops::eval_rows-returns-clause-ran
 loops::eval_rows-returns-clause-ran g t c =
-    let table = g.H.PlainHost.table in let s = setting_of table c.args.context.now in let i = inner_of table c.args.context.now in
-    let body = λ (k : ℕ). child free k (node_view c.args.body.now) (eval s i (node_view c.args.body.now)) in let n = c.loop-number.number in let rs = map row_view c.args.rows.now in
-    let e = loops.none_left c.most_turns-number-end.result n c.loop-number-test.false in
-    λ k. rw c.nothing-2.ensures.noted ((c.loop-number.invariant k).closes _ _ (rw e (rows.rows_done s.statics rs (body k) n (stand c.loop-number.run c.loop-number.host))))
+    λ k. rw c.nothing-2.ensures.noted ((c.loop-number.invariant k).closes _ _ (rows.rows_done g.H.PlainHost.table c.args.context.now c.args.rows.now c.args.body.now k _ c.loop-number.number (stand c.loop-number.run c.loop-number.host) c.loop-number-test.false))
 
 pub catches::eval_catch-returns-clause-ran : goal.catches::eval_catch-returns-clause-ran
 catches::eval_catch-returns-clause-ran g t c =
-    let table = g.H.PlainHost.table in let s = setting_of table c.args.context.now in let i = inner_of table c.args.context.now in
     record {
-      by = λ path cost acts. catches.catch_unheard s.statics (child free 0 (node_view c.args.body.now) (eval s i (node_view c.args.body.now)) path (from (stand c.args.run.now c.args.host.now) (cost + 1) acts)) c.eval_tree.new.run.end c.eval_tree.new.run c.caught.new.run c.eval_tree.new.host
-          (words.child_by s i free 0 (node_view c.args.body.now) c.eval_tree.ensures.ran path (cost + 1) acts) refl c.caught.ensures.caught;
+      by = λ path cost acts. catches.catch_unheard (setting_of g.H.PlainHost.table c.args.context.now).statics _ c.eval_tree.new.run.end c.eval_tree.new.run c.caught.new.run c.eval_tree.new.host
+          (words.child_by _ _ free 0 (node_view c.args.body.now) c.eval_tree.ensures.ran path (cost + 1) acts) refl c.caught.ensures.caught;
     }
 
 pub catches::eval_catch_in-returns-in_err-names-clause-ran : goal.catches::eval_catch_in-returns-in_err-names-clause-ran
@@ -568,95 +389,64 @@ catches::eval_catch_in-returns-clause-ran g t c =
     let gave = c.in_ok-names.ensures.gave name 1 one refl in
     record {
       by = λ path cost acts. (rw c.from_ref-name.ensures.value at ((gave.goes true go).closes _ _ (record {
-        by = λ path cost acts. catches.catch_heard s.statics (slice_get c.in_ok-names.names 0) (child free 0 (node_view c.args.body.now) (eval s i (node_view c.args.body.now)) path (from (stand c.eval_words.new.run c.eval_words.new.host) cost acts)) c.eval_tree.new.run.end c.eval_tree.new.run c.caught.new.run c.eval_tree.new.host
-            (words.child_by s i free 0 (node_view c.args.body.now) c.eval_tree.ensures.ran path cost acts) refl (rw c.get.ensures at c.caught.ensures.caught);
+        by = λ path cost acts. catches.catch_heard _ (slice_get c.in_ok-names.names 0) (child free 0 (node_view c.args.body.now) (eval s i (node_view c.args.body.now)) path (from (stand c.eval_words.new.run c.eval_words.new.host) cost acts)) c.eval_tree.new.run.end c.eval_tree.new.run c.caught.new.run c.eval_tree.new.host
+            (words.child_by _ _ free 0 (node_view c.args.body.now) c.eval_tree.ensures.ran path cost acts) refl (rw c.get.ensures at c.caught.ensures.caught);
       }))).by path (cost + 1) acts;
     }
 
 pub calls::eval_call-returns-in_err-call-clause-ran : goal.calls::eval_call-returns-in_err-call-clause-ran
 calls::eval_call-returns-in_err-call-clause-ran g t c =
-    let table = g.H.PlainHost.table in let s = setting_of table c.args.context.now in let i = inner_of table c.args.context.now in
-    rw c.in_err-call.ensures.noted (calls.called_kept s c.args.wanted c.args.context.now.room.expressions c.args.context.now.room.calls _ c.bound.result _ _ (stand c.args.run.now c.args.host.now) c.in_err-call.ensures.kept c.bound.ensures)
-
-pub calls::eval_call-returns-then-is_err-clause-ran : goal.calls::eval_call-returns-then-is_err-clause-ran
-calls::eval_call-returns-then-is_err-clause-ran g t c =
-    rw c.no_memory.ensures (no_memory _ _ _ _)
+    rw c.in_err-call.ensures.noted (calls.called_kept _ c.args.wanted c.args.context.now.room.expressions c.args.context.now.room.calls _ c.bound.result _ _ (stand c.args.run.now c.args.host.now) c.in_err-call.ensures.kept c.bound.ensures)
 
 pub calls::eval_call-returns-clause-ran : goal.calls::eval_call-returns-clause-ran
 calls::eval_call-returns-clause-ran g t c =
-    let table = g.H.PlainHost.table in let s = setting_of table c.args.context.now in let i = inner_of table c.args.context.now in
-    let known = kept_as call_view c.bound.result c.in_ok-call.call _ c.in_ok-call.ensures.kept c.bound.ensures in
-    let value = c.is_err.ensures.value in let told = c.if-is_err.false in
-    let fine : is_err c.enter_proc.result ≡ false = cc in
-    let entered = calls.entered_is c.enter_proc.result _ fine c.enter_proc.ensures.ok in
-    rw known (calls.call_ran s c.args.wanted c.args.context.now.room.expressions c.args.context.now.room.calls (call_view c.in_ok-call.call) (stand c.args.run.now c.args.host.now) c.eval_procedure.new.run c.leave.new.run c.eval_procedure.new.host
+    let entered = calls.entered_is c.enter_proc.result _ (cc (c.is_err.ensures.value, c.if-is_err.false)) c.enter_proc.ensures.ok in
+    rw (kept_as call_view c.bound.result c.in_ok-call.call _ c.in_ok-call.ensures.kept c.bound.ensures) (calls.call_ran _ c.args.wanted c.args.context.now.room.expressions c.args.context.now.room.calls (call_view c.in_ok-call.call) (stand c.args.run.now c.args.host.now) c.eval_procedure.new.run c.leave.new.run c.eval_procedure.new.host
     (rw (entered, c.in_ok-call.ensures.noted) at c.eval_procedure.ensures.ran) c.leave.ensures.left)
 
 pub calls::eval_procedure-returns-in_err-kept-clause-ran : goal.calls::eval_procedure-returns-in_err-kept-clause-ran
 calls::eval_procedure-returns-in_err-kept-clause-ran g t c =
-    let table = g.H.PlainHost.table in let s = setting_of table c.args.context.now in let i = inner_of table c.args.context.now in
-    let at = stand c.args.run.now c.args.host.now in let vars = c.set_parameters-set.new.vars in let call = call_view c.args.call.now in
-    rw c.in_err-kept.ensures.noted (set_fails _ c.set_parameters-set.result _ vars c.in_err-kept.ensures.kept c.set_parameters-set.ensures _
-    (λ x. Ran c.args.wanted (calls.inside s c.args.context.now.room.expressions c.args.context.now.room.calls call) at x (rows.with_vars vars at))
-    (λ x fails. calls.inside_fails s c.args.wanted c.args.context.now.room.expressions c.args.context.now.room.calls call x vars at fails))
+    rw c.in_err-kept.ensures.noted (calls.inside_fails (setting_of g.H.PlainHost.table c.args.context.now) c.args.wanted c.args.context.now.room.expressions c.args.context.now.room.calls (call_view c.args.call.now) c.set_parameters-set.result _ _ c.set_parameters-set.new.vars (stand c.args.run.now c.args.host.now) c.in_err-kept.ensures.kept c.set_parameters-set.ensures)
 
 pub calls::eval_procedure-returns-in_default-clause-ran : goal.calls::eval_procedure-returns-in_default-clause-ran
 calls::eval_procedure-returns-in_default-clause-ran g t c =
-    let table = g.H.PlainHost.table in let s = setting_of table c.args.context.now in let i = inner_of table c.args.context.now in
-    let set = set_is _ c.set_parameters-set.result _ c.set_parameters-set.new.vars c.in_ok-kept.ensures.kept c.set_parameters-set.ensures in
-    rw (c.raise.ensures, c.in_ok-kept.ensures.noted) (calls.inside_deep s c.args.wanted c.args.context.now.room.expressions c.args.context.now.room.calls (call_view c.args.call.now) c.set_parameters-set.new.vars (stand c.args.run.now c.args.host.now) (fault_end c.too_deep.result) (calls.none_more _ c.in_default.ensures) set (fault_is too_deep _ c.too_deep.ensures))
+    rw (c.raise.ensures, c.in_ok-kept.ensures.noted) (calls.inside_deep _ c.args.wanted c.args.context.now.room.expressions c.args.context.now.room.calls (call_view c.args.call.now) c.set_parameters-set.new.vars (stand c.args.run.now c.args.host.now) (fault_end c.too_deep.result) (calls.none_more _ c.in_default.ensures) (set_is _ c.set_parameters-set.result _ c.set_parameters-set.new.vars c.in_ok-kept.ensures.kept c.set_parameters-set.ensures) (fault_is too_deep _ c.too_deep.ensures))
 
 pub calls::eval_procedure-returns-clause-ran : goal.calls::eval_procedure-returns-clause-ran
 calls::eval_procedure-returns-clause-ran g t c =
-    let table = g.H.PlainHost.table in let s = setting_of table c.args.context.now in let i = inner_of table c.args.context.now in
-    let set = set_is _ c.set_parameters-set.result _ c.set_parameters-set.new.vars c.in_ok-kept.ensures.kept c.set_parameters-set.ensures in
-    calls.inside_ran s c.args.wanted c.args.context.now.room.expressions c.args.context.now.room.calls c.in-Some.calls (call_view c.args.call.now) c.set_parameters-set.new.vars (stand c.args.run.now c.args.host.now) (stand c.eval_tree.new.run c.eval_tree.new.host) c.eval_tree.new.run.end (calls.one_more _ _ c.in-Some.ensures) set (rw c.in_ok-kept.ensures.noted at c.eval_tree.ensures.ran)
+    calls.inside_ran _ c.args.wanted c.args.context.now.room.expressions c.args.context.now.room.calls c.in-Some.calls (call_view c.args.call.now) c.set_parameters-set.new.vars (stand c.args.run.now c.args.host.now) (stand c.eval_tree.new.run c.eval_tree.new.host) c.eval_tree.new.run.end (calls.one_more _ _ c.in-Some.ensures) (set_is _ c.set_parameters-set.result _ c.set_parameters-set.new.vars c.in_ok-kept.ensures.kept c.set_parameters-set.ensures) (rw c.in_ok-kept.ensures.noted at c.eval_tree.ensures.ran)
 
 pub calls::eval_expression-returns-in_err-tree-clause-ran : goal.calls::eval_expression-returns-in_err-tree-clause-ran
 calls::eval_expression-returns-in_err-tree-clause-ran g t c =
-    let table = g.H.PlainHost.table in let s = setting_of table c.args.context.now in let i = inner_of table c.args.context.now in
-    rw c.in_err-tree.ensures.noted (calls.read_kept s c.args.context.now.room.expressions c.args.context.now.room.calls _ c.read_expression.result _ _ (stand c.args.run.now c.args.host.now) c.in_err-tree.ensures.kept c.read_expression.ensures)
+    rw c.in_err-tree.ensures.noted (calls.read_kept _ c.args.context.now.room.expressions c.args.context.now.room.calls _ c.read_expression.result _ _ (stand c.args.run.now c.args.host.now) c.in_err-tree.ensures.kept c.read_expression.ensures)
 
 pub calls::eval_expression-returns-in_default-clause-ran : goal.calls::eval_expression-returns-in_default-clause-ran
 calls::eval_expression-returns-in_default-clause-ran g t c =
-    let table = g.H.PlainHost.table in let s = setting_of table c.args.context.now in let i = inner_of table c.args.context.now in
-    let known = kept_as node_view c.read_expression.result c.in_ok-tree.tree _ c.in_ok-tree.ensures.kept c.read_expression.ensures in
-    rw (c.raise.ensures, c.in_ok-tree.ensures.noted, known) (calls.read_deep s c.args.context.now.room.expressions c.args.context.now.room.calls (node_view c.in_ok-tree.tree) (fault_end c.too_deep.result) (stand c.args.run.now c.args.host.now) (calls.none_more _ c.in_default.ensures) (fault_is too_deep _ c.too_deep.ensures))
+    rw (c.raise.ensures, c.in_ok-tree.ensures.noted, kept_as node_view c.read_expression.result c.in_ok-tree.tree _ c.in_ok-tree.ensures.kept c.read_expression.ensures) (calls.read_deep _ c.args.context.now.room.expressions c.args.context.now.room.calls (node_view c.in_ok-tree.tree) (fault_end c.too_deep.result) (stand c.args.run.now c.args.host.now) (calls.none_more _ c.in_default.ensures) (fault_is too_deep _ c.too_deep.ensures))
 
 pub calls::eval_expression-returns-in_err-eval_tree-clause-ran : goal.calls::eval_expression-returns-in_err-eval_tree-clause-ran
 calls::eval_expression-returns-in_err-eval_tree-clause-ran g t c =
-    let table = g.H.PlainHost.table in let s = setting_of table c.args.context.now in let i = inner_of table c.args.context.now in
-    let known = kept_as node_view c.read_expression.result c.in_ok-tree.tree _ c.in_ok-tree.ensures.kept c.read_expression.ensures in
-    rw known (calls.read_stops s c.args.context.now.room.expressions c.args.context.now.room.calls c.in-Some.expressions (node_view c.in_ok-tree.tree) c.eval_tree.new.run.end _ (calls.one_more _ _ c.in-Some.ensures) c.in_err-eval_tree.ensures.ended (rw c.in_ok-tree.ensures.noted at c.in_err-eval_tree.ensures.ran))
+    rw (kept_as node_view c.read_expression.result c.in_ok-tree.tree _ c.in_ok-tree.ensures.kept c.read_expression.ensures) (calls.read_stops _ c.args.context.now.room.expressions c.args.context.now.room.calls c.in-Some.expressions (node_view c.in_ok-tree.tree) c.eval_tree.new.run.end _ (calls.one_more _ _ c.in-Some.ensures) c.in_err-eval_tree.ensures.ended (rw c.in_ok-tree.ensures.noted at c.in_err-eval_tree.ensures.ran))
 
 pub calls::eval_expression-returns-clause-ran : goal.calls::eval_expression-returns-clause-ran
 calls::eval_expression-returns-clause-ran g t c =
-    let table = g.H.PlainHost.table in let s = setting_of table c.args.context.now in let i = inner_of table c.args.context.now in
-    let known = kept_as node_view c.read_expression.result c.in_ok-tree.tree _ c.in_ok-tree.ensures.kept c.read_expression.ensures in
-    let made = rw c.take-value.ensures.value at c.whole_text.ensures in
-    rw (c.settle.ensures.noted, c.take-value.ensures.noted, known) (calls.read_ran s c.args.context.now.room.expressions c.args.context.now.room.calls c.in-Some.expressions (node_view c.in_ok-tree.tree) c.eval_tree.new.run.end _ c.whole_text.result (calls.one_more _ _ c.in-Some.ensures) c.in_ok-eval_tree.ensures.ended (rw c.in_ok-tree.ensures.noted at c.in_ok-eval_tree.ensures.ran) made)
+    rw (c.settle.ensures.noted, c.take-value.ensures.noted, kept_as node_view c.read_expression.result c.in_ok-tree.tree _ c.in_ok-tree.ensures.kept c.read_expression.ensures) (calls.read_ran _ c.args.context.now.room.expressions c.args.context.now.room.calls c.in-Some.expressions (node_view c.in_ok-tree.tree) c.eval_tree.new.run.end _ c.whole_text.result (calls.one_more _ _ c.in-Some.ensures) c.in_ok-eval_tree.ensures.ended (rw c.in_ok-tree.ensures.noted at c.in_ok-eval_tree.ensures.ran) (rw c.take-value.ensures.value at c.whole_text.ensures))
 
 pub commands::eval_command-returns-in_err-words-clause-ran : goal.commands::eval_command-returns-in_err-words-clause-ran
 commands::eval_command-returns-in_err-words-clause-ran g t c =
-    let table = g.H.PlainHost.table in let s = setting_of table c.args.context.now in let i = inner_of table c.args.context.now in
-    let gave = c.in_err-words.ensures.gave [] 0 one refl in record { by = λ path cost acts. (gave.stops c.args.wanted (command s i c.args.verb)).by path cost acts }
+    record { by = λ path cost acts. ((c.in_err-words.ensures.gave [] 0 one refl).stops c.args.wanted _).by path cost acts }
 
 pub commands::eval_command-returns-in-Call-clause-ran : goal.commands::eval_command-returns-in-Call-clause-ran
 commands::eval_command-returns-in-Call-clause-ran g t c =
-    let table = g.H.PlainHost.table in let s = setting_of table c.args.context.now in let i = inner_of table c.args.context.now in
-    let gave = c.in_ok-words.ensures.gave [] 0 one refl in
-    record { by = λ path cost acts. ((gave.goes c.args.wanted (command s i c.args.verb)).closes c.eval_call.new.run.end (stand c.eval_call.new.run c.eval_call.new.host) (rw c.in-Call.is (c.eval_call.ensures.ran))).by path cost acts }
+    record { by = λ path cost acts. (((c.in_ok-words.ensures.gave [] 0 one refl).goes c.args.wanted _).closes c.eval_call.new.run.end (stand c.eval_call.new.run c.eval_call.new.host) (rw c.in-Call.is (c.eval_call.ensures.ran))).by path cost acts }
 
 pub commands::eval_command-returns-in-ExprOfWords-clause-ran : goal.commands::eval_command-returns-in-ExprOfWords-clause-ran
 commands::eval_command-returns-in-ExprOfWords-clause-ran g t c =
-    let table = g.H.PlainHost.table in let s = setting_of table c.args.context.now in let i = inner_of table c.args.context.now in
-    let gave = c.in_ok-words.ensures.gave [] 0 one refl in
-    record { by = λ path cost acts. ((gave.goes c.args.wanted (command s i c.args.verb)).closes c.eval_expression.new.run.end (stand c.eval_expression.new.run c.eval_expression.new.host) (rw c.in-ExprOfWords.is (any_ran _ c.eval_expression.ensures.ran))).by path cost acts }
+    record { by = λ path cost acts. (((c.in_ok-words.ensures.gave [] 0 one refl).goes c.args.wanted _).closes c.eval_expression.new.run.end (stand c.eval_expression.new.run c.eval_expression.new.host) (rw c.in-ExprOfWords.is (any_ran _ c.eval_expression.ensures.ran))).by path cost acts }
 
 pub commands::eval_command-returns : goal.commands::eval_command-returns
 commands::eval_command-returns g t c =
-    let table = g.H.PlainHost.table in let s = setting_of table c.args.context.now in let i = inner_of table c.args.context.now in
-    let gave = c.in_ok-words.ensures.gave [] 0 one refl in record {
+    record {
       ended = c.by_words.ensures.ended;
-      ran = record { by = λ path cost acts. ((gave.goes c.args.wanted (command s i c.args.verb)).closes c.by_words.new.run.end (stand c.by_words.new.run c.by_words.new.host) c.by_words.ensures.ran).by path cost acts };
+      ran = record { by = λ path cost acts. (((c.in_ok-words.ensures.gave [] 0 one refl).goes c.args.wanted _).closes c.by_words.new.run.end (stand c.by_words.new.run c.by_words.new.host) c.by_words.ensures.ran).by path cost acts };
     }

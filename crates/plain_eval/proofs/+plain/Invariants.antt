@@ -1,17 +1,12 @@
-use Rattle.std.proofs.Common.{◌≡◌, ◌≤◌, ◌+◌, ◌-◌, ◌*◌, ◌++◌, length, drop, map, Ok, true, ℕ, List, Bool}
-use Rattle.std.specs.Prelude.{sum_by}
-use Rattle.px_bytes.specs.Limit.{text_limit}
-use Rattle.tcl_compile.specs.Tree.{Tree, operands_of, row, trees_of, script, values_of}
-use Rattle.tcl_compile.specs.TreeView.{node_view, nodes_view, operands_view, values_view}
-use Rattle.rule_model.specs.Children.{child, free, places_of}
-use Rattle.rule_model.specs.Control.{most_turns, row_loop}
-use Rattle.rule_model.specs.Evaluator.{eval}
-use Rattle.rule_model.specs.Outcome.{Meaning}
-use Rattle.rule_steps.specs.Rows.{row_view}
-use Rattle.plain_eval.specs.End.{ended, value_in}
-use Rattle.plain_eval.specs.Ran.{first_of, loop_tree, meaning_of, pieces_of, rows_of, turns_of, words_of}
-use Rattle.plain_eval.specs.Stand.{GoesOn, inner_of, setting_of, stand}
+use Rattle.plain_eval.proofs.Vocabulary
+use Vocabulary.{◌≡◌, ◌≤◌, ◌+◌, ◌-◌, ◌*◌, ◌++◌, length, drop, Ok, true, ℕ, List, Bool, sum_by}
+use Vocabulary.{text_limit, Tree, operands_of, trees_of, script, values_of, node_view, nodes_view}
+use Vocabulary.{operands_view, values_view, child, places_of, Meaning, ended, value_in, first_of}
+use Vocabulary.{loop_tree, meaning_of, pieces_of, rows_of, turns_of, words_of, GoesOn, inner_of}
+use Vocabulary.{setting_of, stand}
+use Rattle.tcl_compile.specs.Tree.{row}
 use Rattle.plain_eval.proofs.InExpressions.{first_left, operands_left}
+use Rattle.plain_eval.proofs.InRows.{rows_left}
 use Rattle.plain_eval.proofs.InScripts.{ScriptLeft}
 use Rattle.plain_eval.proofs.InWords.{pieces_left, words_left}
 use Rattle.plain_eval.proofs.+plain.Given as goal
@@ -86,50 +81,43 @@ decreases-calls::eval_expression g l = at_level l.levels 1
 
 abbrev pub invariant-tree::eval_script-loop-command : goal.invariant-tree::eval_script-loop-command
 invariant-tree::eval_script-loop-command g l =
-    let table = g.H.PlainHost.table in
-    ScriptLeft (setting_of table l.context) (inner_of table l.context) l.last l.wanted (meaning_of table l.context (script (trees_of (nodes_view l.commands))))
+    ScriptLeft (setting_of g.H.PlainHost.table l.context) (inner_of g.H.PlainHost.table l.context) l.last l.wanted (meaning_of g.H.PlainHost.table l.context (script (trees_of (nodes_view l.commands))))
     (stand l.fn.run l.fn.host) l.front l.command-index (stand l.run l.host)
 
 abbrev pub invariant-words::eval_words-loop-word : goal.invariant-words::eval_words-loop-word
 invariant-words::eval_words-loop-word g l =
-    let table = g.H.PlainHost.table in
     record {
       total : l.total ≡ l.name_len + sum_by length l.values;
       fits : l.total ≤ text_limit;
       left : (w : Bool) (name : List (List ℕ)) (k : ℕ) (p : Tree → ℕ) (go : List (List ℕ) → Meaning _) → sum_by length name ≡ l.name_len
-          → GoesOn w (words_of table l.context name k p l.words go) (stand l.fn.run l.fn.host)
-          (words_left (setting_of table l.context) (inner_of table l.context) (λ all. go (drop (length name) all)) p l.words l.word-index (k + l.word-index) (name ++ l.values)) (stand l.run l.host);
+          → GoesOn w (words_of g.H.PlainHost.table l.context name k p l.words go) (stand l.fn.run l.fn.host)
+          (words_left (setting_of g.H.PlainHost.table l.context) (inner_of g.H.PlainHost.table l.context) (λ all. go (drop (length name) all)) p l.words l.word-index (k + l.word-index) (name ++ l.values)) (stand l.run l.host);
     }
 
 abbrev pub invariant-words::eval_word-loop-part : goal.invariant-words::eval_word-loop-part
 invariant-words::eval_word-loop-part g l =
-    let table = g.H.PlainHost.table in
-    (p : Tree → ℕ) → GoesOn true (pieces_of table l.context p l.parts) (stand l.fn.run l.fn.host)
-    (pieces_left (setting_of table l.context) (inner_of table l.context) p l.parts l.part-index l.text) (stand l.run l.host)
+    (p : Tree → ℕ) → GoesOn true (pieces_of g.H.PlainHost.table l.context p l.parts) (stand l.fn.run l.fn.host)
+    (pieces_left (setting_of g.H.PlainHost.table l.context) (inner_of g.H.PlainHost.table l.context) p l.parts l.part-index l.text) (stand l.run l.host)
 
 abbrev pub invariant-expressions::eval_row-loop-joint : goal.invariant-expressions::eval_row-loop-joint
 invariant-expressions::eval_row-loop-joint g l =
-    let table = g.H.PlainHost.table in
     record {
       value : Ok tt ≡ ended l.run.end;
-      left : GoesOn true (meaning_of table l.context (row (node_view l.first) (operands_of (operands_view l.rest)))) (stand l.fn.run l.fn.host)
-          (operands_left (setting_of table l.context) (inner_of table l.context) l.rest l.joint-index (value_in l.run.end)) (stand l.run l.host);
+      left : GoesOn true (meaning_of g.H.PlainHost.table l.context (row (node_view l.first) (operands_of (operands_view l.rest)))) (stand l.fn.run l.fn.host)
+          (operands_left (setting_of g.H.PlainHost.table l.context) (inner_of g.H.PlainHost.table l.context) l.rest l.joint-index (value_in l.run.end)) (stand l.run l.host);
     }
 
 abbrev pub invariant-branches::eval_branches-loop-condition : goal.invariant-branches::eval_branches-loop-condition
 invariant-branches::eval_branches-loop-condition g l =
-    let table = g.H.PlainHost.table in
-    (n : ℕ) (p q r : Tree → ℕ) → GoesOn l.wanted (first_of table l.context n p q r l.values l.last) (stand l.fn.run l.fn.host)
-    (first_left (setting_of table l.context) (inner_of table l.context) n p q l.values l.condition-index (l.condition-index * 2)
-    (child r (places_of (values_of (values_view l.values))) (node_view l.last) (meaning_of table l.context (node_view l.last)))) (stand l.run l.host)
+    (n : ℕ) (p q r : Tree → ℕ) → GoesOn l.wanted (first_of g.H.PlainHost.table l.context n p q r l.values l.last) (stand l.fn.run l.fn.host)
+    (first_left (setting_of g.H.PlainHost.table l.context) (inner_of g.H.PlainHost.table l.context) n p q l.values l.condition-index (l.condition-index * 2)
+    (child r (places_of (values_of (values_view l.values))) (node_view l.last) (meaning_of g.H.PlainHost.table l.context (node_view l.last)))) (stand l.run l.host)
 
 abbrev pub invariant-loops::eval_loop-loop : goal.invariant-loops::eval_loop-loop
 invariant-loops::eval_loop-loop g l =
-    let table = g.H.PlainHost.table in
-    GoesOn true (meaning_of table l.context (loop_tree l.start l.parts)) (stand l.fn.run l.fn.host) (turns_of table l.context l.parts (l.end - l.counter)) (stand l.run l.host)
+    GoesOn true (meaning_of g.H.PlainHost.table l.context (loop_tree l.start l.parts)) (stand l.fn.run l.fn.host) (turns_of g.H.PlainHost.table l.context l.parts (l.end - l.counter)) (stand l.run l.host)
 
 abbrev pub invariant-loops::eval_rows-loop-number : goal.invariant-loops::eval_rows-loop-number
 invariant-loops::eval_rows-loop-number g l =
-    let table = g.H.PlainHost.table in
-    (k : ℕ) → GoesOn true (rows_of table l.context k l.rows l.body) (stand l.fn.run l.fn.host)
-    (row_loop (setting_of table l.context).statics (map row_view l.rows) (child free k (node_view l.body) (meaning_of table l.context (node_view l.body))) (l.number-end - l.number) l.number) (stand l.run l.host)
+    (k : ℕ) → GoesOn true (rows_of g.H.PlainHost.table l.context k l.rows l.body) (stand l.fn.run l.fn.host)
+    (rows_left g.H.PlainHost.table l.context l.rows l.body k (l.number-end - l.number) l.number) (stand l.run l.host)
