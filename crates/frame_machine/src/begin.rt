@@ -70,7 +70,7 @@ pub(crate) fn begin<H: Host, L: Ledger, K: Ledger>(
         → (steps.new ≡ steps.old) × (next ≡ stop (leaf_code level vars.old t))) }
     ensures grows { OnOk result (paid.old ≤ paid.new) }
     ensures ticks { OnOk result (steps.old ≤ steps.new) }
-    ensures few { OnOk result (steps.new ≤ steps.old + 5) }
+    ensures few { steps.new ≤ steps.old + 5 }
 {
     let (alloc, statics) = (context.alloc, context.statics);
     if is_leaf(node) {

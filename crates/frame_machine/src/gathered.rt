@@ -70,7 +70,7 @@ fn finish<H: Host, L: Ledger, K: Ledger>(
         IfOk result (λ next. steps.new + due next + 3 * paid.old ≤ owed) }
     ensures grows { OnOk result (paid.old ≤ paid.new) }
     ensures ticks { OnOk result (steps.old ≤ steps.new) }
-    ensures few { OnOk result (steps.new ≤ steps.old + 5) }
+    ensures few { steps.new ≤ steps.old + 5 }
 {
     match word_verb(node) {
         Some(verb) => {
@@ -118,7 +118,7 @@ pub(crate) fn go_gathered<H: Host, L: Ledger, K: Ledger>(
         IfOk result (λ next. steps.new + due next + 3 * paid.old ≤ owed) }
     ensures grows { OnOk result (paid.old ≤ paid.new) }
     ensures ticks { OnOk result (steps.old ≤ steps.new) }
-    ensures few { OnOk result (steps.new ≤ steps.old + 5) }
+    ensures few { steps.new ≤ steps.old + 5 }
 {
     match gathered {
         Gathered::All(values) => {

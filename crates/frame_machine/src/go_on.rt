@@ -49,7 +49,7 @@ pub(crate) fn go_on<H: Host, L: Ledger, K: Ledger>(
         ≤ steps.old + owed + 3 * paid.new) }
     ensures grows { OnOk result (paid.old ≤ paid.new) }
     ensures ticks { OnOk result (steps.old ≤ steps.new) }
-    ensures few { OnOk result (steps.new ≤ steps.old + 5) }
+    ensures few { steps.new ≤ steps.old + 5 }
 {
     let (alloc, statics) = (context.alloc, context.statics);
     match frame {

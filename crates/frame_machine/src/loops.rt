@@ -1,6 +1,6 @@
 // The moves of a loop.
 
-ghost use Rattle.std.specs.Prelude.{IfOk, ◌≡◌};
+ghost use Rattle.std.specs.Prelude.{IfOk, ◌≡◌, ◌+◌, ◌≤◌};
 ghost use Rattle.tcl_compile.specs.TreeView.{node_view};
 ghost use Rattle.frame_machine.specs.LoopParts.{parts_view};
 ghost use Rattle.frame_machine.specs.Loops.{above, loop_move, next_move, next_told, start_told};
@@ -48,8 +48,9 @@ pub(crate) fn begin_loop<L: Ledger, K: Ledger>(
     steps: &mut Steps<L>,
     paid: &mut Steps<K>,
 ) -> M<Next>
-    ensures { let m = loop_move (known_by reads.now) (parts_view parts.now) budget.old in
+    ensures did { let m = loop_move (known_by reads.now) (parts_view parts.now) budget.old in
         IfOk result (λ n. Spends m paid.old steps.old n budget.new paid.new steps.new) }
+    ensures few { steps.new ≤ steps.old + 5 }
 {
     paid.tick();
     if !is_leaf(parts.start) {
@@ -68,8 +69,9 @@ pub(crate) fn go_start<L: Ledger, K: Ledger>(
     steps: &mut Steps<L>,
     paid: &mut Steps<K>,
 ) -> M<Next>
-    ensures { let m = start_told (known_by reads.now) (parts_view parts.now) budget.old code in
+    ensures did { let m = start_told (known_by reads.now) (parts_view parts.now) budget.old code in
         IfOk result (λ n. Spends m paid.old steps.old n budget.new paid.new steps.new) }
+    ensures few { steps.new ≤ steps.old + 5 }
 {
     match code {
         Code::Value(_) => {
@@ -89,8 +91,9 @@ fn test<L: Ledger, K: Ledger>(
     steps: &mut Steps<L>,
     paid: &mut Steps<K>,
 ) -> M<Next>
-    ensures { let m = test_move (known_by reads.now) (parts_view parts.now) left budget.old in
+    ensures did { let m = test_move (known_by reads.now) (parts_view parts.now) left budget.old in
         IfOk result (λ n. Spends m paid.old steps.old n budget.new paid.new steps.new) }
+    ensures few { steps.new ≤ steps.old + 5 }
 {
     paid.add(alone(parts.test));
     match quick(reads, parts.test, steps, paid)? {
@@ -109,8 +112,9 @@ pub(crate) fn go_test<L: Ledger, K: Ledger>(
     steps: &mut Steps<L>,
     paid: &mut Steps<K>,
 ) -> M<Next>
-    ensures { let m = test_told (known_by reads.now) (node_view body.now) left budget.old code in
+    ensures did { let m = test_told (known_by reads.now) (node_view body.now) left budget.old code in
         IfOk result (λ n. Spends m paid.old steps.old n budget.new paid.new steps.new) }
+    ensures few { steps.new ≤ steps.old }
 {
     match code {
         Code::Value(value) => match truth_of(reads.alloc, value.as_bytes()) {
@@ -132,8 +136,9 @@ fn turn<L: Ledger, K: Ledger>(
     steps: &mut Steps<L>,
     paid: &mut Steps<K>,
 ) -> M<Next>
-    ensures { let m = turn_move (known_by reads.now) (node_view body.now) left budget.old holds in
+    ensures did { let m = turn_move (known_by reads.now) (node_view body.now) left budget.old holds in
         IfOk result (λ n. Spends m paid.old steps.old n budget.new paid.new steps.new) }
+    ensures few { steps.new ≤ steps.old }
 {
     if !holds {
         return Ok(Next::stop(Code::Value(Text::empty(reads.alloc))));
@@ -157,8 +162,9 @@ pub(crate) fn go_turn<L: Ledger, K: Ledger>(
     steps: &mut Steps<L>,
     paid: &mut Steps<K>,
 ) -> M<Next>
-    ensures { let m = turn_told (known_by reads.now) (parts_view parts.now) left budget.old code in
+    ensures did { let m = turn_told (known_by reads.now) (parts_view parts.now) left budget.old code in
         IfOk result (λ n. Spends m paid.old steps.old n budget.new paid.new steps.new) }
+    ensures few { steps.new ≤ steps.old + 5 }
 {
     match after_body(&code) {
         Goes::On => next(reads, parts, left, budget, steps, paid),
@@ -176,8 +182,9 @@ fn next<L: Ledger, K: Ledger>(
     steps: &mut Steps<L>,
     paid: &mut Steps<K>,
 ) -> M<Next>
-    ensures { let m = next_move (known_by reads.now) (parts_view parts.now) left budget.old in
+    ensures did { let m = next_move (known_by reads.now) (parts_view parts.now) left budget.old in
         IfOk result (λ n. Spends m paid.old steps.old n budget.new paid.new steps.new) }
+    ensures few { steps.new ≤ steps.old + 5 }
 {
     if !is_leaf(parts.next) {
         return Ok(Next::child(Frame::Next { left }));
@@ -196,8 +203,9 @@ pub(crate) fn go_next<L: Ledger, K: Ledger>(
     steps: &mut Steps<L>,
     paid: &mut Steps<K>,
 ) -> M<Next>
-    ensures { let m = next_told (known_by reads.now) (parts_view parts.now) left budget.old code in
+    ensures did { let m = next_told (known_by reads.now) (parts_view parts.now) left budget.old code in
         IfOk result (λ n. Spends m paid.old steps.old n budget.new paid.new steps.new) }
+    ensures few { steps.new ≤ steps.old + 5 }
 {
     match after_next(&code) {
         Goes::On => test(reads, parts, left, budget, steps, paid),

@@ -1,6 +1,6 @@
 // Expressions that have their end at once.
 
-ghost use Rattle.std.specs.Prelude.{IfOk};
+ghost use Rattle.std.specs.Prelude.{IfOk, ◌≤◌};
 ghost use Rattle.tcl_compile.specs.TreeView.{node_view};
 ghost use Rattle.frame_machine.specs.Counted.{Counts};
 ghost use Rattle.frame_machine.specs.Quick.{quick};
@@ -20,8 +20,9 @@ pub(crate) fn quick<L: Ledger, K: Ledger>(
     steps: &mut Steps<L>,
     paid: &mut Steps<K>,
 ) -> M<Option<Code>>
-    ensures { let q = quick (known_by reads.now) (node_view node.now) in
+    ensures did { let q = quick (known_by reads.now) (node_view node.now) in
         IfOk result (λ code. Counts q paid.old steps.old code paid.new steps.new) }
+    ensures few { steps.new ≤ steps.old }
 {
     if !is_leaf(node) {
         return Ok(None);

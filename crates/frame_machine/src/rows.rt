@@ -1,6 +1,6 @@
 // The moves of a row of operators.
 
-ghost use Rattle.std.specs.Prelude.{IfOk, drop};
+ghost use Rattle.std.specs.Prelude.{IfOk, drop, ◌+◌, ◌≤◌};
 ghost use Rattle.tcl_compile.specs.TreeView.{node_view, operands_view};
 ghost use Rattle.frame_machine.specs.Counted.{Counts};
 ghost use Rattle.frame_machine.specs.Reads.{known_by};
@@ -50,9 +50,10 @@ pub(crate) fn begin_row<L: Ledger, K: Ledger>(
     steps: &mut Steps<L>,
     paid: &mut Steps<K>,
 ) -> M<Next>
-    ensures { let operands = operands_view rest.now in
+    ensures did { let operands = operands_view rest.now in
         let m = row_move (known_by reads.now) (node_view first.now) operands in
         IfOk result (λ n. Pays m paid.old steps.old n paid.new steps.new) }
+    ensures few { steps.new ≤ steps.old + 5 }
 {
     paid.tick();
     if !is_leaf(first) {
@@ -71,8 +72,9 @@ pub(crate) fn go_left<L: Ledger, K: Ledger>(
     steps: &mut Steps<L>,
     paid: &mut Steps<K>,
 ) -> M<Next>
-    ensures { let m = left_told (known_by reads.now) at (operands_view joints.now) code in
+    ensures did { let m = left_told (known_by reads.now) at (operands_view joints.now) code in
         IfOk result (λ n. Pays m paid.old steps.old n paid.new steps.new) }
+    ensures few { steps.new ≤ steps.old + 5 }
 {
     match code {
         Code::Value(left) => rest_of(reads, joints, at, left, steps, paid),
@@ -81,6 +83,7 @@ pub(crate) fn go_left<L: Ledger, K: Ledger>(
 }
 
 /// A row goes on behind a right operand.
+#[tactic(auto, using(crate::proofs::InRows::joint_once))]
 pub(crate) fn go_right<L: Ledger, K: Ledger>(
     reads: &Reads<'_>,
     joints: &[(Joint, Node)],
@@ -91,9 +94,10 @@ pub(crate) fn go_right<L: Ledger, K: Ledger>(
     steps: &mut Steps<L>,
     paid: &mut Steps<K>,
 ) -> M<Next>
-    ensures { let operands = operands_view joints.now in
+    ensures did { let operands = operands_view joints.now in
         let m = right_told (known_by reads.now) at operands joint left.now code in
         IfOk result (λ n. Pays m paid.old steps.old n paid.new steps.new) }
+    ensures few { steps.new ≤ steps.old + 5 }
 {
     match code {
         Code::Value(right) => {
@@ -116,8 +120,9 @@ fn rest_of<L: Ledger, K: Ledger>(
     steps: &mut Steps<L>,
     paid: &mut Steps<K>,
 ) -> M<Next>
-    ensures { let m = rest_move (known_by reads.now) at (operands_view joints.now) left in
+    ensures did { let m = rest_move (known_by reads.now) at (operands_view joints.now) left in
         IfOk result (λ n. Pays m paid.old steps.old n paid.new steps.new) }
+    ensures few { steps.new ≤ steps.old + 4 }
 {
     match row_from(reads, joints, at, left, steps, paid)? {
         Rowed::Done(code) => Ok(Next::stop(code)),
@@ -135,9 +140,10 @@ pub(crate) fn row_from<L: Ledger, K: Ledger>(
     steps: &mut Steps<L>,
     paid: &mut Steps<K>,
 ) -> M<Rowed>
-    ensures { let all = drop first (operands_view joints.now) in
+    ensures did { let all = drop first (operands_view joints.now) in
         let c = row_from (known_by reads.now) most_operators first all left in
         IfOk result (λ r. Counts c paid.old steps.old r paid.new steps.new) }
+    ensures few { steps.new ≤ steps.old + 4 }
 {
     let mut left = left;
     for at in first..joints.len() {
@@ -163,8 +169,9 @@ fn join<L: Ledger, K: Ledger>(
     steps: &mut Steps<L>,
     paid: &mut Steps<K>,
 ) -> M<Joined>
-    ensures { let c = joined_to (known_by reads.now) at joint (node_view operand.now) left in
+    ensures did { let c = joined_to (known_by reads.now) at joint (node_view operand.now) left in
         IfOk result (λ j. Counts c paid.old steps.old j paid.new steps.new) }
+    ensures few { steps.new ≤ steps.old + 1 }
 {
     paid.tick();
     match decide(reads.alloc, joint, left.as_bytes()) {
@@ -178,6 +185,7 @@ fn join<L: Ledger, K: Ledger>(
     }
 }
 
+#[tactic(auto, using(crate::proofs::InRows::joint_once))]
 fn join_right<L: Ledger, K: Ledger>(
     reads: &Reads<'_>,
     at: usize,
@@ -187,8 +195,9 @@ fn join_right<L: Ledger, K: Ledger>(
     steps: &mut Steps<L>,
     paid: &mut Steps<K>,
 ) -> M<Joined>
-    ensures { let c = right_joined (known_by reads.now) at joint (node_view operand.now) left in
+    ensures did { let c = right_joined (known_by reads.now) at joint (node_view operand.now) left in
         IfOk result (λ j. Counts c paid.old steps.old j paid.new steps.new) }
+    ensures few { steps.new ≤ steps.old + 1 }
 {
     if !is_leaf(operand) {
         return Ok(Joined::Ends(Rowed::Child { at, joint, left }));

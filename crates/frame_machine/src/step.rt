@@ -108,7 +108,7 @@ impl Machine {
             OnOk result (Heavy procedures t self.old.at.frames.items self.old.at.mode
             → steps.new + owed self.new.at + 3 * paid.old ≤ most) }
         ensures ticks { OnOk result (steps.old < steps.new) }
-        ensures few { OnOk result (steps.new ≤ steps.old + 6) }
+        ensures few { steps.new ≤ steps.old + 6 }
         ensures grown { let fs = staying self.old.at.mode self.old.at.frames.items in
             OnOk result (Grown fs self.new.at.frames.items) }
     {
@@ -169,7 +169,7 @@ impl Machine {
             let ticks = steps.new - steps.old in
             IfOk result (λ turn. Went g t old new turn made ticks) }
         ensures ticks { OnOk result (steps.old < steps.new) }
-        ensures few { OnOk result (steps.new ≤ steps.old + 6) }
+        ensures few { steps.new ≤ steps.old + 6 }
         ensures grown { let fs = staying self.old.at.mode self.old.at.frames.items in
             OnOk result (Grown fs self.new.at.frames.items) }
     {
@@ -205,7 +205,7 @@ impl Machine {
             IfOk result (λ turn. Went g t old new turn made ticks) }
         ensures ticked { steps.new ≡ steps.old + self.new.ticked }
         ensures some { OnOk result (0 < self.new.ticked) }
-        ensures few { OnOk result (self.new.ticked ≤ 10) }
+        ensures few { self.new.ticked ≤ 10 }
         ensures grown { let fs = staying self.old.at.mode self.old.at.frames.items in
             OnOk result (Grown fs self.new.at.frames.items) }
     {
@@ -259,7 +259,7 @@ impl Machine {
             IfOk result (λ turn. Went g t old new turn made ticks) }
         ensures ticked { steps.new ≡ steps.old + self.new.ticked }
         ensures some { OnOk result (0 < self.new.ticked) }
-        ensures few { OnOk result (self.new.ticked ≤ 10) }
+        ensures few { self.new.ticked ≤ 10 }
     {
         let context = Context {
             alloc,
@@ -309,7 +309,7 @@ impl Machine {
             IfOk result (λ turn. Went g t old new turn made ticks) }
         ensures ticked { steps.new ≡ steps.old + self.new.ticked }
         ensures some { OnOk result (0 < self.new.ticked) }
-        ensures few { OnOk result (self.new.ticked ≤ 10) }
+        ensures few { self.new.ticked ≤ 10 }
         ensures follows { let fs = self.new.at.frames.items in
             OnOk result (Follows (procs_view procs.now) (node_view tree.now) fs walk.new) }
     {
