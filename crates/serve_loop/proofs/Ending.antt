@@ -19,7 +19,7 @@ pub told_nothing : (o : Option (List ℕ)) → o ≡ told_more o []
 told_nothing None = refl
 told_nothing (Some text) = ap Some (sym (append-nil text))
 
-told_then : (o : Option (List ℕ)) (a b : List ℕ) → told_more (told_more o a) b ≡ told_more o (a ++ b)
+pub told_then : (o : Option (List ℕ)) (a b : List ℕ) → told_more (told_more o a) b ≡ told_more o (a ++ b)
 told_then None a b = refl
 told_then (Some text) a b = ap Some (append_assoc text a b)
 

@@ -21,7 +21,7 @@ all_less : (P Q : ℕ → Type 0) → ((l : ℕ) → P l → Q l) → (xs : List
 all_less P Q less [] x = tt
 all_less P Q less (l ∷ xs) x = (less l x.0, all_less P Q less xs x.1)
 
-all_append : (P : ℕ → Type 0) (xs ys : List ℕ) → AllByRecursion P xs → AllByRecursion P ys → AllByRecursion P (xs ++ ys)
+pub all_append : {A : Type 0} (P : A → Type 0) (xs ys : List A) → AllByRecursion P xs → AllByRecursion P ys → AllByRecursion P (xs ++ ys)
 all_append P [] ys x y = y
 all_append P (l ∷ xs) ys x y = (x.0, all_append P xs ys x.1 y)
 
