@@ -1,20 +1,18 @@
 -- Parts that broke off, behind parts that are whole.
-use Rattle.std.proofs.Common.{◌≡◌, ℕ, List, [], ◌∷◌, ◌++◌, Bool, true, false, Option, Some, None, refl, ap, sym, ◌∙◌, subst, append_assoc}
-use Rattle.std.specs.List.{AllByRecursion}
+use Rattle.std.proofs.Common.{◌≡◌, ℕ, List, [], ◌∷◌, ◌++◌, Bool, true, Option, Some, None, refl, sym, subst, append_assoc}
 use Rattle.std.proofs.lemmas.List.{append-nil}
 use Rattle.px_outside.specs.Net.{Call, Chain}
 use Rattle.journal_text.specs.declared.event.Event.{Event}
 use Rattle.served_links.specs.declared.links.Links.{Links}
 use Rattle.serve_loop.specs.declared.serving.Serving.{Serving}
-use Rattle.serve_loop.specs.Broken.{Broken, Unbegun, Ungiven, OwnSome, AskedSome, steps_of, Breaks, Broke, BrokeBy, IsBroken, FrontOf}
-use Rattle.serve_loop.specs.Broken.{GivesOrNot, GaveSome, IsGivenSome, AreAsks}
+use Rattle.serve_loop.specs.Broken.{Unbegun, Ungiven, OwnSome, AskedSome, steps_of, Breaks, Broke, BrokeBy, IsBroken, FrontOf}
+use Rattle.serve_loop.specs.Broken.{GivesOrNot, IsGivenSome, AreAsks}
 use Rattle.serve_loop.specs.Carrying.{Known}
 use Rattle.serve_loop.specs.Events.{Tells, group_text}
 use Rattle.serve_loop.specs.Face.{Face}
-use Rattle.serve_loop.specs.Fresh.{GivesOnce, OwnersStay, links_given}
+use Rattle.serve_loop.specs.Fresh.{GivesOnce, links_given}
 use Rattle.serve_loop.specs.Part.{stand, Ready, Happens, Part}
 use Rattle.serve_loop.specs.Walk.{Around, Given, Step, Own, Asked, MayCall, AfterCall, IsOwn, Walks, calls_in, text_in, given_calls, given_text}
-use Rattle.serve_loop.proofs.Calling.{CallStep, call_quiet}
 use Rattle.serve_loop.proofs.Chains.{chain_append}
 use Rattle.serve_loop.proofs.Compose.{calls_append, text_append, walks_append, once_steps, tells_then, tells_nothing}
 use Rattle.serve_loop.proofs.Fresh.{all_append, once_none, once_then, owners_same, owners_then}
@@ -22,7 +20,7 @@ use Rattle.serve_loop.proofs.Fronts.{front_all, front_after}
 use Rattle.serve_loop.proofs.Walking.{Goes}
 
 -- nothing more was done
-pub not_begun : {C S : Type 0} {face : Face C} {did : S → Call → S → Type 0} {gave : S → ℕ → Type 0} (short : Bool) (x : Serving C) (n : S)
+unfoldable pub not_begun : {C S : Type 0} {face : Face C} {did : S → Call → S → Type 0} {gave : S → ℕ → Type 0} (short : Bool) (x : Serving C) (n : S)
     → Ready face (gave n) x → Broke face did gave short x x n n
 not_begun short x n s = record {
   steps = [];
@@ -40,7 +38,7 @@ not_begun short x n s = record {
 }
 
 -- whole steps before
-pub broke_then : {C S : Type 0} {face : Face C} {did : S → Call → S → Type 0} {gave : S → ℕ → Type 0} {R : Around C → List Step → Around C → Type 0}
+unfoldable pub broke_then : {C S : Type 0} {face : Face C} {did : S → Call → S → Type 0} {gave : S → ℕ → Type 0} {R : Around C → List Step → Around C → Type 0}
     {short : Bool} {x y z : Serving C} {n m k : S} (one : Happens face did gave R x y n m) → Walks face x.conns (stand x) one.steps (stand y)
     → Broke face did gave short y z m k → Broke face did gave short x z n k
 broke_then {C} {S} {face} {did} {gave} {R} {short} {x} {y} {z} {n} {m} {k} one walks two =
@@ -70,12 +68,14 @@ broke_then {C} {S} {face} {did} {gave} {R} {short} {x} {y} {z} {n} {m} {k} one w
 -- wherever the loop stood
 pub broke_nothing : {C S : Type 0} {face : Face C} {did : S → Call → S → Type 0} {gave : S → ℕ → Type 0} (K : List Step → Type 0) (short : Bool)
     (x : Serving C) (n : S) → K [] → IsBroken face did gave K short x x n n
+unfolding not_begun
 broke_nothing K short x n none = record { from = λ s. record { broke = not_begun short x n s; kinds = none } }
 
 pub broke_after : {C S : Type 0} {face : Face C} {did : S → Call → S → Type 0} {gave : S → ℕ → Type 0} {R : Around C → List Step → Around C → Type 0}
     {short : Bool} {x y z : Serving C} {n m k : S}
     → ((a : Around C) (l : List Step) (b : Around C) → R a l b → Goes face x.conns a l b)
     → Part face did gave R x y n m → IsBroken face did gave AreAsks short y z m k → IsBroken face did gave AreAsks short x z n k
+unfolding broke_then
 broke_after {C} {S} {face} {did} {gave} {R} {short} {x} {y} {z} goes p q = record {
   from = λ s.
       let one = p.from s in

@@ -1,5 +1,5 @@
 -- What the exit of a `?` returns.
-use Rattle.std.proofs.Common.{◌≡◌, Bool, true, sym, subst}
+use Rattle.std.proofs.Common.{◌≡◌, sym, subst}
 use Rattle.std.specs.Prelude.{Result, Ok, Err, IfErr, OnOk}
 use Rattle.std.specs.Result.{IsErrAnd}
 use Rattle.serve_loop.specs.declared.fault.ServeFault.{ServeFault}

@@ -1,16 +1,14 @@
 -- A turn up to where it broke off, and turns before it.
-use Rattle.std.proofs.Common.{◌≡◌, ◌⊎◌, ℕ, List, [], ◌∷◌, ◌++◌, take, drop, length, Bool, true, false, Option, Some, None, inl, inr, refl, ap, sym, ◌∙◌, subst, append_assoc}
-use Rattle.std.specs.Prelude.{Result, Ok, Err, OnOk, OnErr, IfErr}
-use Rattle.std.proofs.lemmas.List.{append-nil}
+use Rattle.std.proofs.Common.{ℕ, List, ◌++◌, Bool, inl, inr, ap, ◌∙◌, subst, append_assoc}
 use Rattle.px_outside.specs.declared.answers.ReadyAt.{ReadyAt}
-use Rattle.px_outside.specs.Net.{Call, Chain}
+use Rattle.px_outside.specs.Net.{Call}
 use Rattle.serve_loop.specs.declared.serving.Serving.{Serving}
-use Rattle.serve_loop.specs.Broken.{Broke, IsBroken, AreAsks, AtMostOne, IsWait, steps_of}
+use Rattle.serve_loop.specs.Broken.{IsBroken, AreAsks, AtMostOne, IsWait, steps_of}
 use Rattle.serve_loop.specs.Face.{Face}
-use Rattle.serve_loop.specs.Fallen.{FellTicking, InOrder, Fallen, IsFallen}
-use Rattle.serve_loop.specs.Part.{stand, Happens, Part}
+use Rattle.serve_loop.specs.Fallen.{FellTicking, IsFallen}
+use Rattle.serve_loop.specs.Part.{stand, Part}
 use Rattle.serve_loop.specs.Turn.{Ticks, Waits, IsUntil}
-use Rattle.serve_loop.specs.Walk.{Around, Step, Walks}
+use Rattle.serve_loop.specs.Walk.{Step}
 use Rattle.serve_loop.proofs.Breaking.{broke_then}
 use Rattle.serve_loop.proofs.Walking.{ticks_walks, waited_walks}
 
@@ -26,6 +24,7 @@ fell_ticking now slots links p = record {
 pub fell_waiting : {C S : Type 0} {face : Face C} {did : S → Call → S → Type 0} {gave : S → ℕ → Type 0} {short : Bool} (now : ℕ) (slots links : List ℕ)
     (until : ℕ) {x y z : Serving C} {n m k : S} → Part face did gave (Ticks face now) x y n m → IsUntil face y.conns (stand y) slots links until
     → IsBroken face did gave (AtMostOne (IsWait until)) short y z m k → IsFallen face did gave now slots links short x z n k
+unfolding broke_then
 fell_waiting {face = face} now slots links until {x} {y} p is_until q = record {
   from = λ s.
       let one = p.from s in
@@ -57,6 +56,7 @@ pub record Waited {C S : Type 0} (face : Face C) (did : S → Call → S → Typ
 pub fell_asking : {C S : Type 0} {face : Face C} {did : S → Call → S → Type 0} {gave : S → ℕ → Type 0} {short : Bool} {now : ℕ} {slots links : List ℕ}
     {x y z w : Serving C} {n m k j : S} → Waited face did gave now slots links x y z n m k
     → IsBroken face did gave AreAsks short z w k j → IsFallen face did gave now slots links short x w n j
+unfolding broke_then
 fell_asking {face = face} {now = now} {slots = slots} {links = links} {x} {y} {z} p q = record {
   from = λ s.
       let one = p.ticks.from s in

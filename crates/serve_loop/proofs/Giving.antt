@@ -1,5 +1,5 @@
 -- An event that is given to the core.
-use Rattle.std.proofs.Common.{◌≡◌, ℕ, List, [], ◌++◌, Bool, true, false, Some, None, refl, ap, sym, ◌∙◌, subst, inl, inr}
+use Rattle.std.proofs.Common.{◌≡◌, ℕ, List, [], ◌++◌, Bool, true, Some, None, refl, ap, sym, ◌∙◌, subst, inl, inr}
 use Rattle.std.specs.Prelude.{IsTrue}
 use Rattle.px_outside.specs.Net.{Call}
 use Rattle.connection_model.specs.declared.note.Note.{Note}
@@ -17,7 +17,7 @@ use Rattle.serve_loop.specs.Part.{IsGiven}
 use Rattle.serve_loop.proofs.Carried.{up_to_short}
 use Rattle.serve_loop.proofs.Compose.{tells_then, tells_nothing}
 use Rattle.serve_loop.proofs.Fresh.{once_none}
-use Rattle.serve_loop.proofs.Fronts.{front_all, front_after, front_none}
+use Rattle.serve_loop.proofs.Fronts.{front_all, front_after}
 
 -- the notes of a step, where none were there before
 pub group_items : {P : List Note → Type 0} (before items : List Note) → before ≡ []

@@ -1,5 +1,5 @@
 -- What was written where a turn met a fault, and all turns up to it.
-use Rattle.std.proofs.Common.{◌≡◌, ◌⊎◌, ℕ, List, [], ◌∷◌, ◌++◌, take, drop, Bool, true, false, Option, Some, None, inl, inr, refl, ap, sym, ◌∙◌, subst, append_assoc}
+use Rattle.std.proofs.Common.{◌≡◌, ◌⊎◌, ℕ, List, [], ◌++◌, take, drop, Bool, true, false, Option, Some, None, inl, inr, refl, ap, sym, ◌∙◌, subst, append_assoc}
 use Rattle.std.specs.Prelude.{Result, Ok, Err, OnOk, OnErr, IfErr}
 use Rattle.std.proofs.lemmas.List.{append-nil, take-append-drop}
 use Rattle.px_outside.specs.Net.{Call, Chain}
@@ -8,15 +8,15 @@ use Rattle.serve_loop.specs.declared.fault.ServeFault.{ServeFault}
 use Rattle.serve_loop.specs.declared.fault.ServeFault.TheVariants as fault
 use Rattle.serve_loop.specs.declared.journal.Journal.{Journal}
 use Rattle.serve_loop.specs.declared.serving.Serving.{Serving}
-use Rattle.serve_loop.specs.Broken.{Breaks, Broke, FrontOf, Unbegun, steps_of}
+use Rattle.serve_loop.specs.Broken.{Breaks, Broke, FrontOf, steps_of}
 use Rattle.serve_loop.specs.Events.{Tells, kept}
 use Rattle.serve_loop.specs.Face.{Face}
 use Rattle.serve_loop.specs.Fallen.{InOrder, WholeRound, IsFallen, DoneSome, TurnSome, Fell, WalkedSome}
 use Rattle.serve_loop.specs.Faults.{FromNet, FromSink, FromNetOrSink, is_memory, is_not_net, turn_end}
 use Rattle.serve_loop.specs.Fresh.{GivesOnce, links_given}
-use Rattle.serve_loop.specs.Part.{stand, Ready, Happens, Part}
+use Rattle.serve_loop.specs.Part.{stand, Ready, Part}
 use Rattle.serve_loop.specs.Server.{Round, Rounds, Done, Running, Walked}
-use Rattle.serve_loop.specs.Walk.{Around, Step, Walks, calls_in, text_in}
+use Rattle.serve_loop.specs.Walk.{Step, Walks, calls_in, text_in}
 use Rattle.serve_loop.proofs.Breaking.{broke_then, not_begun}
 use Rattle.serve_loop.proofs.Chains.{chain_append}
 use Rattle.serve_loop.proofs.Compose.{calls_append, text_append, walks_append, once_steps}
@@ -149,11 +149,12 @@ module _ {C S : Type 0} (face : Face C) (did : S → Call → S → Type 0) (gav
     order = order;
   }
 
-  ready : Ready face (gave n) old → Ready face (gave n) First
+  abbrev ready : Ready face (gave n) old → Ready face (gave n) First
   ready s = record { stands = s.stands; known = s.known }
 
   -- where the turn is whole, the writing of its lines failed
   whole : (why : ServeFault) → is_not_net why ≡ true → WholeTurn face did gave now slots links First y n m → AddsPrefix y.journal.text before after → Ends why
+  unfolding broke_then not_begun
   whole why lines turn added s waits =
       let one = turn.part.from (ready s) in
       let it = broke_then one (rounds_walk face turn.round old.conns (stand old) one.steps (stand y) one.leads) (not_begun false y m one.ready) in
@@ -218,13 +219,21 @@ fails_by a b s s' (Err fault.Net) (Ok v) net sink = net
 fails_by a b s s' (Err fault.Net) (Err why) net sink = of_sink a b s s' why sink
 fails_by a b s s' (Err fault.Write) w net sink = absurd net
 
-pub fell_with : {C S T : Type 0} (face : Face C) (did : S → Call → S → Type 0) (gave : S → ℕ → Type 0) (ticked : T → ℕ → T → Type 0) (old new : Running C S T)
+fell_at : {C S T : Type 0} (face : Face C) (did : S → Call → S → Type 0) (gave : S → ℕ → Type 0) (ticked : T → ℕ → T → Type 0) (old new : Running C S T)
     (now : ℕ) → ticked old.clock now new.clock → (r : Result (Unit {0}) ServeFault)
     → IfErr r (λ why. Ready face (gave old.net) old.server.serving → old.server.serving.journal.text ≡ []
     → TurnSome face did gave why now old.server.slots old.server.links old.server.serving new.server.serving old.net new.net old.written new.written)
     → IfErr r (λ why. Fell face did gave ticked why old new)
-fell_with face did gave ticked old new now asked (Ok u) turn = tt
-fell_with face did gave ticked old new now asked (Err why) turn = record { now = now; asked = asked; turn = turn }
+fell_at face did gave ticked old new now asked (Ok u) turn = tt
+fell_at face did gave ticked old new now asked (Err why) turn = record { now = now; asked = asked; turn = turn }
+
+pub fell_with : {C S T : Type 0} (face : Face C) (did : S → Call → S → Type 0) (gave : S → ℕ → Type 0) (ticked : T → ℕ → T → Type 0) (old new : Running C S T)
+    (now : ℕ) → ticked old.clock now new.clock → (r end : Result (Unit {0}) ServeFault) → r ≡ end
+    → IfErr end (λ why. Ready face (gave old.net) old.server.serving → old.server.serving.journal.text ≡ []
+    → TurnSome face did gave why now old.server.slots old.server.links old.server.serving new.server.serving old.net new.net old.written new.written)
+    → IfErr r (λ why. Fell face did gave ticked why old new)
+fell_with face did gave ticked old new now asked r end is turn =
+    subst (λ (x : Result (Unit {0}) ServeFault). IfErr x (λ why. Fell face did gave ticked why old new)) (sym is) (fell_at face did gave ticked old new now asked end turn)
 
 -- ---- all turns
 

@@ -1,5 +1,5 @@
 -- A turn that met a fault, and the turns before it.
-use Rattle.std.specs.Prelude.{◌≡◌, ◌⊎◌, ℕ, ◌<◌, ◌≤◌, List, [], ◌∷◌, ◌++◌, Bool, true, Option, Some, Err, min}
+use Rattle.std.specs.Prelude.{◌≡◌, ◌⊎◌, ℕ, ◌<◌, ◌≤◌, List, [], ◌++◌, Bool, true, Option, Some, Err, min}
 use Rattle.px_bytes.specs.declared.addr.Addr.{Addr}
 use Rattle.px_outside.specs.declared.answers.ReadyAt.{ReadyAt}
 use Rattle.px_outside.specs.declared.failed.Failed.{Failed}

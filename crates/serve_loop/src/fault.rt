@@ -28,7 +28,10 @@ pub enum ServeFault {
 
 /// How a turn ends, by the end of what it did and that of the writing of its lines: want of memory
 /// goes first, then a fault of the journal.
-pub fn turn_end(done: Result<(), ServeFault>, written: Result<(), ServeFault>) -> Result<(), ServeFault>
+pub fn turn_end(
+    done: Result<(), ServeFault>,
+    written: Result<(), ServeFault>,
+) -> Result<(), ServeFault>
     ensures { result ≡ turn_end done written }
 {
     match done {

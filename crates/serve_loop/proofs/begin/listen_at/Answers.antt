@@ -1,4 +1,4 @@
-use Rattle.std.proofs.Common.{refl, sym, subst, Some}
+use Rattle.std.proofs.Common.{refl}
 use Rattle.serve_loop.specs.Faults.{fault_of}
 use Rattle.serve_loop.proofs.Exits.{at_fault}
 use Rattle.serve_loop.proofs.begin.listen_at.Goals as goal

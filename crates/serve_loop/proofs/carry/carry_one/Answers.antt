@@ -49,6 +49,6 @@ returns-in_err-link-in-Connects-clause-broke g c =
 
 pub returns-in_err-open-in-Connects-clause-broke : goal.returns-in_err-open-in-Connects-clause-broke
 returns-in_err-open-in-Connects-clause-broke g c =
-    at_fault _ c.from_residual.result OutOfMemory c.from_residual.ensures.1
+    at_fault _ c.from_residual-in_err-open-in-Connects.result OutOfMemory c.from_residual-in_err-open-in-Connects.ensures.1
     (subst (λ (x : Action). CarriedSome g.N.Net.did g.N.Net.gave (ConnectStops true x) c.args.net.now c.connect.new.self) (sym c.in-Connects.is)
     (stops_unopened c.args.net.now c.connect.new.self c.in-Connects.conn c.in_ok-link-in-Connects.link c.in-Connects.to c.in_ok-link-in-Connects.ensures.did c.connect.ensures.lasts.given c.in_ok-link-in-Connects.ensures.is_new))

@@ -1,11 +1,9 @@
-use Rattle.std.proofs.Common.{ℕ, List, [], ◌++◌, Bool, true, refl, ap, ◌∙◌, subst}
+use Rattle.std.proofs.Common.{ℕ, List, [], ◌++◌, true, refl, ap, ◌∙◌, subst}
 use Rattle.px_outside.specs.declared.answers.ReadyAt.{ReadyAt}
 use Rattle.served_links.specs.Added.{added}
-use Rattle.serve_loop.specs.declared.fault.ServeFault.{ServeFault}
 use Rattle.serve_loop.specs.declared.fault.ServeFault.TheVariants.{Memory as OutOfMemory}
 use Rattle.serve_loop.specs.declared.work.Work.TheVariants as work
-use Rattle.serve_loop.specs.Broken.{AreAsks, IsBroken}
-use Rattle.serve_loop.specs.Faults.{is_memory}
+use Rattle.serve_loop.specs.Broken.{AreAsks}
 use Rattle.serve_loop.specs.Often.{Each}
 use Rattle.serve_loop.specs.Part.{Part, stand}
 use Rattle.serve_loop.specs.Server.{Round, RunsAndWrites, AsksLinks, AsksAll, WaitsAndAsks}

@@ -1,10 +1,9 @@
-use Rattle.std.proofs.Common.{ℕ, refl, sym, subst}
-use Rattle.std.specs.Prelude.{Result, OnOk, IfErr}
+use Rattle.std.proofs.Common.{sym, subst}
+use Rattle.std.specs.Prelude.{Result, IfErr}
 use Rattle.std.proofs.lemmas.Result.{on_ok_weaker}
 use Rattle.serve_loop.specs.declared.fault.ServeFault.{ServeFault}
-use Rattle.serve_loop.specs.Fallen.{Fell}
+use Rattle.serve_loop.specs.declared.journal.Journal.{Journal}
 use Rattle.serve_loop.specs.Faults.{FromNetOrSink}
-use Rattle.serve_loop.specs.Server.{OneTurn}
 use Rattle.serve_loop.proofs.Stopping.{both_ok, fails_by, fell_by, fell_with, wrote_all}
 use Rattle.serve_loop.proofs.server.Server.turn.Goals as goal
 
@@ -12,10 +11,8 @@ pub returns-clause-turned : goal.returns-clause-turned
 returns-clause-turned g c =
     let before = g.K.Sink.written c.args.journal.now in
     let after = g.K.Sink.written c.flush-written.new.sink in
-    subst (λ (r : Result (Unit {0}) ServeFault). OnOk r ((now : ℕ) × g.T.Clock.gave c.args.clock.now now c.now-now.new.self
-    × OneTurn g.C.Core.face g.N.Net.did g.N.Net.gave now c.args.self.now _ c.args.net.now c.round-done.new.net before after)) (sym c.turn_end.ensures)
-    (both_ok c.round-done.result c.flush-written.result c.round-done.ensures.turned c.flush-written.ensures.written c.flush-written.ensures.none_waits (λ t written none_waits.
-    (
+    rw c.turn_end.ensures
+    (both_ok c.round-done.result c.flush-written.result c.round-done.ensures.turned c.flush-written.ensures.written c.flush-written.ensures.none_waits (λ t written none_waits. (
       c.now-now.result,
       c.now-now.ensures.gave,
       record {
@@ -28,7 +25,7 @@ returns-clause-turned g c =
               leads = it.leads;
               ready = record { stands = it.ready.stands; known = it.ready.known };
               told = wrote_all _ c.round-done.new.self.serving.journal before after _
-                  (record { told = it.told; none_before = none; untold = c.keeps.ensures }) written;
+                  (record { told = it.told; none_before = none; untold = c.keeps-self.ensures.untold }) written;
               once = it.once;
               owners = it.owners;
               no_line_waits = none_waits;
@@ -53,15 +50,16 @@ pub returns-clause-fell : goal.returns-clause-fell
 returns-clause-fell g c =
     let before = g.K.Sink.written c.args.journal.now in
     let after = g.K.Sink.written c.flush-written.new.sink in
+    let j = c.args.self.now.serving.journal in
+    let begun : Journal = record j { recording = c.keeps-self.result } in
     fell_with g.C.Core.face g.N.Net.did g.N.Net.gave g.T.Clock.gave
     (record { server = c.args.self.now; net = c.args.net.now; clock = c.args.clock.now; written = before })
     (record { server = _; net = c.round-done.new.net; clock = c.now-now.new.self; written = after })
-    c.now-now.result c.now-now.ensures.gave c.turn_end.result
-    (subst (λ (r : Result (Unit {0}) ServeFault). IfErr r _) (sym c.turn_end.ensures)
+    c.now-now.result c.now-now.ensures.gave c.turn_end.result _ c.turn_end.ensures
     (fell_by g.C.Core.face g.N.Net.did g.N.Net.gave c.now-now.result c.args.self.now.slots c.args.self.now.links
-    c.args.self.now.serving _ c.round-done.new.self.serving c.flush-written.new.self c.args.net.now c.round-done.new.net before after (λ none. none) c.keeps.ensures
+    c.args.self.now.serving begun c.round-done.new.self.serving c.flush-written.new.self c.args.net.now c.round-done.new.net before after (λ none. none) c.keeps-self.ensures.untold
     (g.N.Net.faults c.args.net.now) (g.N.Net.faults c.round-done.new.net) (g.K.Sink.faults c.args.journal.now) (g.K.Sink.faults c.flush-written.new.sink)
     c.round-done.result c.flush-written.result
     (on_ok_weaker c.round-done.result (λ t. record { round = t.round; now_is = t.now_is; slots_were = t.slots_were; links_were = t.links_were; part = t.part }) c.round-done.ensures.turned)
     c.round-done.ensures.fallen c.round-done.ensures.fails
-    (record { ok = c.flush-written.ensures.written; err = c.flush-written.ensures.front; from = c.flush-written.ensures.fails })))
+    (record { ok = c.flush-written.ensures.written; err = c.flush-written.ensures.front; from = c.flush-written.ensures.fails }))

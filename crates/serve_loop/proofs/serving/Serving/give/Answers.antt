@@ -5,10 +5,9 @@ use Rattle.serve_loop.specs.Carrying.{Carried, Carries}
 use Rattle.journal_text.specs.Notes.{note_lines}
 use Rattle.serve_loop.specs.Events.{Tells}
 use Rattle.serve_loop.proofs.Giving.{given_by, given_none, given_some, group_items, carried_up_to, carried_short, carried_whole}
-use Rattle.std.specs.Prelude.{OnOk, IfErr}
 use Rattle.serve_loop.specs.declared.fault.ServeFault.TheVariants.{Memory as OutOfMemory}
 use Rattle.serve_loop.specs.declared.journal.Journal.{Journal}
-use Rattle.serve_loop.specs.Carrying.{CarriesUpTo, CarriesSome, CarriedSome}
+use Rattle.serve_loop.specs.Carrying.{CarriesSome, CarriedSome}
 use Rattle.serve_loop.specs.Faults.{is_memory}
 use Rattle.serve_loop.proofs.Compose.{tells_nothing}
 use Rattle.serve_loop.proofs.Exits.{at_fault, by_result}

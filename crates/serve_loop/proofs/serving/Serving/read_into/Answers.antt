@@ -7,7 +7,6 @@ use Rattle.serve_loop.proofs.Calling.{part_quiet, part_heard, part_read, takes_r
 use Rattle.serve_loop.proofs.Fresh.{once_none, owners_same}
 use Rattle.serve_loop.specs.declared.fault.ServeFault.TheVariants.{Memory as OutOfMemory}
 use Rattle.serve_loop.specs.Broken.{AreAsks}
-use Rattle.serve_loop.specs.Events.{read_event}
 use Rattle.serve_loop.proofs.Breaking.{broke_heard}
 use Rattle.serve_loop.proofs.Losing.{read_lost}
 use Rattle.serve_loop.proofs.Exits.{at_fault}

@@ -1,4 +1,4 @@
-use Rattle.std.proofs.Common.{Ok, Err, refl, subst}
+use Rattle.std.proofs.Common.{Err, refl, subst}
 use Rattle.px_outside.specs.Net.{Wait}
 use Rattle.serve_loop.proofs.Calling.{part_waits}
 use Rattle.serve_loop.specs.Broken.{AtMostOne, IsWait}
