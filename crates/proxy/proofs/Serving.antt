@@ -1,6 +1,6 @@
 -- What serving comes to, and when it is what was asked for.
 use Rattle.std.proofs.Common.{◌≡◌, ℕ, Bool, true, false, List, Option, Some, None, inl, inr, refl, subst}
-use Rattle.std.specs.Prelude.{Result, Ok, Err, IfOk, IfErr, OnErr}
+use Rattle.std.specs.Prelude.{Result, Ok, Err, IfOk, IfErr}
 use Rattle.config.specs.Outcomes.{Answers}
 use Rattle.config.specs.declared.fault.ConfigFault.{ConfigFault}
 use Rattle.config.specs.declared.fault.ConfigFault.TheVariants as config
@@ -43,7 +43,7 @@ module _ {S T : Type 0} (did : S → Call → S → Type 0) (gave : S → ℕ �
         ((fault_text f, inl (record { fault = f; faulty = record { answers = answers; was_read = e }; text_is = refl })), same)
 
     pub refused : (why : ConfigFault) → Answers told old.reads new.reads s.config (Err why) → Untouched old new → To (refused_end why)
-    refused config.Memory answers same = tt
+    refused config.Memory answers same = inr same
     refused (config.Fault f) answers same = refused_fault f (is_read_fault f.kind) refl answers same
 
     pub not_built : (C : loaded.Config) → Answers told old.reads new.reads s.config (Ok C) → run_of C ≡ None → Untouched old new → To is.Config
@@ -52,7 +52,7 @@ module _ {S T : Type 0} (did : S → Call → S → Type 0) (gave : S → ℕ �
 
     pub served : (C : loaded.Config) (K : core.Config) → Answers told old.reads new.reads s.config (Ok C) → IsRun C K → (r : Result ServeEnd ServeFault)
         → IfOk r (ServesConfig did gave ticked K s.conns s.turns old.net new.net old.clock new.clock old.written new.written)
-        → OnErr r (StopsConfig did gave ticked K s.conns s.turns old.net old.clock new.clock old.written new.written)
+        → IfErr r (λ why. StopsConfig did gave ticked K s.conns s.turns why old.net new.net old.clock new.clock old.written new.written)
         → IfErr r (FromNetOrSink old.net_faults new.net_faults old.writes new.writes) → To (end_of r)
     served C K answers run (Ok ending.Conns) serves stops free =
         record { C = C; K = K; loads = loads told old.reads new.reads s.config C answers; is_run = run; serves = serves }
@@ -62,7 +62,8 @@ module _ {S T : Type 0} (did : S → Call → S → Type 0) (gave : S → ℕ �
         (record { C = C; K = K; loads = loads told old.reads new.reads s.config C answers; is_run = run; stops = stops }, rose)
     served C K answers run (Err fault.Write) free stops rose =
         (record { C = C; K = K; loads = loads told old.reads new.reads s.config C answers; is_run = run; stops = stops }, rose)
-    served C K answers run (Err fault.Memory) free stops rose = tt
+    served C K answers run (Err fault.Memory) free stops rose =
+        inl (record { C = C; K = K; loads = loads told old.reads new.reads s.config C answers; is_run = run; stops = stops })
 
   module _ (words : List (List ℕ)) where
     pub of_serve : (s : Serve) → IsServe words s → (end : Outcome) → ServesTo did gave ticked told s old new end → OfWords did gave ticked told words old new end
@@ -71,7 +72,7 @@ module _ {S T : Type 0} (did : S → Call → S → Type 0) (gave : S → ℕ �
     of_serve s is_serve is.Config it = (s, is_serve, it)
     of_serve s is_serve is.ReadFault it = (s, is_serve, it)
     of_serve s is_serve is.WriteFault it = (s, is_serve, it)
-    of_serve s is_serve is.Memory it = tt
+    of_serve s is_serve is.Memory it = inl (s, is_serve, it)
     of_serve s is_serve is.NetFault it = (s, is_serve, it)
     of_serve s is_serve is.Turns it = (s, is_serve, it)
 

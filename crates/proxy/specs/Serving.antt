@@ -46,8 +46,8 @@ end_of (Err fault.Write) = is.WriteFault
 end_of (Err fault.Memory) = is.Memory
 end_of (Err fault.Net) = is.NetFault
 
--- the net, the clock, what was written of the journal where its sink tells it, and how often files, the net and
--- the journal failed
+-- the net, the clock, what was written of the journal where its sink tells it, and how often files, the net
+-- and the journal failed
 pub record Outside (S T : Type 0) : Type 0 where
   pub net : S
   pub clock : T
@@ -62,24 +62,30 @@ pub record Untouched {S T : Type 0} (old new : Outside S T) : Type 0 where
   pub clock : new.clock ≡ old.clock
   pub written : new.written ≡ old.written
 
--- The configuration loads, the core runs it, and it was served to this end: the headline for exactly the events that
--- net and clock gave, and the journal of these events.
-pub record ServesFile {S T : Type 0} (did : S → Call → S → Type 0) (gave : S → ℕ → Type 0) (ticked : T → ℕ → T → Type 0)
-    (told : List ℕ → Option (List ℕ)) (s : Serve) (old new : Outside S T) (end : ServeEnd) : Type 0 where
+-- The configuration loads, the core runs it, and it was served to this end: the headline for exactly the
+-- events that net and clock gave, and the journal of these events.
+pub record ServesFile {S T : Type 0} (did : S → Call → S → Type 0) (gave : S → ℕ → Type 0)
+    (ticked : T → ℕ → T → Type 0) (told : List ℕ → Option (List ℕ))
+    (s : Serve) (old new : Outside S T) (end : ServeEnd) : Type 0 where
   pub C : loaded.Config
   pub K : core.Config
   pub loads : Loads told s.config C
   pub is_run : IsRun C K
-  pub serves : ServesConfig did gave ticked K s.conns s.turns old.net new.net old.clock new.clock old.written new.written end
+  pub serves : ServesConfig did gave ticked K s.conns s.turns old.net new.net old.clock new.clock
+      old.written new.written end
 
--- The configuration loads, the core runs it, and it met a fault: what was done before the turn of the fault is exact.
-pub record StopsFile {S T : Type 0} (did : S → Call → S → Type 0) (gave : S → ℕ → Type 0) (ticked : T → ℕ → T → Type 0)
-    (told : List ℕ → Option (List ℕ)) (s : Serve) (old new : Outside S T) : Type 0 where
+-- The configuration loads, the core runs it, and it met a fault: the headline for exactly the events that
+-- were given, those of the turn of the fault among them, and of the journal a front, which is all of it
+-- where the net failed.
+pub record StopsFile {S T : Type 0} (did : S → Call → S → Type 0) (gave : S → ℕ → Type 0)
+    (ticked : T → ℕ → T → Type 0) (told : List ℕ → Option (List ℕ))
+    (s : Serve) (old new : Outside S T) (why : ServeFault) : Type 0 where
   pub C : loaded.Config
   pub K : core.Config
   pub loads : Loads told s.config C
   pub is_run : IsRun C K
-  pub stops : StopsConfig did gave ticked K s.conns s.turns old.net old.clock new.clock old.written new.written
+  pub stops : StopsConfig did gave ticked K s.conns s.turns why old.net new.net old.clock new.clock
+      old.written new.written
 
 -- by its end
 abbrev pub ServesTo : {S T : Type 0} → (S → Call → S → Type 0) → (S → ℕ → Type 0) → (T → ℕ → T → Type 0)
@@ -90,9 +96,12 @@ ServesTo did gave ticked told s old new is.Config =
     ((text : List ℕ) × IsRefusal told old.reads new.reads s.config text) × Untouched old new
 ServesTo did gave ticked told s old new is.ReadFault =
     Rose old.reads new.reads × IsUnread told old.reads new.reads s.config × Untouched old new
-ServesTo did gave ticked told s old new is.WriteFault = StopsFile did gave ticked told s old new × Rose old.writes new.writes
-ServesTo did gave ticked told s old new is.Memory = Unit {0}
-ServesTo did gave ticked told s old new is.NetFault = StopsFile did gave ticked told s old new × Rose old.net_faults new.net_faults
+ServesTo did gave ticked told s old new is.WriteFault =
+    StopsFile did gave ticked told s old new fault.Write × Rose old.writes new.writes
+ServesTo did gave ticked told s old new is.Memory =
+    StopsFile did gave ticked told s old new fault.Memory ⊎ Untouched old new
+ServesTo did gave ticked told s old new is.NetFault =
+    StopsFile did gave ticked told s old new fault.Net × Rose old.net_faults new.net_faults
 ServesTo did gave ticked told s old new is.Turns = ServesFile did gave ticked told s old new ending.Turns
 
 -- the words are `serve`'s, and it ends so
@@ -106,14 +115,15 @@ abbrev pub OfWords : {S T : Type 0} → (S → Call → S → Type 0) → (S →
     → (List ℕ → Option (List ℕ)) → List (List ℕ) → Outside S T → Outside S T → Outcome → Type 0
 OfWords did gave ticked told words old new is.Usage =
     ((s : Serve) → IsServe words s → ⊥) × ((new.reads ≡ old.reads) × Untouched old new)
-OfWords did gave ticked told words old new is.Memory = Unit {0}
+OfWords did gave ticked told words old new is.Memory =
+    OfServe did gave ticked told words old new is.Memory ⊎ Untouched old new
 OfWords did gave ticked told words old new end = OfServe did gave ticked told words old new end
 
 -- ---- when it comes to an end that was asked for
 
 -- the words are `serve`'s, the configuration loads and can be run, and no count rose
-pub record MayServe {S T : Type 0} (told : List ℕ → Option (List ℕ)) (words : List (List ℕ)) (old new : Outside S T)
-    : Type 0 where
+pub record MayServe {S T : Type 0} (told : List ℕ → Option (List ℕ)) (words : List (List ℕ))
+    (old new : Outside S T) : Type 0 where
   pub serve : Serve
   pub is_serve : IsServe words serve
   pub C : loaded.Config
@@ -125,6 +135,7 @@ pub record MayServe {S T : Type 0} (told : List ℕ → Option (List ℕ)) (word
   pub no_write_fault : Rose old.writes new.writes → ⊥
 
 -- then as many connections or turns as were asked for are over, or memory was refused
-abbrev pub ServeCompletes : {S T : Type 0} → (List ℕ → Option (List ℕ)) → List (List ℕ) → Outside S T → Outside S T → Outcome → Type 0
+abbrev pub ServeCompletes : {S T : Type 0} → (List ℕ → Option (List ℕ)) → List (List ℕ)
+    → Outside S T → Outside S T → Outcome → Type 0
 ServeCompletes told words old new end =
     MayServe told words old new → (end ≡ is.Conns) ⊎ (end ≡ is.Turns) ⊎ (end ≡ is.Memory)

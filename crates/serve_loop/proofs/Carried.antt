@@ -1,6 +1,6 @@
 -- Calls that notes ask for.
 use Rattle.std.proofs.Common.{◌≡◌, ℕ, List, [], ◌∷◌, ◌++◌, drop, Bool, true, false, Option, Some, None, refl, ap, sym, ◌∙◌, subst, append_assoc, inl, inr}
-use Rattle.std.specs.Prelude.{nat_eq, if◌then◌else◌, Ok}
+use Rattle.std.specs.Prelude.{nat_eq, if◌then◌else◌, Result, Ok, Err}
 use Rattle.std.proofs.lemmas.List.{append-nil}
 use Rattle.std.proofs.lemmas.Bool.Decides.{eqb_tells}
 use Rattle.px_bytes.specs.declared.addr.Addr.{Addr}
@@ -11,8 +11,13 @@ use Rattle.connection_model.specs.declared.note.Note.{Note}
 use Rattle.served_links.specs.declared.links.Links.{Links}
 use Rattle.served_links.specs.declared.row.Row.{Row}
 use Rattle.served_links.specs.Links.{owner_in, link_in, Opens, Closes}
+use Rattle.px_outside.specs.declared.failed.Failed.{Failed}
+use Rattle.px_outside.specs.declared.failed.Failed.TheVariants as failed
+use Rattle.serve_loop.specs.declared.carry.Action.{Action}
 use Rattle.serve_loop.specs.declared.carry.Action.TheVariants as does
 use Rattle.serve_loop.specs.Carrying.{action, finish_calls, CloseLink, CarriesOne, Carries, Known, Carried}
+use Rattle.serve_loop.specs.Carrying.{StopsAt, ConnectStops, CarriesUpTo, CarriedSome}
+use Rattle.serve_loop.specs.Faults.{fault_of, is_memory}
 use Rattle.px_outside.specs.Net.{IsNew}
 use Rattle.serve_loop.proofs.Chains.{chain_append}
 use Rattle.serve_loop.proofs.Fresh.{once_none, once_one, once_then, owners_same, owners_then, owners_open, owners_close}
@@ -110,28 +115,46 @@ carried_no_close a n c s is = record {
   known = λ k. k;
 }
 
--- the first of the notes: what carries the rest from there on, carries all
+-- notes behind notes
+pub carries_append : (xs ys : List Note) (a : Links) (cs : List Call) (b : Links) (ds : List Call) (c : Links)
+    → Carries xs a cs b → Carries ys b ds c → Carries (xs ++ ys) a (cs ++ ds) c
+carries_append [] ys a cs b ds c x y =
+    subst (λ (l : List Call). Carries ys a (l ++ ds) c) (sym x.0) (subst (λ (t : Links). Carries ys t ds c) x.1 y)
+carries_append (n ∷ xs) ys a cs b ds c x y = (
+  x.0,
+  x.1,
+  x.2 ++ ds,
+  ap (λ (l : List Call). l ++ ds) x.3 ∙ append_assoc x.1 x.2 ds,
+  x.4,
+  carries_append xs ys x.0 x.2 b ds c x.5 y,
+)
+
+-- the calls of the first notes
 abbrev pub CarriesFirst : List Note → ℕ → Links → List Call → Links → Type 0
-CarriesFirst notes i a calls b =
-    (rest : List Call) (d : Links) → Carries (drop i notes) b rest d → Carries notes a (calls ++ rest) d
+CarriesFirst notes i a calls b = (done : List Note) × (notes ≡ done ++ drop i notes) × Carries done a calls b
 
 pub carries_start : {S : Type 0} {did : S → Call → S → Type 0} {gave : S → ℕ → Type 0} (notes : List Note) (a : Links) (n : S)
     → Carried did gave (CarriesFirst notes 0) a a n n
 carries_start notes a n = record {
   calls = [];
   chain = refl;
-  carried = λ rest d c. c;
+  carried = ([], refl, (refl, refl));
   once = once_none (λ l g. g);
   owners = owners_same _ a;
   known = λ k. k;
 }
 
+one_carried : (note : Note) (a : Links) (calls : List Call) (b : Links) → CarriesOne (action note) a calls b → Carries (note ∷ []) a calls b
+one_carried note a calls b one = (b, calls, [], sym (append-nil calls), one, (refl, refl))
+
 first_then : (notes : List Note) (i j : ℕ) (note : Note) → drop i notes ≡ note ∷ drop j notes → (a : Links) (xs : List Call)
     (b : Links) (ys : List Call) (c : Links) → CarriesFirst notes i a xs b → CarriesOne (action note) b ys c
     → CarriesFirst notes j a (xs ++ ys) c
-first_then notes i j note front a xs b ys c first one rest d it =
-    subst (λ (l : List Call). Carries notes a l d) (sym (append_assoc xs ys rest))
-    (first (ys ++ rest) d (subst (λ (l : List Note). Carries l b (ys ++ rest) d) (sym front) (c, ys, rest, refl, one, it)))
+first_then notes i j note front a xs b ys c first one = (
+  first.0 ++ note ∷ [],
+  first.1 ∙ ap (λ (l : List Note). first.0 ++ l) front ∙ sym (append_assoc first.0 (note ∷ []) (drop j notes)),
+  carries_append first.0 (note ∷ []) a xs b ys c first.2 (one_carried note b ys c one),
+)
 
 pub carries_next : {S : Type 0} {did : S → Call → S → Type 0} {gave : S → ℕ → Type 0} (notes : List Note) (i j : ℕ) (note : Note)
     (a b c : Links) (n m k : S) → drop i notes ≡ note ∷ drop j notes
@@ -146,14 +169,78 @@ carries_next {S} {did} {gave} notes i j note a b c n m k front p q = record {
   known = λ x. q.known (p.known x);
 }
 
+all_first : (notes done rest : List Note) → notes ≡ done ++ rest → rest ≡ [] → done ≡ notes
+all_first notes done rest e none = sym (e ∙ ap (λ (l : List Note). done ++ l) none ∙ append-nil done)
+
 pub carries_all : {S : Type 0} {did : S → Call → S → Type 0} {gave : S → ℕ → Type 0} (notes : List Note) (i : ℕ) (a b : Links) (n m : S)
     → drop i notes ≡ [] → Carried did gave (CarriesFirst notes i) a b n m → Carried did gave (Carries notes) a b n m
 carries_all {S} {did} {gave} notes i a b n m all p = record {
   calls = p.calls;
   chain = p.chain;
-  carried = subst (λ (l : List Call). Carries notes a l b) (append-nil p.calls)
-      (p.carried [] b (subst (λ (l : List Note). Carries l b [] b) (sym all) (refl, refl)));
+  carried = subst (λ (l : List Note). Carries l a p.calls b) (all_first notes p.carried.0 (drop i notes) p.carried.1 all) p.carried.2;
   once = p.once;
   owners = p.owners;
   known = p.known;
+}
+
+-- ---- where they break off
+
+pub stops_failed : {S : Type 0} {did : S → Call → S → Type 0} {gave : S → ℕ → Type 0} (n m : S) (c : ℕ) (to : Addr) (why : Failed)
+    → did n (Connect to (Err why)) m → ((l : ℕ) → gave n l → gave m l)
+    → CarriedSome did gave (ConnectStops (is_memory (fault_of why)) (does.Connects c to)) n m
+stops_failed n m c to failed.Failed d lasts =
+    record { calls = Connect to (Err failed.Failed) ∷ []; chain = (m, d, refl); carried = (Err failed.Failed, refl, refl); once = once_none lasts }
+stops_failed n m c to failed.Memory d lasts =
+    record { calls = Connect to (Err failed.Memory) ∷ []; chain = (m, d, refl); carried = (Err failed.Memory, refl, tt); once = once_none lasts }
+
+pub stops_unopened : {S : Type 0} {did : S → Call → S → Type 0} {gave : S → ℕ → Type 0} (n m : S) (c link : ℕ) (to : Addr)
+    → did n (Connect to (Ok link)) m → ((l : ℕ) → gave n l → gave m l) → IsNew (gave n) (gave m) link
+    → CarriedSome did gave (ConnectStops true (does.Connects c to)) n m
+stops_unopened n m c link to d lasts new =
+    record { calls = Connect to (Ok link) ∷ []; chain = (m, d, refl); carried = (Ok link, refl, tt); once = once_one link new lasts }
+
+pub carries_broke : {S : Type 0} {did : S → Call → S → Type 0} {gave : S → ℕ → Type 0} (short : Bool) (notes : List Note) (i j : ℕ)
+    (note : Note) (a b : Links) (n m k : S) → drop i notes ≡ note ∷ drop j notes
+    → Carried did gave (CarriesFirst notes i) a b n m → CarriedSome did gave (ConnectStops short (action note)) m k
+    → CarriedSome did gave (CarriesUpTo short notes a) n k
+carries_broke {S} {did} {gave} short notes i j note a b n m k front p q = record {
+  calls = p.calls ++ q.calls;
+  chain = chain_append did p.calls q.calls n m k p.chain q.chain;
+  carried = record {
+    before = p.carried.0;
+    note = note;
+    after = drop j notes;
+    notes_are = p.carried.1 ∙ ap (λ (l : List Note). p.carried.0 ++ l) front;
+    mid = b;
+    first = p.calls;
+    last = q.calls;
+    calls_are = refl;
+    carried = p.carried.2;
+    stops = q.carried;
+  };
+  once = once_then (gave n) (gave m) (gave k) p.calls q.calls p.once q.once;
+}
+
+-- what breaks off where nothing may be lost, does so where something may
+stops_short : (b : Bool) (answer : Result ℕ Failed) → StopsAt b answer → StopsAt true answer
+stops_short b answer s = tt
+
+connect_short : (b : Bool) (act : Action) (calls : List Call) → ConnectStops b act calls → ConnectStops true act calls
+connect_short b does.Nothing calls s = absurd s
+connect_short b (does.Connects c to) calls s = (s.0, s.1, stops_short b s.0 s.2)
+connect_short b (does.Finishes c side) calls s = absurd s
+connect_short b (does.Closes c side) calls s = absurd s
+
+pub up_to_short : (b : Bool) (notes : List Note) (a : Links) (calls : List Call) → CarriesUpTo b notes a calls → CarriesUpTo true notes a calls
+up_to_short b notes a calls it = record {
+  before = it.before;
+  note = it.note;
+  after = it.after;
+  notes_are = it.notes_are;
+  mid = it.mid;
+  first = it.first;
+  last = it.last;
+  calls_are = it.calls_are;
+  carried = it.carried;
+  stops = connect_short b (action it.note) it.last it.stops;
 }

@@ -1,15 +1,15 @@
 -- Turns are a walk, and where they end.
-use Rattle.std.proofs.Common.{◌≡◌, ◌⊎◌, ℕ, zero, suc, ◌+◌, ◌<◌, List, [], ◌∷◌, ◌++◌, Bool, true, false, not, Option, Some, None, inl, inr, refl, sym, ap, subst, ◌∙◌, append_assoc, add-one}
+use Rattle.std.proofs.Common.{◌≡◌, ℕ, zero, suc, ◌+◌, List, [], ◌++◌, Bool, true, false, not, Option, Some, None, inl, refl, sym, ap, subst, ◌∙◌, append_assoc, add-one}
 use Rattle.std.proofs.lemmas.List.{append-nil}
 use Rattle.std.specs.Prelude.{Result, Ok, Err, OnErr}
 use Rattle.px_outside.specs.Net.{Call, Chain}
 use Rattle.px_outside.specs.Outside.{told_more}
 use Rattle.serve_loop.specs.declared.serving.Serving.{Serving}
 use Rattle.serve_loop.specs.Face.{Face}
-use Rattle.serve_loop.specs.Part.{Ready, stand}
-use Rattle.serve_loop.specs.Server.{Running, OneTurn, Turns, Done, Walked, IsOver, GoesOn, IsOverOr, Behind, Rounds}
+use Rattle.serve_loop.specs.Part.{stand}
+use Rattle.serve_loop.specs.Server.{Running, Turns, Done, Walked, IsOver, GoesOn, IsOverOr, Behind}
 use Rattle.serve_loop.specs.Turn.{CanAccept}
-use Rattle.serve_loop.specs.Walk.{Around, Step, Walks, calls_in, text_in}
+use Rattle.serve_loop.specs.Walk.{Walks, calls_in, text_in}
 use Rattle.serve_loop.proofs.Chains.{chain_append}
 use Rattle.serve_loop.proofs.Compose.{calls_append, text_append, walks_append, once_steps}
 use Rattle.serve_loop.proofs.Fresh.{once_none, owners_same, owners_then}
@@ -19,7 +19,7 @@ pub told_nothing : (o : Option (List ℕ)) → o ≡ told_more o []
 told_nothing None = refl
 told_nothing (Some text) = ap Some (sym (append-nil text))
 
-told_then : (o : Option (List ℕ)) (a b : List ℕ) → told_more (told_more o a) b ≡ told_more o (a ++ b)
+pub told_then : (o : Option (List ℕ)) (a b : List ℕ) → told_more (told_more o a) b ≡ told_more o (a ++ b)
 told_then None a b = refl
 told_then (Some text) a b = ap Some (append_assoc text a b)
 

@@ -1,6 +1,6 @@
 -- Links that are given once, call after call.
 use Rattle.std.proofs.Common.{◌≡◌, ◌⊎◌, ℕ, List, [], ◌∷◌, ◌++◌, Bool, true, false, Option, Some, None, refl, ap, sym, ◌∙◌, subst, append_assoc, inl, inr}
-use Rattle.std.specs.Prelude.{nat_eq, if◌then◌else◌, Ok}
+use Rattle.std.specs.Prelude.{nat_eq, if◌then◌else◌}
 use Rattle.std.specs.List.{AllByRecursion, IsDistinct}
 use Rattle.std.proofs.lemmas.Bool.{ne_eqb}
 use Rattle.std.proofs.lemmas.Map.Keys.{IsDistinct-cons, IsDistinct-head, IsDistinct-tail}
@@ -21,7 +21,7 @@ all_less : (P Q : ℕ → Type 0) → ((l : ℕ) → P l → Q l) → (xs : List
 all_less P Q less [] x = tt
 all_less P Q less (l ∷ xs) x = (less l x.0, all_less P Q less xs x.1)
 
-all_append : (P : ℕ → Type 0) (xs ys : List ℕ) → AllByRecursion P xs → AllByRecursion P ys → AllByRecursion P (xs ++ ys)
+pub all_append : {A : Type 0} (P : A → Type 0) (xs ys : List A) → AllByRecursion P xs → AllByRecursion P ys → AllByRecursion P (xs ++ ys)
 all_append P [] ys x y = y
 all_append P (l ∷ xs) ys x y = (x.0, all_append P xs ys x.1 y)
 

@@ -1,18 +1,23 @@
 -- An event that is given to the core.
-use Rattle.std.proofs.Common.{◌≡◌, ℕ, List, [], ◌++◌, Bool, true, refl, ap, sym, ◌∙◌, subst}
+use Rattle.std.proofs.Common.{◌≡◌, ℕ, List, [], ◌++◌, Bool, true, Some, None, refl, ap, sym, ◌∙◌, subst, inl, inr}
 use Rattle.std.specs.Prelude.{IsTrue}
 use Rattle.px_outside.specs.Net.{Call}
 use Rattle.connection_model.specs.declared.note.Note.{Note}
 use Rattle.journal_text.specs.declared.event.Event.{Event}
 use Rattle.journal_text.specs.Line.{event_line}
 use Rattle.journal_text.specs.Notes.{note_lines}
+use Rattle.served_links.specs.declared.links.Links.{Links}
 use Rattle.serve_loop.specs.declared.journal.Journal.{Journal}
 use Rattle.serve_loop.specs.declared.serving.Serving.{Serving}
-use Rattle.serve_loop.specs.Carrying.{Carries, Carried}
+use Rattle.serve_loop.specs.Broken.{FrontOf, IsGivenSome}
+use Rattle.serve_loop.specs.Carrying.{Carries, Carried, CarriesUpTo, CarriesSome, CarriedSome}
 use Rattle.serve_loop.specs.Events.{Tells}
 use Rattle.serve_loop.specs.Face.{Face}
 use Rattle.serve_loop.specs.Part.{IsGiven}
-use Rattle.serve_loop.proofs.Compose.{tells_then}
+use Rattle.serve_loop.proofs.Carried.{up_to_short}
+use Rattle.serve_loop.proofs.Compose.{tells_then, tells_nothing}
+use Rattle.serve_loop.proofs.Fresh.{once_none}
+use Rattle.serve_loop.proofs.Fronts.{front_all, front_after}
 
 -- the notes of a step, where none were there before
 pub group_items : {P : List Note → Type 0} (before items : List Note) → before ≡ []
@@ -44,5 +49,65 @@ given_by {C} {S} {face} {did} {gave} e x y n m items b j taken moved stands carr
         once = carried.once;
         owners = carried.owners;
         conns = conns;
+      };
+}
+
+-- ---- where it breaks off
+
+-- nothing was given
+pub given_none : {C S : Type 0} {face : Face C} {did : S → Call → S → Type 0} {gave : S → ℕ → Type 0}
+    (e : Event) (x y : Serving C) (n : S) → y.core ≡ x.core → y.journal ≡ x.journal → IsGivenSome face did gave true e x y n n
+given_none {C} {S} {face} e x y n core journal = record {
+  from = λ s t. record {
+    given = None;
+    gives = (refl, core);
+    chain = refl;
+    stands = subst face.stands (sym core) s.stands;
+    once = once_none (λ l g. g);
+    text = [];
+    told = subst (λ (j : Journal). Tells x.journal j []) (sym journal) (tells_nothing x.journal);
+    front = front_all true [];
+  };
+}
+
+-- what came of the notes: their calls broke off, or all were made and memory was refused
+pub carried_up_to : {S : Type 0} {did : S → Call → S → Type 0} {gave : S → ℕ → Type 0} (short : Bool) (notes : List Note) (a : Links) (n m : S)
+    → CarriedSome did gave (CarriesUpTo short notes a) n m → CarriedSome did gave (CarriesSome short notes a) n m
+carried_up_to short notes a n m p = record { calls = p.calls; chain = p.chain; carried = inl p.carried; once = p.once }
+
+pub carried_short : {S : Type 0} {did : S → Call → S → Type 0} {gave : S → ℕ → Type 0} (short : Bool) (notes : List Note) (a : Links) (n m : S)
+    → CarriedSome did gave (CarriesUpTo short notes a) n m → CarriedSome did gave (CarriesSome true notes a) n m
+carried_short short notes a n m p =
+    record { calls = p.calls; chain = p.chain; carried = inl (up_to_short short notes a p.calls p.carried); once = p.once }
+
+pub carried_whole : {S : Type 0} {did : S → Call → S → Type 0} {gave : S → ℕ → Type 0} (notes : List Note) (a b : Links) (n m : S)
+    → Carried did gave (Carries notes) a b n m → CarriedSome did gave (CarriesSome true notes a) n m
+carried_whole notes a b n m p = record { calls = p.calls; chain = p.chain; carried = inr (refl, (b, p.carried)); once = p.once }
+
+-- an event was given
+pub given_some : {C S : Type 0} {face : Face C} {did : S → Call → S → Type 0} {gave : S → ℕ → Type 0}
+    (short : Bool) (e : Event) (x y : Serving C) (n m : S) (items : List Note) (b : Bool) (j : Journal) (text : List ℕ)
+    → (face.stands x.core → face.takes x.core e → b ≡ true)
+    → (IsTrue b → (group : List Note) × (items ≡ group) × face.moved x.core e group y.core)
+    → (face.stands x.core → face.stands y.core)
+    → CarriedSome did gave (CarriesSome short items x.links) n m
+    → Tells x.journal j (event_line e) → Tells j y.journal text → FrontOf short (note_lines items) text
+    → IsGivenSome face did gave short e x y n m
+given_some {C} {S} {face} {did} {gave} short e x y n m items b j text taken moved stands carried one two front = record {
+  from = λ s t.
+      let it = moved (taken s.stands t) in record {
+        given = Some (record { event = e; group = items; calls = carried.calls });
+        gives = record {
+          event_is = refl;
+          taken = t;
+          moved = subst (λ (l : List Note). face.moved x.core e l y.core) (sym it.1) it.2;
+          carried = carried.carried;
+        };
+        chain = carried.chain;
+        stands = stands s.stands;
+        once = carried.once;
+        text = event_line e ++ text;
+        told = tells_then one two;
+        front = front_after (event_line e) front;
       };
 }

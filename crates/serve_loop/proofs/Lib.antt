@@ -1,3 +1,5 @@
+pub mod Exits
+pub mod Fronts
 pub mod Chains
 pub mod Fresh
 pub mod Carried
@@ -10,5 +12,9 @@ pub mod Listing
 pub mod Turning
 pub mod Pairs
 pub mod Walking
+pub mod Breaking
+pub mod Losing
+pub mod Falling
 pub mod Failing
 pub mod Ending
+pub mod Stopping

@@ -81,26 +81,49 @@ tried_all Once often times within all p =
       tries = (b, steps, [], sym (append-nil steps), r, inr (record { none = refl; same = refl; because = all }));
     }) p
 
--- the first of a list: who goes on with the rest from there, goes on with all
+-- the first of a list
 abbrev pub EachFirst : {C : Type 0} → (ℕ → Bool → Around C → List Step → Around C → Type 0)
     → List ℕ → ℕ → List ℕ → Around C → List Step → Around C → Type 0
-EachFirst {C} At order i stay a steps b = (more : List Step) (c : Around C) (rest : List ℕ)
-    → Each At (drop i order) rest b more c → Each At order (stay ++ rest) a (steps ++ more) c
+EachFirst At order i stay a steps b = (done : List ℕ) × (order ≡ done ++ drop i order) × Each At done stay a steps b
 
 pub each_none : {C S : Type 0} {face : Face C} {did : S → Call → S → Type 0} {gave : S → ℕ → Type 0}
     (At : ℕ → Bool → Around C → List Step → Around C → Type 0) (order : List ℕ) (x : Serving C) (n : S)
     → Part face did gave (EachFirst At order 0 []) x x n n
-each_none At order x n = part_nothing (EachFirst At order 0 []) x n (λ more c rest e. e)
+each_none At order x n = part_nothing (EachFirst At order 0 []) x n ([], refl, (refl, refl, refl))
+
+each_append : {C : Type 0} (At : ℕ → Bool → Around C → List Step → Around C → Type 0) (xs ys stay more : List ℕ) (a : Around C) (l : List Step)
+    (b : Around C) (k : List Step) (c : Around C) → Each At xs stay a l b → Each At ys more b k c → Each At (xs ++ ys) (stay ++ more) a (l ++ k) c
+each_append At [] ys stay more a l b k c x y =
+    subst (λ (s : List ℕ). Each At ys (s ++ more) a (l ++ k) c) (sym x.0)
+    (subst (λ (t : List Step). Each At ys more a (t ++ k) c) (sym x.1) (subst (λ t. Each At ys more t k c) x.2 y))
+each_append At (n ∷ xs) ys stay more a l b k c x y = (
+  x.0,
+  x.1 ++ more,
+  ap (λ (s : List ℕ). s ++ more) x.2 ∙ append_assoc (staying x.0 n) x.1 more,
+  (
+    x.3.0,
+    x.3.1,
+    x.3.2 ++ k,
+    ap (λ (s : List Step). s ++ k) x.3.3 ∙ append_assoc x.3.1 x.3.2 k,
+    x.3.4,
+    each_append At xs ys x.1 more x.3.0 x.3.2 b k c x.3.5 y,
+  ),
+)
+
+each_one : {C : Type 0} (At : ℕ → Bool → Around C → List Step → Around C → Type 0) (number : ℕ) (stays : Bool) (a : Around C) (l : List Step) (b : Around C)
+    → At number stays a l b → Each At (number ∷ []) (staying stays number) a l b
+each_one At number stays a l b it =
+    (stays, [], sym (append-nil (staying stays number)), (b, l, [], sym (append-nil l), it, (refl, refl, refl)))
 
 each_then : {C : Type 0} (At : ℕ → Bool → Around C → List Step → Around C → Type 0) (order : List ℕ) (i j number : ℕ)
     (stay : List ℕ) (stays : Bool) → drop i order ≡ number ∷ drop j order → (a : Around C) (steps : List Step) (b : Around C)
     → Then (EachFirst At order i stay) (At number stays) a steps b → EachFirst At order j (stay ++ staying stays number) a steps b
-each_then At order i j number stay stays front a steps b t more c rest e =
-    subst (λ (l : List Step). Each At order ((stay ++ staying stays number) ++ rest) a l c) (sym (ap (λ l. l ++ more) t.3 ∙ append_assoc t.1 t.2 more))
-    (subst (λ (l : List ℕ). Each At order l a (t.1 ++ (t.2 ++ more)) c) (sym (append_assoc stay (staying stays number) rest))
-    (t.4 (t.2 ++ more) c (staying stays number ++ rest)
-    (subst (λ (l : List ℕ). Each At l (staying stays number ++ rest) t.0 (t.2 ++ more) c) (sym front)
-    (stays, rest, refl, (b, t.2, more, refl, t.5, e)))))
+each_then At order i j number stay stays front a steps b t = (
+  t.4.0 ++ number ∷ [],
+  t.4.1 ∙ ap (λ (l : List ℕ). t.4.0 ++ l) front ∙ sym (append_assoc t.4.0 (number ∷ []) (drop j order)),
+  subst (λ (l : List Step). Each At (t.4.0 ++ number ∷ []) (stay ++ staying stays number) a l b) (sym t.3)
+      (each_append At t.4.0 (number ∷ []) stay (staying stays number) a t.1 t.0 t.2 b t.4.2 (each_one At number stays t.0 t.2 b t.5)),
+)
 
 pub each_next : {C S : Type 0} {face : Face C} {did : S → Call → S → Type 0} {gave : S → ℕ → Type 0}
     (At : ℕ → ℕ → Bool → Around C → List Step → Around C → Type 0) (order : List ℕ) (i j number : ℕ) (stay : List ℕ) (stays : Bool)
@@ -113,9 +136,7 @@ each_next At order i j number stay stays {x} front p q =
 each_done : {C : Type 0} (At : ℕ → Bool → Around C → List Step → Around C → Type 0) (order : List ℕ) (i : ℕ) (stay : List ℕ)
     → drop i order ≡ [] → (a : Around C) (steps : List Step) (b : Around C) → EachFirst At order i stay a steps b → Each At order stay a steps b
 each_done At order i stay all a steps b it =
-    subst (λ (l : List Step). Each At order stay a l b) (append-nil steps)
-    (subst (λ (l : List ℕ). Each At order l a (steps ++ []) b) (append-nil stay)
-    (it [] b [] (subst (λ (l : List ℕ). Each At l [] b [] b) (sym all) (refl, refl, refl))))
+    subst (λ (l : List ℕ). Each At l stay a steps b) (sym (it.1 ∙ ap (λ (l : List ℕ). it.0 ++ l) all ∙ append-nil it.0)) it.2
 
 pub each_all : {C S : Type 0} {face : Face C} {did : S → Call → S → Type 0} {gave : S → ℕ → Type 0}
     (At : ℕ → Bool → Around C → List Step → Around C → Type 0) (order : List ℕ) (i : ℕ) (stay : List ℕ) {x y : Serving C} {n m : S}

@@ -1,24 +1,31 @@
--- A turn is a walk.
-use Rattle.std.proofs.Common.{◌≡◌, ℕ, zero, suc, List, [], ◌∷◌, Bool, true, false, None, refl, sym, subst, inl, inr}
+-- A turn is a walk, and behind its wait listeners and links are asked, what is ready goes on, and what is pending is written.
+use Rattle.std.proofs.Common.{◌≡◌, ◌⊎◌, ℕ, zero, suc, List, [], ◌∷◌, Bool, true, false, Option, None, refl, sym, subst, inl, inr}
 use Rattle.px_bytes.specs.declared.addr.Side.{Side}
 use Rattle.px_bytes.specs.declared.addr.Side.TheVariants.{Client, Server}
 use Rattle.px_outside.specs.declared.answers.ReadyAt.{ReadyAt}
 use Rattle.px_outside.specs.declared.answers.ReadyAt.TheVariants as ready
+use Rattle.px_outside.specs.Net.{Call, Listen, Wait, Accept, Connect, Ask, Read, Write, Finish, Close}
 use Rattle.journal_text.specs.declared.event.Event.{Event}
 use Rattle.journal_text.specs.declared.event.Event.TheVariants as event
 use Rattle.serve_loop.specs.declared.asked.Asked.{Asked}
 use Rattle.serve_loop.specs.declared.asked.Asked.TheVariants as is
-use Rattle.serve_loop.specs.Asking.{OneCall, AskedOnce}
+use Rattle.serve_loop.specs.declared.work.Work.{Work}
+use Rattle.serve_loop.specs.declared.work.Work.TheVariants as work
+use Rattle.serve_loop.specs.Asking.{IsOn, OneCall, AskedOnce}
+use Rattle.serve_loop.specs.Broken.{AreAsks, IsAsk}
 use Rattle.serve_loop.specs.Face.{Face}
 use Rattle.serve_loop.specs.Often.{NotAsked, GaveOften, TriedLast, Tried, Each}
 use Rattle.serve_loop.specs.Running.{OwnStep, OnePair, GavePairs, RanLast, Ran}
 use Rattle.serve_loop.specs.Server.{Round, WaitsFor, RunsAndWrites, AsksLinks, AsksAll, WaitsAndAsks, Rounds}
-use Rattle.serve_loop.specs.Turn.{Ticks, WritesAt, ListenerAt, LinkAt, due_now, listed_slots, listed_links}
-use Rattle.serve_loop.specs.Walk.{Around, Step, Own, IsOwn, Takes, Walks, Then}
+use Rattle.serve_loop.specs.Turn.{Ticks, Waits, WorkAt, WritesAt, ListenerAt, LinkAt, due_now, listed_slots, listed_links}
+use Rattle.serve_loop.specs.Walk.{Around, Given, Step, Own, Asked as Asks, IsOwn, Takes, Walks, Then}
 use Rattle.serve_loop.specs.Writing.{OneWrite, WroteOnce, Wrote}
 use Rattle.serve_loop.proofs.Compose.{walks_append}
+use Rattle.serve_loop.proofs.Fresh.{all_append}
 
-then_walks : {C : Type 0} (face : Face C) (conns : ℕ) (R Q : Around C → List Step → Around C → Type 0)
+-- ---- walks
+
+pub then_walks : {C : Type 0} (face : Face C) (conns : ℕ) (R Q : Around C → List Step → Around C → Type 0)
     → ((a : Around C) (l : List Step) (b : Around C) → R a l b → Walks face conns a l b)
     → ((a : Around C) (l : List Step) (b : Around C) → Q a l b → Walks face conns a l b)
     → (a : Around C) (l : List Step) (b : Around C) → Then R Q a l b → Walks face conns a l b
@@ -33,71 +40,6 @@ step_walks : {C : Type 0} (face : Face C) (conns : ℕ) (a : Around C) (l : List
     → Takes face conns a x b → Walks face conns a l b
 step_walks face conns a l b x is takes = subst (λ (y : List Step). Walks face conns a y b) (sym is) (b, takes, refl)
 
-not_walks : {C : Type 0} (face : Face C) (conns : ℕ) (why : Around C → Type 0) (a : Around C) (l : List Step) (b : Around C)
-    → NotAsked why a l b → Walks face conns a l b
-not_walks face conns why a l b it = none_walks face conns a l b it.none it.same
-
-call_walks : {C : Type 0} (face : Face C) (conns : ℕ) (at : ReadyAt) (over : Bool) (a : Around C) (l : List Step) (b : Around C)
-    → OneCall face conns at over a l b → Walks face conns a l b
-call_walks face conns at over a l b it = step_walks face conns a l b _ it.steps_are it.calls
-
-asked_walks : {C : Type 0} (face : Face C) (conns : ℕ) (at : ReadyAt) (o : Asked) (a : Around C) (l : List Step) (b : Around C)
-    → AskedOnce face conns at o a l b → Walks face conns a l b
-asked_walks face conns at is.Again a l b it = call_walks face conns at false a l b it
-asked_walks face conns at is.Stays a l b it = not_walks face conns _ a l b it
-asked_walks face conns at is.Over a l b (inl it) = call_walks face conns at true a l b it
-asked_walks face conns at is.Over a l b (inr it) = not_walks face conns _ a l b it
-
-often_walks : {C : Type 0} (face : Face C) (conns : ℕ) (Once : Asked → Around C → List Step → Around C → Type 0)
-    → ((o : Asked) (a : Around C) (l : List Step) (b : Around C) → Once o a l b → Walks face conns a l b)
-    → (n : ℕ) (a : Around C) (l : List Step) (b : Around C) → GaveOften Once n a l b → Walks face conns a l b
-often_walks face conns Once once zero a l b it = none_walks face conns a l b it.0 it.1
-often_walks face conns Once once (suc n) a l b it =
-    then_walks face conns (GaveOften Once n) (Once is.Again) (often_walks face conns Once once n) (once is.Again) a l b it
-
-last_walks : {C : Type 0} (face : Face C) (conns : ℕ) (Once : Asked → Around C → List Step → Around C → Type 0)
-    → ((o : Asked) (a : Around C) (l : List Step) (b : Around C) → Once o a l b → Walks face conns a l b)
-    → (often times : ℕ) (stays : Bool) (a : Around C) (l : List Step) (b : Around C) → TriedLast Once often times stays a l b → Walks face conns a l b
-last_walks face conns Once once often times true a l b (inl it) = once is.Stays a l b it
-last_walks face conns Once once often times true a l b (inr it) = not_walks face conns _ a l b it
-last_walks face conns Once once often times false a l b it = once is.Over a l b it
-
-tried_walks : {C : Type 0} (face : Face C) (conns : ℕ) (Once : Asked → Around C → List Step → Around C → Type 0)
-    → ((o : Asked) (a : Around C) (l : List Step) (b : Around C) → Once o a l b → Walks face conns a l b)
-    → (times : ℕ) (stays : Bool) (a : Around C) (l : List Step) (b : Around C) → Tried Once times stays a l b → Walks face conns a l b
-tried_walks face conns Once once times stays a l b it =
-    then_walks face conns (GaveOften Once it.often) (TriedLast Once it.often times stays) (often_walks face conns Once once it.often)
-    (last_walks face conns Once once it.often times stays) a l b it.tries
-
-each_walks : {C : Type 0} (face : Face C) (conns : ℕ) (At : ℕ → Bool → Around C → List Step → Around C → Type 0)
-    → ((n : ℕ) (s : Bool) (a : Around C) (l : List Step) (b : Around C) → At n s a l b → Walks face conns a l b)
-    → (order stay : List ℕ) (a : Around C) (l : List Step) (b : Around C) → Each At order stay a l b → Walks face conns a l b
-each_walks face conns At at [] stay a l b it = none_walks face conns a l b it.1 it.2
-each_walks face conns At at (n ∷ order) stay a l b it =
-    then_walks face conns (At n it.0) (Each At order it.1) (at n it.0) (each_walks face conns At at order it.1) a l b it.3
-
-write_walks : {C : Type 0} (face : Face C) (conns c : ℕ) (side : Side) (o : Asked) (a : Around C) (l : List Step) (b : Around C)
-    → OneWrite face conns c side o a l b → Walks face conns a l b
-write_walks face conns c side o a l b it = step_walks face conns a l b _ it.steps_are it.calls
-
-wrote_walks : {C : Type 0} (face : Face C) (conns c : ℕ) (side : Side) (o : Asked) (a : Around C) (l : List Step) (b : Around C)
-    → WroteOnce face conns c side o a l b → Walks face conns a l b
-wrote_walks face conns c side is.Again a l b it = write_walks face conns c side is.Again a l b it
-wrote_walks face conns c side is.Stays a l b it = write_walks face conns c side is.Stays a l b it
-wrote_walks face conns c side is.Over a l b (inl it) = write_walks face conns c side is.Over a l b it
-wrote_walks face conns c side is.Over a l b (inr it) = not_walks face conns _ a l b it
-
-side_walks : {C : Type 0} (face : Face C) (conns c : ℕ) (side : Side) (stays : Bool) (a : Around C) (l : List Step) (b : Around C)
-    → Wrote face conns c side stays a l b → Walks face conns a l b
-side_walks face conns c side stays a l b it =
-    tried_walks face conns (WroteOnce face conns c side) (wrote_walks face conns c side) _ stays a l b it.tried
-
-both_walks : {C : Type 0} (face : Face C) (conns c : ℕ) (stays : Bool) (a : Around C) (l : List Step) (b : Around C)
-    → WritesAt face conns c stays a l b → Walks face conns a l b
-both_walks face conns c stays a l b it =
-    then_walks face conns (Wrote face conns c Client it.client) (Wrote face conns c Server it.server)
-    (side_walks face conns c Client it.client) (side_walks face conns c Server it.server) a l b it.writes
-
 own_walks : {C : Type 0} (face : Face C) (conns : ℕ) (e : Event) → IsOwn e → (a : Around C) (l : List Step) (b : Around C)
     → OwnStep face e a l b → Walks face conns a l b
 own_walks {C} face conns e own a l b it =
@@ -111,46 +53,171 @@ own_walks {C} face conns e own a l b it =
       },
     )
 
-pair_walks : {C : Type 0} (face : Face C) (conns : ℕ) (before after : List ℕ) (a : Around C) (l : List Step) (b : Around C)
-    → OnePair face before after a l b → Walks face conns a l b
-pair_walks face conns before after a l b it =
-    then_walks face conns (OwnStep face event.Run) (OwnStep face event.Turn) (own_walks face conns event.Run tt) (own_walks face conns event.Turn tt) a l b it.events
-
-pairs_walks : {C : Type 0} (face : Face C) (conns n : ℕ) (before after : List ℕ) (a : Around C) (l : List Step) (b : Around C)
-    → GavePairs face n before after a l b → Walks face conns a l b
-pairs_walks face conns zero before after a l b it = none_walks face conns a l b it.1.0 it.1.1
-pairs_walks face conns (suc n) before after a l b it =
-    then_walks face conns (GavePairs face n before it.0) (OnePair face it.0 after) (pairs_walks face conns n before it.0) (pair_walks face conns it.0 after) a l b it.1
-
-ran_last_walks : {C : Type 0} (face : Face C) (conns often times : ℕ) (ready : Bool) (before after : List ℕ) (a : Around C) (l : List Step) (b : Around C)
-    → RanLast face often times ready before after a l b → Walks face conns a l b
-ran_last_walks face conns often times true before after a l b it = not_walks face conns _ a l b it.1
-ran_last_walks face conns often times false before after a l b it = not_walks face conns _ a l b it.1
-
-ran_walks : {C : Type 0} (face : Face C) (conns times : ℕ) (ready : Bool) (before after : List ℕ) (a : Around C) (l : List Step) (b : Around C)
-    → Ran face times ready before after a l b → Walks face conns a l b
-ran_walks face conns times ready before after a l b it =
-    then_walks face conns (GavePairs face it.often before it.mid) (RanLast face it.often times ready it.mid after)
-    (pairs_walks face conns it.often before it.mid) (ran_last_walks face conns it.often times ready it.mid after) a l b it.pairs
-
-ticks_walks : {C : Type 0} (face : Face C) (conns now : ℕ) (a : Around C) (l : List Step) (b : Around C) → Ticks face now a l b → Walks face conns a l b
+pub ticks_walks : {C : Type 0} (face : Face C) (conns now : ℕ) (a : Around C) (l : List Step) (b : Around C) → Ticks face now a l b → Walks face conns a l b
 ticks_walks face conns now a l b it =
-    elim it.ticks [ inl x ↦ own_walks face conns _ tt a l b x.1 | inr x ↦ not_walks face conns _ a l b x ]
+    elim it.ticks [ inl x ↦ own_walks face conns _ tt a l b x.1 | inr x ↦ none_walks face conns a l b x.none x.same ]
 
-waits_walks : {C : Type 0} (face : Face C) (conns : ℕ) (r : Round) (a : Around C) (l : List Step) (b : Around C) → WaitsFor face conns r a l b → Walks face conns a l b
-waits_walks face conns r a l b it =
-    step_walks face conns a l b _ it.waits.waits
-    (record { event = None; may = refl; links = a.links; after = refl; becomes = it.waits.same })
+pub waited_walks : {C : Type 0} (face : Face C) (conns until : ℕ) (listed : List ReadyAt) (a : Around C) (l : List Step) (b : Around C)
+    → Waits until listed a l b → Walks face conns a l b
+waited_walks face conns until listed a l b it =
+    step_walks face conns a l b _ it.waits (record { event = None; may = refl; links = a.links; after = refl; becomes = it.same })
 
--- all five parts
+-- ---- walks behind the wait
+
+-- a walk of such steps
+abbrev pub Goes : {C : Type 0} → Face C → ℕ → Around C → List Step → Around C → Type 0
+Goes face conns a l b = Walks face conns a l b × AreAsks l
+
+then_goes : {C : Type 0} (face : Face C) (conns : ℕ) (R Q : Around C → List Step → Around C → Type 0)
+    → ((a : Around C) (l : List Step) (b : Around C) → R a l b → Goes face conns a l b)
+    → ((a : Around C) (l : List Step) (b : Around C) → Q a l b → Goes face conns a l b)
+    → (a : Around C) (l : List Step) (b : Around C) → Then R Q a l b → Goes face conns a l b
+then_goes face conns R Q r q a l b t =
+    let one = r a t.1 t.0 t.4 in
+    let two = q t.0 t.2 b t.5 in
+    subst (λ (x : List Step). Goes face conns a x b) (sym t.3)
+    (walks_append face conns t.1 t.2 a t.0 b one.0 two.0, all_append IsAsk t.1 t.2 one.1 two.1)
+
+none_goes : {C : Type 0} (face : Face C) (conns : ℕ) (a : Around C) (l : List Step) (b : Around C) → l ≡ [] → b ≡ a → Goes face conns a l b
+none_goes face conns a l b none same = subst (λ (x : List Step). Goes face conns a x b) (sym none) (same, tt)
+
+pub step_goes : {C : Type 0} (face : Face C) (conns : ℕ) (a : Around C) (l : List Step) (b : Around C) (x : Step) → l ≡ x ∷ []
+    → Takes face conns a x b → IsAsk x → Goes face conns a l b
+step_goes face conns a l b x is takes asks = subst (λ (y : List Step). Goes face conns a y b) (sym is) ((b, takes, refl), (asks, tt))
+
+not_goes : {C : Type 0} (face : Face C) (conns : ℕ) (why : Around C → Type 0) (a : Around C) (l : List Step) (b : Around C)
+    → NotAsked why a l b → Goes face conns a l b
+not_goes face conns why a l b it = none_goes face conns a l b it.none it.same
+
+on_asks : (at : ReadyAt) (call : Call) (given : Option Given) → IsOn at call → IsAsk (Asks call given)
+on_asks at (Listen slot to answer) given on = tt
+on_asks (ready.Listener slot) (Wait until listed answer) given on = absurd on
+on_asks (ready.Link link) (Wait until listed answer) given on = absurd on
+on_asks at (Accept slot answer) given on = tt
+on_asks at (Connect to answer) given on = tt
+on_asks at (Ask link answer) given on = tt
+on_asks at (Read link room answer bytes) given on = tt
+on_asks at (Write link bytes answer) given on = tt
+on_asks at (Finish link) given on = tt
+on_asks at (Close link) given on = tt
+
+call_goes : {C : Type 0} (face : Face C) (conns : ℕ) (at : ReadyAt) (over : Bool) (a : Around C) (l : List Step) (b : Around C)
+    → OneCall face conns at over a l b → Goes face conns a l b
+call_goes face conns at over a l b it = step_goes face conns a l b _ it.steps_are it.calls (on_asks at it.call it.given it.on)
+
+pub asked_goes : {C : Type 0} (face : Face C) (conns : ℕ) (at : ReadyAt) (o : Asked) (a : Around C) (l : List Step) (b : Around C)
+    → AskedOnce face conns at o a l b → Goes face conns a l b
+asked_goes face conns at is.Again a l b it = call_goes face conns at false a l b it
+asked_goes face conns at is.Stays a l b it = not_goes face conns _ a l b it
+asked_goes face conns at is.Over a l b (inl it) = call_goes face conns at true a l b it
+asked_goes face conns at is.Over a l b (inr it) = not_goes face conns _ a l b it
+
+pub often_goes : {C : Type 0} (face : Face C) (conns : ℕ) (Once : Asked → Around C → List Step → Around C → Type 0)
+    → ((o : Asked) (a : Around C) (l : List Step) (b : Around C) → Once o a l b → Goes face conns a l b)
+    → (n : ℕ) (a : Around C) (l : List Step) (b : Around C) → GaveOften Once n a l b → Goes face conns a l b
+often_goes face conns Once once zero a l b it = none_goes face conns a l b it.0 it.1
+often_goes face conns Once once (suc n) a l b it =
+    then_goes face conns (GaveOften Once n) (Once is.Again) (often_goes face conns Once once n) (once is.Again) a l b it
+
+last_goes : {C : Type 0} (face : Face C) (conns : ℕ) (Once : Asked → Around C → List Step → Around C → Type 0)
+    → ((o : Asked) (a : Around C) (l : List Step) (b : Around C) → Once o a l b → Goes face conns a l b)
+    → (often times : ℕ) (stays : Bool) (a : Around C) (l : List Step) (b : Around C) → TriedLast Once often times stays a l b → Goes face conns a l b
+last_goes face conns Once once often times true a l b (inl it) = once is.Stays a l b it
+last_goes face conns Once once often times true a l b (inr it) = not_goes face conns _ a l b it
+last_goes face conns Once once often times false a l b it = once is.Over a l b it
+
+tried_goes : {C : Type 0} (face : Face C) (conns : ℕ) (Once : Asked → Around C → List Step → Around C → Type 0)
+    → ((o : Asked) (a : Around C) (l : List Step) (b : Around C) → Once o a l b → Goes face conns a l b)
+    → (times : ℕ) (stays : Bool) (a : Around C) (l : List Step) (b : Around C) → Tried Once times stays a l b → Goes face conns a l b
+tried_goes face conns Once once times stays a l b it =
+    then_goes face conns (GaveOften Once it.often) (TriedLast Once it.often times stays) (often_goes face conns Once once it.often)
+    (last_goes face conns Once once it.often times stays) a l b it.tries
+
+pub each_goes : {C : Type 0} (face : Face C) (conns : ℕ) (At : ℕ → Bool → Around C → List Step → Around C → Type 0)
+    → ((n : ℕ) (s : Bool) (a : Around C) (l : List Step) (b : Around C) → At n s a l b → Goes face conns a l b)
+    → (order stay : List ℕ) (a : Around C) (l : List Step) (b : Around C) → Each At order stay a l b → Goes face conns a l b
+each_goes face conns At at [] stay a l b it = none_goes face conns a l b it.1 it.2
+each_goes face conns At at (n ∷ order) stay a l b it =
+    then_goes face conns (At n it.0) (Each At order it.1) (at n it.0) (each_goes face conns At at order it.1) a l b it.3
+
+write_goes : {C : Type 0} (face : Face C) (conns c : ℕ) (side : Side) (o : Asked) (a : Around C) (l : List Step) (b : Around C)
+    → OneWrite face conns c side o a l b → Goes face conns a l b
+write_goes face conns c side o a l b it = step_goes face conns a l b _ it.steps_are it.calls tt
+
+pub wrote_goes : {C : Type 0} (face : Face C) (conns c : ℕ) (side : Side) (o : Asked) (a : Around C) (l : List Step) (b : Around C)
+    → WroteOnce face conns c side o a l b → Goes face conns a l b
+wrote_goes face conns c side is.Again a l b it = write_goes face conns c side is.Again a l b it
+wrote_goes face conns c side is.Stays a l b it = write_goes face conns c side is.Stays a l b it
+wrote_goes face conns c side is.Over a l b (inl it) = write_goes face conns c side is.Over a l b it
+wrote_goes face conns c side is.Over a l b (inr it) = not_goes face conns _ a l b it
+
+pub side_goes : {C : Type 0} (face : Face C) (conns c : ℕ) (side : Side) (stays : Bool) (a : Around C) (l : List Step) (b : Around C)
+    → Wrote face conns c side stays a l b → Goes face conns a l b
+side_goes face conns c side stays a l b it =
+    tried_goes face conns (WroteOnce face conns c side) (wrote_goes face conns c side) _ stays a l b it.tried
+
+both_goes : {C : Type 0} (face : Face C) (conns c : ℕ) (stays : Bool) (a : Around C) (l : List Step) (b : Around C)
+    → WritesAt face conns c stays a l b → Goes face conns a l b
+both_goes face conns c stays a l b it =
+    then_goes face conns (Wrote face conns c Client it.client) (Wrote face conns c Server it.server)
+    (side_goes face conns c Client it.client) (side_goes face conns c Server it.server) a l b it.writes
+
+-- whatever is done with a number
+pub work_goes : {C : Type 0} (face : Face C) (w : Work) (conns n : ℕ) (stays : Bool) (a : Around C) (l : List Step) (b : Around C)
+    → WorkAt face w conns n stays a l b → Goes face conns a l b
+work_goes face work.Listener conns n stays =
+    tried_goes face conns (AskedOnce face conns (ready.Listener n)) (asked_goes face conns (ready.Listener n)) 16 stays
+work_goes face work.Link conns n stays =
+    tried_goes face conns (AskedOnce face conns (ready.Link n)) (asked_goes face conns (ready.Link n)) 4 stays
+work_goes face work.Writer conns n stays = both_goes face conns n stays
+
+run_asks : (e : Event) → (e ≡ event.Run) ⊎ (e ≡ event.Turn) → (g : Given) → g.event ≡ e → IsAsk (Own g)
+run_asks e is g same = subst (λ (x : Event). (x ≡ event.Run) ⊎ (x ≡ event.Turn)) (sym same) is
+
+pub run_goes : {C : Type 0} (face : Face C) (conns : ℕ) (a : Around C) (l : List Step) (b : Around C) → OwnStep face event.Run a l b → Goes face conns a l b
+run_goes face conns a l b it =
+    (own_walks face conns event.Run tt a l b it, subst AreAsks (sym it.steps_are) (run_asks event.Run (inl refl) it.given it.gives.event_is, tt))
+
+pub turn_goes : {C : Type 0} (face : Face C) (conns : ℕ) (a : Around C) (l : List Step) (b : Around C) → OwnStep face event.Turn a l b → Goes face conns a l b
+turn_goes face conns a l b it =
+    (own_walks face conns event.Turn tt a l b it, subst AreAsks (sym it.steps_are) (run_asks event.Turn (inr refl) it.given it.gives.event_is, tt))
+
+pair_goes : {C : Type 0} (face : Face C) (conns : ℕ) (before after : List ℕ) (a : Around C) (l : List Step) (b : Around C)
+    → OnePair face before after a l b → Goes face conns a l b
+pair_goes face conns before after a l b it =
+    then_goes face conns (OwnStep face event.Run) (OwnStep face event.Turn) (run_goes face conns) (turn_goes face conns) a l b it.events
+
+pub pairs_goes : {C : Type 0} (face : Face C) (conns n : ℕ) (before after : List ℕ) (a : Around C) (l : List Step) (b : Around C)
+    → GavePairs face n before after a l b → Goes face conns a l b
+pairs_goes face conns zero before after a l b it = none_goes face conns a l b it.1.0 it.1.1
+pairs_goes face conns (suc n) before after a l b it =
+    then_goes face conns (GavePairs face n before it.0) (OnePair face it.0 after) (pairs_goes face conns n before it.0) (pair_goes face conns it.0 after) a l b it.1
+
+ran_last_goes : {C : Type 0} (face : Face C) (conns often times : ℕ) (ready : Bool) (before after : List ℕ) (a : Around C) (l : List Step) (b : Around C)
+    → RanLast face often times ready before after a l b → Goes face conns a l b
+ran_last_goes face conns often times true before after a l b it = not_goes face conns _ a l b it.1
+ran_last_goes face conns often times false before after a l b it = not_goes face conns _ a l b it.1
+
+pub ran_goes : {C : Type 0} (face : Face C) (conns times : ℕ) (ready : Bool) (before after : List ℕ) (a : Around C) (l : List Step) (b : Around C)
+    → Ran face times ready before after a l b → Goes face conns a l b
+ran_goes face conns times ready before after a l b it =
+    then_goes face conns (GavePairs face it.often before it.mid) (RanLast face it.often times ready it.mid after)
+    (pairs_goes face conns it.often before it.mid) (ran_last_goes face conns it.often times ready it.mid after) a l b it.pairs
+
+-- ---- all five parts
+
+asks_goes : {C : Type 0} (face : Face C) (r : Round) (conns : ℕ) (a : Around C) (l : List Step) (b : Around C) → AsksAll face r conns a l b → Goes face conns a l b
+asks_goes face r conns =
+    then_goes face conns (Each (ListenerAt face conns) (due_now r.slots (listed_slots r.listed)) r.slots_stay) (AsksLinks face r conns)
+    (each_goes face conns (ListenerAt face conns) (work_goes face work.Listener conns) _ _)
+    (then_goes face conns (Each (LinkAt face conns) (due_now r.links (listed_links r.listed)) r.links_stay) (RunsAndWrites face r conns)
+    (each_goes face conns (LinkAt face conns) (work_goes face work.Link conns) _ _)
+    (then_goes face conns (Ran face 2048 r.ready r.writers_were r.writers) (Each (WritesAt face conns) r.writers r.writers_stay)
+    (ran_goes face conns 2048 r.ready r.writers_were r.writers) (each_goes face conns (WritesAt face conns) (work_goes face work.Writer conns) _ _)))
+
 pub rounds_walk : {C : Type 0} (face : Face C) (r : Round) (conns : ℕ) (a : Around C) (l : List Step) (b : Around C)
     → Rounds face r conns a l b → Walks face conns a l b
 rounds_walk face r conns =
     then_walks face conns (Ticks face r.now) (WaitsAndAsks face r conns) (ticks_walks face conns r.now)
-    (then_walks face conns (WaitsFor face conns r) (AsksAll face r conns) (waits_walks face conns r)
-    (then_walks face conns (Each (ListenerAt face conns) (due_now r.slots (listed_slots r.listed)) r.slots_stay) (AsksLinks face r conns)
-    (each_walks face conns (ListenerAt face conns) (λ n s. tried_walks face conns (AskedOnce face conns (ready.Listener n)) (asked_walks face conns (ready.Listener n)) 16 s) _ _)
-    (then_walks face conns (Each (LinkAt face conns) (due_now r.links (listed_links r.listed)) r.links_stay) (RunsAndWrites face r conns)
-    (each_walks face conns (LinkAt face conns) (λ n s. tried_walks face conns (AskedOnce face conns (ready.Link n)) (asked_walks face conns (ready.Link n)) 4 s) _ _)
-    (then_walks face conns (Ran face 2048 r.ready r.writers_were r.writers) (Each (WritesAt face conns) r.writers r.writers_stay)
-    (ran_walks face conns 2048 r.ready r.writers_were r.writers) (each_walks face conns (WritesAt face conns) (both_walks face conns) _ _)))))
+    (then_walks face conns (WaitsFor face conns r) (AsksAll face r conns) (λ a l b it. waited_walks face conns r.until r.listed a l b it.waits)
+    (λ a l b it. (asks_goes face r conns a l b it).0))

@@ -1,9 +1,12 @@
 -- The calls that notes ask for, in order.
-use Rattle.std.specs.Prelude.{◌≡◌, ℕ, List, [], ◌∷◌, ◌++◌, Option, Some, None, Ok}
+use Rattle.std.specs.Prelude.{◌≡◌, ◌⊎◌, ℕ, List, [], ◌∷◌, ◌++◌, Bool, true, false}
+use Rattle.std.specs.Prelude.{Option, Some, None, Result, Ok, Err}
 use Rattle.px_bytes.specs.declared.addr.Side.{Side}
 use Rattle.px_bytes.specs.declared.addr.Side.TheVariants as side
 use Rattle.connection_model.specs.declared.note.Note.{Note}
 use Rattle.connection_model.specs.declared.note.Note.TheVariants as note
+use Rattle.px_outside.specs.declared.failed.Failed.{Failed}
+use Rattle.px_outside.specs.declared.failed.Failed.TheVariants as failed
 use Rattle.px_outside.specs.Net.{Call, Connect, Finish, Close, Chain}
 use Rattle.served_links.specs.declared.links.Links.{Links}
 use Rattle.served_links.specs.declared.row.Row.{Row}
@@ -55,3 +58,42 @@ pub record Carried {S : Type 0} (did : S → Call → S → Type 0) (gave : S �
   pub once : GivesOnce (gave net) (gave net') (links_given calls)
   pub owners : OwnersStay (gave net) old new
   pub known : Known (gave net) old → Known (gave net') new
+
+-- ---- where they break off
+
+-- the answer of a connect at which they may: the net failed; where memory was refused, any answer, since a
+-- link may find no room in the table
+abbrev pub StopsAt : (short : Bool) → Result ℕ Failed → Type 0
+StopsAt true answer = Unit {0}
+StopsAt false answer = answer ≡ Err failed.Failed
+
+abbrev pub ConnectStops : (short : Bool) → Action → List Call → Type 0
+ConnectStops short (does.Connects c to) calls =
+    (answer : Result ℕ Failed) × (calls ≡ Connect to answer ∷ []) × StopsAt short answer
+ConnectStops short other calls = ⊥
+
+-- the calls of the notes before a connect, and this one
+pub record CarriesUpTo (short : Bool) (notes : List Note) (a : Links) (calls : List Call) : Type 0 where
+  pub before : List Note
+  pub note : Note
+  pub after : List Note
+  pub notes_are : notes ≡ before ++ note ∷ after
+  pub mid : Links
+  pub first : List Call
+  pub last : List Call
+  pub calls_are : calls ≡ first ++ last
+  pub carried : Carries before a first mid
+  pub stops : ConnectStops short (action note) last
+
+-- they break off at a connect; where memory was refused, all may have been made
+abbrev pub CarriesSome : (short : Bool) → List Note → Links → List Call → Type 0
+CarriesSome short notes a calls =
+    CarriesUpTo short notes a calls ⊎ ((short ≡ true) × ((b : Links) × Carries notes a calls b))
+
+-- what the calls became of the net where they broke off
+pub record CarriedSome {S : Type 0} (did : S → Call → S → Type 0) (gave : S → ℕ → Type 0)
+    (R : List Call → Type 0) (net net' : S) : Type 0 where
+  pub calls : List Call
+  pub chain : Chain did net calls net'
+  pub carried : R calls
+  pub once : GivesOnce (gave net) (gave net') (links_given calls)

@@ -1,5 +1,5 @@
 -- Faults of serving, and what each comes of.
-use Rattle.std.specs.Prelude.{ℕ}
+use Rattle.std.specs.Prelude.{ℕ, Bool, true, false, Result, Ok, Err}
 use Rattle.px_outside.specs.declared.failed.Failed.{Failed}
 use Rattle.px_outside.specs.declared.failed.Failed.TheVariants as failed
 use Rattle.px_outside.specs.Outside.{Rose}
@@ -28,3 +28,22 @@ abbrev pub FromNetOrSink : (net net' sink sink' : ℕ) → ServeFault → Type 0
 FromNetOrSink net net' sink sink' fault.Net = Rose net net'
 FromNetOrSink net net' sink sink' fault.Write = Rose sink sink'
 FromNetOrSink net net' sink sink' fault.Memory = Unit {0}
+
+-- memory was refused
+abbrev pub is_memory : ServeFault → Bool
+is_memory fault.Net = false
+is_memory fault.Write = false
+is_memory fault.Memory = true
+
+-- lines may be missing in the journal
+abbrev pub is_not_net : ServeFault → Bool
+is_not_net fault.Net = false
+is_not_net fault.Write = true
+is_not_net fault.Memory = true
+
+-- how a turn ends, by the end of what it did and that of the writing of its lines: want of memory goes first,
+-- then a fault of the journal
+abbrev pub turn_end : (done written : Result (Unit {0}) ServeFault) → Result (Unit {0}) ServeFault
+turn_end (Err fault.Memory) written = Err fault.Memory
+turn_end done (Err why) = Err why
+turn_end done (Ok u) = done

@@ -10,5 +10,7 @@ pub mod Asking
 pub mod Writing
 pub mod Running
 pub mod Turn
+pub mod Broken
 pub mod Listing
+pub mod Fallen
 pub mod Server

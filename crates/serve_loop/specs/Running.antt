@@ -1,5 +1,6 @@
 -- Pairs of a Run and a Turn, and the connections that ran.
-use Rattle.std.specs.Prelude.{◌≡◌, ◌≤◌, ℕ, zero, suc, List, [], ◌∷◌, Bool, true, false, Option, Some, None, nat_eq}
+use Rattle.std.specs.Prelude.{◌≡◌, ◌≤◌, ℕ, zero, suc, List, [], ◌∷◌, Bool, true, false}
+use Rattle.std.specs.Prelude.{Option, Some, None, nat_eq}
 use Rattle.indexmap.specs.IndexSet.{insert_key}
 use Rattle.journal_text.specs.declared.event.Event.{Event}
 use Rattle.journal_text.specs.declared.event.Event.TheVariants as event

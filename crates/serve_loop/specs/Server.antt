@@ -1,5 +1,6 @@
 -- What a server does in a turn, and in a run of turns.
-use Rattle.std.specs.Prelude.{◌≡◌, ◌⊎◌, ℕ, ◌<◌, ◌≤◌, zero, suc, List, [], ◌∷◌, ◌++◌, Bool, true, false, Option, Some, None, Ok}
+use Rattle.std.specs.Prelude.{◌≡◌, ◌⊎◌, ℕ, ◌<◌, ◌≤◌, zero, suc, List, [], ◌∷◌, ◌++◌}
+use Rattle.std.specs.Prelude.{Bool, true, false, Option, Some, None, Ok}
 use Rattle.px_outside.specs.declared.answers.ReadyAt.{ReadyAt}
 use Rattle.px_outside.specs.Net.{Call, Chain, Listen}
 use Rattle.served_links.specs.Added.{added}
@@ -44,7 +45,8 @@ pub record WaitsFor {C : Type 0} (face : Face C) (conns : ℕ) (r : Round) (a : 
 -- what is ready is run, then what is pending is written
 abbrev pub RunsAndWrites : {C : Type 0} → Face C → Round → ℕ → Around C → List Step → Around C → Type 0
 RunsAndWrites face r conns a steps b =
-    Then (Ran face 2048 r.ready r.writers_were r.writers) (Each (WritesAt face conns) r.writers r.writers_stay) a steps b
+    Then (Ran face 2048 r.ready r.writers_were r.writers)
+    (Each (WritesAt face conns) r.writers r.writers_stay) a steps b
 
 -- each due link is asked before
 abbrev pub AsksLinks : {C : Type 0} → Face C → Round → ℕ → Around C → List Step → Around C → Type 0
@@ -66,8 +68,8 @@ abbrev pub Rounds : {C : Type 0} → Face C → Round → ℕ → Around C → L
 Rounds face r conns a steps b = Then (Ticks face r.now) (WaitsAndAsks face r conns) a steps b
 
 -- one turn at this moment of the clock
-pub record Turned {C : Type 0} (face : Face C) {S : Type 0} (did : S → Call → S → Type 0) (gave : S → ℕ → Type 0)
-    (now : ℕ) (old new : Server C) (net net' : S) : Type 0 where
+pub record Turned {C : Type 0} (face : Face C) {S : Type 0} (did : S → Call → S → Type 0)
+    (gave : S → ℕ → Type 0) (now : ℕ) (old new : Server C) (net net' : S) : Type 0 where
   pub round : Round
   pub now_is : round.now ≡ now
   pub part : Part face did gave (Rounds face round old.serving.conns) old.serving new.serving net net'
@@ -79,9 +81,9 @@ pub record Turned {C : Type 0} (face : Face C) {S : Type 0} (did : S → Call �
   pub writers_are : new.writers ≡ added [] round.writers_stay
 
 -- the steps of a part, where the lines of their events were written too
-pub record Done {C : Type 0} (face : Face C) {S : Type 0} (did : S → Call → S → Type 0) (gave : S → ℕ → Type 0)
-    (R : Around C → List Step → Around C → Type 0) (old new : Serving C) (net net' : S)
-    (before after : Option (List ℕ)) : Type 0 where
+pub record Done {C : Type 0} (face : Face C) {S : Type 0} (did : S → Call → S → Type 0)
+    (gave : S → ℕ → Type 0) (R : Around C → List Step → Around C → Type 0) (old new : Serving C)
+    (net net' : S) (before after : Option (List ℕ)) : Type 0 where
   pub steps : List Step
   pub chain : Chain did net (calls_in steps) net'
   pub leads : R (stand old) steps (stand new)
@@ -93,8 +95,9 @@ pub record Done {C : Type 0} (face : Face C) {S : Type 0} (did : S → Call → 
   pub conns : new.conns ≡ old.conns
 
 -- One turn at a moment of the clock, from wherever the server stood with no line that waits.
-pub record OneTurn {C : Type 0} (face : Face C) {S : Type 0} (did : S → Call → S → Type 0) (gave : S → ℕ → Type 0)
-    (now : ℕ) (old new : Server C) (net net' : S) (before after : Option (List ℕ)) : Type 0 where
+pub record OneTurn {C : Type 0} (face : Face C) {S : Type 0} (did : S → Call → S → Type 0)
+    (gave : S → ℕ → Type 0) (now : ℕ) (old new : Server C) (net net' : S)
+    (before after : Option (List ℕ)) : Type 0 where
   pub round : Round
   pub now_is : round.now ≡ now
   pub done : Ready face (gave net) old.serving → old.serving.journal.text ≡ []
@@ -133,8 +136,8 @@ Behind face (suc n) s = GoesOn face s
 
 -- one turn after another, each at the moment that the clock gave then; none behind one at whose end all
 -- were over
-abbrev pub Turns : {C S T : Type 0} → Face C → (S → Call → S → Type 0) → (S → ℕ → Type 0) → (T → ℕ → T → Type 0)
-    → ℕ → Running C S T → Running C S T → Type 0
+abbrev pub Turns : {C S T : Type 0} → Face C → (S → Call → S → Type 0) → (S → ℕ → Type 0)
+    → (T → ℕ → T → Type 0) → ℕ → Running C S T → Running C S T → Type 0
 Turns face did gave ticked zero old new = new ≡ old
 Turns {C} {S} {T} face did gave ticked (suc n) old new =
     (mid : Running C S T) × Turns face did gave ticked n old mid × Behind face n mid.server.serving
@@ -161,25 +164,6 @@ pub record Served {C S T : Type 0} (face : Face C) (did : S → Call → S → T
   pub turned : Turns face did gave ticked made old new
   pub walked : Walked face did gave old new
   pub ends : EndsAs face turns made new.server.serving end
-
--- A turn that met a fault: a moment was asked for, and what was written of the journal grew.
-pub record Fell {T : Type 0} (ticked : T → ℕ → T → Type 0) (clock clock' : T) (before after : Option (List ℕ)) : Type 0 where
-  pub now : ℕ
-  pub asked : ticked clock now clock'
-  pub more : List ℕ
-  pub grew : after ≡ told_more before more
-
--- Fewer turns than all were made, behind each of which it went on, and the next one met a fault. What those did is exact,
--- and their lines stand in the journal.
-pub record Stopped {C S T : Type 0} (face : Face C) (did : S → Call → S → Type 0) (gave : S → ℕ → Type 0)
-    (ticked : T → ℕ → T → Type 0) (turns : ℕ) (old : Running C S T) (clock : T) (after : Option (List ℕ)) : Type 0 where
-  pub made : ℕ
-  pub fewer : made < turns
-  pub mid : Running C S T
-  pub turned : Turns face did gave ticked made old mid
-  pub behind : Behind face made mid.server.serving
-  pub walked : Walked face did gave old mid
-  pub fell : Fell ticked mid.clock clock mid.written after
 
 -- a listener for each virtual server that has an address
 abbrev pub listen_calls : ℕ → Option Addr → List Call

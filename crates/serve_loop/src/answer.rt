@@ -7,7 +7,8 @@ ghost use Rattle.served_links.specs.Links.{owner_in};
 ghost use Rattle.serve_loop.specs.Asking.{AskedOnce};
 ghost use Rattle.serve_loop.specs.Face.{MayAnswer};
 ghost use Rattle.serve_loop.specs.Part.{Part};
-ghost use Rattle.serve_loop.specs.Faults.{FromNet};
+ghost use Rattle.serve_loop.specs.Broken.{AreAsks, IsBroken};
+ghost use Rattle.serve_loop.specs.Faults.{FromNet, is_memory};
 
 use crate::serving::Serving;
 use crate::{Asked, Core, ServeFault};
@@ -30,6 +31,8 @@ impl<C: Core + Drop> Serving<C> {
         requires may { MayAnswer (C.face.takes self.old.core) row.conn }
         ensures part { IfOk result (λ asked. Part C.face N.did N.gave
             (AskedOnce C.face self.old.conns (ready.Link link) asked)
+            self.old self.new net.old net.new) }
+        ensures broke { IfErr result (λ why. IsBroken C.face N.did N.gave AreAsks (is_memory why)
             self.old self.new net.old net.new) }
         ensures fails { IfErr result (FromNet (N.faults net.old) (N.faults net.new)) }
         ensures faults_never_fall { N.faults net.old ≤ N.faults net.new }

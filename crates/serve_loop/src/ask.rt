@@ -6,7 +6,8 @@ ghost use Rattle.journal_text.specs.declared.event.Event.TheVariants as event;
 ghost use Rattle.px_outside.specs.declared.answers.ReadyAt.TheVariants as ready;
 ghost use Rattle.serve_loop.specs.Asking.{AskedOnce};
 ghost use Rattle.serve_loop.specs.Part.{Part};
-ghost use Rattle.serve_loop.specs.Faults.{FromNet};
+ghost use Rattle.serve_loop.specs.Broken.{AreAsks, IsBroken};
+ghost use Rattle.serve_loop.specs.Faults.{FromNet, is_memory};
 
 use crate::serving::Serving;
 use crate::{Asked, Core, ServeFault};
@@ -20,6 +21,8 @@ impl<C: Core + Drop> Serving<C> {
     pub(crate) fn accept<N: Net>(&mut self, net: &mut N, slot: u32) -> Result<Asked, ServeFault>
         ensures part { IfOk result (λ asked. Part C.face N.did N.gave
             (AskedOnce C.face self.old.conns (ready.Listener slot) asked)
+            self.old self.new net.old net.new) }
+        ensures broke { IfErr result (λ why. IsBroken C.face N.did N.gave AreAsks (is_memory why)
             self.old self.new net.old net.new) }
         ensures fails { IfErr result (FromNet (N.faults net.old) (N.faults net.new)) }
         ensures faults_never_fall { N.faults net.old ≤ N.faults net.new }
@@ -51,6 +54,8 @@ impl<C: Core + Drop> Serving<C> {
         requires may { (from : Addr) → C.face.takes self.old.core (event.Accept number vs from) }
         ensures part { IfOk result (λ asked. Part C.face N.did N.gave
             (AskedOnce C.face self.old.conns (ready.Listener slot) asked)
+            self.old self.new net.old net.new) }
+        ensures broke { IfErr result (λ why. IsBroken C.face N.did N.gave AreAsks (is_memory why)
             self.old self.new net.old net.new) }
         ensures fails { IfErr result (FromNet (N.faults net.old) (N.faults net.new)) }
         ensures faults_never_fall { N.faults net.old ≤ N.faults net.new }
@@ -95,6 +100,8 @@ impl<C: Core + Drop> Serving<C> {
             (AskedOnce C.face self.old.conns (ready.Link link) asked)
             self.old self.new net.old net.new) }
         ensures room { vec_len room.new ≡ vec_len room.old }
+        ensures broke { IfErr result (λ why. IsBroken C.face N.did N.gave AreAsks (is_memory why)
+            self.old self.new net.old net.new) }
         ensures fails { IfErr result (FromNet (N.faults net.old) (N.faults net.new)) }
         ensures faults_never_fall { N.faults net.old ≤ N.faults net.new }
     {

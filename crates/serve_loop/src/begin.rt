@@ -4,6 +4,7 @@ ghost use Rattle.std.specs.Prelude.{◌≡◌, ◌<◌, ℕ, Option, IfOk, OnOk,
 ghost use Rattle.px_bytes.specs.declared.addr.Addr.{Addr};
 ghost use Rattle.px_outside.specs.Net.{Chain};
 ghost use Rattle.serve_loop.specs.Server.{Begins, ListensAll, listen_calls};
+ghost use Rattle.serve_loop.specs.Fallen.{ListenFails, ListensSome};
 ghost use Rattle.serve_loop.specs.Faults.{FromNet};
 
 use crate::journal::Journal;
@@ -29,6 +30,7 @@ impl<C: Core + Drop> Server<C> {
         conns: u32,
     ) -> Result<Server<C>, ServeFault>
         ensures begins { IfOk result (λ server. Begins C.face N.did core conns net.old net.new server) }
+        ensures broke { IfErr result (λ why. ListensSome C.face N.did why core net.old net.new) }
         ensures fails { IfErr result (FromNet (N.faults net.old) (N.faults net.new)) }
         ensures faults_never_fall { N.faults net.old ≤ N.faults net.new }
     {
@@ -62,6 +64,7 @@ fn room(alloc: Global) -> M<Vec<u8>>
 fn listen_all<C: Core, N: Net>(core: &C, net: &mut N) -> Result<(), ServeFault>
     ensures listens { OnOk result ((n : ℕ) × C.face.slots core.now n
         × ListensAll C.face N.did core.now n net.old net.new) }
+    ensures broke { IfErr result (λ why. ListensSome C.face N.did why core.now net.old net.new) }
     ensures fails { IfErr result (FromNet (N.faults net.old) (N.faults net.new)) }
     ensures faults_never_fall { N.faults net.old ≤ N.faults net.new }
 {
@@ -75,6 +78,7 @@ fn listen_all<C: Core, N: Net>(core: &C, net: &mut N) -> Result<(), ServeFault>
 fn listen_at<C: Core, N: Net>(core: &C, net: &mut N, slot: u32) -> Result<(), ServeFault>
     ensures listens { OnOk result ((at : Option Addr) × C.face.listens core.now slot at
         × Chain N.did net.old (listen_calls slot at) net.new) }
+    ensures broke { IfErr result (λ why. ListenFails C.face N.did why core.now slot net.old net.new) }
     ensures fails { IfErr result (FromNet (N.faults net.old) (N.faults net.new)) }
     ensures faults_never_fall { N.faults net.old ≤ N.faults net.new }
 {

@@ -2,7 +2,8 @@
 
 ghost use Rattle.std.specs.Prelude.{◌≡◌, OnOk, slice_get, option_map, take, IfErr, ◌≤◌};
 ghost use Rattle.serve_loop.specs.Carrying.{action, Carried, CarriesOne, Carries};
-ghost use Rattle.serve_loop.specs.Faults.{FromNet};
+ghost use Rattle.serve_loop.specs.Carrying.{CarriedSome, CarriesUpTo, ConnectStops};
+ghost use Rattle.serve_loop.specs.Faults.{FromNet, is_memory};
 
 use crate::ServeFault;
 use connection_model::Note;
@@ -55,6 +56,8 @@ fn asked_for(note: &Note) -> Action
 pub fn carry<N: Net>(links: &mut Links, net: &mut N, notes: &[Note]) -> Result<(), ServeFault>
     ensures carries { OnOk result
         (Carried N.did N.gave (Carries notes.now) links.old links.new net.old net.new) }
+    ensures broke { IfErr result (λ why. CarriedSome N.did N.gave
+        (CarriesUpTo (is_memory why) notes.now links.old) net.old net.new) }
     ensures fails { IfErr result (FromNet (N.faults net.old) (N.faults net.new)) }
     ensures faults_never_fall { N.faults net.old ≤ N.faults net.new }
 {
@@ -68,6 +71,8 @@ pub fn carry<N: Net>(links: &mut Links, net: &mut N, notes: &[Note]) -> Result<(
 fn carry_one<N: Net>(links: &mut Links, net: &mut N, action: Action) -> Result<(), ServeFault>
     ensures carries { OnOk result
         (Carried N.did N.gave (CarriesOne action) links.old links.new net.old net.new) }
+    ensures broke { IfErr result (λ why. CarriedSome N.did N.gave
+        (ConnectStops (is_memory why) action) net.old net.new) }
     ensures fails { IfErr result (FromNet (N.faults net.old) (N.faults net.new)) }
     ensures faults_never_fall { N.faults net.old ≤ N.faults net.new }
 {

@@ -5,7 +5,8 @@ ghost use Rattle.serve_loop.specs.Listing.{AllOf, OneOf};
 ghost use Rattle.serve_loop.specs.Often.{Each};
 ghost use Rattle.serve_loop.specs.Part.{Part};
 ghost use Rattle.serve_loop.specs.Turn.{WorkAt, WritesAt, either};
-ghost use Rattle.serve_loop.specs.Faults.{FromNet};
+ghost use Rattle.serve_loop.specs.Broken.{AreAsks, IsBroken};
+ghost use Rattle.serve_loop.specs.Faults.{FromNet, is_memory};
 
 use crate::serving::Serving;
 use crate::work::Work;
@@ -30,6 +31,8 @@ impl<C: Core + Drop> Serving<C> {
             (λ stay. Part C.face N.did N.gave (Each (WorkAt C.face work self.old.conns) order.now stay)
             self.old self.new net.old net.new) keep.old keep.new) }
         ensures room { vec_len room.new ≡ vec_len room.old }
+        ensures broke { IfErr result (λ why. IsBroken C.face N.did N.gave AreAsks (is_memory why)
+            self.old self.new net.old net.new) }
         ensures fails { IfErr result (FromNet (N.faults net.old) (N.faults net.new)) }
         ensures faults_never_fall { N.faults net.old ≤ N.faults net.new }
     {
@@ -55,6 +58,8 @@ impl<C: Core + Drop> Serving<C> {
             (λ number stays. Part C.face N.did N.gave (WorkAt C.face work self.old.conns number stays)
             self.old self.new net.old net.new) order.now at keep.old keep.new) }
         ensures room { vec_len room.new ≡ vec_len room.old }
+        ensures broke { IfErr result (λ why. IsBroken C.face N.did N.gave AreAsks (is_memory why)
+            self.old self.new net.old net.new) }
         ensures fails { IfErr result (FromNet (N.faults net.old) (N.faults net.new)) }
         ensures faults_never_fall { N.faults net.old ≤ N.faults net.new }
     {
@@ -79,6 +84,8 @@ impl<C: Core + Drop> Serving<C> {
         ensures part { IfOk result (λ stays. Part C.face N.did N.gave
             (WorkAt C.face work self.old.conns number stays) self.old self.new net.old net.new) }
         ensures room { vec_len room.new ≡ vec_len room.old }
+        ensures broke { IfErr result (λ why. IsBroken C.face N.did N.gave AreAsks (is_memory why)
+            self.old self.new net.old net.new) }
         ensures fails { IfErr result (FromNet (N.faults net.old) (N.faults net.new)) }
         ensures faults_never_fall { N.faults net.old ≤ N.faults net.new }
     {
@@ -93,6 +100,8 @@ impl<C: Core + Drop> Serving<C> {
     fn write_both<N: Net>(&mut self, net: &mut N, conn: u32) -> Result<bool, ServeFault>
         ensures part { IfOk result (λ stays. Part C.face N.did N.gave
             (WritesAt C.face self.old.conns conn stays) self.old self.new net.old net.new) }
+        ensures broke { IfErr result (λ why. IsBroken C.face N.did N.gave AreAsks (is_memory why)
+            self.old self.new net.old net.new) }
         ensures fails { IfErr result (FromNet (N.faults net.old) (N.faults net.new)) }
         ensures faults_never_fall { N.faults net.old ≤ N.faults net.new }
     {

@@ -1,5 +1,8 @@
 // How serving ends.
 
+ghost use Rattle.std.specs.Prelude.{◌≡◌};
+ghost use Rattle.serve_loop.specs.Faults.{turn_end};
+
 use px_bytes::Memory;
 use px_outside::Failed;
 
@@ -21,6 +24,22 @@ pub enum ServeFault {
     Write,
     /// Memory was refused.
     Memory,
+}
+
+/// How a turn ends, by the end of what it did and that of the writing of its lines: want of memory
+/// goes first, then a fault of the journal.
+pub fn turn_end(
+    done: Result<(), ServeFault>,
+    written: Result<(), ServeFault>,
+) -> Result<(), ServeFault>
+    ensures { result ≡ turn_end done written }
+{
+    match done {
+        Err(ServeFault::Memory) => done,
+        Err(ServeFault::Net) => written.and(done),
+        Err(ServeFault::Write) => written.and(done),
+        Ok(()) => written,
+    }
 }
 
 impl From<Memory> for ServeFault {

@@ -35,7 +35,8 @@ impl Journal {
 
     /// Writes down an event.
     pub fn event(&mut self, event: &Event) -> M<()>
-        ensures { OnOk result (Tells self.old self.new (event_line event.now)) }
+        ensures ok { OnOk result (Tells self.old self.new (event_line event.now)) }
+        ensures err { OnErr result (self.new ≡ self.old) }
     {
         if self.recording {
             self.text.push(write_event(self.alloc, event)?.as_bytes())?;
@@ -45,7 +46,8 @@ impl Journal {
 
     /// Writes down notes.
     pub fn notes(&mut self, notes: &[Note]) -> M<()>
-        ensures { OnOk result (Tells self.old self.new (note_lines notes.now)) }
+        ensures ok { OnOk result (Tells self.old self.new (note_lines notes.now)) }
+        ensures err { OnErr result (self.new ≡ self.old) }
     {
         if self.recording {
             self.text.push(write_notes(self.alloc, notes)?.as_bytes())?;

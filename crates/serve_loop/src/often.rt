@@ -5,7 +5,8 @@ ghost use Rattle.px_outside.specs.declared.answers.ReadyAt.TheVariants as ready;
 ghost use Rattle.serve_loop.specs.Asking.{AskedOnce};
 ghost use Rattle.serve_loop.specs.Often.{Tried};
 ghost use Rattle.serve_loop.specs.Part.{Part};
-ghost use Rattle.serve_loop.specs.Faults.{FromNet};
+ghost use Rattle.serve_loop.specs.Broken.{AreAsks, IsBroken};
+ghost use Rattle.serve_loop.specs.Faults.{FromNet, is_memory};
 
 use crate::serving::Serving;
 use crate::{Asked, Core, ServeFault};
@@ -21,6 +22,8 @@ impl<C: Core + Drop> Serving<C> {
     ) -> Result<bool, ServeFault>
         ensures part { IfOk result (λ stays. Part C.face N.did N.gave
             (Tried (AskedOnce C.face self.old.conns (ready.Listener slot)) 16 stays)
+            self.old self.new net.old net.new) }
+        ensures broke { IfErr result (λ why. IsBroken C.face N.did N.gave AreAsks (is_memory why)
             self.old self.new net.old net.new) }
         ensures fails { IfErr result (FromNet (N.faults net.old) (N.faults net.new)) }
         ensures faults_never_fall { N.faults net.old ≤ N.faults net.new }
@@ -49,6 +52,8 @@ impl<C: Core + Drop> Serving<C> {
             (Tried (AskedOnce C.face self.old.conns (ready.Link link)) 4 stays)
             self.old self.new net.old net.new) }
         ensures room { vec_len room.new ≡ vec_len room.old }
+        ensures broke { IfErr result (λ why. IsBroken C.face N.did N.gave AreAsks (is_memory why)
+            self.old self.new net.old net.new) }
         ensures fails { IfErr result (FromNet (N.faults net.old) (N.faults net.new)) }
         ensures faults_never_fall { N.faults net.old ≤ N.faults net.new }
     {

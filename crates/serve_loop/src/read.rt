@@ -5,7 +5,8 @@ ghost use Rattle.px_outside.specs.declared.answers.ReadyAt.TheVariants as ready;
 ghost use Rattle.served_links.specs.Links.{owner_in};
 ghost use Rattle.serve_loop.specs.Asking.{AskedOnce, IsWanted, NotConnecting};
 ghost use Rattle.serve_loop.specs.Part.{Part, stand};
-ghost use Rattle.serve_loop.specs.Faults.{FromNet};
+ghost use Rattle.serve_loop.specs.Broken.{AreAsks, IsBroken};
+ghost use Rattle.serve_loop.specs.Faults.{FromNet, is_memory};
 
 use crate::asked::{asked_by, read_to_event};
 use crate::serving::Serving;
@@ -30,6 +31,8 @@ impl<C: Core + Drop> Serving<C> {
             (AskedOnce C.face self.old.conns (ready.Link link) asked)
             self.old self.new net.old net.new) }
         ensures room { vec_len room.new ≡ vec_len room.old }
+        ensures broke { IfErr result (λ why. IsBroken C.face N.did N.gave AreAsks (is_memory why)
+            self.old self.new net.old net.new) }
         ensures fails { IfErr result (FromNet (N.faults net.old) (N.faults net.new)) }
         ensures faults_never_fall { N.faults net.old ≤ N.faults net.new }
     {
@@ -54,6 +57,8 @@ impl<C: Core + Drop> Serving<C> {
         requires wanted { IsWanted C.face self.old.core row.conn row.side (length room.old) }
         ensures part { IfOk result (λ asked. Part C.face N.did N.gave
             (AskedOnce C.face self.old.conns (ready.Link link) asked)
+            self.old self.new net.old net.new) }
+        ensures broke { IfErr result (λ why. IsBroken C.face N.did N.gave AreAsks (is_memory why)
             self.old self.new net.old net.new) }
         ensures fails { IfErr result (FromNet (N.faults net.old) (N.faults net.new)) }
         ensures faults_never_fall { N.faults net.old ≤ N.faults net.new }

@@ -3,7 +3,8 @@
 ghost use Rattle.std.specs.Prelude.{◌≡◌, ℕ, Option, IfOk, OnOk, IfErr, ◌≤◌};
 ghost use Rattle.serve_loop.specs.Part.{Part};
 ghost use Rattle.serve_loop.specs.Running.{PairOnce, Ran, RunAndTurn, noted};
-ghost use Rattle.serve_loop.specs.Faults.{FromNet};
+ghost use Rattle.serve_loop.specs.Broken.{AreAsks, IsBroken};
+ghost use Rattle.serve_loop.specs.Faults.{FromNet, is_memory};
 
 use crate::serving::Serving;
 use crate::{Asked, Core, ServeFault};
@@ -23,6 +24,8 @@ impl<C: Core + Drop> Serving<C> {
     ) -> Result<bool, ServeFault>
         ensures part { IfOk result (λ ready. Part C.face N.did N.gave
             (Ran C.face 2048 ready writers.old writers.new) self.old self.new net.old net.new) }
+        ensures broke { IfErr result (λ why. IsBroken C.face N.did N.gave AreAsks (is_memory why)
+            self.old self.new net.old net.new) }
         ensures fails { IfErr result (FromNet (N.faults net.old) (N.faults net.new)) }
         ensures faults_never_fall { N.faults net.old ≤ N.faults net.new }
     {
@@ -41,6 +44,8 @@ impl<C: Core + Drop> Serving<C> {
     fn run_once<N: Net>(&mut self, net: &mut N, writers: &mut Numbers) -> Result<Asked, ServeFault>
         ensures part { IfOk result (λ asked. Part C.face N.did N.gave
             (PairOnce C.face writers.old writers.new asked) self.old self.new net.old net.new) }
+        ensures broke { IfErr result (λ why. IsBroken C.face N.did N.gave AreAsks (is_memory why)
+            self.old self.new net.old net.new) }
         ensures fails { IfErr result (FromNet (N.faults net.old) (N.faults net.new)) }
         ensures faults_never_fall { N.faults net.old ≤ N.faults net.new }
     {
@@ -67,6 +72,8 @@ impl<C: Core + Drop> Serving<C> {
     fn pair<N: Net>(&mut self, net: &mut N) -> Result<(), ServeFault>
         ensures part { OnOk result (Part C.face N.did N.gave
             (RunAndTurn C.face) self.old self.new net.old net.new) }
+        ensures broke { IfErr result (λ why. IsBroken C.face N.did N.gave AreAsks (is_memory why)
+            self.old self.new net.old net.new) }
         ensures fails { IfErr result (FromNet (N.faults net.old) (N.faults net.new)) }
         ensures faults_never_fall { N.faults net.old ≤ N.faults net.new }
     {

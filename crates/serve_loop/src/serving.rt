@@ -2,7 +2,8 @@
 
 ghost use Rattle.std.specs.Prelude.{◌≡◌, OnOk, IfErr, ◌≤◌};
 ghost use Rattle.serve_loop.specs.Part.{IsGiven};
-ghost use Rattle.serve_loop.specs.Faults.{FromNet};
+ghost use Rattle.serve_loop.specs.Broken.{IsGivenSome};
+ghost use Rattle.serve_loop.specs.Faults.{FromNet, is_memory};
 
 use crate::carry::carry;
 use crate::journal::Journal;
@@ -32,6 +33,8 @@ impl<C: Core + Drop> Serving<C> {
     pub(crate) fn give<N: Net>(&mut self, net: &mut N, event: Event) -> Result<(), ServeFault>
         ensures gives { OnOk result
             (IsGiven C.face N.did N.gave event self.old self.new net.old net.new) }
+        ensures broke { IfErr result (λ why. IsGivenSome C.face N.did N.gave (is_memory why) event
+            self.old self.new net.old net.new) }
         ensures fails { IfErr result (FromNet (N.faults net.old) (N.faults net.new)) }
         ensures faults_never_fall { N.faults net.old ≤ N.faults net.new }
     {

@@ -4,7 +4,9 @@ ghost use Rattle.std.specs.Prelude.{◌≡◌, OnOk, min, IfErr, ◌≤◌};
 ghost use Rattle.serve_loop.specs.Server.{IsOverOr};
 ghost use Rattle.serve_loop.specs.Part.{Part, stand};
 ghost use Rattle.serve_loop.specs.Turn.{Ticks, Waits, CanAccept, CanAsk, AnyAsks, IsUntil, tick_limit};
-ghost use Rattle.serve_loop.specs.Faults.{FromNet};
+ghost use Rattle.serve_loop.specs.Broken.{AtMostOne, IsBroken, IsWait};
+ghost use Rattle.serve_loop.specs.Fallen.{FellTicking};
+ghost use Rattle.serve_loop.specs.Faults.{FromNet, is_memory};
 
 use crate::serving::Serving;
 use crate::{Core, ServeFault};
@@ -21,6 +23,9 @@ impl<C: Core + Drop> Serving<C> {
     pub(crate) fn tick<N: Net>(&mut self, net: &mut N, now: u64) -> Result<(), ServeFault>
         ensures part { OnOk result (Part C.face N.did N.gave
             (Ticks C.face now) self.old self.new net.old net.new) }
+        ensures broke { IfErr result (λ why. IsBroken C.face N.did N.gave
+            (FellTicking C.face now (stand self.old)) (is_memory why)
+            self.old self.new net.old net.new) }
         ensures fails { IfErr result (FromNet (N.faults net.old) (N.faults net.new)) }
         ensures faults_never_fall { N.faults net.old ≤ N.faults net.new }
     {
@@ -42,6 +47,8 @@ impl<C: Core + Drop> Serving<C> {
     ) -> Result<(), ServeFault>
         ensures part { OnOk result (Part C.face N.did N.gave
             (Waits until listed.new) self.old self.new net.old net.new) }
+        ensures broke { IfErr result (λ why. IsBroken C.face N.did N.gave
+            (AtMostOne (IsWait until)) (is_memory why) self.old self.new net.old net.new) }
         ensures fails { IfErr result (FromNet (N.faults net.old) (N.faults net.new)) }
         ensures faults_never_fall { N.faults net.old ≤ N.faults net.new }
     {

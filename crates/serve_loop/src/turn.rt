@@ -1,10 +1,12 @@
 // One turn, and turns.
 
-ghost use Rattle.std.specs.Prelude.{◌≡◌, ◌≤◌, ℕ, IfErr, OnErr, OnOk};
-ghost use Rattle.serve_loop.specs.Faults.{FromNet, FromNetOrSink};
-ghost use Rattle.serve_loop.specs.Server.{Fell, OneTurn, Turned};
+ghost use Rattle.std.specs.Prelude.{◌≡◌, ◌≤◌, ℕ, IfErr, OnOk};
+ghost use Rattle.serve_loop.specs.Fallen.{Fell, IsFallen};
+ghost use Rattle.serve_loop.specs.Faults.{FromNet, FromNetOrSink, is_memory};
+ghost use Rattle.serve_loop.specs.Server.{OneTurn, Turned};
 
 use crate::due::{due_links, due_slots};
+use crate::fault::turn_end;
 use crate::server::Server;
 use crate::work::Work;
 use crate::{Core, ServeFault};
@@ -13,7 +15,7 @@ use px_outside::{Clock, Net, Sink};
 
 impl<C: Core + Drop> Server<C> {
     /// One turn: a Tick where time went on, one wait, each due listener and link in order, pairs of a
-    /// Run and a Turn, and what is pending; then the lines of the journal are written.
+    /// Run and a Turn, and what is pending; then the lines of the journal are written, also behind a fault.
     pub fn turn<N: Net, T: Clock, K: Sink>(
         &mut self,
         net: &mut N,
@@ -25,23 +27,36 @@ impl<C: Core + Drop> Server<C> {
             (K.written journal.old) (K.written journal.new)) }
         ensures fails { IfErr result (FromNetOrSink (N.faults net.old) (N.faults net.new)
             (K.faults journal.old) (K.faults journal.new)) }
-        ensures fell { OnErr result
-            (Fell T.gave clock.old clock.new (K.written journal.old) (K.written journal.new)) }
+        ensures fell { IfErr result (λ why. Fell C.face N.did N.gave T.gave why
+            (record {
+              server = self.old;
+              net = net.old;
+              clock = clock.old;
+              written = K.written journal.old;
+            })
+            (record {
+              server = self.new;
+              net = net.new;
+              clock = clock.new;
+              written = K.written journal.new;
+            })) }
         ensures net_faults_never_fall { N.faults net.old ≤ N.faults net.new }
         ensures journal_faults_never_fall { K.faults journal.old ≤ K.faults journal.new }
         ensures clock_faults_never_fall { T.faults clock.old ≤ T.faults clock.new }
     {
         self.serving.journal.recording = journal.keeps();
         let now = clock.now();
-        let end = self.round(net, now);
-        self.serving.journal.flush(journal)?;
-        end
+        let done = self.round(net, now);
+        let written = self.serving.journal.flush(journal);
+        turn_end(done, written)
     }
 
     // One turn at this moment.
     #[tactic(auto, using(crate::proofs::Failing::from_later, crate::proofs::Failing::from_memory))]
     pub(crate) fn round<N: Net>(&mut self, net: &mut N, now: u64) -> Result<(), ServeFault>
         ensures turned { OnOk result (Turned C.face N.did N.gave now self.old self.new net.old net.new) }
+        ensures fallen { IfErr result (λ why. IsFallen C.face N.did N.gave now self.old.slots self.old.links
+            (is_memory why) self.old.serving self.new.serving net.old net.new) }
         ensures fails { IfErr result (FromNet (N.faults net.old) (N.faults net.new)) }
         ensures faults_never_fall { N.faults net.old ≤ N.faults net.new }
     {

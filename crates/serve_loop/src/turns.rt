@@ -1,9 +1,10 @@
 // Turns.
 
-ghost use Rattle.std.specs.Prelude.{◌≡◌, ◌≤◌, IfOk, IfErr, OnErr};
+ghost use Rattle.std.specs.Prelude.{◌≡◌, ◌≤◌, IfOk, IfErr};
+ghost use Rattle.serve_loop.specs.Fallen.{Stopped};
 ghost use Rattle.serve_loop.specs.Faults.{FromNetOrSink};
 ghost use Rattle.serve_loop.specs.Part.{stand};
-ghost use Rattle.serve_loop.specs.Server.{IsOver, Served, Stopped};
+ghost use Rattle.serve_loop.specs.Server.{IsOver, Served};
 ghost use Rattle.serve_loop.specs.Turn.{CanAccept};
 
 use crate::server::Server;
@@ -24,9 +25,9 @@ pub fn serve<C: Core + Drop, N: Net, T: Clock, K: Sink>(
         end) }
     ensures fails { IfErr result (FromNetOrSink (N.faults net.old) (N.faults net.new)
         (K.faults journal.old) (K.faults journal.new)) }
-    ensures stopped { OnErr result (Stopped C.face N.did N.gave T.gave turns
+    ensures stopped { IfErr result (Stopped C.face N.did N.gave T.gave turns
         (record { server = server.old; net = net.old; clock = clock.old; written = K.written journal.old })
-        clock.new (K.written journal.new)) }
+        (record { server = server.new; net = net.new; clock = clock.new; written = K.written journal.new })) }
     ensures net_faults_never_fall { N.faults net.old ≤ N.faults net.new }
     ensures journal_faults_never_fall { K.faults journal.old ≤ K.faults journal.new }
 {

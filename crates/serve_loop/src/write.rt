@@ -3,7 +3,8 @@
 ghost use Rattle.std.specs.Prelude.{◌≡◌, IfOk, IfErr, ◌≤◌};
 ghost use Rattle.serve_loop.specs.Part.{Part};
 ghost use Rattle.serve_loop.specs.Writing.{Wrote, WroteOnce, asked_of};
-ghost use Rattle.serve_loop.specs.Faults.{FromNet};
+ghost use Rattle.serve_loop.specs.Broken.{AreAsks, IsBroken};
+ghost use Rattle.serve_loop.specs.Faults.{FromNet, is_memory};
 
 use crate::asked::write_to_event;
 use crate::serving::Serving;
@@ -23,6 +24,8 @@ impl<C: Core + Drop> Serving<C> {
     ) -> Result<bool, ServeFault>
         ensures part { IfOk result (λ stays. Part C.face N.did N.gave
             (Wrote C.face self.old.conns conn side stays) self.old self.new net.old net.new) }
+        ensures broke { IfErr result (λ why. IsBroken C.face N.did N.gave AreAsks (is_memory why)
+            self.old self.new net.old net.new) }
         ensures fails { IfErr result (FromNet (N.faults net.old) (N.faults net.new)) }
         ensures faults_never_fall { N.faults net.old ≤ N.faults net.new }
     {
@@ -47,6 +50,8 @@ impl<C: Core + Drop> Serving<C> {
     ) -> Result<Asked, ServeFault>
         ensures part { IfOk result (λ asked. Part C.face N.did N.gave
             (WroteOnce C.face self.old.conns conn side asked) self.old self.new net.old net.new) }
+        ensures broke { IfErr result (λ why. IsBroken C.face N.did N.gave AreAsks (is_memory why)
+            self.old self.new net.old net.new) }
         ensures fails { IfErr result (FromNet (N.faults net.old) (N.faults net.new)) }
         ensures faults_never_fall { N.faults net.old ≤ N.faults net.new }
     {

@@ -35,7 +35,7 @@ use Rattle.proxy_core.proofs.OneServer.{one_server}
 use Rattle.serve_loop.specs.Events.{read_event, write_event, connect_event}
 use Rattle.serve_loop.specs.Walk.{Around, IsOwn, MayCall}
 use Rattle.served_core.specs.Asked.{on_edge, to_write}
-use Rattle.served_core.specs.Pieces.{piece_of}
+use Rattle.served_core.specs.Pieces.{piece_of, sent_side}
 use Rattle.served_core.specs.Served.{served_face}
 use Rattle.served_core.specs.Told.{meaning}
 use Rattle.served_core.specs.declared.served.Served.{Served}
@@ -79,10 +79,6 @@ live_by C z true (Some l) bytes a e some = conn_by C z l.conn bytes a.continues 
 abbrev pub took_side : Side → Heard → ℕ
 took_side Client h = h.client.took
 took_side Server h = last_took h.connects
-
-abbrev pub sent_side : Side → List Item → List ℕ
-sent_side Client place = client_output place
-sent_side Server place = server_output 1 place
 
 -- how many bytes more an event says that the side took
 abbrev pub in_side : Side → ℕ → EventKind → ℕ

@@ -21,29 +21,30 @@ use Rattle.proxy_core.specs.declared.core_state.Core.{Core}
 use Rattle.proxy_core.proofs.Promises.{every_past_matches}
 use Rattle.served_links.specs.declared.links.Links.{Links}
 use Rattle.served_links.specs.declared.row.Row.{Row}
-use Rattle.serve_loop.specs.Part.{stand}
+use Rattle.serve_loop.specs.Part.{stand, Ready}
 use Rattle.serve_loop.specs.Server.{Begins, Running, Walked}
 use Rattle.serve_loop.specs.Walk.{Around, Given, Step, Own, Asked, Gives, Becomes, IsOwn, MayCall, Walks}
 use Rattle.serve_loop.specs.Faults.{FromNetOrSink}
 use Rattle.serve_loop.specs.declared.fault.ServeEnd.{ServeEnd}
 use Rattle.serve_loop.specs.declared.fault.ServeFault.{ServeFault}
+use Rattle.serve_loop.specs.declared.server.Server.{Server}
 use Rattle.serve_loop.proofs.Failing.{either_later}
 use Rattle.served_core.proofs.Growing.{fits, grows, heard_took, one_more, took_in}
 use Rattle.served_core.proofs.ServerGrowing.{first_made, server_fits, server_heard, server_in, one_more as server_more}
-use Rattle.served_core.proofs.Pieces.{PiecesAre, call_pieces, own_pieces, sent_side, took_side}
-use Rattle.served_core.specs.Pieces.{piece_of, pieces_of}
-use Rattle.served_core.specs.Served.{served_face}
+use Rattle.served_core.proofs.Pieces.{PiecesAre, call_pieces, own_pieces, took_side}
+use Rattle.served_core.specs.Pieces.{piece_of, pieces_of, sent_side}
+use Rattle.served_core.specs.Served.{Moved, TakesEvent, served_face}
 use Rattle.served_core.specs.Serves.{ServedEvents, happened, past_after}
 use Rattle.served_core.specs.Told.{meaning}
 use Rattle.served_core.specs.declared.served.Served.{Served}
 
 -- A core stands for this past of the configuration, in which each side of each connection took these bytes.
-record StandsFor (C : Config) (past : Past) (took : Side → ℕ → List ℕ) (core : Core) : Type 0 where
-  state : State
-  represents : Represents C past state core
-  each : (side : Side) (c : ℕ) → took side c ≡ take (took_side side (heard c past)) (sent_side side (state.places c))
+pub record StandsFor (C : Config) (past : Past) (took : Side → ℕ → List ℕ) (core : Core) : Type 0 where
+  pub state : State
+  pub represents : Represents C past state core
+  pub each : (side : Side) (c : ℕ) → took side c ≡ take (took_side side (heard c past)) (sent_side side (state.places c))
 
-same_took : (C : Config) (past : Past) (before after : Side → ℕ → List ℕ) (core : Core) → ((side : Side) (c : ℕ) → after side c ≡ before side c)
+pub same_took : (C : Config) (past : Past) (before after : Side → ℕ → List ℕ) (core : Core) → ((side : Side) (c : ℕ) → after side c ≡ before side c)
     → StandsFor C past before core → StandsFor C past after core
 same_took C past before after core same p = record { state = p.state; represents = p.represents; each = λ side c. same side c ∙ p.each side c }
 
@@ -69,19 +70,24 @@ took_then C past s next core new e group took piece r fine moves r' pieces each 
     (server_fits C past s next v group c (last_took (hears c (heard c past) v group).connects) (one_server C past s r.sound.leads c) moves sum one'.within) sum grown.place
 
 -- an event, and the piece that each side took with it
-gives_past : (C : Config) (past : Past) (took piece : Side → ℕ → List ℕ) (e : Told) (a : Around Served) (g : Given) (b : Around Served) → Gives served_face e a g b
-    → ((s : State) → Represents C past s a.core.core → PiecesAre past s e piece)
-    → StandsFor C past took a.core.core → StandsFor C (happened g ∷ past) (λ side c. took side c ++ piece side c) b.core.core
-gives_past C past took piece e a g b it pieces p =
+pub event_past : (C : Config) (past : Past) (took piece : Side → ℕ → List ℕ) (e : Told) (a : Core) (g : Given) (b : Core) → g.event ≡ e → TakesEvent a e
+    → Moved a b e g.group → ((s : State) → Represents C past s a → PiecesAre past s e piece)
+    → StandsFor C past took a → StandsFor C (happened g ∷ past) (λ side c. took side c ++ piece side c) b
+event_past C past took piece e a g b event_is taken moved pieces p =
     let s = p.state in
-    let more = subst (λ (x : Event). StandsAfter C past s (record { event = x; group = g.group }) b.core.core) it.moved.means (it.moved.keeps C past s p.represents) in
-    let fine = it.taken (meaning e) refl C past s p.represents in
-    subst (λ (x : Event). StandsFor C (record { event = x; group = g.group } ∷ past) (λ side c. took side c ++ piece side c) b.core.core) (ap meaning (sym it.event_is))
+    let more = subst (λ (x : Event). StandsAfter C past s (record { event = x; group = g.group }) b) moved.means (moved.keeps C past s p.represents) in
+    let fine = taken (meaning e) refl C past s p.represents in
+    subst (λ (x : Event). StandsFor C (record { event = x; group = g.group } ∷ past) (λ side c. took side c ++ piece side c) b) (ap meaning (sym event_is))
     (record {
       state = more.next;
       represents = more.represents;
-      each = took_then C past s more.next a.core.core b.core.core e g.group took piece p.represents fine more.moves more.represents (pieces s p.represents) p.each;
+      each = took_then C past s more.next a b e g.group took piece p.represents fine more.moves more.represents (pieces s p.represents) p.each;
     })
+
+gives_past : (C : Config) (past : Past) (took piece : Side → ℕ → List ℕ) (e : Told) (a : Around Served) (g : Given) (b : Around Served) → Gives served_face e a g b
+    → ((s : State) → Represents C past s a.core.core → PiecesAre past s e piece)
+    → StandsFor C past took a.core.core → StandsFor C (happened g ∷ past) (λ side c. took side c ++ piece side c) b.core.core
+gives_past C past took piece e a g b it pieces p = event_past C past took piece e a.core.core g b.core.core it.event_is it.taken it.moved pieces p
 
 none_past : (C : Config) (o : Option Told) (past : Past) (took : Side → ℕ → List ℕ) (a b : Around Served) → Becomes served_face o a None b
     → StandsFor C past took a.core.core → StandsFor C past took b.core.core
@@ -102,7 +108,7 @@ own_past C past took a g b own it p =
     same_took C (happened g ∷ past) (λ side c. took side c ++ []) took b.core.core (λ side c. sym (append-nil (took side c)))
     (gives_past C past took (λ side c. []) g.event a g b it (λ s r. own_pieces past s g.event own) p)
 
-walks_past : (C : Config) (conns : ℕ) (steps : List Step) (past : Past) (took : Side → ℕ → List ℕ) (a b : Around Served) → Walks served_face conns a steps b
+pub walks_past : (C : Config) (conns : ℕ) (steps : List Step) (past : Past) (took : Side → ℕ → List ℕ) (a b : Around Served) → Walks served_face conns a steps b
     → StandsFor C past took a.core.core → StandsFor C (past_after steps past) (λ side c. took side c ++ pieces_of c side steps) b.core.core
 walks_past C conns [] past took a b it p =
     same_took C past took (λ side c. took side c ++ []) b.core.core (λ side c. append-nil (took side c))
@@ -119,27 +125,37 @@ walks_past C conns (Asked call (Some g) ∷ steps) past took a b it p =
     (some_past C conns call it.1.event past took a it.1.links g it.0 it.1.may it.1.becomes p))
 
 -- nothing was taken yet
-none_taken : (side : Side) (c : ℕ) → [] ≡ take (took_side side (heard c [])) (sent_side side (no_connections.places c))
+pub none_taken : (side : Side) (c : ℕ) → [] ≡ take (took_side side (heard c [])) (sent_side side (no_connections.places c))
 none_taken Client c = refl
 none_taken Server c = refl
 
 none_is_some : (r : Row) → None ≡ Some r → ⊥
 none_is_some r e = cc
 
+-- how a server begins
+pub begins_with : {S : Type 0} {did : S → Call → S → Type 0} (gave : ℕ → Type 0) (C : Config) (core : Core) (first : Server Served) {conns : ℕ} {net begun : S}
+    → Represents C [] no_connections core → Begins served_face did (record { core = core }) conns net begun first
+    → Represents C [] no_connections first.serving.core.core × Ready served_face gave first.serving
+begins_with gave C core first stands begins =
+    let same : first.serving.core.core ≡ core = ap (λ (x : Served). x.core) begins.core_is in
+    let here : Represents C [] no_connections first.serving.core.core = subst (λ (x : Core). Represents C [] no_connections x) (sym same) stands in (
+      here,
+      record {
+        stands = record { config = C; past = []; state = no_connections; represents = here };
+        known = λ l r e. absurd (none_is_some r (sym (begins.no_link.owner l) ∙ e));
+      },
+    )
+
 pub kept : {S T : Type 0} {did : S → Call → S → Type 0} {gave : S → ℕ → Type 0} (C : Config) (core : Core)
     (old new : Running Served S T) {conns : ℕ} {net begun : S} → Represents C [] no_connections core → Begins served_face did (record { core = core }) conns net begun old.server
     → Walked served_face did gave old new
     → ServedEvents did C conns old.server new.server old.net new.net old.written new.written
-kept C core old new {conns} stands begins walked =
-    let same : old.server.serving.core.core ≡ core = ap (λ (x : Served). x.core) begins.core_is in
-    let here : Represents C [] no_connections old.server.serving.core.core = subst (λ (x : Core). Represents C [] no_connections x) (sym same) stands in
-    let done = walked (record {
-      stands = record { config = C; past = []; state = no_connections; represents = here };
-      known = λ l r e. absurd (none_is_some r (sym (begins.no_link.owner l) ∙ e));
-    }) begins.no_line_waits in
+kept {gave = gave} C core old new {conns} stands begins walked =
+    let here = begins_with (gave old.net) C core old.server stands begins in
+    let done = walked here.1 begins.no_line_waits in
     let walks = subst (λ (n : ℕ). Walks served_face n (stand old.server.serving) done.steps (stand new.server.serving)) begins.conns_is done.leads in
     let past = walks_past C conns done.steps [] (λ side c. []) (stand old.server.serving) (stand new.server.serving) walks
-    (record { state = no_connections; represents = here; each = none_taken }) in
+    (record { state = no_connections; represents = here.0; each = none_taken }) in
     record {
       steps = done.steps;
       chain = done.chain;

@@ -5,6 +5,8 @@ use Rattle.px_bytes.specs.declared.addr.Side.TheVariants.{Client, Server}
 use Rattle.px_outside.specs.Net.{Call, Write}
 use Rattle.journal_text.specs.declared.event.Event.{Event}
 use Rattle.journal_text.specs.declared.event.Event.TheVariants as event
+use Rattle.connection_model.specs.Item.{Item, client_output, server_output}
+use Rattle.serve_loop.specs.Broken.{Broken, Ungiven}
 use Rattle.serve_loop.specs.Walk.{Step, Own, Asked}
 
 -- the front of a write's bytes that the side of connection c took, as the event says that followed
@@ -20,3 +22,13 @@ pieces_of c side [] = []
 pieces_of c side (Own g ∷ steps) = pieces_of c side steps
 pieces_of c side (Asked call None ∷ steps) = pieces_of c side steps
 pieces_of c side (Asked call (Some g) ∷ steps) = piece_of c side call g.event ++ pieces_of c side steps
+
+-- the piece of a write that told that the side took it, where this wasn't given to the core
+abbrev pub ungiven_piece : ℕ → Side → Broken → List ℕ
+ungiven_piece c side (Ungiven call e) = piece_of c side call e
+ungiven_piece c side other = []
+
+-- what is sent to a side, of which one server connection at most is made
+abbrev pub sent_side : Side → List Item → List ℕ
+sent_side Client place = client_output place
+sent_side Server place = server_output 1 place

@@ -1,5 +1,6 @@
-use Rattle.std.proofs.Common.{◌≡◌, ℕ, refl, subst, arith}
+use Rattle.std.proofs.Common.{◌≡◌, ◌≤◌, ℕ, inl, refl, subst, arith}
 use Rattle.serve_loop.specs.Server.{ListensAll}
+use Rattle.serve_loop.proofs.Exits.{at_fault}
 use Rattle.serve_loop.proofs.Turning.{listens_next}
 use Rattle.serve_loop.proofs.begin.listen_all.Goals as goal
 
@@ -18,3 +19,18 @@ returns-clause-listens g c =
       c.slots-slot-end.ensures,
       subst (λ (n : ℕ). ListensAll g.C.Core.face g.N.Net.did c.args.core.now n c.args.net.now c.loop-slot.net) all c.loop-slot.invariant.0,
     )
+
+pub returns-in_err-listen_at-clause-broke : goal.returns-in_err-listen_at-clause-broke
+returns-in_err-listen_at-clause-broke g c =
+    let within : c.loop-slot.slot ≤ c.slots-slot-end.result = omega arith in
+    at_fault _ c.from_residual.result c.in_err-listen_at.field-0.0 c.from_residual.ensures.1 (record {
+      count = c.slots-slot-end.result;
+      slots = c.slots-slot-end.ensures;
+      made = c.loop-slot.slot;
+      within = within;
+      calls = c.loop-slot.invariant.0.calls;
+      listens = c.loop-slot.invariant.0.listens;
+      mid = c.loop-slot.net;
+      chain = c.loop-slot.invariant.0.chain;
+      ends = inl c.in_err-listen_at.ensures.broke;
+    })

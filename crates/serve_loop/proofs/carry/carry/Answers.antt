@@ -1,8 +1,10 @@
 use Rattle.std.proofs.Common.{arith, ◌≡◌, ◌+◌, ◌∷◌, drop, subst, sym}
 use Rattle.connection_model.specs.declared.note.Note.{Note}
 use Rattle.serve_loop.specs.declared.carry.Action.{Action}
-use Rattle.serve_loop.specs.Carrying.{CarriesOne, Carried}
-use Rattle.serve_loop.proofs.Carried.{carries_start, carries_next, carries_all}
+use Rattle.serve_loop.specs.Carrying.{CarriesOne, Carried, CarriedSome, ConnectStops}
+use Rattle.serve_loop.specs.Faults.{is_memory}
+use Rattle.serve_loop.proofs.Exits.{at_fault}
+use Rattle.serve_loop.proofs.Carried.{carries_start, carries_next, carries_all, carries_broke}
 use Rattle.serve_loop.proofs.Chains.{front_at, none_left}
 use Rattle.serve_loop.proofs.carry.carry.Goals as goal
 
@@ -20,3 +22,11 @@ loop-note-preserved g c = (
 
 pub returns-clause-carries : goal.returns-clause-carries
 returns-clause-carries g c = carries_all c.args.notes.now c.loop-note.note-index c.args.links.now c.loop-note.links c.args.net.now c.loop-note.net (none_left c.args.notes.now c.loop-note.note-index c.loop-note-test.false) c.loop-note.invariant.0
+
+pub returns-in_err-carry_one-clause-broke : goal.returns-in_err-carry_one-clause-broke
+returns-in_err-carry_one-clause-broke g c =
+    let why = c.in_err-carry_one.field-0.0 in
+    at_fault _ c.from_residual.result why c.from_residual.ensures.1
+    (carries_broke (is_memory why) c.args.notes.now c.loop-note.note-index (c.loop-note.note-index + 1) _ c.args.links.now c.loop-note.links c.args.net.now c.loop-note.net c.carry_one.new.net
+    (subst (λ (x : Note). drop c.loop-note.note-index c.args.notes.now ≡ x ∷ drop (c.loop-note.note-index + 1) c.args.notes.now) (sym c.note-item.is) (front_at c.args.notes.now c.loop-note.note-index c.note-item.result c.loop-note-test.true)) c.loop-note.invariant.0
+    (subst (λ (x : Action). CarriedSome g.N.Net.did g.N.Net.gave (ConnectStops (is_memory why) x) c.loop-note.net c.carry_one.new.net) c.asked_for.ensures c.in_err-carry_one.ensures.broke))

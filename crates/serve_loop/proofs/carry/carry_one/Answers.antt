@@ -1,6 +1,10 @@
-use Rattle.std.proofs.Common.{sym, subst}
+use Rattle.std.proofs.Common.{true, sym, subst}
 use Rattle.serve_loop.specs.declared.carry.Action.{Action}
-use Rattle.serve_loop.specs.Carrying.{CarriesOne, Carried}
+use Rattle.serve_loop.specs.declared.fault.ServeFault.TheVariants.{Memory as OutOfMemory}
+use Rattle.serve_loop.specs.Carrying.{CarriesOne, Carried, CarriedSome, ConnectStops}
+use Rattle.serve_loop.specs.Faults.{fault_of, is_memory}
+use Rattle.serve_loop.proofs.Exits.{at_fault}
+use Rattle.serve_loop.proofs.Carried.{stops_failed, stops_unopened}
 use Rattle.serve_loop.proofs.Carried.{carried_nothing, carried_connect, carried_finish, carried_no_finish, carried_close, carried_no_close}
 use Rattle.serve_loop.proofs.carry.carry_one.Goals as goal
 
@@ -36,3 +40,15 @@ pub returns-in_default-link-clause-carries : goal.returns-in_default-link-clause
 returns-in_default-link-clause-carries g c =
     subst (λ (x : Action). Carried g.N.Net.did g.N.Net.gave (CarriesOne x) c.args.links.now c.args.links.now c.args.net.now c.args.net.now) (sym c.in-Closes.is)
     (carried_no_close c.args.links.now c.args.net.now c.in-Closes.conn c.in-Closes.side (sym c.in_default-link.ensures))
+
+pub returns-in_err-link-in-Connects-clause-broke : goal.returns-in_err-link-in-Connects-clause-broke
+returns-in_err-link-in-Connects-clause-broke g c =
+    at_fault _ c.from_residual.result (fault_of c.in_err-link-in-Connects.field-0.0) c.from_residual.ensures.1
+    (subst (λ (x : Action). CarriedSome g.N.Net.did g.N.Net.gave (ConnectStops (is_memory (fault_of c.in_err-link-in-Connects.field-0.0)) x) c.args.net.now c.connect.new.self) (sym c.in-Connects.is)
+    (stops_failed c.args.net.now c.connect.new.self c.in-Connects.conn c.in-Connects.to c.in_err-link-in-Connects.field-0.0 c.in_err-link-in-Connects.ensures.did c.connect.ensures.lasts.given))
+
+pub returns-in_err-open-in-Connects-clause-broke : goal.returns-in_err-open-in-Connects-clause-broke
+returns-in_err-open-in-Connects-clause-broke g c =
+    at_fault _ c.from_residual-in_err-open-in-Connects.result OutOfMemory c.from_residual-in_err-open-in-Connects.ensures.1
+    (subst (λ (x : Action). CarriedSome g.N.Net.did g.N.Net.gave (ConnectStops true x) c.args.net.now c.connect.new.self) (sym c.in-Connects.is)
+    (stops_unopened c.args.net.now c.connect.new.self c.in-Connects.conn c.in_ok-link-in-Connects.link c.in-Connects.to c.in_ok-link-in-Connects.ensures.did c.connect.ensures.lasts.given c.in_ok-link-in-Connects.ensures.is_new))

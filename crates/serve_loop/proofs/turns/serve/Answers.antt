@@ -1,6 +1,8 @@
 use Rattle.std.proofs.Common.{◌≡◌, ◌≤◌, ◌<◌, ◌+◌, refl, arith}
 use Rattle.serve_loop.proofs.Turning.{turns_next}
-use Rattle.serve_loop.proofs.Ending.{on_err, turns_walk, goes_on, ends_over, behind_next}
+use Rattle.serve_loop.proofs.Ending.{turns_walk, goes_on, ends_over, behind_next}
+use Rattle.serve_loop.proofs.Exits.{at_fault}
+use Rattle.serve_loop.proofs.Stopping.{walked_some}
 use Rattle.serve_loop.proofs.turns.serve.Goals as goal
 
 pub loop-turn-init : goal.loop-turn-init
@@ -52,15 +54,22 @@ returns-clause-served g c =
 
 pub returns-in_err-turn-clause-stopped : goal.returns-in_err-turn-clause-stopped
 returns-in_err-turn-clause-stopped g c =
-    on_err c.from_residual.result (record {
+    let why = c.in_err-turn.field-0.0 in
+    let walked = turns_walk g.C.Core.face g.N.Net.did g.N.Net.gave g.T.Clock.gave c.loop-turn.turn
+    (record { server = c.args.server.now; net = c.args.net.now; clock = c.args.clock.now; written = g.K.Sink.written c.args.journal.now })
+    (record { server = c.loop-turn.server; net = c.loop-turn.net; clock = c.loop-turn.clock; written = g.K.Sink.written c.loop-turn.journal })
+    c.loop-turn.invariant.0 in
+    at_fault _ c.from_residual.result why c.from_residual.ensures.1 (record {
       made = c.loop-turn.turn;
       fewer = c.loop-turn-test.true;
       mid = record { server = c.loop-turn.server; net = c.loop-turn.net; clock = c.loop-turn.clock; written = g.K.Sink.written c.loop-turn.journal };
       turned = c.loop-turn.invariant.0;
       behind = c.loop-turn.invariant.1.0;
-      walked = turns_walk g.C.Core.face g.N.Net.did g.N.Net.gave g.T.Clock.gave c.loop-turn.turn
+      walked = walked;
+      fell = c.in_err-turn.ensures.fell;
+      all = walked_some g.C.Core.face g.N.Net.did g.N.Net.gave why
           (record { server = c.args.server.now; net = c.args.net.now; clock = c.args.clock.now; written = g.K.Sink.written c.args.journal.now })
           (record { server = c.loop-turn.server; net = c.loop-turn.net; clock = c.loop-turn.clock; written = g.K.Sink.written c.loop-turn.journal })
-          c.loop-turn.invariant.0;
-      fell = c.in_err-turn.ensures.fell;
+          (record { server = c.turn.new.self; net = c.turn.new.net; clock = c.turn.new.clock; written = g.K.Sink.written c.turn.new.journal })
+          walked (λ s none. (c.in_err-turn.ensures.fell.turn s none).done);
     })

@@ -1,15 +1,19 @@
-use Rattle.std.proofs.lemmas.Result.{IfOk-weaker, on_err_weaker}
+use Rattle.std.proofs.lemmas.Result.{IfOk-weaker, IfErr-weaker}
 use Rattle.std.proofs.Common.{◌≤◌, List, ℕ, Option, inl, inr, length, refl, ap, sym, ◌∙◌, subst, arith}
 use Rattle.std.proofs.lemmas.List.{take_all}
 use Rattle.px_outside.specs.Outside.{told_more}
 use Rattle.connection_model.specs.declared.note.Note.{Note}
 use Rattle.journal_text.specs.Notes.{note_lines}
-use Rattle.serve_loop.specs.Server.{Served, Stopped}
+use Rattle.serve_loop.specs.Fallen.{Stopped}
+use Rattle.serve_loop.specs.Server.{Served}
 use Rattle.serve_loop.specs.declared.fault.ServeEnd.{ServeEnd}
+use Rattle.serve_loop.specs.declared.fault.ServeFault.TheVariants.{Memory as OutOfMemory}
 use Rattle.served_core.specs.Served.{served_face}
-use Rattle.served_core.specs.Serves.{ServedEvents, ServesConfig}
+use Rattle.served_core.specs.Serves.{ServedEvents, ServesConfig, WroteSome}
+use Rattle.served_core.proofs.Breaking.{kept_some, never_net}
 use Rattle.served_core.proofs.Promising.{fails_later, kept}
-use Rattle.serve_loop.proofs.Ending.{on_err}
+use Rattle.serve_loop.proofs.Ending.{told_nothing}
+use Rattle.serve_loop.proofs.Exits.{at_fault}
 use Rattle.proxy_core.specs.Setup.{init_notes}
 use Rattle.served_core.proofs.serves.serve_config.Goals as goal
 
@@ -44,36 +48,68 @@ returns-clause-fails g c =
     (g.K.Sink.faults c.args.journal.now) (g.K.Sink.faults c.write_start.new.journal) (g.K.Sink.faults c.serve.new.journal) c.serve.result
     c.new-2.ensures.faults_never_fall c.write_start.ensures.faults_never_fall c.serve.ensures.fails
 
+pub returns-in_err-core-clause-stopped : goal.returns-in_err-core-clause-stopped
+returns-in_err-core-clause-stopped g c =
+    at_fault _ c.from_residual.result OutOfMemory c.from_residual.ensures.1 (inl (record {
+      no_moment = refl;
+      wrote = record { count = 0; written = told_nothing (g.K.Sink.written c.args.journal.now) };
+      all_written = λ e. cc;
+      listens = inl refl;
+    }))
+
+pub returns-in_err-write_start-clause-stopped : goal.returns-in_err-write_start-clause-stopped
+returns-in_err-write_start-clause-stopped g c =
+    let why = c.in_err-write_start.field-0.0 in
+    let before = g.K.Sink.written c.args.journal.now in
+    let after = g.K.Sink.written c.write_start.new.journal in
+    at_fault _ c.from_residual-in_err-write_start.result why c.from_residual-in_err-write_start.ensures.1 (inl (record {
+      no_moment = refl;
+      wrote = subst (λ (l : List Note). WroteSome (note_lines l) before after) (c.as_slice.ensures ∙ c.in_ok-core.ensures.notes) c.in_err-write_start.ensures.some;
+      all_written = never_net why c.in_err-write_start.ensures.fails;
+      listens = inl refl;
+    }))
+
 pub returns-in_err-server-clause-stopped : goal.returns-in_err-server-clause-stopped
 returns-in_err-server-clause-stopped g c =
     let text = note_lines (init_notes c.args.config) in
+    let why = c.in_err-server.field-0.0 in
     let written = c.in_ok-write_start.ensures.written
     ∙ ap (λ (l : List Note). told_more (g.K.Sink.written c.args.journal.now) (note_lines l)) (c.as_slice.ensures ∙ c.in_ok-core.ensures.notes) in
     let whole : length text ≤ length text = omega arith in
-    on_err c.from_residual-in_err-server.result (inl (record {
+    at_fault _ c.from_residual-in_err-server.result why c.from_residual-in_err-server.ensures.1 (inl (record {
       no_moment = refl;
       wrote = record {
         count = length text;
         written = written ∙ ap (told_more (g.K.Sink.written c.args.journal.now)) (sym (take_all (length text) text whole));
       };
+      all_written = λ e. written;
+      listens = inr (c.in_ok-core.core, c.in_ok-core.ensures.stands, c.in_err-server.ensures.broke);
     }))
 
 pub returns-clause-stopped : goal.returns-clause-stopped
 returns-clause-stopped g c =
+    let text = note_lines (init_notes c.args.config) in
+    let before = g.K.Sink.written c.args.journal.now in
+    let after = g.K.Sink.written c.serve.new.journal in
     let written = c.in_ok-write_start.ensures.written
-    ∙ ap (λ (l : List Note). told_more (g.K.Sink.written c.args.journal.now) (note_lines l)) (c.as_slice.ensures ∙ c.in_ok-core.ensures.notes) in
-    on_err_weaker c.serve.result (λ it.
+    ∙ ap (λ (l : List Note). told_more before (note_lines l)) (c.as_slice.ensures ∙ c.in_ok-core.ensures.notes) in
+    IfErr-weaker c.serve.result _ _ (λ why it.
     let stopped = subst (λ (w : Option (List ℕ)). Stopped served_face g.N.Net.did g.N.Net.gave g.T.Clock.gave c.args.turns
     (record { server = c.in_ok-server.server; net = c.new-2.new.net; clock = c.args.clock.now; written = w })
-    c.serve.new.clock (g.K.Sink.written c.serve.new.journal)) written it in
+    (record { server = c.serve.new.server; net = c.serve.new.net; clock = c.serve.new.clock; written = after }) why) written it in
     inr (record {
       core = c.in_ok-core.core;
       stands = c.in_ok-core.ensures.stands;
       first = c.in_ok-server.server;
       begun = c.new-2.new.net;
       begins = c.in_ok-server.ensures.begins;
+      last = c.serve.new.server;
       stopped = stopped;
       events = kept c.args.config c.in_ok-core.core
-          (record { server = c.in_ok-server.server; net = c.new-2.new.net; clock = c.args.clock.now; written = told_more (g.K.Sink.written c.args.journal.now) (note_lines (init_notes c.args.config)) })
+          (record { server = c.in_ok-server.server; net = c.new-2.new.net; clock = c.args.clock.now; written = told_more before text })
           stopped.mid c.in_ok-core.ensures.stands c.in_ok-server.ensures.begins stopped.walked;
+      all_events = kept_some c.args.config c.in_ok-core.core
+          (record { server = c.in_ok-server.server; net = c.new-2.new.net; clock = c.args.clock.now; written = told_more before text })
+          (record { server = c.serve.new.server; net = c.serve.new.net; clock = c.serve.new.clock; written = after })
+          c.in_ok-core.ensures.stands c.in_ok-server.ensures.begins stopped.all;
     })) c.serve.ensures.stopped

@@ -3,6 +3,9 @@ use Rattle.px_outside.specs.declared.answers.ReadyAt.TheVariants as ready
 use Rattle.serve_loop.specs.Asking.{AskedOnce}
 use Rattle.serve_loop.specs.Part.{Part}
 use Rattle.serve_loop.proofs.Trying.{often_none, often_next, tried_stays, tried_over, tried_all}
+use Rattle.serve_loop.proofs.Breaking.{broke_after}
+use Rattle.serve_loop.proofs.Exits.{at_fault}
+use Rattle.serve_loop.proofs.Walking.{often_goes, asked_goes}
 use Rattle.serve_loop.proofs.serving.Serving.ask_often.Goals as goal
 
 pub loop-often-init : goal.loop-often-init
@@ -21,3 +24,9 @@ returns-in-Over-clause-part g c = let within : c.loop-often.often ≤ 4 = omega 
 
 pub returns-clause-part : goal.returns-clause-part
 returns-clause-part g c = let within : c.loop-often.often ≤ 4 = omega arith in let all : c.loop-often.often ≡ 4 = omega arith in tried_all (λ (conns : ℕ). AskedOnce g.C.Core.face conns (ready.Link c.args.link)) c.loop-often.often 4 within all c.loop-often.invariant.0
+
+pub returns-in_err-ask_link-clause-broke : goal.returns-in_err-ask_link-clause-broke
+returns-in_err-ask_link-clause-broke g c =
+    at_fault _ c.from_residual.result c.in_err-ask_link.field-0.0 c.from_residual.ensures.1
+    (broke_after (often_goes g.C.Core.face c.args.self.now.conns (AskedOnce g.C.Core.face c.args.self.now.conns (ready.Link c.args.link))
+    (asked_goes g.C.Core.face c.args.self.now.conns (ready.Link c.args.link)) c.loop-often.often) c.loop-often.invariant.0 c.in_err-ask_link.ensures.broke)

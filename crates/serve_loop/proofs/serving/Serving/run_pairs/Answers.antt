@@ -2,6 +2,9 @@ use Rattle.std.proofs.Common.{◌≡◌, ◌≤◌, subst, arith}
 use Rattle.serve_loop.specs.Part.{Part}
 use Rattle.serve_loop.specs.Running.{PairOnce}
 use Rattle.serve_loop.proofs.Pairs.{pairs_none, pairs_next, ran_over, ran_all, ran_never}
+use Rattle.serve_loop.proofs.Breaking.{broke_after}
+use Rattle.serve_loop.proofs.Exits.{at_fault}
+use Rattle.serve_loop.proofs.Walking.{pairs_goes}
 use Rattle.serve_loop.proofs.serving.Serving.run_pairs.Goals as goal
 
 pub loop-often-init : goal.loop-often-init
@@ -23,3 +26,8 @@ returns-in-Over-clause-part g c = let within : c.loop-often.often ≤ 2048 = ome
 pub returns-clause-part : goal.returns-clause-part
 returns-clause-part g c = let within : c.loop-often.often ≤ 2048 = omega arith in let all : c.loop-often.often ≡ 2048 = omega arith in
     ran_all c.loop-often.often 2048 c.args.writers.now c.loop-often.writers within all c.loop-often.invariant.0
+
+pub returns-in_err-run_once-clause-broke : goal.returns-in_err-run_once-clause-broke
+returns-in_err-run_once-clause-broke g c =
+    at_fault _ c.from_residual.result c.in_err-run_once.field-0.0 c.from_residual.ensures.1
+    (broke_after (pairs_goes g.C.Core.face c.args.self.now.conns c.loop-often.often c.args.writers.now c.loop-often.writers) c.loop-often.invariant.0 c.in_err-run_once.ensures.broke)

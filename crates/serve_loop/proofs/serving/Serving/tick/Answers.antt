@@ -1,4 +1,4 @@
-use Rattle.std.proofs.Common.{ℕ, ◌≤◌, ◌<◌, inl, inr, refl, subst, arith}
+use Rattle.std.proofs.Common.{ℕ, ◌≤◌, ◌<◌, inl, inr, refl, ap, ◌∙◌, subst, arith}
 use Rattle.std.specs.Prelude.{min}
 use Rattle.journal_text.specs.declared.event.Event.TheVariants as event
 use Rattle.serve_loop.specs.Part.{Part}
@@ -6,6 +6,10 @@ use Rattle.serve_loop.specs.Running.{OwnStep}
 use Rattle.serve_loop.specs.Turn.{Ticks, tick_limit}
 use Rattle.serve_loop.proofs.Compose.{part_at, part_nothing}
 use Rattle.serve_loop.proofs.Calling.{part_own}
+use Rattle.serve_loop.specs.Fallen.{FellTicking}
+use Rattle.serve_loop.specs.Part.{stand}
+use Rattle.serve_loop.proofs.Breaking.{broke_own}
+use Rattle.serve_loop.proofs.Exits.{at_fault}
 use Rattle.serve_loop.proofs.serving.Serving.tick.Goals as goal
 
 pub returns-clause-part : goal.returns-clause-part
@@ -23,3 +27,13 @@ returns-then-moment-clause-part g c =
       is_present = c.moment.ensures.moment;
       ticks = inr (record { none = refl; same = refl; because = subst (λ (t : ℕ). t ≤ c.moment.result) c.limited-moment.ensures c.if-moment.true });
     })
+
+pub returns-in_err-give-clause-broke : goal.returns-in_err-give-clause-broke
+returns-in_err-give-clause-broke g c =
+    let above : c.moment.result < min c.args.now tick_limit = subst (λ t. c.moment.result < t) c.limited-moment.ensures c.if-moment.false in
+    let le : c.moment.result ≤ c.limited-moment.result = omega arith in
+    at_fault _ c.from_residual.result c.in_err-give.field-0.0 c.from_residual.ensures.1
+    (broke_own (FellTicking g.C.Core.face c.args.now (stand c.args.self.now)) (event.Tick c.limited-moment.result) tt
+    (record { present = c.moment.result; is_present = c.moment.ensures.moment; above = above; tick = tt })
+    (λ given is. record { present = c.moment.result; is_present = c.moment.ensures.moment; above = above; tick = is ∙ ap event.Tick c.limited-moment.ensures })
+    (λ s. c.moment.ensures.takes c.limited-moment.result le) c.in_err-give.ensures.broke)

@@ -3,6 +3,9 @@ use Rattle.serve_loop.specs.Part.{Part}
 use Rattle.serve_loop.specs.Writing.{WroteOnce}
 use Rattle.serve_loop.proofs.Compose.{part_at}
 use Rattle.serve_loop.proofs.Trying.{often_none, often_next, tried_stays, tried_over, tried_all}
+use Rattle.serve_loop.proofs.Breaking.{broke_after}
+use Rattle.serve_loop.proofs.Exits.{at_fault}
+use Rattle.serve_loop.proofs.Walking.{often_goes, wrote_goes}
 use Rattle.serve_loop.proofs.serving.Serving.write.Goals as goal
 
 pub loop-often-init : goal.loop-often-init
@@ -29,3 +32,9 @@ returns-clause-part g c =
     let all : c.loop-often.often ≡ length c.front-pending.result.now + 1 = omega arith in
     part_at (λ steps r. record { pending = c.front-pending.result.now; queued = c.front-pending.ensures.queue; tried = r })
     (tried_all (λ (conns : ℕ). WroteOnce g.C.Core.face conns c.args.conn c.args.side) c.loop-often.often (length c.front-pending.result.now + 1) within all c.loop-often.invariant.0)
+
+pub returns-in_err-write_once-clause-broke : goal.returns-in_err-write_once-clause-broke
+returns-in_err-write_once-clause-broke g c =
+    at_fault _ c.from_residual.result c.in_err-write_once.field-0.0 c.from_residual.ensures.1
+    (broke_after (often_goes g.C.Core.face c.args.self.now.conns (WroteOnce g.C.Core.face c.args.self.now.conns c.args.conn c.args.side)
+    (wrote_goes g.C.Core.face c.args.self.now.conns c.args.conn c.args.side) c.loop-often.often) c.loop-often.invariant.0 c.in_err-write_once.ensures.broke)

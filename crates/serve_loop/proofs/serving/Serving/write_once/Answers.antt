@@ -4,6 +4,9 @@ use Rattle.serve_loop.specs.Part.{Part}
 use Rattle.serve_loop.specs.Writing.{WroteOnce}
 use Rattle.serve_loop.proofs.Fresh.{once_none, owners_same}
 use Rattle.serve_loop.proofs.Calling.{call_quiet, call_heard, nothing_to_write, part_wrote, takes_write, is_nothing, is_some}
+use Rattle.serve_loop.specs.Broken.{AreAsks}
+use Rattle.serve_loop.proofs.Breaking.{broke_heard}
+use Rattle.serve_loop.proofs.Exits.{at_fault}
 use Rattle.serve_loop.proofs.serving.Serving.write_once.Goals as goal
 
 pub returns-in_default-clause-part : goal.returns-in_default-clause-part
@@ -33,3 +36,13 @@ returns-in_ok-give-in-Some-write_to_event-clause-part g c =
     (record { conn = c.args.conn; side = c.args.side; linked = sym c.in-Some.ensures; queued = c.front-bytes.ensures.queue; some = some; becomes = c.in-Some-write_to_event.ensures }) refl
     (takes_write c.args.conn c.args.side (length c.front-bytes.result.now) c.write-answer.result c.in-Some-write_to_event.event (c.front-bytes.ensures.takes some) c.write-answer.ensures.within (sym c.in-Some-write_to_event.ensures))
     c.in_ok-give-in-Some-write_to_event.ensures.gives))
+
+pub returns-in_err-give-in-Some-write_to_event-clause-broke : goal.returns-in_err-give-in-Some-write_to_event-clause-broke
+returns-in_err-give-in-Some-write_to_event-clause-broke g c =
+    let some : 0 < length c.front-bytes.result.now = is_some c.front-bytes.result.now c.if-is_empty.ensures in
+    at_fault _ c.from_residual.result c.in_err-give-in-Some-write_to_event.field-0.0 c.from_residual.ensures.1
+    (broke_heard AreAsks c.args.self.now c.args.self.now.links c.give.new.self c.args.net.now c.write-answer.new.self c.give.new.net (Write c.in-Some.link c.front-bytes.result.now c.write-answer.result) c.in-Some-write_to_event.event
+    c.write-answer.ensures.did (once_none c.write-answer.ensures.lasts.given) (λ known l r e. c.write-answer.ensures.lasts.given l (known l r e))
+    (record { conn = c.args.conn; side = c.args.side; linked = sym c.in-Some.ensures; queued = c.front-bytes.ensures.queue; some = some; becomes = c.in-Some-write_to_event.ensures }) refl (λ o. (tt, tt))
+    (takes_write c.args.conn c.args.side (length c.front-bytes.result.now) c.write-answer.result c.in-Some-write_to_event.event (c.front-bytes.ensures.takes some) c.write-answer.ensures.within (sym c.in-Some-write_to_event.ensures))
+    c.in_err-give-in-Some-write_to_event.ensures.broke)
