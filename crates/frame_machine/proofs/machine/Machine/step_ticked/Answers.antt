@@ -27,8 +27,8 @@ returns-in-Ok-clause-few g c =
     let z = c.new-ticks.ensures in
     omega (arith, n, t, few, z)
 
-pub returns-in-Err-clause-few : goal.returns-in-Err-clause-few
-returns-in-Err-clause-few g c =
+pub returns-clause-few : goal.returns-clause-few
+returns-clause-few g c =
     let few = c.step_counted.ensures.few in
     let n = told_ticks _ _ _ c.new-ticks.ensures few c.count-in-Err.ensures in
     let t = c.tell_ticks-in-Err.ensures.ticked in
