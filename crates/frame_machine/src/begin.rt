@@ -26,12 +26,14 @@ use tcl_vars::Vars;
 
 /// Whether a node evaluates words first.
 #[tactic(auto, using(crate::proofs::FirstViews::has_words_view))]
+#[inline(always)]
 fn has_words(node: &Node) -> bool
     ensures { result ≡ has_words (node_view node.now) }
 {
     has_words_here(node)
 }
 
+#[inline(always)]
 fn has_words_here(node: &Node) -> bool
     ensures { result ≡ has_words_in (out-Node node.now) }
 {
@@ -43,6 +45,7 @@ fn has_words_here(node: &Node) -> bool
 }
 
 /// Begins a node.
+#[inline(always)]
 pub(crate) fn begin<H: Host, L: Ledger, K: Ledger>(
     context: &Context<'_, H::Env>,
     node: &Node,

@@ -22,6 +22,7 @@ use tcl_compile::Node;
 use tcl_vars::Vars;
 
 /// A node goes on with the code of the child that its frame tells.
+#[inline(always)]
 pub(crate) fn go_on<H: Host, L: Ledger, K: Ledger>(
     context: &Context<'_, H::Env>,
     node: &Node,

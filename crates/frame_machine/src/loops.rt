@@ -30,6 +30,7 @@ pub(crate) struct Loop<'a> {
 }
 
 /// A child under a frame; one that has its end at once is done.
+#[inline(always)]
 pub(crate) fn above(reads: &Reads<'_>, node: &Node, frame: Frame) -> M<Next>
     ensures { IfOk result (λ n. n ≡ above (known_by reads.now) (node_view node.now) frame) }
 {
@@ -41,6 +42,7 @@ pub(crate) fn above(reads: &Reads<'_>, node: &Node, frame: Frame) -> M<Next>
 }
 
 /// A loop begins: what starts it, and where that is empty, its test.
+#[inline(always)]
 pub(crate) fn begin_loop<L: Ledger, K: Ledger>(
     reads: &Reads<'_>,
     parts: &Loop<'_>,
@@ -61,6 +63,7 @@ pub(crate) fn begin_loop<L: Ledger, K: Ledger>(
 }
 
 /// A loop goes on behind what starts it.
+#[inline(always)]
 pub(crate) fn go_start<L: Ledger, K: Ledger>(
     reads: &Reads<'_>,
     parts: &Loop<'_>,
@@ -83,6 +86,7 @@ pub(crate) fn go_start<L: Ledger, K: Ledger>(
 }
 
 // A loop's test begins, with so many turns left.
+#[inline(always)]
 fn test<L: Ledger, K: Ledger>(
     reads: &Reads<'_>,
     parts: &Loop<'_>,
@@ -103,6 +107,7 @@ fn test<L: Ledger, K: Ledger>(
 }
 
 /// A loop goes on behind its test, with so many turns left.
+#[inline(always)]
 pub(crate) fn go_test<L: Ledger, K: Ledger>(
     reads: &Reads<'_>,
     body: &Node,
@@ -127,6 +132,7 @@ pub(crate) fn go_test<L: Ledger, K: Ledger>(
 }
 
 // A turn begins where the condition holds, for a unit of the budget.
+#[inline(always)]
 fn turn<L: Ledger, K: Ledger>(
     reads: &Reads<'_>,
     body: &Node,
@@ -153,6 +159,7 @@ fn turn<L: Ledger, K: Ledger>(
 }
 
 /// A loop goes on behind its body, with so many turns left.
+#[inline(always)]
 pub(crate) fn go_turn<L: Ledger, K: Ledger>(
     reads: &Reads<'_>,
     parts: &Loop<'_>,
@@ -174,6 +181,7 @@ pub(crate) fn go_turn<L: Ledger, K: Ledger>(
 }
 
 // What comes after a turn begins; where it is empty, the test.
+#[inline(always)]
 fn next<L: Ledger, K: Ledger>(
     reads: &Reads<'_>,
     parts: &Loop<'_>,
@@ -194,6 +202,7 @@ fn next<L: Ledger, K: Ledger>(
 }
 
 /// A loop goes on behind what comes after a turn, with so many turns left.
+#[inline(always)]
 pub(crate) fn go_next<L: Ledger, K: Ledger>(
     reads: &Reads<'_>,
     parts: &Loop<'_>,

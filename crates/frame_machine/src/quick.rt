@@ -14,6 +14,7 @@ use std::sync::ledger::Ledger;
 use tcl_compile::Node;
 
 /// The code that an expression ends with, where it does so at once.
+#[inline(always)]
 pub(crate) fn quick<L: Ledger, K: Ledger>(
     reads: &Reads<'_>,
     node: &Node,

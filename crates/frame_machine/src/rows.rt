@@ -43,6 +43,7 @@ pub(crate) enum Joined {
 }
 
 /// A row begins.
+#[inline(always)]
 pub(crate) fn begin_row<L: Ledger, K: Ledger>(
     reads: &Reads<'_>,
     first: &Node,
@@ -64,6 +65,7 @@ pub(crate) fn begin_row<L: Ledger, K: Ledger>(
 }
 
 /// A row goes on behind the operand up to which it has a value.
+#[inline(always)]
 pub(crate) fn go_left<L: Ledger, K: Ledger>(
     reads: &Reads<'_>,
     joints: &[(Joint, Node)],
@@ -112,6 +114,7 @@ pub(crate) fn go_right<L: Ledger, K: Ledger>(
 }
 
 // The row from its value before the operator of this number on.
+#[inline(always)]
 fn rest_of<L: Ledger, K: Ledger>(
     reads: &Reads<'_>,
     joints: &[(Joint, Node)],
@@ -132,6 +135,7 @@ fn rest_of<L: Ledger, K: Ledger>(
 }
 
 /// As far along a row as one move may go, from its value before the operator of this number.
+#[inline(always)]
 pub(crate) fn row_from<L: Ledger, K: Ledger>(
     reads: &Reads<'_>,
     joints: &[(Joint, Node)],
@@ -160,6 +164,7 @@ pub(crate) fn row_from<L: Ledger, K: Ledger>(
 }
 
 // One operator, and its right operand, which has this number.
+#[inline(always)]
 fn join<L: Ledger, K: Ledger>(
     reads: &Reads<'_>,
     at: usize,
@@ -186,6 +191,7 @@ fn join<L: Ledger, K: Ledger>(
 }
 
 #[tactic(auto, using(crate::proofs::InRows::joint_once))]
+#[inline(always)]
 fn join_right<L: Ledger, K: Ledger>(
     reads: &Reads<'_>,
     at: usize,

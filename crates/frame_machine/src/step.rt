@@ -25,14 +25,16 @@ use crate::walk::Walk;
 use px_bytes::{M, Steps};
 use std::alloc::Global;
 use std::marker::Brand;
-use std::mem;
+use std::mem::{self, ManuallyDrop};
 use std::sync::ledger::{Blank, Ledger};
 use tcl_compile::{Node, Procs};
 use tcl_vars::Vars;
 
 impl Machine {
     /// Stands where a move leads, and tells what it comes to.
+    #[inline(always)]
     fn stand(&mut self, alloc: Global, next: Next) -> M<Turn>
+        requires { self.old.at.mode ≡ Mode.Over }
         ensures frames { OnOk result
             (self.new.at.frames.items ≡ self.old.at.frames.items ++ list_of next.frame) }
         ensures mode { OnOk result
@@ -49,7 +51,9 @@ impl Machine {
     }
 
     /// Tells what a mode comes to, and stands in it.
+    #[inline(always)]
     fn tell(&mut self, alloc: Global, mode: Mode) -> M<Turn>
+        requires { self.old.at.mode ≡ Mode.Over }
         ensures same { OnOk result (self.new.at.frames ≡ self.old.at.frames) }
         ensures mode { OnOk result (self.new.at.mode ≡ told_mode self.old.at.frames.items mode) }
         ensures budget { self.new.at.budget ≡ self.old.at.budget }
@@ -58,26 +62,35 @@ impl Machine {
         match mode {
             Mode::Back(code) => {
                 if self.at.frames.is_empty() {
-                    self.at.mode = Mode::Over;
                     return Ok(Turn::Done(code));
                 }
-                self.at.mode = Mode::Back(code);
+                self.enter(Mode::Back(code));
                 Ok(Turn::More)
             }
             Mode::Asked(call) => {
                 let told = copied(alloc, &call)?;
-                self.at.mode = Mode::Asked(call);
+                self.enter(Mode::Asked(call));
                 Ok(Turn::Asks(told))
             }
             mode => {
-                self.at.mode = mode;
+                self.enter(mode);
                 Ok(Turn::More)
             }
         }
     }
 
+    /// Stands in a mode. What stood there is over, and has nothing to drop.
+    #[inline(always)]
+    fn enter(&mut self, mode: Mode)
+        requires { self.old.at.mode ≡ Mode.Over }
+        ensures { self.new.at ≡ record self.old.at { mode = mode } }
+    {
+        mem::forget(mem::replace(&mut self.at.mode, mode));
+    }
+
     /// One move, with what it costs. The node above the frames that stay is found from a place on the
     /// way to it.
+    #[inline(always)]
     fn step_with<H: Host, L: Ledger, K: Ledger>(
         &mut self,
         context: &Context<'_, H::Env>,
@@ -113,7 +126,7 @@ impl Machine {
             OnOk result (Grown fs self.new.at.frames.items) }
     {
         steps.tick();
-        let none = Node::NextBody;
+        let none = ManuallyDrop::new(Node::NextBody);
         match mem::replace(&mut self.at.mode, Mode::Over) {
             Mode::Begin => {
                 let frames = self.at.frames.as_slice();
@@ -144,6 +157,7 @@ impl Machine {
     }
 
     /// The same, with a counter of its own for the cost.
+    #[inline(always)]
     fn step_counted<H: Host, L: Ledger, K: Ledger>(
         &mut self,
         context: &Context<'_, H::Env>,
@@ -179,6 +193,7 @@ impl Machine {
     }
 
     /// The same, with a counter of its own for the ticks, which it tells.
+    #[inline(always)]
     fn step_ticked<H: Host, L: Ledger, J: Ledger>(
         &mut self,
         context: &Context<'_, H::Env>,
@@ -225,6 +240,7 @@ impl Machine {
     }
 
     /// Tells so many ticks, and counts them.
+    #[inline(always)]
     fn tell_ticks<L: Ledger>(&mut self, ticked: u64, steps: &mut Steps<L>)
         ensures at { self.new.at ≡ self.old.at }
         ensures ticked { self.new.ticked ≡ ticked }

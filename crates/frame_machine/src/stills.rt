@@ -27,6 +27,7 @@ use tcl_compile::Node;
 use tcl_vars::Vars;
 
 /// A node begins that evaluates no words first.
+#[inline(always)]
 pub(crate) fn begin_still<L: Ledger, K: Ledger>(
     alloc: Global,
     statics: Option<&Vars>,
@@ -80,6 +81,7 @@ pub(crate) fn begin_still<L: Ledger, K: Ledger>(
 }
 
 /// A node goes on at any frame but that of words.
+#[inline(always)]
 pub(crate) fn go_still<L: Ledger, K: Ledger>(
     alloc: Global,
     statics: Option<&Vars>,
@@ -139,6 +141,7 @@ pub(crate) fn go_still<L: Ledger, K: Ledger>(
 }
 
 // The frames that change no variable.
+#[inline(always)]
 fn go_reading<L: Ledger, K: Ledger>(
     reads: &Reads<'_>,
     node: &Node,
