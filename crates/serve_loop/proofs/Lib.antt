@@ -17,4 +17,5 @@ pub mod Losing
 pub mod Falling
 pub mod Failing
 pub mod Ending
+pub mod Lines
 pub mod Stopping

@@ -1,4 +1,4 @@
-use Rattle.std.proofs.Common.{ℕ, List, refl, sym, subst}
+use Rattle.std.proofs.Common.{ℕ, List, inr, refl, sym, subst}
 use Rattle.std.specs.Prelude.{Err}
 use Rattle.config.specs.Outcomes.{Answers}
 use Rattle.proxy.proofs.Serving.{not_built, refused, served}
@@ -11,6 +11,9 @@ returns-in-Err g c =
     (record { net = c.args.net.now; clock = c.args.clock.now; written = g.K.Sink.written c.args.journal.now; reads = g.F.Files.faults c.read_config.new.files; net_faults = g.N.Net.faults c.args.net.now; writes = g.K.Sink.faults c.args.journal.now })
     c.args.serve.now c.in-Err.why
     (subst (λ (name : List ℕ). Answers (g.F.Files.told c.args.files.now) (g.F.Files.faults c.args.files.now) (g.F.Files.faults c.read_config.new.files) name (Err c.in-Err.why)) c.as_bytes.ensures c.in-Err.ensures.answer) (record { net = refl; clock = refl; written = refl }))
+
+pub returns-in_default : goal.returns-in_default
+returns-in_default g c = inr (record { net = refl; clock = refl; written = refl })
 
 pub returns-in_default-config : goal.returns-in_default-config
 returns-in_default-config g c =

@@ -4,7 +4,8 @@ use Rattle.std.proofs.lemmas.Result.{on_ok_weaker}
 use Rattle.serve_loop.specs.declared.fault.ServeFault.{ServeFault}
 use Rattle.serve_loop.specs.declared.journal.Journal.{Journal}
 use Rattle.serve_loop.specs.Faults.{FromNetOrSink}
-use Rattle.serve_loop.proofs.Stopping.{both_ok, fails_by, fell_by, fell_with, wrote_all}
+use Rattle.serve_loop.proofs.Lines.{wrote_all}
+use Rattle.serve_loop.proofs.Stopping.{both_ok, fails_by, fell_by, fell_with}
 use Rattle.serve_loop.proofs.server.Server.turn.Goals as goal
 
 pub returns-clause-turned : goal.returns-clause-turned
