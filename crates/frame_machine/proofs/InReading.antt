@@ -10,7 +10,7 @@ use Rattle.rule_model.specs.Children.{alone}
 use Rattle.rule_model.specs.Commands.{deeper, expression_of, expression_read, too_deep}
 use Rattle.rule_model.specs.Evaluator.{eval, inner, inner_expression, with_calls}
 use Rattle.rule_model.specs.Expressions.{whole}
-use Rattle.rule_model.specs.Outcome.{state, Ends, paid}
+use Rattle.rule_model.specs.Outcome.{Meaning, state, Ends, paid}
 use Rattle.rule_model.specs.declared.code.Code.{Code}
 use Rattle.rule_model.specs.declared.code.Code.TheVariants.{Raised}
 use Rattle.rule_model.specs.Setting.{Setting}
@@ -21,7 +21,7 @@ use Rattle.frame_machine.specs.Prefixes.{whole_told}
 use Rattle.frame_machine.specs.Quick.{quick, quick_or}
 use Rattle.frame_machine.specs.Reading.{room_below, IsRead, ReadsBy, ReadsIn, IsReading, read_cost, read_ticks, ReadsFrom, expression_cost, expression_ticks}
 use Rattle.frame_machine.specs.Reads.{Known, known}
-use Rattle.frame_machine.specs.Stills.{Move, moves, move_after, still, Comes}
+use Rattle.frame_machine.specs.Stills.{Change, Move, moves, move_after, change_after, still, Comes}
 use Rattle.frame_machine.specs.declared.frame.Frame.{Frame}
 use Rattle.frame_machine.specs.declared.frame.Frame.TheVariants as frame
 use Rattle.frame_machine.specs.declared.frame.Mode.{Mode}
@@ -43,10 +43,21 @@ pred n = omega arith
 abbrev pub reading : Next → (cost ticks : ℕ) → Move
 reading next cost ticks = record { next = next; cost = cost; ticks = ticks }
 
+counted_reading : (a cost ticks budget : ℕ) (vars : Scopes) (next : Next)
+    → change_after a 0 (still budget vars (move_after cost ticks (moves next))) ≡ still budget vars (reading next (a + cost) ticks)
+counted_reading a cost ticks budget vars next =
+    let c : cost + 0 ≡ cost = omega arith in
+    let s : 0 + (ticks + 0) ≡ ticks = omega arith in
+    ap (λ n. still budget vars (reading next (a + n) (0 + (ticks + 0)))) c ∙ ap (λ n. still budget vars (reading next (a + cost) n)) s
+
 abbrev room_of : (calls expressions : ℕ) → Room
 room_of n x = record { calls = n; expressions = x }
 
 module _ {H : Type 0} where
+  comes_change : {g : Setting H} {r : Room} {w : Bool} {t : Tree} {m : Meaning H} {vars : Scopes} {budget : ℕ} (c c' : Change) → c ≡ c'
+      → Comes g r w t m vars budget c → Comes g r w t m vars budget c'
+  comes_change c c' e h = rw (← e) h
+
   deeper_is : (g : Setting H) (n x : ℕ) → (inner g (suc x) n).expression ≡ Some (eval g (with_calls g n (inner_expression g x)))
   deeper_is g zero x = refl
   deeper_is g (suc n) x = refl
@@ -104,8 +115,10 @@ module _ {H : Type 0} where
       (still budget vars (reading next (read_cost (known g.statics vars) (room_of n x) u) (read_ticks (known g.statics vars) (room_of n x) u)))
   tree_reads {g = g} n zero u next h =
       rw h (comes_paid {m' = λ path st. Ends (Raised too_deep) st} (alone u) 0 (λ path host more cost acts. rw (none_deeper g n) refl) (comes_at (stop (Raised too_deep)) (λ path host more cost acts. refl)))
-  tree_reads {g = g} {vars = vars} n (suc x) u next h =
-      rw (positive x, deeper_is g n x) (comes_paid (alone u) 0 (λ path host more cost acts. refl) (at_once {n = n} {x = x} u next h))
+  tree_reads {g = g} {vars = vars} {budget = budget} n (suc x) u next h =
+      let q = quick (known g.statics vars) u in
+      rw (positive x, deeper_is g n x) (comes_change _ _ (counted_reading (alone u) q.cost q.ticks budget vars next)
+      (comes_paid (alone u) 0 (λ path host more cost acts. refl) (at_once {n = n} {x = x} u next h)))
 
   from_reads : {g : Setting H} {r : Room} {w : Bool} {t : Tree} {vars : Scopes} {budget : ℕ} (read : Result Tree TclFault) (next : Next) → ReadsFrom (known g.statics vars) r read next →
       Comes g r w t (expression_read (inner_of g r) read) vars budget (still budget vars (reading next (expression_cost (known g.statics vars) r read) (expression_ticks (known g.statics vars) r read)))

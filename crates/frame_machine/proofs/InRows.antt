@@ -75,7 +75,7 @@ module _ {H : Type 0} where
   joints_on g i k [] = []
   joints_on g i k (o ∷ os) = (o.0, child one k o.1 (eval g i o.1)) ∷ joints_on g i (k + 1) os
 
-  joints_listed : (g : Setting H) (i : Inner H) (k : ℕ) (os : Operands)
+  pub joints_listed : (g : Setting H) (i : Inner H) (k : ℕ) (os : Operands)
       → joints g i k os ≡ joints_on g i k (listed os)
   joints_listed g i k tree.no_operands = refl
   joints_listed g i k (tree.and_operand j t os) =

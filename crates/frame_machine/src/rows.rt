@@ -20,7 +20,7 @@ use tcl_compile::Node;
 use tcl_expr::Joint;
 
 /// As many operators as one move may apply.
-const MOST_OPERATORS: usize = 4;
+pub(crate) const MOST_OPERATORS: usize = 4;
 
 /// How far a move came along a row.
 #[derive(Drop)]
