@@ -17,7 +17,7 @@ use Rattle.conn.specs.Acts.{Acted}
 use Rattle.conn.specs.Ends.{lost_at, queued_in}
 use Rattle.conn.specs.Holds.{Around, Holds}
 use Rattle.conn.specs.Queues.{dropped_at, dropped_by, queue_in}
-use Rattle.conn.specs.Runs.{DropsQueued, IsBounded, IsWhole, GoesOnWith, Runs, Rested, RestsThere, TellsDropped}
+use Rattle.conn.specs.Runs.{DropsQueued, IsWhole, GoesOnWith, Runs, Rested, RestsThere, TellsDropped}
 use Rattle.conn.specs.RunsItems.{StopsAt, asked_at, asks, is_cut, told_behind}
 use Rattle.conn.specs.Settling.{close_notes, closing, half_due, half_notes, is_there, note_if, noted_in, over_in, rest_notes, settle_notes, settling}
 use Rattle.conn.specs.Setups.{Serves}
@@ -219,13 +219,6 @@ rests_whole c old conn before after turn.More steps notes r = absurd r
 rests_whole c old conn before after (turn.Asks call) steps notes r = absurd r
 rests_whole c old conn before after turn.NotYet steps notes r = tt
 rests_whole c old conn before after turn.Over steps notes r = tt
-
--- and counts as many steps as its actions
-pub rests_bounded : (c : ℕ) (old conn : Conn) (before after : List Note) (t : ConnTurn) (steps : ℕ) → Rested c old conn before after t → steps ≤ 2000 → IsBounded t steps
-rests_bounded c old conn before after turn.More steps r few = absurd r
-rests_bounded c old conn before after (turn.Asks call) steps r few = absurd r
-rests_bounded c old conn before after turn.NotYet steps r few = few
-rests_bounded c old conn before after turn.Over steps r few = tt
 
 -- what was queued is dropped, as the last notes tell
 pub drops_told : (c given : ℕ) (old new : Conn) (before after : List Note) (t : ConnTurn) → DropsQueued c given old new before after t → TellsDropped t c new after

@@ -8,7 +8,6 @@ use Rattle.connection_model.specs.Setup as model
 use Rattle.connection_model.specs.State.{TraceState}
 use Rattle.conn.specs.declared.connection.Conn.{Conn}
 use Rattle.conn.specs.declared.setup.Setup.{Setup}
-use Rattle.conn.specs.declared.stage.Stage.{Stage}
 use Rattle.conn.specs.declared.stage.Stage.TheVariants as stage
 use Rattle.conn.specs.declared.turn.ConnTurn.{ConnTurn}
 use Rattle.conn.specs.declared.turn.ConnTurn.TheVariants as turn
@@ -68,16 +67,6 @@ Rested c old new before after turn.Over = RestsThere c old new before after true
 abbrev pub IsWhole : ConnTurn → (steps notes : ℕ) → Type 0
 IsWhole turn.More steps notes = (1990 < steps) ⊎ (64 ≤ notes)
 IsWhole other steps notes = Unit {0}
-
--- a slice counts at most so many steps, unless it found no memory
-abbrev pub IsBounded : ConnTurn → (steps : ℕ) → Type 0
-IsBounded turn.Over steps = Unit {0}
-IsBounded other steps = steps ≤ 2000
-
--- and so it does wherever it dropped nothing, also where it is over
-abbrev pub IsFew : Stage → (steps : ℕ) → Type 0
-IsFew (stage.Dropped n) steps = Unit {0}
-IsFew other steps = steps ≤ 2000
 
 -- Memory was refused: what is queued is dropped, of which so many bytes were given, and it is over.
 pub record DropsQueued (c given : ℕ) (old new : Conn) (before after : List Note) (t : ConnTurn)

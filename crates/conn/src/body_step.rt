@@ -72,7 +72,7 @@ impl Conn {
         ensures err { OnErr result (notes.new ≡ notes.old) }
         ensures kept { OnErr result (self.new.ends.edges ≡ self.old.ends.edges) }
         ensures ticks { OnOk result (steps.old < steps.new) }
-        ensures few { OnOk result (steps.new ≤ steps.old + 10) }
+        ensures few { steps.new ≤ steps.old + 10 }
         ensures counted { OnOk result (spent.new + steps.old ≡ spent.old + steps.new) }
         ensures spare { notes.old.spare ≤ notes.new.spare + 1 }
         ensures grows { length notes.old.items ≤ length notes.new.items }

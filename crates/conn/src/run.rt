@@ -4,7 +4,7 @@ ghost use Rattle.std.specs.Prelude.{◌+◌, ◌≡◌, ◌-◌, ◌≤◌, ◌+
 ghost use Rattle.connection_model.specs.Edges.{edges_noted};
 ghost use Rattle.connection_model.specs.declared.note.Note.{Note};
 ghost use Rattle.conn.specs.Ends.{queued_in};
-ghost use Rattle.conn.specs.Runs.{DropsQueued, IsBounded, IsFew, IsWhole, Rested, Runs, TellsDropped};
+ghost use Rattle.conn.specs.Runs.{DropsQueued, IsWhole, Rested, Runs, TellsDropped};
 
 use crate::connection::Conn;
 use crate::setup::Setup;
@@ -37,8 +37,7 @@ impl Conn {
             × Runs setup.now number self.old self.new group result }
         ensures slice { let given = length notes.new.items - length notes.old.items in
             IsWhole result (steps.new - steps.old) given }
-        ensures bounded { IsBounded result (steps.new - steps.old) }
-        ensures few { IsFew self.new.stage (steps.new - steps.old) }
+        ensures bounded { steps.new ≤ steps.old + 2000 }
         ensures failed { let queued = queued_in self.old.ends in
             let after = notes.new.items in
             self.old.stage ≡ Stage.OutOfMemory

@@ -27,7 +27,6 @@ use Rattle.frame_machine.specs.Stills.{Change, Comes, Makes, Tally, changes}
 use Rattle.frame_machine.specs.Turns.{each_move}
 use Rattle.frame_machine.specs.declared.frame.Room.{Room}
 use Rattle.frame_machine.specs.declared.next.Next.{Next}
-use Rattle.frame_machine.proofs.FewTicks.{end_few}
 use Rattle.frame_machine.proofs.InCalls.{call_begins, call_begins_owes, caller_at}
 use Rattle.frame_machine.proofs.InCatches.{catch_in_begins, catch_in_begins_owes}
 use Rattle.frame_machine.proofs.InMoves.{comes_moved}
@@ -138,18 +137,15 @@ pub record Owes (procedures : List Procedure) (t : Tree) (old : Tally) (next : N
   pub owed : new.ticked + due next + 3 * old.paid ≤ old.ticked + 2 + 3 * new.paid
   pub grows : old.paid ≤ new.paid
   pub ticks : old.ticked ≤ new.ticked
-  pub few : new.ticked ≤ old.ticked + 5
 
 pub ends_owe : (c : Caller) (t : Tree) (words : List (List ℕ)) (old : Tally) (next : Next) (new : Tally)
     → Makes (EndsAs c t words old.vars old.budget) old next new → Owes c.procedures t old next new
 ends_owe c t words old next new m =
     let b = end_owes c t words old.vars old.budget m.change m.is in
     let o = b.owes in let p = m.leads.paid_is in let k = m.leads.ticked_is in
-    let few = end_few c t words old.vars old.budget m.change m.is in
     record {
       ready = rw m.leads.next_is b.ready;
       owed = rw m.leads.next_is (omega (arith, o, p, k));
       grows = omega (arith, p);
       ticks = omega (arith, k);
-      few = omega (arith, k, few);
     }

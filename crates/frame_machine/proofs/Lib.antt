@@ -1,6 +1,5 @@
 mod BranchSteps
 mod EndMeans
-mod FewTicks
 mod FirstViews
 mod Given
 mod Heard

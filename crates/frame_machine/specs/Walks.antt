@@ -1,5 +1,5 @@
 -- The nodes on which a body stands, from its root on.
-use Rattle.std.specs.Prelude.{◌≡◌, ℕ, ◌-◌, ◌<◌, ◌≤◌, List, [], ◌∷◌, ◌++◌, length, take, drop, Bool, true, false, Option}
+use Rattle.std.specs.Prelude.{◌≡◌, ◌-◌, ◌≤◌, List, [], ◌∷◌, ◌++◌, length, take, drop, Bool, true, false, Option}
 use Rattle.tcl_compile.specs.Procedures.{Procedure}
 use Rattle.tcl_compile.specs.Tree.{Tree}
 use Rattle.tcl_compile.specs.TreeView.{node_view}

@@ -1,6 +1,6 @@
 // The moves of `if` and `?:`.
 
-ghost use Rattle.std.specs.Prelude.{IfOk, IfSome, OnOk, drop, length, option_map, slice_get, ◌+◌, ◌<◌, ◌≡◌};
+ghost use Rattle.std.specs.Prelude.{IfOk, IfSome, OnOk, drop, length, option_map, slice_get, ◌+◌, ◌<◌, ◌≡◌, ◌≤◌};
 ghost use Rattle.tcl_compile.specs.TreeView.{node_view};
 ghost use Rattle.frame_machine.specs.Branches.{asked_move, branches_move, condition_cost, condition_move};
 ghost use Rattle.frame_machine.specs.Branches.{condition_told, holds_by, last_move, told_by};
@@ -43,6 +43,7 @@ pub(crate) fn begin_branches<L: Ledger, K: Ledger>(
         OnOk result (paid.new ≡ paid.old + m.cost) }
     ensures ticks { let m = branches_move (known_by reads.now) (choices_view choices.now) in
         OnOk result (steps.new ≡ steps.old + m.ticks) }
+    ensures few { steps.new ≤ steps.old + 5 }
 {
     if !choices.is_choice {
         paid.tick();
@@ -65,6 +66,7 @@ pub(crate) fn go_condition<L: Ledger, K: Ledger>(
         OnOk result (paid.new ≡ paid.old + m.cost) }
     ensures ticks { let m = condition_told (known_by reads.now) (choices_view choices.now) at code in
         OnOk result (steps.new ≡ steps.old + m.ticks) }
+    ensures few { steps.new ≤ steps.old + 5 }
 {
     match code {
         Code::Value(value) => match truth_of(reads.alloc, value.as_bytes()) {
@@ -95,6 +97,7 @@ fn told<L: Ledger, K: Ledger>(
     ensures ticks { let c = choices_view choices.now in
         let m = told_by (known_by reads.now) c at (drop at c.values) holds in
         OnOk result (steps.new ≡ steps.old + m.ticks) }
+    ensures few { steps.new ≤ steps.old + 5 }
 {
     let Some(pair) = pair_at(choices.values, at) else {
         return last(reads, choices, paid);
@@ -130,6 +133,7 @@ fn condition<L: Ledger, K: Ledger>(
     ensures ticks { let c = choices_view choices.now in
         let m = condition_move (known_by reads.now) c at (drop at c.values) in
         OnOk result (steps.new ≡ steps.old + m.ticks) }
+    ensures few { steps.new ≤ steps.old + 5 }
 {
     let Some(pair) = pair_at(choices.values, at) else {
         return last(reads, choices, paid);
@@ -156,6 +160,7 @@ fn ask<L: Ledger, K: Ledger>(
     ensures ticks { let c = choices_view choices.now in
         let m = asked_move (known_by reads.now) c at (node_view pair.now.0) (node_view pair.now.1) in
         OnOk result (steps.new ≡ steps.old + m.ticks) }
+    ensures few { steps.new ≤ steps.old + 5 }
 {
     paid.add(condition_cost(choices.is_choice, &pair.0));
     match quick(reads, &pair.0, steps, paid)? {
@@ -195,6 +200,7 @@ fn holds<L: Ledger, K: Ledger>(
     ensures ticks { let c = choices_view choices.now in
         let m = holds_by (known_by reads.now) c at (node_view body.now) text (truth_read text) in
         OnOk result (steps.new ≡ steps.old + m.ticks) }
+    ensures few { steps.new ≤ steps.old }
 {
     match truth_of(reads.alloc, text.as_bytes()) {
         Ok(true) => value(reads, choices, body, at + at + 1, paid),

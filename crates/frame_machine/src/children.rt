@@ -12,6 +12,7 @@ use std::slice;
 use tcl_compile::Node;
 use tcl_expr::Joint;
 
+#[inline(always)]
 fn nth<'a>(nodes: &'a [Node], place: usize, other: &'a Node) -> &'a Node
     ensures { result.now ≡ get_or nodes.now place other.now }
 {
@@ -22,6 +23,7 @@ fn nth<'a>(nodes: &'a [Node], place: usize, other: &'a Node) -> &'a Node
     }
 }
 
+#[inline(always)]
 fn nth_behind<'a>(nodes: &'a [Node], more: &'a [Node], place: usize, other: &'a Node) -> &'a Node
     ensures { result.now ≡ get_or (nodes.now ++ more.now) place other.now }
 {
@@ -32,6 +34,7 @@ fn nth_behind<'a>(nodes: &'a [Node], more: &'a [Node], place: usize, other: &'a 
     }
 }
 
+#[inline(always)]
 fn nth_value<'a>(
     values: &'a [(Node, Node)],
     last: &'a Node,
@@ -47,6 +50,7 @@ fn nth_value<'a>(
     }
 }
 
+#[inline(always)]
 fn nth_operand<'a>(
     first: &'a Node,
     rest: &'a [(Joint, Node)],
@@ -65,6 +69,7 @@ fn nth_operand<'a>(
     }
 }
 
+#[inline(always)]
 fn child_here(node: &Node, place: usize) -> &Node
     ensures { result.now ≡ get_or (children_in (out-Node node.now)) place node.now }
 {
@@ -103,6 +108,7 @@ fn child_here(node: &Node, place: usize) -> &Node
 
 /// The child of a number; the node stands for one that it doesn't have.
 #[tactic(auto, using(crate::proofs::NodeViews::child_view))]
+#[inline(always)]
 pub(crate) fn child_at(node: &Node, place: usize) -> &Node
     ensures { node_view result.now ≡ child_at (node_view node.now) place }
 {
@@ -111,6 +117,7 @@ pub(crate) fn child_at(node: &Node, place: usize) -> &Node
 
 /// The part of a word, of this number.
 #[tactic(auto, using(crate::proofs::NodeViews::part_view))]
+#[inline(always)]
 pub(crate) fn part_at(word: &Node, part: usize) -> &Node
     ensures { node_view result.now ≡ get_or (parts_of (node_view word.now)) part (node_view word.now) }
 {
@@ -119,12 +126,14 @@ pub(crate) fn part_at(word: &Node, part: usize) -> &Node
 
 /// The parts of a word; any other node is its own only part.
 #[tactic(auto, using(crate::proofs::NodeViews::parts_view))]
+#[inline(always)]
 pub(crate) fn word_parts(word: &Node) -> &[Node]
     ensures { nodes_view result.now ≡ parts_of (node_view word.now) }
 {
     parts(word)
 }
 
+#[inline(always)]
 fn commands_here(node: &Node) -> &[Node]
     ensures { result.now ≡ commands_in (out-Node node.now) }
 {
@@ -136,12 +145,14 @@ fn commands_here(node: &Node) -> &[Node]
 
 /// The commands of a script.
 #[tactic(auto, using(crate::proofs::NodeViews::commands_view))]
+#[inline(always)]
 pub(crate) fn commands(node: &Node) -> &[Node]
     ensures { nodes_view result.now ≡ commands_of (node_view node.now) }
 {
     commands_here(node)
 }
 
+#[inline(always)]
 fn pieces_here(node: &Node) -> &[Node]
     ensures { result.now ≡ pieces_in (out-Node node.now) }
 {
@@ -153,12 +164,14 @@ fn pieces_here(node: &Node) -> &[Node]
 
 /// The parts of a quoted operand or of an index.
 #[tactic(auto, using(crate::proofs::NodeViews::pieces_view))]
+#[inline(always)]
 pub(crate) fn pieces_of(node: &Node) -> &[Node]
     ensures { nodes_view result.now ≡ pieces_of (node_view node.now) }
 {
     pieces_here(node)
 }
 
+#[inline(always)]
 fn words_here(node: &Node) -> &[Node]
     ensures { result.now ≡ words_in (out-Node node.now) }
 {
@@ -172,6 +185,7 @@ fn words_here(node: &Node) -> &[Node]
 
 /// The words that a node evaluates first.
 #[tactic(auto, using(crate::proofs::NodeViews::words_view))]
+#[inline(always)]
 pub(crate) fn words_of(node: &Node) -> &[Node]
     ensures { nodes_view result.now ≡ words_of (node_view node.now) }
 {

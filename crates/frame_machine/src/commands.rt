@@ -25,6 +25,7 @@ pub(crate) enum Done {
 
 // Calls a command of the host.
 #[tactic(auto, using(crate::proofs::InCommands::answers_value, crate::proofs::InCommands::answers_fault, crate::proofs::InCommands::answers_ask))]
+#[inline(always)]
 fn call_host<H: Host, L: Ledger>(
     context: &Context<'_, H::Env>,
     words: &Texts,
@@ -47,6 +48,7 @@ fn call_host<H: Host, L: Ledger>(
 
 /// A command that evaluates nothing more than its words: one of the language, and else one of the
 /// host.
+#[inline(always)]
 pub(crate) fn by_words<H: Host, L: Ledger>(
     context: &Context<'_, H::Env>,
     verb: Verb,
@@ -76,6 +78,7 @@ pub(crate) fn by_words<H: Host, L: Ledger>(
 }
 
 /// Where a node stands whose command is done.
+#[inline(always)]
 pub(crate) fn next_after(done: Done) -> Next
     ensures { result ≡ next_after done }
 {

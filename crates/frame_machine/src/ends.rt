@@ -1,6 +1,6 @@
 // What a node does with all its words, where that asks no host.
 
-ghost use Rattle.std.specs.Prelude.{IfOk, drop, option_map, ◌≡◌};
+ghost use Rattle.std.specs.Prelude.{IfOk, drop, option_map, ◌≡◌, ◌+◌, ◌≤◌};
 ghost use Rattle.tcl_compile.specs.TreeView.{node_view};
 ghost use Rattle.rule_model.specs.Control.{rows_of};
 ghost use Rattle.frame_machine.specs.CallParts.{caller_view};
@@ -80,10 +80,11 @@ fn end_command<L: Ledger, K: Ledger>(
     steps: &mut Steps<L>,
     paid: &mut Steps<K>,
 ) -> M<Next>
-    ensures { let c = caller_view caller.now in
+    ensures did { let c = caller_view caller.now in
         let old = tally vars.old budget paid.old steps.old in
         let new = tally vars.new budget paid.new steps.new in
         IfOk result (λ next. Makes (VerbEnds c verb words.now vars.old budget) old next new) }
+    ensures few { steps.new ≤ steps.old + 5 }
 {
     match verb {
         Verb::Call => {
@@ -113,11 +114,12 @@ pub(crate) fn end_words<L: Ledger, K: Ledger>(
     steps: &mut Steps<L>,
     paid: &mut Steps<K>,
 ) -> M<Next>
-    ensures { let c = caller_view caller.now in
+    ensures did { let c = caller_view caller.now in
         let old = tally vars.old budget.old paid.old steps.old in
         let new = tally vars.new budget.new paid.new steps.new in
         let t = node_view node.now in
         IfOk result (λ next. Makes (EndsAs c t words.now vars.old budget.old) old next new) }
+    ensures few { steps.new ≤ steps.old + 5 }
 {
     let (alloc, statics) = (caller.alloc, caller.statics);
     match node {

@@ -18,6 +18,7 @@ use tcl_vars::Vars;
 /// The words of a command, of a `foreach`, a `switch` and of a `catch` with a name. The name of a
 /// command that holds bodies costs one, and counts among its words.
 #[tactic(auto, using(crate::proofs::FirstViews::words_view, crate::proofs::FirstViews::cost_view))]
+#[inline(always)]
 pub(crate) fn first_words<K: Ledger>(
     alloc: Global,
     statics: Option<&Vars>,
@@ -33,6 +34,7 @@ pub(crate) fn first_words<K: Ledger>(
     words_here(alloc, statics, vars, node, paid)
 }
 
+#[inline(always)]
 fn words_here<K: Ledger>(
     alloc: Global,
     statics: Option<&Vars>,

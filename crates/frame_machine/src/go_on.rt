@@ -22,6 +22,7 @@ use tcl_compile::Node;
 use tcl_vars::Vars;
 
 /// A node goes on with the code of the child that its frame tells.
+#[inline(always)]
 pub(crate) fn go_on<H: Host, L: Ledger, K: Ledger>(
     context: &Context<'_, H::Env>,
     node: &Node,
@@ -49,7 +50,7 @@ pub(crate) fn go_on<H: Host, L: Ledger, K: Ledger>(
         ≤ steps.old + owed + 3 * paid.new) }
     ensures grows { OnOk result (paid.old ≤ paid.new) }
     ensures ticks { OnOk result (steps.old ≤ steps.new) }
-    ensures few { OnOk result (steps.new ≤ steps.old + 5) }
+    ensures few { steps.new ≤ steps.old + 5 }
 {
     let (alloc, statics) = (context.alloc, context.statics);
     match frame {

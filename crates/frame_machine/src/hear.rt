@@ -8,6 +8,7 @@ use rule_model::Code;
 use std::alloc::Global;
 
 /// A value that nothing hears becomes the empty one.
+#[inline(always)]
 pub(crate) fn hear(alloc: Global, wanted: bool, code: Code) -> Code
     ensures { result ≡ heard_code wanted code }
 {

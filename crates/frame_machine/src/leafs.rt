@@ -15,12 +15,14 @@ use tcl_vars::Vars;
 
 /// Whether a node has its end at once.
 #[tactic(auto, using(crate::proofs::LeafViews::is_leaf_view))]
+#[inline(always)]
 pub(crate) fn is_leaf(node: &Node) -> bool
     ensures { result ≡ is_flat (node_view node.now) }
 {
     leaf_here(node)
 }
 
+#[inline(always)]
 fn leaf_here(node: &Node) -> bool
     ensures { result ≡ is_leaf_in (out-Node node.now) }
 {
@@ -35,6 +37,7 @@ fn leaf_here(node: &Node) -> bool
 
 /// The code that such a node ends with.
 #[tactic(auto, using(crate::proofs::LeafViews::leaf_view))]
+#[inline(always)]
 pub(crate) fn leaf_code(alloc: Global, statics: Option<&Vars>, vars: &Vars, node: &Node) -> M<Code>
     ensures { let level = option_map (λ v. v.now.statics) statics.entry in
         IfOk result (λ c. c ≡ leaf_code level vars.now (node_view node.now)) }
@@ -43,6 +46,7 @@ pub(crate) fn leaf_code(alloc: Global, statics: Option<&Vars>, vars: &Vars, node
 }
 
 #[tactic(auto, using(crate::proofs::Given::coded_is))]
+#[inline(always)]
 fn code_here(alloc: Global, statics: Option<&Vars>, vars: &Vars, node: &Node) -> M<Code>
     ensures { let level = option_map (λ v. v.now.statics) statics.entry in
         IfOk result (λ c. c ≡ leaf_in level vars.now (out-Node node.now)) }

@@ -1,6 +1,6 @@
 // The moves of a loop.
 
-ghost use Rattle.std.specs.Prelude.{IfOk, ◌≡◌};
+ghost use Rattle.std.specs.Prelude.{IfOk, ◌≡◌, ◌+◌, ◌≤◌};
 ghost use Rattle.tcl_compile.specs.TreeView.{node_view};
 ghost use Rattle.frame_machine.specs.LoopParts.{parts_view};
 ghost use Rattle.frame_machine.specs.Loops.{above, loop_move, next_move, next_told, start_told};
@@ -30,6 +30,7 @@ pub(crate) struct Loop<'a> {
 }
 
 /// A child under a frame; one that has its end at once is done.
+#[inline(always)]
 pub(crate) fn above(reads: &Reads<'_>, node: &Node, frame: Frame) -> M<Next>
     ensures { IfOk result (λ n. n ≡ above (known_by reads.now) (node_view node.now) frame) }
 {
@@ -41,6 +42,7 @@ pub(crate) fn above(reads: &Reads<'_>, node: &Node, frame: Frame) -> M<Next>
 }
 
 /// A loop begins: what starts it, and where that is empty, its test.
+#[inline(always)]
 pub(crate) fn begin_loop<L: Ledger, K: Ledger>(
     reads: &Reads<'_>,
     parts: &Loop<'_>,
@@ -48,8 +50,9 @@ pub(crate) fn begin_loop<L: Ledger, K: Ledger>(
     steps: &mut Steps<L>,
     paid: &mut Steps<K>,
 ) -> M<Next>
-    ensures { let m = loop_move (known_by reads.now) (parts_view parts.now) budget.old in
+    ensures did { let m = loop_move (known_by reads.now) (parts_view parts.now) budget.old in
         IfOk result (λ n. Spends m paid.old steps.old n budget.new paid.new steps.new) }
+    ensures few { steps.new ≤ steps.old + 5 }
 {
     paid.tick();
     if !is_leaf(parts.start) {
@@ -60,6 +63,7 @@ pub(crate) fn begin_loop<L: Ledger, K: Ledger>(
 }
 
 /// A loop goes on behind what starts it.
+#[inline(always)]
 pub(crate) fn go_start<L: Ledger, K: Ledger>(
     reads: &Reads<'_>,
     parts: &Loop<'_>,
@@ -68,8 +72,9 @@ pub(crate) fn go_start<L: Ledger, K: Ledger>(
     steps: &mut Steps<L>,
     paid: &mut Steps<K>,
 ) -> M<Next>
-    ensures { let m = start_told (known_by reads.now) (parts_view parts.now) budget.old code in
+    ensures did { let m = start_told (known_by reads.now) (parts_view parts.now) budget.old code in
         IfOk result (λ n. Spends m paid.old steps.old n budget.new paid.new steps.new) }
+    ensures few { steps.new ≤ steps.old + 5 }
 {
     match code {
         Code::Value(_) => {
@@ -81,6 +86,7 @@ pub(crate) fn go_start<L: Ledger, K: Ledger>(
 }
 
 // A loop's test begins, with so many turns left.
+#[inline(always)]
 fn test<L: Ledger, K: Ledger>(
     reads: &Reads<'_>,
     parts: &Loop<'_>,
@@ -89,8 +95,9 @@ fn test<L: Ledger, K: Ledger>(
     steps: &mut Steps<L>,
     paid: &mut Steps<K>,
 ) -> M<Next>
-    ensures { let m = test_move (known_by reads.now) (parts_view parts.now) left budget.old in
+    ensures did { let m = test_move (known_by reads.now) (parts_view parts.now) left budget.old in
         IfOk result (λ n. Spends m paid.old steps.old n budget.new paid.new steps.new) }
+    ensures few { steps.new ≤ steps.old + 5 }
 {
     paid.add(alone(parts.test));
     match quick(reads, parts.test, steps, paid)? {
@@ -100,6 +107,7 @@ fn test<L: Ledger, K: Ledger>(
 }
 
 /// A loop goes on behind its test, with so many turns left.
+#[inline(always)]
 pub(crate) fn go_test<L: Ledger, K: Ledger>(
     reads: &Reads<'_>,
     body: &Node,
@@ -109,8 +117,9 @@ pub(crate) fn go_test<L: Ledger, K: Ledger>(
     steps: &mut Steps<L>,
     paid: &mut Steps<K>,
 ) -> M<Next>
-    ensures { let m = test_told (known_by reads.now) (node_view body.now) left budget.old code in
+    ensures did { let m = test_told (known_by reads.now) (node_view body.now) left budget.old code in
         IfOk result (λ n. Spends m paid.old steps.old n budget.new paid.new steps.new) }
+    ensures few { steps.new ≤ steps.old }
 {
     match code {
         Code::Value(value) => match truth_of(reads.alloc, value.as_bytes()) {
@@ -123,6 +132,7 @@ pub(crate) fn go_test<L: Ledger, K: Ledger>(
 }
 
 // A turn begins where the condition holds, for a unit of the budget.
+#[inline(always)]
 fn turn<L: Ledger, K: Ledger>(
     reads: &Reads<'_>,
     body: &Node,
@@ -132,8 +142,9 @@ fn turn<L: Ledger, K: Ledger>(
     steps: &mut Steps<L>,
     paid: &mut Steps<K>,
 ) -> M<Next>
-    ensures { let m = turn_move (known_by reads.now) (node_view body.now) left budget.old holds in
+    ensures did { let m = turn_move (known_by reads.now) (node_view body.now) left budget.old holds in
         IfOk result (λ n. Spends m paid.old steps.old n budget.new paid.new steps.new) }
+    ensures few { steps.new ≤ steps.old }
 {
     if !holds {
         return Ok(Next::stop(Code::Value(Text::empty(reads.alloc))));
@@ -148,6 +159,7 @@ fn turn<L: Ledger, K: Ledger>(
 }
 
 /// A loop goes on behind its body, with so many turns left.
+#[inline(always)]
 pub(crate) fn go_turn<L: Ledger, K: Ledger>(
     reads: &Reads<'_>,
     parts: &Loop<'_>,
@@ -157,8 +169,9 @@ pub(crate) fn go_turn<L: Ledger, K: Ledger>(
     steps: &mut Steps<L>,
     paid: &mut Steps<K>,
 ) -> M<Next>
-    ensures { let m = turn_told (known_by reads.now) (parts_view parts.now) left budget.old code in
+    ensures did { let m = turn_told (known_by reads.now) (parts_view parts.now) left budget.old code in
         IfOk result (λ n. Spends m paid.old steps.old n budget.new paid.new steps.new) }
+    ensures few { steps.new ≤ steps.old + 5 }
 {
     match after_body(&code) {
         Goes::On => next(reads, parts, left, budget, steps, paid),
@@ -168,6 +181,7 @@ pub(crate) fn go_turn<L: Ledger, K: Ledger>(
 }
 
 // What comes after a turn begins; where it is empty, the test.
+#[inline(always)]
 fn next<L: Ledger, K: Ledger>(
     reads: &Reads<'_>,
     parts: &Loop<'_>,
@@ -176,8 +190,9 @@ fn next<L: Ledger, K: Ledger>(
     steps: &mut Steps<L>,
     paid: &mut Steps<K>,
 ) -> M<Next>
-    ensures { let m = next_move (known_by reads.now) (parts_view parts.now) left budget.old in
+    ensures did { let m = next_move (known_by reads.now) (parts_view parts.now) left budget.old in
         IfOk result (λ n. Spends m paid.old steps.old n budget.new paid.new steps.new) }
+    ensures few { steps.new ≤ steps.old + 5 }
 {
     if !is_leaf(parts.next) {
         return Ok(Next::child(Frame::Next { left }));
@@ -187,6 +202,7 @@ fn next<L: Ledger, K: Ledger>(
 }
 
 /// A loop goes on behind what comes after a turn, with so many turns left.
+#[inline(always)]
 pub(crate) fn go_next<L: Ledger, K: Ledger>(
     reads: &Reads<'_>,
     parts: &Loop<'_>,
@@ -196,8 +212,9 @@ pub(crate) fn go_next<L: Ledger, K: Ledger>(
     steps: &mut Steps<L>,
     paid: &mut Steps<K>,
 ) -> M<Next>
-    ensures { let m = next_told (known_by reads.now) (parts_view parts.now) left budget.old code in
+    ensures did { let m = next_told (known_by reads.now) (parts_view parts.now) left budget.old code in
         IfOk result (λ n. Spends m paid.old steps.old n budget.new paid.new steps.new) }
+    ensures few { steps.new ≤ steps.old + 5 }
 {
     match after_next(&code) {
         Goes::On => test(reads, parts, left, budget, steps, paid),

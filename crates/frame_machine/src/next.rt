@@ -15,6 +15,7 @@ pub(crate) struct Next {
 
 impl Next {
     /// The node is done.
+    #[inline(always)]
     pub(crate) fn stop(code: Code) -> Next
         ensures { result ≡ stop code }
     {
@@ -25,6 +26,7 @@ impl Next {
     }
 
     /// A child begins.
+    #[inline(always)]
     pub(crate) fn child(frame: Frame) -> Next
         ensures { result ≡ child_under frame }
     {
@@ -35,6 +37,7 @@ impl Next {
     }
 
     /// A child is done.
+    #[inline(always)]
     pub(crate) fn back(frame: Frame, code: Code) -> Next
         ensures { result ≡ back_under frame code }
     {

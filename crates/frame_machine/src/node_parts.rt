@@ -18,12 +18,14 @@ use tcl_expr::{Joint, Op1};
 
 /// The operators before an operand.
 #[tactic(auto, using(crate::proofs::PartViews::operators_view))]
+#[inline(always)]
 pub(crate) fn operators_of(node: &Node) -> &[Op1]
     ensures { result.now ≡ operators_of (node_view node.now) }
 {
     operators_here(node)
 }
 
+#[inline(always)]
 fn operators_here(node: &Node) -> &[Op1]
     ensures { result.now ≡ operators_in (out-Node node.now) }
 {
@@ -35,12 +37,14 @@ fn operators_here(node: &Node) -> &[Op1]
 
 /// The operands of a row behind the first.
 #[tactic(auto, using(crate::proofs::PartViews::joints_view))]
+#[inline(always)]
 pub(crate) fn joints_of(node: &Node) -> &[(Joint, Node)]
     ensures { operands_view result.now ≡ row_of (node_view node.now) }
 {
     joints_here(node)
 }
 
+#[inline(always)]
 fn joints_here(node: &Node) -> &[(Joint, Node)]
     ensures { result.now ≡ joints_in (out-Node node.now) }
 {
@@ -52,12 +56,14 @@ fn joints_here(node: &Node) -> &[(Joint, Node)]
 
 /// The conditions of `if` or `?:`, with what stands beside each, and the last.
 #[tactic(auto, using(crate::proofs::PartViews::choices_view_is))]
+#[inline(always)]
 pub(crate) fn choices_of(node: &Node, wanted: bool) -> Choices<'_>
     ensures { choices_view result ≡ choices_of wanted (node_view node.now) }
 {
     choices_here(node, wanted)
 }
 
+#[inline(always)]
 fn choices_here(node: &Node, wanted: bool) -> Choices<'_>
     ensures { choices_view result ≡ choices_in wanted (out-Node node.now) }
 {
@@ -84,6 +90,7 @@ fn choices_here(node: &Node, wanted: bool) -> Choices<'_>
 }
 
 /// The parts of a loop.
+#[inline(always)]
 pub(crate) fn loop_of(node: &Node) -> Loop<'_>
     ensures { parts_view result ≡ parts_of (node_view node.now) }
 {

@@ -24,6 +24,7 @@ pub(crate) enum Piece {
 }
 
 // Adds the value of a leaf to a text; the code that ends it, where it has none or is too long.
+#[inline(always)]
 fn add_leaf(
     alloc: Global,
     statics: Option<&Vars>,
@@ -51,6 +52,7 @@ fn add_leaf(
 }
 
 /// The pieces of a word from one of its parts on, behind this text; each part costs so much.
+#[inline(always)]
 pub(crate) fn pieces<K: Ledger>(
     alloc: Global,
     statics: Option<&Vars>,

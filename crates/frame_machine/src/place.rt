@@ -34,6 +34,7 @@ pub(crate) struct Waypoint<'a> {
 }
 
 /// The child that a frame tells by its place in the node.
+#[inline(always)]
 fn inner<'a>(node: &'a Node, frame: &Frame) -> &'a Node
     ensures { node_view result.now ≡ inner_tree (node_view node.now) frame.now }
 {
@@ -59,6 +60,7 @@ fn inner<'a>(node: &'a Node, frame: &Frame) -> &'a Node
 }
 
 /// The child that a frame tells. `none` stands for the body of a procedure that isn't there.
+#[inline(always)]
 fn child<'a>(procs: &'a Procs, none: &'a Node, node: &'a Node, frame: &'a Frame) -> &'a Node
     requires { node_view none.now ≡ next_body }
     ensures { let procedures = procs_view procs.now in
@@ -72,6 +74,7 @@ fn child<'a>(procs: &'a Procs, none: &'a Node, node: &'a Node, frame: &'a Frame)
 }
 
 /// The same, where neither the frame owns it nor a procedure isn't there.
+#[inline(always)]
 fn lasting<'a>(procs: &'a Procs, node: &'a Node, frame: &Frame) -> Option<&'a Node>
     ensures { let procedures = procs_view procs.now in
         IfSome result (λ n. node_view n.now ≡ inside procedures (node_view node.now) frame.now) }
@@ -86,6 +89,7 @@ fn lasting<'a>(procs: &'a Procs, node: &'a Node, frame: &Frame) -> Option<&'a No
     }
 }
 
+#[inline(always)]
 fn body<'a>(procs: &'a Procs, none: &'a Node, place: usize) -> &'a Node
     requires { node_view none.now ≡ next_body }
     ensures { node_view result.now ≡ body_of (procs_view procs.now) place }
@@ -97,6 +101,7 @@ fn body<'a>(procs: &'a Procs, none: &'a Node, place: usize) -> &'a Node
 }
 
 /// Whether the value of that child is heard.
+#[inline(always)]
 pub(crate) fn wants(frame: &Frame) -> bool
     ensures { result ≡ wants frame.now }
 {
@@ -113,6 +118,7 @@ pub(crate) fn wants(frame: &Frame) -> bool
 }
 
 /// What may nest inside it.
+#[inline(always)]
 fn room_in(room: Room, frame: &Frame) -> Room
     ensures { result ≡ room_in room frame.now }
 {
@@ -124,6 +130,7 @@ fn room_in(room: Room, frame: &Frame) -> Room
 }
 
 /// The root of a body.
+#[inline(always)]
 pub(crate) fn root_place(tree: &Node) -> Place<'_>
     ensures { spot_of result ≡ root_spot (node_view tree.now) }
 {
@@ -135,6 +142,7 @@ pub(crate) fn root_place(tree: &Node) -> Place<'_>
 }
 
 /// The child that a frame tells, where it stays as long as the node.
+#[inline(always)]
 pub(crate) fn place_in<'a>(procs: &'a Procs, place: Place<'a>, frame: &Frame) -> Option<Place<'a>>
     ensures { let procedures = procs_view procs.now in
         IfSome result (λ p. spot_of p ≡ spot_in procedures (spot_of place.entry) frame.now) }
@@ -150,6 +158,7 @@ pub(crate) fn place_in<'a>(procs: &'a Procs, place: Place<'a>, frame: &Frame) ->
 }
 
 /// The node above all frames, from a place on the way to it.
+#[inline(always)]
 pub(crate) fn locate<'a>(
     procs: &'a Procs,
     none: &'a Node,
@@ -167,6 +176,7 @@ pub(crate) fn locate<'a>(
 }
 
 // The node above frames that begin at this place.
+#[inline(always)]
 fn climb<'a>(procs: &'a Procs, none: &'a Node, from: Place<'a>, frames: &'a [Frame]) -> Place<'a>
     requires { node_view none.now ≡ next_body }
     ensures { let procedures = procs_view procs.now in

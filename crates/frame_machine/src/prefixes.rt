@@ -1,6 +1,6 @@
 // The moves of operators before an operand, and of `expr`.
 
-ghost use Rattle.std.specs.Prelude.{IfOk, Ok, take, ◌≡◌};
+ghost use Rattle.std.specs.Prelude.{IfOk, Ok, take, ◌≡◌, ◌+◌, ◌≤◌};
 ghost use Rattle.tcl_compile.specs.TreeView.{node_view};
 ghost use Rattle.frame_machine.specs.Prefixes.{applied_move, expr_move, operand_told};
 ghost use Rattle.frame_machine.specs.Prefixes.{operators_move, prefixed_move, whole_next};
@@ -28,8 +28,9 @@ pub(crate) fn begin_prefixed<L: Ledger, K: Ledger>(
     steps: &mut Steps<L>,
     paid: &mut Steps<K>,
 ) -> M<Next>
-    ensures { let m = prefixed_move (known_by reads.now) ops.now (node_view operand.now) in
+    ensures did { let m = prefixed_move (known_by reads.now) ops.now (node_view operand.now) in
         IfOk result (λ n. Pays m paid.old steps.old n paid.new steps.new) }
+    ensures few { steps.new ≤ steps.old + 5 }
 {
     paid.tick();
     if !is_leaf(operand) {
@@ -48,8 +49,9 @@ pub(crate) fn go_operand<L: Ledger, K: Ledger>(
     steps: &mut Steps<L>,
     paid: &mut Steps<K>,
 ) -> M<Next>
-    ensures { let m = operand_told ops.now left code in
+    ensures did { let m = operand_told ops.now left code in
         IfOk result (λ n. Pays m paid.old steps.old n paid.new steps.new) }
+    ensures few { steps.new ≤ steps.old + 5 }
 {
     match code {
         Code::Value(value) => apply(alloc, first_of(ops, left), value, steps, paid),
@@ -75,8 +77,9 @@ fn apply<L: Ledger, K: Ledger>(
     steps: &mut Steps<L>,
     paid: &mut Steps<K>,
 ) -> M<Next>
-    ensures { let m = operators_move ops.now value in
+    ensures did { let m = operators_move ops.now value in
         IfOk result (λ n. Pays m paid.old steps.old n paid.new steps.new) }
+    ensures few { steps.new ≤ steps.old + 1 }
 {
     let left = ops.len();
     let Some(op) = ops.get(left.saturating_sub(1)) else {
@@ -113,8 +116,9 @@ pub(crate) fn begin_expr<L: Ledger, K: Ledger>(
     steps: &mut Steps<L>,
     paid: &mut Steps<K>,
 ) -> M<Next>
-    ensures { let m = expr_move (known_by reads.now) (node_view expression.now) in
+    ensures did { let m = expr_move (known_by reads.now) (node_view expression.now) in
         IfOk result (λ n. Pays m paid.old steps.old n paid.new steps.new) }
+    ensures few { steps.new ≤ steps.old + 5 }
 {
     paid.tick();
     paid.add(alone(expression));

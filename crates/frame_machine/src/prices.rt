@@ -10,12 +10,14 @@ use tcl_compile::Node;
 
 /// One where it is a single operand; operators have operands of their own.
 #[tactic(auto, using(crate::proofs::PriceViews::alone_view))]
+#[inline(always)]
 pub(crate) fn alone(node: &Node) -> u64
     ensures { result ≡ alone (node_view node.now) }
 {
     alone_here(node)
 }
 
+#[inline(always)]
 fn alone_here(node: &Node) -> u64
     ensures { result ≡ alone_in (out-Node node.now) }
 {

@@ -1,6 +1,6 @@
 // The moves of an expression that is read when it runs.
 
-ghost use Rattle.std.specs.Prelude.{IfOk, OnOk, ◌+◌, ◌≡◌};
+ghost use Rattle.std.specs.Prelude.{IfOk, OnOk, ◌+◌, ◌≡◌, ◌≤◌};
 ghost use Rattle.tcl_compile.specs.TreeView.{node_view};
 ghost use Rattle.rule_model.specs.Commands.{expression_of};
 ghost use Rattle.frame_machine.specs.Reading.{IsReading, ReadsFrom, read_cost, read_ticks};
@@ -33,6 +33,7 @@ pub(crate) fn begin_read<L: Ledger, K: Ledger>(
         OnOk result (paid.new ≡ paid.old + expression_cost (known_by reads.now) room read) }
     ensures ticks { let read = expression_of words.now in
         OnOk result (steps.new ≡ steps.old + expression_ticks (known_by reads.now) room read) }
+    ensures few { steps.new ≤ steps.old + 5 }
 {
     match read_expression(reads.alloc, words) {
         Ok(tree) => begin_tree(reads, room, tree, steps, paid),
@@ -54,6 +55,7 @@ fn begin_tree<L: Ledger, K: Ledger>(
         OnOk result (paid.new ≡ paid.old + cost) }
     ensures ticks { let ticks = read_ticks (known_by reads.now) room (node_view tree) in
         OnOk result (steps.new ≡ steps.old + ticks) }
+    ensures few { steps.new ≤ steps.old + 5 }
 {
     paid.add(alone(&tree));
     if room.expressions == 0 {

@@ -1,6 +1,6 @@
 // The moves of a row of operators.
 
-ghost use Rattle.std.specs.Prelude.{IfOk, drop};
+ghost use Rattle.std.specs.Prelude.{IfOk, drop, ◌+◌, ◌≤◌};
 ghost use Rattle.tcl_compile.specs.TreeView.{node_view, operands_view};
 ghost use Rattle.frame_machine.specs.Counted.{Counts};
 ghost use Rattle.frame_machine.specs.Reads.{known_by};
@@ -43,6 +43,7 @@ pub(crate) enum Joined {
 }
 
 /// A row begins.
+#[inline(always)]
 pub(crate) fn begin_row<L: Ledger, K: Ledger>(
     reads: &Reads<'_>,
     first: &Node,
@@ -50,9 +51,10 @@ pub(crate) fn begin_row<L: Ledger, K: Ledger>(
     steps: &mut Steps<L>,
     paid: &mut Steps<K>,
 ) -> M<Next>
-    ensures { let operands = operands_view rest.now in
+    ensures did { let operands = operands_view rest.now in
         let m = row_move (known_by reads.now) (node_view first.now) operands in
         IfOk result (λ n. Pays m paid.old steps.old n paid.new steps.new) }
+    ensures few { steps.new ≤ steps.old + 5 }
 {
     paid.tick();
     if !is_leaf(first) {
@@ -63,6 +65,7 @@ pub(crate) fn begin_row<L: Ledger, K: Ledger>(
 }
 
 /// A row goes on behind the operand up to which it has a value.
+#[inline(always)]
 pub(crate) fn go_left<L: Ledger, K: Ledger>(
     reads: &Reads<'_>,
     joints: &[(Joint, Node)],
@@ -71,8 +74,9 @@ pub(crate) fn go_left<L: Ledger, K: Ledger>(
     steps: &mut Steps<L>,
     paid: &mut Steps<K>,
 ) -> M<Next>
-    ensures { let m = left_told (known_by reads.now) at (operands_view joints.now) code in
+    ensures did { let m = left_told (known_by reads.now) at (operands_view joints.now) code in
         IfOk result (λ n. Pays m paid.old steps.old n paid.new steps.new) }
+    ensures few { steps.new ≤ steps.old + 5 }
 {
     match code {
         Code::Value(left) => rest_of(reads, joints, at, left, steps, paid),
@@ -81,6 +85,7 @@ pub(crate) fn go_left<L: Ledger, K: Ledger>(
 }
 
 /// A row goes on behind a right operand.
+#[tactic(auto, using(crate::proofs::InRows::joint_once))]
 pub(crate) fn go_right<L: Ledger, K: Ledger>(
     reads: &Reads<'_>,
     joints: &[(Joint, Node)],
@@ -91,9 +96,10 @@ pub(crate) fn go_right<L: Ledger, K: Ledger>(
     steps: &mut Steps<L>,
     paid: &mut Steps<K>,
 ) -> M<Next>
-    ensures { let operands = operands_view joints.now in
+    ensures did { let operands = operands_view joints.now in
         let m = right_told (known_by reads.now) at operands joint left.now code in
         IfOk result (λ n. Pays m paid.old steps.old n paid.new steps.new) }
+    ensures few { steps.new ≤ steps.old + 5 }
 {
     match code {
         Code::Value(right) => {
@@ -108,6 +114,7 @@ pub(crate) fn go_right<L: Ledger, K: Ledger>(
 }
 
 // The row from its value before the operator of this number on.
+#[inline(always)]
 fn rest_of<L: Ledger, K: Ledger>(
     reads: &Reads<'_>,
     joints: &[(Joint, Node)],
@@ -116,8 +123,9 @@ fn rest_of<L: Ledger, K: Ledger>(
     steps: &mut Steps<L>,
     paid: &mut Steps<K>,
 ) -> M<Next>
-    ensures { let m = rest_move (known_by reads.now) at (operands_view joints.now) left in
+    ensures did { let m = rest_move (known_by reads.now) at (operands_view joints.now) left in
         IfOk result (λ n. Pays m paid.old steps.old n paid.new steps.new) }
+    ensures few { steps.new ≤ steps.old + 4 }
 {
     match row_from(reads, joints, at, left, steps, paid)? {
         Rowed::Done(code) => Ok(Next::stop(code)),
@@ -127,6 +135,7 @@ fn rest_of<L: Ledger, K: Ledger>(
 }
 
 /// As far along a row as one move may go, from its value before the operator of this number.
+#[inline(always)]
 pub(crate) fn row_from<L: Ledger, K: Ledger>(
     reads: &Reads<'_>,
     joints: &[(Joint, Node)],
@@ -135,9 +144,10 @@ pub(crate) fn row_from<L: Ledger, K: Ledger>(
     steps: &mut Steps<L>,
     paid: &mut Steps<K>,
 ) -> M<Rowed>
-    ensures { let all = drop first (operands_view joints.now) in
+    ensures did { let all = drop first (operands_view joints.now) in
         let c = row_from (known_by reads.now) most_operators first all left in
         IfOk result (λ r. Counts c paid.old steps.old r paid.new steps.new) }
+    ensures few { steps.new ≤ steps.old + 4 }
 {
     let mut left = left;
     for at in first..joints.len() {
@@ -154,6 +164,7 @@ pub(crate) fn row_from<L: Ledger, K: Ledger>(
 }
 
 // One operator, and its right operand, which has this number.
+#[inline(always)]
 fn join<L: Ledger, K: Ledger>(
     reads: &Reads<'_>,
     at: usize,
@@ -163,8 +174,9 @@ fn join<L: Ledger, K: Ledger>(
     steps: &mut Steps<L>,
     paid: &mut Steps<K>,
 ) -> M<Joined>
-    ensures { let c = joined_to (known_by reads.now) at joint (node_view operand.now) left in
+    ensures did { let c = joined_to (known_by reads.now) at joint (node_view operand.now) left in
         IfOk result (λ j. Counts c paid.old steps.old j paid.new steps.new) }
+    ensures few { steps.new ≤ steps.old + 1 }
 {
     paid.tick();
     match decide(reads.alloc, joint, left.as_bytes()) {
@@ -178,6 +190,8 @@ fn join<L: Ledger, K: Ledger>(
     }
 }
 
+#[tactic(auto, using(crate::proofs::InRows::joint_once))]
+#[inline(always)]
 fn join_right<L: Ledger, K: Ledger>(
     reads: &Reads<'_>,
     at: usize,
@@ -187,8 +201,9 @@ fn join_right<L: Ledger, K: Ledger>(
     steps: &mut Steps<L>,
     paid: &mut Steps<K>,
 ) -> M<Joined>
-    ensures { let c = right_joined (known_by reads.now) at joint (node_view operand.now) left in
+    ensures did { let c = right_joined (known_by reads.now) at joint (node_view operand.now) left in
         IfOk result (λ j. Counts c paid.old steps.old j paid.new steps.new) }
+    ensures few { steps.new ≤ steps.old + 1 }
 {
     if !is_leaf(operand) {
         return Ok(Joined::Ends(Rowed::Child { at, joint, left }));

@@ -17,6 +17,7 @@ use tcl_compile::Node;
 use tcl_vars::Vars;
 
 /// A child under a frame: one that has its end at once is done, and any other begins.
+#[inline(always)]
 pub(crate) fn child_next(
     alloc: Global,
     statics: Option<&Vars>,
@@ -36,6 +37,7 @@ pub(crate) fn child_next(
 
 // How many commands a script has.
 #[tactic(auto, using(crate::proofs::InScripts::counted))]
+#[inline(always)]
 fn count(node: &Node) -> usize
     ensures { result ≡ length (commands_of (node_view node.now)) }
 {
@@ -43,6 +45,7 @@ fn count(node: &Node) -> usize
 }
 
 /// A script from its command of this number on, behind the last value.
+#[inline(always)]
 pub(crate) fn script_from<K: Ledger>(
     alloc: Global,
     statics: Option<&Vars>,
@@ -79,6 +82,7 @@ pub(crate) fn script_from<K: Ledger>(
 }
 
 /// A script goes on behind its command of this number.
+#[inline(always)]
 pub(crate) fn go_script<K: Ledger>(
     alloc: Global,
     statics: Option<&Vars>,

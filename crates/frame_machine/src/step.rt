@@ -25,14 +25,16 @@ use crate::walk::Walk;
 use px_bytes::{M, Steps};
 use std::alloc::Global;
 use std::marker::Brand;
-use std::mem;
+use std::mem::{self, ManuallyDrop};
 use std::sync::ledger::{Blank, Ledger};
 use tcl_compile::{Node, Procs};
 use tcl_vars::Vars;
 
 impl Machine {
     /// Stands where a move leads, and tells what it comes to.
+    #[inline(always)]
     fn stand(&mut self, alloc: Global, next: Next) -> M<Turn>
+        requires { self.old.at.mode ≡ Mode.Over }
         ensures frames { OnOk result
             (self.new.at.frames.items ≡ self.old.at.frames.items ++ list_of next.frame) }
         ensures mode { OnOk result
@@ -49,7 +51,9 @@ impl Machine {
     }
 
     /// Tells what a mode comes to, and stands in it.
+    #[inline(always)]
     fn tell(&mut self, alloc: Global, mode: Mode) -> M<Turn>
+        requires { self.old.at.mode ≡ Mode.Over }
         ensures same { OnOk result (self.new.at.frames ≡ self.old.at.frames) }
         ensures mode { OnOk result (self.new.at.mode ≡ told_mode self.old.at.frames.items mode) }
         ensures budget { self.new.at.budget ≡ self.old.at.budget }
@@ -58,26 +62,35 @@ impl Machine {
         match mode {
             Mode::Back(code) => {
                 if self.at.frames.is_empty() {
-                    self.at.mode = Mode::Over;
                     return Ok(Turn::Done(code));
                 }
-                self.at.mode = Mode::Back(code);
+                self.enter(Mode::Back(code));
                 Ok(Turn::More)
             }
             Mode::Asked(call) => {
                 let told = copied(alloc, &call)?;
-                self.at.mode = Mode::Asked(call);
+                self.enter(Mode::Asked(call));
                 Ok(Turn::Asks(told))
             }
             mode => {
-                self.at.mode = mode;
+                self.enter(mode);
                 Ok(Turn::More)
             }
         }
     }
 
+    /// Stands in a mode. What stood there is over, and has nothing to drop.
+    #[inline(always)]
+    fn enter(&mut self, mode: Mode)
+        requires { self.old.at.mode ≡ Mode.Over }
+        ensures { self.new.at ≡ record self.old.at { mode = mode } }
+    {
+        mem::forget(mem::replace(&mut self.at.mode, mode));
+    }
+
     /// One move, with what it costs. The node above the frames that stay is found from a place on the
     /// way to it.
+    #[inline(always)]
     fn step_with<H: Host, L: Ledger, K: Ledger>(
         &mut self,
         context: &Context<'_, H::Env>,
@@ -108,12 +121,12 @@ impl Machine {
             OnOk result (Heavy procedures t self.old.at.frames.items self.old.at.mode
             → steps.new + owed self.new.at + 3 * paid.old ≤ most) }
         ensures ticks { OnOk result (steps.old < steps.new) }
-        ensures few { OnOk result (steps.new ≤ steps.old + 6) }
+        ensures few { steps.new ≤ steps.old + 6 }
         ensures grown { let fs = staying self.old.at.mode self.old.at.frames.items in
             OnOk result (Grown fs self.new.at.frames.items) }
     {
         steps.tick();
-        let none = Node::NextBody;
+        let none = ManuallyDrop::new(Node::NextBody);
         match mem::replace(&mut self.at.mode, Mode::Over) {
             Mode::Begin => {
                 let frames = self.at.frames.as_slice();
@@ -144,6 +157,7 @@ impl Machine {
     }
 
     /// The same, with a counter of its own for the cost.
+    #[inline(always)]
     fn step_counted<H: Host, L: Ledger, K: Ledger>(
         &mut self,
         context: &Context<'_, H::Env>,
@@ -169,7 +183,7 @@ impl Machine {
             let ticks = steps.new - steps.old in
             IfOk result (λ turn. Went g t old new turn made ticks) }
         ensures ticks { OnOk result (steps.old < steps.new) }
-        ensures few { OnOk result (steps.new ≤ steps.old + 6) }
+        ensures few { steps.new ≤ steps.old + 6 }
         ensures grown { let fs = staying self.old.at.mode self.old.at.frames.items in
             OnOk result (Grown fs self.new.at.frames.items) }
     {
@@ -179,6 +193,7 @@ impl Machine {
     }
 
     /// The same, with a counter of its own for the ticks, which it tells.
+    #[inline(always)]
     fn step_ticked<H: Host, L: Ledger, J: Ledger>(
         &mut self,
         context: &Context<'_, H::Env>,
@@ -205,7 +220,7 @@ impl Machine {
             IfOk result (λ turn. Went g t old new turn made ticks) }
         ensures ticked { steps.new ≡ steps.old + self.new.ticked }
         ensures some { OnOk result (0 < self.new.ticked) }
-        ensures few { OnOk result (self.new.ticked ≤ 10) }
+        ensures few { self.new.ticked ≤ 10 }
         ensures grown { let fs = staying self.old.at.mode self.old.at.frames.items in
             OnOk result (Grown fs self.new.at.frames.items) }
     {
@@ -225,6 +240,7 @@ impl Machine {
     }
 
     /// Tells so many ticks, and counts them.
+    #[inline(always)]
     fn tell_ticks<L: Ledger>(&mut self, ticked: u64, steps: &mut Steps<L>)
         ensures at { self.new.at ≡ self.old.at }
         ensures ticked { self.new.ticked ≡ ticked }
@@ -259,7 +275,7 @@ impl Machine {
             IfOk result (λ turn. Went g t old new turn made ticks) }
         ensures ticked { steps.new ≡ steps.old + self.new.ticked }
         ensures some { OnOk result (0 < self.new.ticked) }
-        ensures few { OnOk result (self.new.ticked ≤ 10) }
+        ensures few { self.new.ticked ≤ 10 }
     {
         let context = Context {
             alloc,
@@ -309,7 +325,7 @@ impl Machine {
             IfOk result (λ turn. Went g t old new turn made ticks) }
         ensures ticked { steps.new ≡ steps.old + self.new.ticked }
         ensures some { OnOk result (0 < self.new.ticked) }
-        ensures few { OnOk result (self.new.ticked ≤ 10) }
+        ensures few { self.new.ticked ≤ 10 }
         ensures follows { let fs = self.new.at.frames.items in
             OnOk result (Follows (procs_view procs.now) (node_view tree.now) fs walk.new) }
     {

@@ -1,6 +1,6 @@
 // The moves that ask no host, by the kind of a node or of a frame.
 
-ghost use Rattle.std.specs.Prelude.{IfOk, OnOk, option_map, ◌+◌, ◌≡◌};
+ghost use Rattle.std.specs.Prelude.{IfOk, OnOk, option_map, ◌+◌, ◌≡◌, ◌≤◌};
 ghost use Rattle.tcl_compile.specs.TreeView.{node_view};
 ghost use Rattle.frame_machine.specs.Reads.{known, known_by};
 ghost use Rattle.frame_machine.specs.StillMoves.{reading_goes, still_begin, still_goes};
@@ -27,6 +27,7 @@ use tcl_compile::Node;
 use tcl_vars::Vars;
 
 /// A node begins that evaluates no words first.
+#[inline(always)]
 pub(crate) fn begin_still<L: Ledger, K: Ledger>(
     alloc: Global,
     statics: Option<&Vars>,
@@ -49,6 +50,7 @@ pub(crate) fn begin_still<L: Ledger, K: Ledger>(
     ensures ticks { let level = option_map (λ v. v.now.statics) statics.entry in
         let s = still_begin (known level vars.now) (node_view node.now) wanted budget.old in
         OnOk result (steps.new ≡ steps.old + s.move.ticks) }
+    ensures few { steps.new ≤ steps.old + 5 }
 {
     let reads = Reads {
         alloc,
@@ -79,6 +81,7 @@ pub(crate) fn begin_still<L: Ledger, K: Ledger>(
 }
 
 /// A node goes on at any frame but that of words.
+#[inline(always)]
 pub(crate) fn go_still<L: Ledger, K: Ledger>(
     alloc: Global,
     statics: Option<&Vars>,
@@ -106,6 +109,7 @@ pub(crate) fn go_still<L: Ledger, K: Ledger>(
     ensures ticks { let level = option_map (λ v. v.now.statics) statics.entry in
         let c = still_goes level vars.old (node_view node.now) frame code wanted budget.old in
         OnOk result (steps.new ≡ steps.old + c.move.ticks) }
+    ensures few { steps.new ≤ steps.old + 5 }
 {
     match frame {
         Frame::Each {
@@ -137,6 +141,7 @@ pub(crate) fn go_still<L: Ledger, K: Ledger>(
 }
 
 // The frames that change no variable.
+#[inline(always)]
 fn go_reading<L: Ledger, K: Ledger>(
     reads: &Reads<'_>,
     node: &Node,
@@ -155,6 +160,7 @@ fn go_reading<L: Ledger, K: Ledger>(
         OnOk result (paid.new ≡ paid.old + s.move.cost) }
     ensures ticks { let s = reading_goes (known_by reads.now) (node_view node.now) frame code wanted budget.old in
         OnOk result (steps.new ≡ steps.old + s.move.ticks) }
+    ensures few { steps.new ≤ steps.old + 5 }
 {
     let Reads {
         alloc,

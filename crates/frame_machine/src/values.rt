@@ -28,6 +28,7 @@ impl Model for Values {
 
 impl Values {
     /// No words.
+    #[inline(always)]
     pub(crate) fn new(alloc: Global) -> Values
         ensures { result ≡ [] }
     {
@@ -38,6 +39,7 @@ impl Values {
     }
 
     /// The name of a command alone.
+    #[inline(always)]
     pub(crate) fn of_name(alloc: Global, name: &[u8]) -> M<Values>
         requires { length name.now ≤ text_limit }
         ensures { IfOk result (λ values. values ≡ name.now ∷ []) }
@@ -51,6 +53,7 @@ impl Values {
     }
 
     /// Adds a word, unless they would be longer together than a text may be.
+    #[inline(always)]
     pub(crate) fn add(&mut self, word: Text) -> M<bool>
         ensures fits { let all = self.old ++ word ∷ [] in
             IfOk result (λ fits. fits ≡ not (nat_lt text_limit (sum_by length all))) }
@@ -66,6 +69,7 @@ impl Values {
     }
 
     /// The words.
+    #[inline(always)]
     pub(crate) fn into_texts(self) -> Texts
         ensures { result ≡ self }
     {

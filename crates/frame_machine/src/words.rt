@@ -34,12 +34,14 @@ pub(crate) enum Gathered {
 
 /// What a word costs that has no parts: the patterns of a `switch` may be free.
 #[tactic(auto, using(crate::proofs::WordPrices::word_unit_view))]
+#[inline(always)]
 pub(crate) fn word_unit(node: &Node) -> u64
     ensures { result ≡ word_unit (node_view node.now) }
 {
     unit_here(node)
 }
 
+#[inline(always)]
 fn unit_here(node: &Node) -> u64
     ensures { result ≡ word_unit_in (out-Node node.now) }
 {
@@ -51,12 +53,14 @@ fn unit_here(node: &Node) -> u64
 
 /// What each part of a word costs, where a word without parts costs so much.
 #[tactic(auto, using(crate::proofs::WordPrices::part_price_view))]
+#[inline(always)]
 fn part_price(unit: u64, word: &Node) -> u64
     ensures { result ≡ part_price unit (node_view word.now) }
 {
     price_here(unit, word)
 }
 
+#[inline(always)]
 fn price_here(unit: u64, word: &Node) -> u64
     ensures { result ≡ part_price_in unit (out-Node word.now) }
 {
@@ -67,6 +71,7 @@ fn price_here(unit: u64, word: &Node) -> u64
 }
 
 /// Words from one on, behind those that are there.
+#[inline(always)]
 pub(crate) fn words<K: Ledger>(
     alloc: Global,
     statics: Option<&Vars>,

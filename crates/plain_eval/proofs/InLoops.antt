@@ -1,24 +1,22 @@
 -- Loops.
 use Rattle.plain_eval.proofs.Vocabulary
-use Vocabulary.{◌≡◌, refl, sym, ℕ, zero, suc, ◌+◌, ◌-◌, ◌<◌, ◌≤◌, List, [], ◌∷◌, ◌++◌, Bool, true}
-use Vocabulary.{false, Result, Ok, Err, arith, budget_spent, node_view, Node, alone, child, free}
-use Vocabulary.{after_body, after_next, turn, turns, eval, Act, Outcome, State, Ends, Waits}
-use Vocabulary.{Meaning, then_code, Setting, Inner, Code, Value, Raised, body_goes, next_goes, Is}
-use Vocabulary.{after_end, ended, going, TurnRan, loop_tree, Stand, from, EndsAs, Ran, GoesOn, Then}
-use Vocabulary.{Stops, End, Halted}
+use Vocabulary.{Bool, Err, List, None, Ok, Option, Result, Some, [], arith, codes, false, refl, suc}
+use Vocabulary.{true, zero, ℕ, ◌+◌, ◌-◌, ◌<◌, ◌∷◌, ◌≡◌, ◌≤◌, Raise, TclFault, each, trees_of}
+use Vocabulary.{node_view, nodes_view, Node, Does, Level, Scopes, alone, child, count, free, one}
+use Vocabulary.{Row, after_body, after_next, each_rows, most_turns, row_loop, rows_command}
+use Vocabulary.{list_rows, turn, turn_assigned, HostStep, Act, Ends, Meaning, Outcome, State}
+use Vocabulary.{then_code, Code, Raised, Value, body_goes, next_goes, if_some, Spends, after_end}
+use Vocabulary.{ended, going, kept, loop_end, body_of, loop_tree, meaning_of, test_of, turns_of}
+use Vocabulary.{words_of, EndsAs, Gave, GoesOn, Ran, Stand, Went, from, setting_of, stand, End}
+use Vocabulary.{Halted, Context, Run}
 use Rattle.rule_steps.specs.declared.goes.Goes.{Goes}
 use Rattle.plain_eval.specs.declared.loops.Loop.{Loop}
 use Rattle.rule_steps.specs.declared.goes.Goes.TheVariants as goes
 use Rattle.plain_eval.specs.declared.run.End.TheVariants as end
-use Rattle.plain_eval.proofs.InExpressions.{tested, then_goes, then_stops}
-use Rattle.plain_eval.proofs.InWords.{child_by}
-use Rattle.plain_eval.proofs.Steps.{at_stand, goes_by, code_goes_unheard, is_code, spend_fails}
-use Rattle.plain_eval.proofs.Steps.{spend_goes}
-use Rattle.plain_eval.proofs.Steps.{spent}
-use Rattle.plain_eval.proofs.Steps.{value_goes, value_stops}
-
-abbrev Go : Type 0 → Type 0
-Go H = (State H → Outcome H) → Code → State H → Outcome H
+use Rattle.plain_eval.proofs.InWords.{child_ran}
+use Rattle.plain_eval.proofs.Steps.{at_stand, change_goes, changing, code_goes_unheard, code_waits}
+use Rattle.plain_eval.proofs.Steps.{goes_by, goes_then, paid_gave, spend_gave, value_goes}
+use Rattle.plain_eval.proofs.Steps.{went_then, with_vars}
 
 -- what a loop does after a code, by whether it goes on
 abbrev by_goes : {H : Type 0} → Goes → (State H → Outcome H) → Code → State H → Outcome H
@@ -26,136 +24,110 @@ by_goes goes.On go code st = go st
 by_goes goes.Over go code st = Ends (Value []) st
 by_goes goes.Ends go code st = Ends code st
 
-going_same : (g h : Goes) → going g ≡ going h → g ≡ h
-going_same goes.On goes.On e = refl
-going_same goes.Over goes.Over e = refl
-going_same goes.Ends goes.Ends e = refl
-going_same other another e = cc
-
 module _ {H : Type 0} where
   pub body_by : (go : State H → Outcome H) (c : Code) (st : State H) → after_body go c st ≡ by_goes (body_goes c) go c st
   body_by go (Value v) st = refl
   body_by go other st = refl
 
-  next_by : (go : State H → Outcome H) (c : Code) (st : State H) → after_next go c st ≡ by_goes (next_goes c) go c st
+  pub next_by : (go : State H → Outcome H) (c : Code) (st : State H) → after_next go c st ≡ by_goes (next_goes c) go c st
   next_by go (Value v) st = refl
   next_by go other st = refl
 
-  -- a body that isn't heard, and what the loop does after its end
-  module _ (after : Go H) (of : Code → Goes) (by : (go : State H → Outcome H) (c : Code) (st : State H) → after go c st ≡ by_goes (of c) go c st)
+  -- what isn't heard, and what a loop does after its end
+  module _ (after : (State H → Outcome H) → Code → State H → Outcome H) (of : Code → Goes)
+      (by : (go : State H → Outcome H) (c : Code) (st : State H) → after go c st ≡ by_goes (of c) go c st)
       (deaf : (go : State H → Outcome H) (v : List ℕ) (st : State H) → after go (Value v) st ≡ after go (Value []) st) where
-    pub on_by : (o : Outcome H) (go : State H → Outcome H) (e : End) (mid : Stand H) (w : Bool) (end : End) (last : Stand H) → after_end of e ≡ Ok true → EndsAs false o e mid
-        → ((c : ℕ) (a : List Act) → EndsAs w (go (from mid c a)) end last) → EndsAs w (then_code o (after go)) end last
-    on_by o go (end.Done d) mid w end last is m h =
-        code_goes_unheard o (after go) d mid w end last (deaf go) m (λ c a. rw (by go d (from mid c a), going_same (of d) goes.On is) (h c a))
-    on_by o go (end.Waits call) mid w end last is m h = cc
-    on_by o go end.Memory mid w end last is m h = cc
+    abbrev pub looped : Meaning H → (Unit {0} → Meaning H) → Meaning H
+    looped m go path st = then_code (m path st) (after (go tt path))
 
-    pub over_by : (o : Outcome H) (go : State H → Outcome H) (e : End) (mid : Stand H) (w : Bool) → after_end of e ≡ Ok false → EndsAs false o e mid
-        → EndsAs w (then_code o (after go)) (end.Done (Value [])) mid
-    over_by o go (end.Done d) mid w is m =
-        code_goes_unheard o (after go) d mid w (end.Done (Value [])) mid (deaf go) m (λ c a. rw (by go d (from mid c a), going_same (of d) goes.Over is) (at_stand w (Value []) mid c a))
-    over_by o go (end.Waits call) mid w is m = cc
-    over_by o go end.Memory mid w is m = cc
+    unheard : {m : Meaning H} {b mid : Stand H} {w : Bool} {e : End} {last : Stand H} (go : Unit {0} → Meaning H) (d : Code) → Ran false m b (end.Done d) mid
+        → ((path : List ℕ) (c : ℕ) (a : List Act) → EndsAs w (by_goes (of d) (go tt path) d (from mid c a)) e last) → Ran w (looped m go) b e last
+    unheard {m = m} {b = b} {mid = mid} {w = w} {e = e} {last = last} go d ran h = record {
+      by = λ path cost acts. code_goes_unheard (m path (from b cost acts)) (after (go tt path)) d mid w e last (deaf (go tt path)) (ran.by path cost acts)
+          (λ c a. rw (by (go tt path) d (from mid c a)) (h path c a));
+    }
 
-    pub ends_by : (o : Outcome H) (go : State H → Outcome H) (e : End) (h : Halted) (mid : Stand H) (w : Bool) → after_end of e ≡ Err h → EndsAs false o e mid
-        → EndsAs w (then_code o (after go)) e mid
-    ends_by o go (end.Done d) h mid w is m =
-        code_goes_unheard o (after go) d mid w (end.Done d) mid (deaf go) m (λ c a. rw (by go d (from mid c a), going_same (of d) goes.Ends is) (at_stand w d mid c a))
-    ends_by (Ends c st) go (end.Waits call) h mid w is m = absurd m
-    ends_by (Waits p asked st) go (end.Waits call) h mid w is m = m
-    ends_by o go end.Memory h mid w is m = tt
+    looped_at : {m : Meaning H} {b mid : Stand H} (d : Code) (g : Goes) → of d ≡ g → Ran false m b (end.Done d) mid → Gave (looped m) b (going g) (loop_end g (end.Done d)) mid
+    looped_at d goes.On is ran = record { went = λ w go. record { closes = λ e last r. unheard go d ran (λ path c a. rw is (r.by path c a)) } }
+    looped_at {mid = mid} d goes.Over is ran = record { went = λ w go. unheard go d ran (λ path c a. rw is (at_stand w (Value []) mid c a)) }
+    looped_at {mid = mid} d goes.Ends is ran = record { went = λ w go. unheard go d ran (λ path c a. rw is (at_stand w d mid c a)) }
 
--- ---- turns
-module _ {H : Type 0} (g : Setting H) (i : Inner H) (parts : Loop) where
-  abbrev pub test_at : Meaning H
-  test_at = child alone 1 (node_view parts.test.now) (eval g i (node_view parts.test.now))
+    pub looped_gave : {m : Meaning H} {b mid : Stand H} (e : End) → Ran false m b e mid → Gave (looped m) b (going (after_end of e)) (loop_end (after_end of e) e) mid
+    looped_gave (end.Done d) ran = looped_at d (of d) refl ran
+    looped_gave {m = m} {b = b} {mid = mid} (end.Waits call) ran =
+        record { went = λ w go. record { by = λ path cost acts. code_waits false w (m path (from b cost acts)) (after (go tt path)) call mid (ran.by path cost acts) } }
+    looped_gave end.Memory ran = record { went = λ w go. record { by = λ path cost acts. tt } }
 
-  abbrev pub body_at : Meaning H
-  body_at = child free 3 (node_view parts.body.now) (eval g i (node_view parts.body.now))
+module _ {E H : Type 0} (table : E → H → List (List ℕ) → HostStep H) (context : Context E) where
+  -- ---- turns
+  module _ (parts : Loop) where
+    abbrev next_at : Meaning H
+    next_at = child free 2 (node_view parts.next.now) (meaning_of table context (node_view parts.next.now))
 
-  abbrev pub next_at : Meaning H
-  next_at = child free 2 (node_view parts.next.now) (eval g i (node_view parts.next.now))
+    -- what a turn does behind its body, behind its unit, and behind the condition
+    abbrev pub behind_body : ℕ → Unit {0} → Meaning H
+    behind_body n u path b = then_code (next_at path b) (after_next (turns_of table context parts n path))
 
-  abbrev pub turns_left : ℕ → Meaning H
-  turns_left n = turns n test_at body_at next_at
+    abbrev pub behind_unit : ℕ → Meaning H
+    behind_unit n = body_of table context 3 parts.body.now (behind_body n)
 
-  abbrev Tested : Stand H → Bool → Stand H → Type 0
-  Tested b holds mid = Then (tested (eval g i (node_view parts.test.now))) b holds mid
+    abbrev pub turn_at : ℕ → Bool → Meaning H
+    turn_at n holds path st = turn n
+        (child alone 1 (node_view parts.test.now) (meaning_of table context (node_view parts.test.now)))
+        (child free 3 (node_view parts.body.now) (meaning_of table context (node_view parts.body.now))) next_at path holds st
 
-  test_goes : {b mid : Stand H} {holds : Bool} (n : ℕ) (e : End) (last : Stand H) (path : List ℕ) (cost : ℕ) (acts : List Act) → Tested b holds mid
-      → ((c : ℕ) (a : List Act) → EndsAs true (turn n test_at body_at next_at path holds (from mid c a)) e last) → EndsAs true (turns_left n path (from b cost acts)) e last
-  test_goes n e last path cost acts t h =
-      then_goes (eval g i (node_view parts.test.now)) true (turn n test_at body_at next_at path) e last (path ++ 1 ∷ []) (cost + alone (node_view parts.test.now)) acts t h
+    -- the condition holds, and the turn's unit is paid, or there is none
+    pub turn_paid : {b : Stand H} {e : End} (n : ℕ) (old new : Run) (host : H) (r : Result (Unit {0}) Halted) → Gave (test_of table context alone 1 parts.test.now) b (Ok true) e (stand old host) → Spends old r new
+        → Went true (turns_of table context parts (suc n)) b r new.end (λ u. behind_unit n) (stand new host)
+    turn_paid n old new host r test s =
+        went_then r (λ u. behind_unit n) new.end (stand new host) (test.went true (turn_at (suc n))) ((spend_gave old new host r s).went true (λ u. behind_unit n))
 
-  -- the condition is false, or has no truth value
-  pub turns_over : {b mid : Stand H} (n : ℕ) → Tested b false mid → Ran true (turns_left n) b (end.Done (Value [])) mid
-  turns_over {mid = mid} n t = record { by = λ path cost acts. test_goes n (end.Done (Value [])) mid path cost acts t (λ c a. at_stand true (Value []) mid c a) }
+    -- and what comes behind its body
+    pub turn_ends : {b mid last : Stand H} (n : ℕ) (e : End) → GoesOn true (turns_of table context parts (suc n)) b (behind_body n tt) mid → Ran false (meaning_of table context (node_view parts.next.now)) mid e last
+        → Went true (turns_of table context parts (suc n)) b (going (after_end next_goes e)) (loop_end (after_end next_goes e) e) (λ on. turns_of table context parts n) last
+    turn_ends {last = last} n e goes ran = went_then (going (after_end next_goes e)) (λ on. turns_of table context parts n) (loop_end (after_end next_goes e) e) last goes
+        ((looped_gave after_next next_goes next_by (λ go v st. refl) e (child_ran _ _ free 2 (node_view parts.next.now) ran)).went true (λ on. turns_of table context parts n))
 
-  pub turns_stop : {b mid : Stand H} {e : End} (n : ℕ) → Stops (tested (eval g i (node_view parts.test.now))) b e mid → Ran true (turns_left n) b e mid
-  turns_stop n s = record {
-    by = λ path cost acts. then_stops (eval g i (node_view parts.test.now)) true (turn n test_at body_at next_at path) (path ++ 1 ∷ []) (cost + alone (node_view parts.test.now)) acts s;
-  }
+    -- what starts a loop
+    pub loop_starts : {b mid : Stand H} (start : Node) (e : End) (u : Unit {0}) → Ok u ≡ ended e → Ran false (meaning_of table context (node_view start)) b e mid
+        → GoesOn true (meaning_of table context (loop_tree start parts)) b (turns_of table context parts mid.budget) mid
+    loop_starts {mid = mid} start e u value ran = goes_by (λ end last r path cost acts.
+        value_goes false _ _ e u mid true end last value ((child_ran _ _ free 0 (node_view start) ran).by path (cost + 1) acts) (λ v c a same. r.by path c a))
 
-  -- it holds, and no turn is left
-  pub turns_spent : {b mid : Stand H} (e : End) → Tested b true mid → Is (Raised budget_spent) e → Ran true (turns_left zero) b e mid
-  turns_spent {mid = mid} e t fault = record { by = λ path cost acts. test_goes zero e mid path cost acts t (λ c a. is_code true (Raised budget_spent) e mid c a fault) }
+  -- ---- the turns of a `foreach`
+  module _ (ws : List Node) (n : Node) where
+    abbrev statics : Option Level
+    statics = (setting_of table context).statics
 
-  -- what a turn does behind its unit, and behind its body
-  abbrev behind : ℕ → List ℕ → State H → Outcome H
-  behind n path b = then_code (next_at path b) (after_next (λ e. turns_left n path e))
+    abbrev pub each_body : Meaning H
+    each_body = child free (count (trees_of (nodes_view ws))) (node_view n) (meaning_of table context (node_view n))
 
-  abbrev turn_in : ℕ → List ℕ → State H → Outcome H
-  turn_in n path s = then_code (body_at path s) (after_body (behind n path))
+    -- so many turns from this one on
+    abbrev pub rows_left : List Row → (more k : ℕ) → Meaning H
+    rows_left rows more k = row_loop statics rows each_body more k
 
-  -- it holds, and no unit is left
-  pub turns_unpaid : {b mid : Stand H} (n : ℕ) (e : End) → Tested b true mid → mid.budget ≡ 0 → Is (Raised budget_spent) e → Ran true (turns_left (suc n)) b e mid
-  turns_unpaid {mid = mid} n e t none fault = record {
-    by = λ path cost acts. test_goes (suc n) e mid path cost acts t (λ c a. spend_fails (turn_in n path) mid e c a true none fault);
-  }
+    -- all of them, where the words are names and lists
+    abbrev pub rows_read : Result (List Row) TclFault → Meaning H
+    rows_read (Ok rows) path st = rows_left rows (most_turns rows) 0 path st
+    rows_read (Err f) path st = Ends (Raised f) st
 
-  in_turn : {b mid out : Stand H} (n : ℕ) (e : End) → Tested b true mid → 0 < mid.budget
-      → ((path : List ℕ) (c : ℕ) (a : List Act) → EndsAs true (turn_in n path (from (spent mid) c a)) e out) → Ran true (turns_left (suc n)) b e out
-  in_turn {mid = mid} {out = out} n e t some h = record {
-    by = λ path cost acts. test_goes (suc n) e out path cost acts t (λ c a. spend_goes (turn_in n path) mid c a true e out some (h path (c + 1) a));
-  }
+    rows_are : {s : Stand H} (o : Option (List Row)) → GoesOn true (rows_command statics each_body o) s (rows_read (if_some o)) s
+    rows_are (Some rows) = goes_by (λ e last r path cost acts. r.by path cost acts)
+    rows_are None = goes_by (λ e last r path cost acts. r.by path cost acts)
 
-  pub body_breaks : {b mid out : Stand H} (n : ℕ) (e : End) → Tested b true mid → 0 < mid.budget → Ran false (eval g i (node_view parts.body.now)) (spent mid) e out → after_end body_goes e ≡ Ok false
-      → Ran true (turns_left (suc n)) b (end.Done (Value [])) out
-  body_breaks {mid = mid} {out = out} n e t some ran is = in_turn n (end.Done (Value [])) t some (λ path c a.
-      over_by after_body body_goes body_by (λ go v st. refl) (body_at path (from (spent mid) c a)) (behind n path) e out true is (child_by g i free 3 (node_view parts.body.now) ran path c a))
+    pub each_goes : {b mid : Stand H} {e : End} (lists : List (List ℕ)) → Gave (words_of table context (codes "foreach" ∷ []) 0 one ws) b (Ok lists) e mid
+        → GoesOn true (meaning_of table context (each (trees_of (nodes_view ws)) (node_view n))) b (rows_read (if_some (list_rows lists))) mid
+    each_goes lists gave = goes_then ((paid_gave 1 (Ok lists) gave).went true (each_rows statics each_body)) (rows_are (list_rows lists))
 
-  pub body_halts : {b mid out : Stand H} (n : ℕ) (e : End) (h : Halted) → Tested b true mid → 0 < mid.budget → Ran false (eval g i (node_view parts.body.now)) (spent mid) e out → after_end body_goes e ≡ Err h
-      → Ran true (turns_left (suc n)) b e out
-  body_halts {mid = mid} {out = out} n e h t some ran is = in_turn n e t some (λ path c a.
-      ends_by after_body body_goes body_by (λ go v st. refl) (body_at path (from (spent mid) c a)) (behind n path) e h out true is (child_by g i free 3 (node_view parts.body.now) ran path c a))
+    abbrev pub row_in : List Row → (more k : ℕ) → Unit {0} → Meaning H
+    row_in rows more k u = changing (turn_assigned statics k rows) (body_of table context (count (trees_of (nodes_view ws))) n (λ on. rows_left rows more (k + 1)))
 
-  -- and what comes behind it
-  behind_body : {b mid out last : Stand H} (n : ℕ) (e end : End) → Tested b true mid → 0 < mid.budget → Ran false (eval g i (node_view parts.body.now)) (spent mid) e out → after_end body_goes e ≡ Ok true
-      → ((path : List ℕ) (c : ℕ) (a : List Act) → EndsAs true (behind n path (from out c a)) end last) → Ran true (turns_left (suc n)) b end last
-  behind_body {mid = mid} {out = out} {last = last} n e end t some ran is h = in_turn n end t some (λ path c a.
-      on_by after_body body_goes body_by (λ go v st. refl) (body_at path (from (spent mid) c a)) (behind n path) e out true end last is (child_by g i free 3 (node_view parts.body.now) ran path c a) (h path))
-
-  pub turn_ends : {b mid out last : Stand H} (e f : End) (r : Result Bool Halted) → Tested b true mid → 0 < mid.budget → Ran false (eval g i (node_view parts.body.now)) (spent mid) e out → after_end body_goes e ≡ Ok true
-      → Ran false (eval g i (node_view parts.next.now)) out f last → r ≡ after_end next_goes f → TurnRan turns_left b r f last
-  turn_ends {out = out} {last = last} e f (Ok true) t some ran is next next_is = λ n. record {
-    closes = λ end stand r. behind_body n e end t some ran is (λ path c a.
-        on_by after_next next_goes next_by (λ go v st. refl) (next_at path (from out c a)) (λ s. turns_left n path s) f last true end stand (sym next_is) (child_by g i free 2 (node_view parts.next.now) next path c a) (λ c a. r.by path c a));
-  }
-  turn_ends {out = out} {last = last} e f (Ok false) t some ran is next next_is = λ n. behind_body n e (end.Done (Value [])) t some ran is (λ path c a.
-      over_by after_next next_goes next_by (λ go v st. refl) (next_at path (from out c a)) (λ s. turns_left n path s) f last true (sym next_is) (child_by g i free 2 (node_view parts.next.now) next path c a))
-  turn_ends {out = out} {last = last} e f (Err h) t some ran is next next_is = λ n. behind_body n e f t some ran is (λ path c a.
-      ends_by after_next next_goes next_by (λ go v st. refl) (next_at path (from out c a)) (λ s. turns_left n path s) f h last true (sym next_is) (child_by g i free 2 (node_view parts.next.now) next path c a))
-
-  -- the whole loop, from what starts it on
-  pub loop_starts : {b mid : Stand H} (start : Node) (e : End) (u : Unit {0}) → Ok u ≡ ended e → Ran false (eval g i (node_view start)) b e mid
-      → GoesOn true (eval g i (loop_tree start parts)) b (turns_left mid.budget) mid
-  loop_starts {mid = mid} start e u value ran = goes_by (λ end last r path cost acts.
-      value_goes false _ _ e u mid true end last value (child_by g i free 0 (node_view start) ran path (cost + 1) acts) (λ v c a same. r.by path c a))
-
-  pub loop_stops : {b mid : Stand H} (start : Node) (e : End) (h : Halted) → Err h ≡ ended e → Ran false (eval g i (node_view start)) b e mid → Ran true (eval g i (loop_tree start parts)) b e mid
-  loop_stops {mid = mid} start e h none ran =
-      record { by = λ path cost acts. value_stops false true _ _ e h mid none (child_by g i free 0 (node_view start) ran path (cost + 1) acts) }
+    -- a turn whose unit is paid and whose variables are set, and its body
+    pub row_went : {out : Stand H} {e : End} (rows : List Row) (more k : ℕ) (old new : Run) (host : H) (vars : Scopes) (q : Result (Unit {0}) Raise) (u x : Unit {0}) (r : Result (Unit {0}) Halted) → Spends old (Ok x) new → Ok u ≡ kept q → Does (turn_assigned statics k rows new.vars) q vars
+        → Gave (body_of table context (count (trees_of (nodes_view ws))) n) (with_vars vars (stand new host)) r e out → Went true (rows_left rows (suc more) k) (stand old host) r e (λ on. rows_left rows more (k + 1)) out
+    row_went {out = out} {e = e} rows more k old new host vars q u x r s set did body = went_then r (λ on. rows_left rows more (k + 1)) e out
+        (goes_then ((spend_gave old new host (Ok x) s).went true (row_in rows more k)) (change_goes (turn_assigned statics k rows) q u (body_of table context (count (trees_of (nodes_view ws))) n (λ on. rows_left rows more (k + 1))) set did))
+        (body.went true (λ on. rows_left rows more (k + 1)))
 
 -- a turn less is left
 pub one_less : (most k : ℕ) → k < most → most - k ≡ suc (most - (k + 1))

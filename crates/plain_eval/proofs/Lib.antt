@@ -4,9 +4,6 @@ pub mod InWords
 pub mod InScripts
 pub mod InExpressions
 pub mod InLoops
-pub mod InRows
-pub mod InChoice
-pub mod InCatches
-pub mod InCalls
+pub mod InControls
 pub mod InCommands
 pub mod Outcomes

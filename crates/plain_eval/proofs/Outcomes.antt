@@ -1,8 +1,8 @@
 -- What the caller is told is the evaluator's outcome.
 use Rattle.plain_eval.proofs.Vocabulary
-use Vocabulary.{◌≡◌, refl, sym, ap, ◌∙◌, ℕ, ◌+◌, ◌-◌, ◌≤◌, List, [], ◌∷◌, ◌++◌, length, drop, arith}
-use Vocabulary.{length-append, Result, Ok, Err, IfOk, true, Memory, Tree, Scopes, eval, inner}
-use Vocabulary.{inner_limit, Outcome, Ends, Waits, state, Setting, Stand, EndsAs, Ran, End}
+use Vocabulary.{Err, List, Ok, Result, [], ap, arith, drop, length, length-append, refl, sym, true}
+use Vocabulary.{ℕ, ◌++◌, ◌-◌, ◌∙◌, ◌∷◌, ◌≡◌, ◌≤◌, IfOk, Memory, Tree, Scopes, eval, inner}
+use Vocabulary.{inner_limit, Ends, Outcome, Waits, state, Setting, EndsAs, Ran, Stand, End}
 use Rattle.rule_model.specs.Evaluator.{evaluate}
 use Rattle.px_bytes.specs.declared.fault.Reply.{Reply}
 use Rattle.rule_model.specs.Laws.{state_after}
@@ -29,15 +29,11 @@ told_is (Ends c st) (end.Done d) (Ok (Done code n)) s used answers taken m t gro
     let there : n ≡ length answers - length st.replies = rw same (t.1 ∙ count) in
     let left = taken_is answers taken st.replies n grown there in
     (m.0 ∙ t.0, ap (λ x. x.vars) m.1, ap (λ x. x.host) m.1, left.0, left.1)
-told_is (Ends c st) (end.Done d) (Ok (WaitsFor call)) s used answers taken m t grown count = absurd t
-told_is (Ends c st) (end.Done d) (Err x) s used answers taken m t grown count = absurd t
+told_is (Waits p call st) (end.Waits asked) (Ok (WaitsFor c)) s used answers taken m t grown count = (sym m.0 ∙ t, ap (λ x. x.vars) m.1, ap (λ x. x.host) m.1)
 told_is (Waits p call st) (end.Done d) told s used answers taken m t grown count = absurd m
 told_is (Ends c st) (end.Waits asked) told s used answers taken m t grown count = absurd m
-told_is (Waits p call st) (end.Waits asked) (Ok (Done code n)) s used answers taken m t grown count = absurd t
-told_is (Waits p call st) (end.Waits asked) (Ok (WaitsFor c)) s used answers taken m t grown count = (sym m.0 ∙ t, ap (λ x. x.vars) m.1, ap (λ x. x.host) m.1)
-told_is (Waits p call st) (end.Waits asked) (Err x) s used answers taken m t grown count = absurd t
-told_is o end.Memory (Ok plain) s used answers taken m t grown count = absurd t
 told_is o end.Memory (Err x) s used answers taken m t grown count = tt
+told_is o e told s used answers taken m t grown count = absurd t
 
 -- the evaluation of a body is that of its tree from the beginning
 outcome_is : {H : Type 0} (g : Setting H) (tree : Tree) (begin : Scopes) (before : H) (budget : ℕ) (answers : List Reply) (e : End) (told : Result Plain Memory) (s : Stand H) (used : ℕ)

@@ -1,16 +1,17 @@
 -- What goes on from an outcome, and what an outcome stops.
 use Rattle.plain_eval.proofs.Vocabulary
-use Vocabulary.{◌≡◌, refl, sym, ap, ◌∙◌, ℕ, ◌+◌, ◌-◌, ◌<◌, List, [], Bool, true, false, Result, Ok}
-use Vocabulary.{Err, nat_eq, arith, IfOk, IsErr, IsErrAnd, nat_tests, budget_spent, Gives, Raise}
-use Vocabulary.{TclFault, Memory, Act, State, Outcome, Ends, Waits, Meaning, ends, spend, then_code}
-use Vocabulary.{then_value, with_value, heard_code, unvalued, Code, Value, Raised, GivesAs, Is}
-use Vocabulary.{end_of, ended, fault_end, kept, value_in, Stand, from, EndsAs, Ran, GoesOn, End}
-use Vocabulary.{Halted}
+use Vocabulary.{Bool, Err, List, Ok, Result, [], ap, arith, false, nat_eq, refl, sym, true, ℕ, ◌+◌}
+use Vocabulary.{◌<◌, ◌∙◌, ◌≡◌, nat_tests, IfOk, IsErr, IsErrAnd, IsOk, is_err, budget_spent, Gives}
+use Vocabulary.{Raise, TclFault, Memory, Changed, Does, Scopes, Act, Ends, Meaning, Outcome, State}
+use Vocabulary.{Waits, changed, code_of, ends, heard_code, paid, spend, then_code, then_value}
+use Vocabulary.{unvalued, with_value, Code, Raised, Value, Is, Spends, end_of, ended, fault_end}
+use Vocabulary.{kept, kept_end, value_in, EndsAs, Gave, GoesOn, Ran, Stand, Went, from, stand, End}
+use Vocabulary.{Halted, Run}
 use Rattle.px_bytes.specs.declared.fault.Raise.TheVariants as raise
 use Rattle.plain_eval.specs.declared.run.End.TheVariants as end
 
 -- an end that is a value
-pub is_value : (e : End) (u : Unit {0}) → Ok u ≡ ended e → e ≡ end.Done (Value (value_in e))
+is_value : (e : End) (u : Unit {0}) → Ok u ≡ ended e → e ≡ end.Done (Value (value_in e))
 is_value (end.Done (Value v)) u h = refl
 is_value other u h = cc
 
@@ -33,14 +34,9 @@ fault_is wanted (Ok x) h = ap Raised h
 fault_is wanted (Err m) h = tt
 
 -- what a call that was kept gave
-pub kept_is : {A : Type 0} (r : Result A Raise) (a : A) (wanted : Result A TclFault) → Ok a ≡ kept r → Gives r wanted → wanted ≡ Ok a
-kept_is (Ok b) a wanted is told = let same : a ≡ b = cc in rw same told
-kept_is (Err x) a wanted is told = cc
-
--- what a call that was kept gave, as the definition sees it
-pub kept_as : {A B : Type 0} (view : A → B) (r : Result A Raise) (a : A) (wanted : Result B TclFault) → Ok a ≡ kept r → GivesAs view r wanted → wanted ≡ Ok (view a)
-kept_as view (Ok b) a wanted is told = let same : a ≡ b = cc in rw same told
-kept_as view (Err x) a wanted is told = cc
+pub kept_was : {A : Type 0} (r : Result A Raise) (a : A) → Ok a ≡ kept r → r ≡ Ok a
+kept_was (Ok b) a is = cc
+kept_was (Err x) a is = cc
 
 module _ {H : Type 0} where
   stop_passes : (d : Code) (h : Halted) (go : List ℕ → State H → Outcome H) (st : State H) → Err h ≡ ended (end.Done d) → with_value go d st ≡ Ends d st
@@ -93,6 +89,11 @@ module _ {H : Type 0} where
       rw (unheard go deaf c st, m.0, sym (unheard go deaf d st), m.1) (h st.cost st.acts)
   code_goes_unheard (Waits p call st) go d mid w e last deaf m h = absurd m
 
+  -- a wait stays
+  pub code_waits : (x w : Bool) (o : Outcome H) (go : Code → State H → Outcome H) (call : List (List ℕ)) (s : Stand H) → EndsAs x o (end.Waits call) s → EndsAs w (then_code o go) (end.Waits call) s
+  code_waits x w (Ends c st) go call s m = absurd m
+  code_waits x w (Waits p asked st) go call s m = m
+
   -- a value goes on
   pub value_goes : (x : Bool) (o : Outcome H) (go : List ℕ → State H → Outcome H) (before : End) (u : Unit {0}) (mid : Stand H) (w : Bool) (e : End) (last : Stand H)
       → Ok u ≡ ended before → EndsAs x o before mid
@@ -117,16 +118,12 @@ module _ {H : Type 0} where
   value_stops x w (Ends c st) go (end.Done d) h mid is m =
       rw (stop_same x c d h is m.0, stop_passes d h go st is) (refl, m.1)
   value_stops x w (Waits p call st) go (end.Done d) h mid is m = absurd m
-  value_stops x w (Ends c st) go (end.Waits asked) h mid is m = absurd m
-  value_stops x w (Waits p call st) go (end.Waits asked) h mid is m = m
+  value_stops x w o go (end.Waits asked) h mid is m = code_waits x w o (with_value go) asked mid m
   value_stops x w o go end.Memory h mid is m = tt
 
   -- the same of meanings
   pub any_ran : {m : Meaning H} {b : Stand H} {e : End} {a : Stand H} (w : Bool) → Ran true m b e a → Ran w m b e a
   any_ran {m = m} {b = b} {e = e} {a = a} w r = record { by = λ path cost acts. any_wanted w (m path (from b cost acts)) e a (r.by path cost acts) }
-
-  pub no_memory : (w : Bool) (m : Meaning H) (b a : Stand H) → Ran w m b end.Memory a
-  no_memory w m b a = record { by = λ path cost acts. tt }
 
   pub goes_self : (w : Bool) (m : Meaning H) (b : Stand H) → GoesOn w m b m b
   goes_self w m b = record { closes = λ e last r. r }
@@ -138,26 +135,86 @@ module _ {H : Type 0} where
   pub goes_then : {w : Bool} {m n o : Meaning H} {a b c : Stand H} → GoesOn w m a n b → GoesOn w n b o c → GoesOn w m a o c
   goes_then f g = record { closes = λ e last r. f.closes e last (g.closes e last r) }
 
-  pub gives_ends : (w : Bool) (r : Result (List ℕ) Raise) (wanted : Result (List ℕ) TclFault) (s : Stand H) (cost : ℕ) (acts : List Act) → Gives r wanted → EndsAs w (ends wanted (from s cost acts)) (end_of r) s
-  gives_ends w (Ok v) wanted s cost acts h = rw h (refl, refl)
-  gives_ends w (Err (raise.Fault f)) wanted s cost acts h = rw h (refl, refl)
-  gives_ends w (Err raise.Memory) wanted s cost acts h = tt
+  pub went_then : {A : Type 0} {w : Bool} {m n : Meaning H} {b mid : Stand H} (r : Result A Halted) (go : A → Meaning H) (e : End) (out : Stand H) → GoesOn w m b n mid → Went w n mid r e go out → Went w m b r e go out
+  went_then (Ok x) go e out f g = goes_then f g
+  went_then (Err h) go e out f g = f.closes e out g
 
-  -- a unit of budget
-  abbrev pub spent : Stand H → Stand H
-  spent s = record s { budget = s.budget - 1 }
+  -- what was heard has a value, with which it goes on, or it is the end
+  pub valued : (w : Bool) {m : Meaning H} {b mid : Stand H} (go : List ℕ → List ℕ → State H → Outcome H) (e : End) (r : Result (Unit {0}) Halted) → r ≡ ended e → Ran true m b e mid
+      → Went w (λ path st. then_value (m path st) (go path)) b r e (λ u path st. go path (value_in e) st) mid
+  valued w {m = m} {b = b} {mid = mid} go e (Ok u) value ran = goes_by (λ end last r path cost acts. heard_goes (m path (from b cost acts)) (go path) e u mid w end last value (ran.by path cost acts) (λ c a. r.by path c a))
+  valued w {m = m} {b = b} {mid = mid} go e (Err h) none ran = record { by = λ path cost acts. value_stops true w (m path (from b cost acts)) (go path) e h mid none (ran.by path cost acts) }
 
-  pub spend_goes : (go : State H → Outcome H) (before : Stand H) (cost : ℕ) (acts : List Act) (w : Bool) (e : End) (last : Stand H)
-      → 0 < before.budget → EndsAs w (go (from (spent before) (cost + 1) acts)) e last → EndsAs w (spend (from before cost acts) go) e last
-  spend_goes go before cost acts w e last some h =
-      let t : nat_eq before.budget 0 ≡ false = grind (arith, nat_tests) in
-      rw t h
+  -- whatever it costs before
+  pub paid_ran : {w : Bool} {m : Meaning H} {b : Stand H} {e : End} {a : Stand H} (k : ℕ) → Ran w m b e a → Ran w (λ path st. m path (paid k st)) b e a
+  paid_ran k r = record { by = λ path cost acts. r.by path (cost + k) acts }
 
-  pub spend_fails : (go : State H → Outcome H) (before : Stand H) (e : End) (cost : ℕ) (acts : List Act) (w : Bool)
-      → before.budget ≡ 0 → Is (Raised budget_spent) e → EndsAs w (spend (from before cost acts) go) e before
-  spend_fails go before e cost acts w none h =
-      let t : nat_eq before.budget 0 ≡ true = grind (arith, nat_tests) in
-      rw t (is_code w (Raised budget_spent) e before cost acts h)
+  pub paid_gave : {A : Type 0} {m : (A → Meaning H) → Meaning H} {b mid : Stand H} {e : End} (k : ℕ) (r : Result A Halted) → Gave m b r e mid → Gave (λ go path st. m go path (paid k st)) b r e mid
+  paid_gave k (Ok a) gave = record { went = λ w go. goes_by (λ e last q path cost acts. ((gave.went w go).closes e last q).by path (cost + k) acts) }
+  paid_gave k (Err h) gave = record { went = λ w go. paid_ran k (gave.went w go) }
+
+  pub code_ran : {w : Bool} {s : Stand H} (d : Code) (e : End) → Is d e → Ran w (λ path st. Ends d st) s e s
+  code_ran {w = w} {s = s} d e is = record { by = λ path cost acts. is_code w d e s cost acts is }
+
+  pub ends_ran : {w : Bool} {s : Stand H} (d : Code) → Ran w (λ path st. Ends d st) s (end.Done d) s
+  ends_ran d = code_ran d (end.Done d) refl
+
+  pub gives_ran : {w : Bool} {s : Stand H} (r : Result (List ℕ) Raise) (wanted : Result (List ℕ) TclFault) → Gives r wanted → Ran w (λ path st. ends wanted st) s (end_of r) s
+  gives_ran (Ok v) wanted told = rw told (ends_ran (Value v))
+  gives_ran (Err (raise.Fault f)) wanted told = rw told (ends_ran (Raised f))
+  gives_ran (Err raise.Memory) wanted told = record { by = λ path cost acts. tt }
+
+  -- a unit of budget is taken, or there is none
+  pub spend_gave : (old new : Run) (host : H) (r : Result (Unit {0}) Halted) → Spends old r new → Gave (λ go path st. spend st (go tt path)) (stand old host) r new.end (stand new host)
+  spend_gave old new host (Ok u) s =
+      let some : 0 < old.budget = s.0 in
+      let t : nat_eq old.budget 0 ≡ false = grind (arith, nat_tests) in
+      rw s.1 (record { went = λ w go. goes_by (λ e last r path cost acts. rw t (r.by path (cost + 1) acts)) })
+  spend_gave old new host (Err h) s =
+      let none : old.budget ≡ 0 = s.0 in
+      let t : nat_eq old.budget 0 ≡ true = grind (arith, nat_tests) in
+      rw s.2 (record { went = λ w go. record { by = λ path cost acts. rw t (is_code w (Raised budget_spent) new.end (stand old host) cost acts s.1) } })
+
+  -- the stand with these variables
+  abbrev pub with_vars : Scopes → Stand H → Stand H
+  with_vars vars s = record s { vars = vars }
+
+  -- a change of variables whose value isn't looked at
+  abbrev pub changing : (Scopes → Changed) → Meaning H → Meaning H
+  changing change go path st = then_value (changed (change st.vars) st) (λ v t. go path t)
+
+  done_by : (r : Result (List ℕ) TclFault) (st : State H) (go : State H → Outcome H) → IsOk r → then_value (Ends (code_of r) st) (λ v t. go t) ≡ go st
+  done_by (Ok v) st go ok = refl
+  done_by (Err f) st go ok = cc
+
+  pub change_goes : {w : Bool} {s : Stand H} {new : Scopes} (change : Scopes → Changed) (r : Result (Unit {0}) Raise) (u : Unit {0}) (go : Meaning H) → Ok u ≡ kept r → Does (change s.vars) r new → GoesOn w (changing change go) s go (with_vars new s)
+  change_goes {s = s} change (Ok x) u go is did = goes_by (λ e last r path cost acts.
+      rw (done_by (change s.vars).value (record (from s cost acts) { vars = (change s.vars).vars }) (go path) did.0, ← did.1) (r.by path cost acts))
+  change_goes change (Err x) u go is did = cc
+
+  pub change_fails : {w : Bool} {s : Stand H} {new : Scopes} {h : Halted} (e : End) (change : Scopes → Changed) (r : Result (Unit {0}) Raise) (go : Meaning H) → Err h ≡ kept r → Does (change s.vars) r new
+      → Ran w (changing change go) s (kept_end r e) (with_vars new s)
+  change_fails e change (Ok u) go none did = cc
+  change_fails {w = w} {s = s} e change (Err (raise.Fault f)) go none did =
+      record { by = λ path cost acts. rw (did.0, did.1) (at_stand w (Raised f) (with_vars (change s.vars).vars s) cost acts) }
+  change_fails e change (Err raise.Memory) go none did = record { by = λ path cost acts. tt }
+
+  -- the fault of a call that was kept is the end
+  pub kept_fails : {A B : Type 0} (w : Bool) (m : Result B TclFault → Meaning H) (r : Result A Raise) (e : End) {h : Halted} {wanted : Result B TclFault} {s : Stand H}
+      → ((f : TclFault) (path : List ℕ) (st : State H) → m (Err f) path st ≡ Ends (Raised f) st) → Err h ≡ kept r → ((f : TclFault) → r ≡ Err (raise.Fault f) → wanted ≡ Err f) → Ran w (m wanted) s (kept_end r e) s
+  kept_fails w m (Ok a) e fails none told = cc
+  kept_fails w m (Err (raise.Fault f)) e {s = s} fails none told =
+      rw (told f refl) (record { by = λ path cost acts. rw (fails f path (from s cost acts)) (at_stand w (Raised f) s cost acts) })
+  kept_fails w m (Err raise.Memory) e fails none told = record { by = λ path cost acts. tt }
+
+-- what a test on an error says
+pub ok_is : {E : Type 0} (r : Result (Unit {0}) E) → is_err r ≡ false → r ≡ Ok tt
+ok_is (Ok u) is = refl
+ok_is (Err x) is = cc
+
+pub halts_is : (r : Result (Unit {0}) Halted) → is_err r ≡ true → r ≡ Err (record {})
+halts_is (Ok u) is = cc
+halts_is (Err x) is = refl
 
 -- what a `?` hands on
 pub halted_is : {A : Type 0} (r : Result A Halted) (h : Halted) → IsErr r × IsErrAnd r (λ x. x ≡ h) → r ≡ Err h

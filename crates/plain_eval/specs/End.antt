@@ -1,6 +1,6 @@
 -- The end of what was evaluated last, as the plain evaluator notes it.
 use Rattle.std.specs.Prelude.{◌≡◌, ℕ, ◌+◌, ◌-◌, ◌<◌, ◌≤◌, List, [], ◌∷◌, ◌++◌, length, nat_lt, Bool}
-use Rattle.std.specs.Prelude.{Option, Some, None, Result, Ok, Err, true, false, if◌then◌else◌}
+use Rattle.std.specs.Prelude.{Option, Some, None, Result, Ok, Err, if◌then◌else◌}
 use Rattle.std.specs.Bool.{MatchBool}
 use Rattle.px_bytes.specs.FaultText.{budget_spent, too_long}
 use Rattle.px_bytes.specs.Limit.{text_limit}
@@ -89,23 +89,25 @@ AddsPiece all (Ok u) new end = (length all ≤ text_limit) × (new ≡ all)
 AddsPiece all (Err h) new end =
     MatchBool (nat_lt text_limit (length all)) (Is (Raised too_long) end) (end ≡ Memory)
 
--- whether a loop goes on
-abbrev pub going : Goes → Result Bool Halted
-going On = Ok true
-going Over = Ok false
-going Ends = Err (record {})
+-- what a loop does after an end
+abbrev pub after_end : (Code → Goes) → End → Goes
+after_end goes (Done c) = goes c
+after_end goes other = Ends
 
--- the same after an end
-abbrev pub after_end : (Code → Goes) → End → Result Bool Halted
-after_end goes (Done c) = going (goes c)
-after_end goes (Waits call) = Err (record {})
-after_end goes Memory = Err (record {})
+-- whether it goes on
+abbrev pub going : Goes → Result (Unit {0}) Halted
+going On = Ok tt
+going other = Err (record {})
+
+-- the end of a loop that doesn't go on: the empty value, where it is over
+abbrev pub loop_end : Goes → End → End
+loop_end Over end = Done (Value [])
+loop_end other end = end
 
 -- the code that a `catch` takes
 abbrev pub caught_code : End → Option Code
 caught_code (Done c) = if is_caught c then Some c else None
-caught_code (Waits call) = None
-caught_code Memory = None
+caught_code other = None
 
 -- this value or fault of a change of variables, and the variables after it, unless out of memory
 abbrev pub ChangeIs : Changed → End → Scopes → Type 0
@@ -130,8 +132,7 @@ abbrev pub Leaves : End → Run → Run → Type 0
 Leaves (Done c) old new =
     Is (code_left c) new.end
     × (new ≡ record old { vars = out_of_proc old.vars; end = new.end })
-Leaves (Waits call) old new = new ≡ old
-Leaves Memory old new = new ≡ old
+Leaves other old new = new ≡ old
 
 -- a command of the language is done, unless out of memory
 abbrev pub OwnedAs : Bool → own.Done → Result Code memory.Memory → Scopes → Type 0

@@ -22,17 +22,10 @@ use Rattle.plain_eval.specs.declared.run.End.TheVariants as end
 -- memory is free.
 abbrev pub Answers : {H : Type 0} → HostStep H → HostAnswer → H → Type 0
 Answers (Gives v h effects) (answer.Value w) host = (w ≡ v) × (host ≡ h)
-Answers (Gives v h effects) (answer.Fault f) host = ⊥
-Answers (Gives v h effects) (answer.Ask call) host = ⊥
-Answers (Gives v h effects) answer.Memory host = Unit {0}
-Answers (Faults f h effects) (answer.Value w) host = ⊥
 Answers (Faults f h effects) (answer.Fault e) host = (e ≡ f) × (host ≡ h)
-Answers (Faults f h effects) (answer.Ask call) host = ⊥
-Answers (Faults f h effects) answer.Memory host = Unit {0}
-Answers (Asks call h) (answer.Value w) host = ⊥
-Answers (Asks call h) (answer.Fault f) host = ⊥
 Answers (Asks call h) (answer.Ask asked) host = (asked ≡ call) × (host ≡ h)
-Answers (Asks call h) answer.Memory host = Unit {0}
+Answers step answer.Memory host = Unit {0}
+Answers step other host = ⊥
 
 -- how the evaluator calls a code
 abbrev pub code_of : PlainCode → Code
@@ -64,10 +57,6 @@ setting statics table procedures =
 -- the end that the caller is told: a code with this many replies taken, or the call that waits
 abbrev pub IsTold : End → ℕ → Result Plain Memory → Type 0
 IsTold (end.Done c) used (Ok (Done code n)) = (c ≡ code_of code) × (n ≡ used)
-IsTold (end.Done c) used (Ok (WaitsFor call)) = ⊥
-IsTold (end.Done c) used (Err m) = ⊥
-IsTold (end.Waits asked) used (Ok (Done code n)) = ⊥
 IsTold (end.Waits asked) used (Ok (WaitsFor call)) = asked ≡ call
-IsTold (end.Waits asked) used (Err m) = ⊥
-IsTold end.Memory used (Ok plain) = ⊥
 IsTold end.Memory used (Err m) = Unit {0}
+IsTold end used other = ⊥

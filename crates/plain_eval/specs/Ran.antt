@@ -1,6 +1,5 @@
 -- What the functions of the plain evaluator come to.
-use Rattle.std.specs.Prelude.{ℕ, suc, List, [], length, drop, map, Bool, true, false, Result}
-use Rattle.std.specs.Prelude.{Ok, Err}
+use Rattle.std.specs.Prelude.{ℕ, List, [], length, drop, map, Bool}
 use Rattle.tcl_compile.specs.Procedures.{procedure_view}
 use Rattle.tcl_compile.specs.Tree.{Tree, loop, trees_of, values_of}
 use Rattle.tcl_compile.specs.TreeView.{node_view, nodes_view, values_view}
@@ -9,22 +8,16 @@ use Rattle.tcl_compile.specs.declared.node.Verb.{Verb}
 use Rattle.tcl_var_commands.specs.Assigning.{row_assigned}
 use Rattle.rule_model.specs.Children.{alone, child, free, places_of}
 use Rattle.rule_model.specs.Commands.{command, deeper}
-use Rattle.rule_model.specs.Control.{most_turns, row_loop, turns}
+use Rattle.rule_model.specs.Control.{after_body, turns}
 use Rattle.rule_model.specs.Evaluator.{eval, evals, values, words}
 use Rattle.rule_model.specs.Expressions.{first_true, then_truth}
 use Rattle.rule_model.specs.Host.{HostStep}
-use Rattle.rule_model.specs.Outcome.{Meaning, changed, then_value}
+use Rattle.rule_model.specs.Outcome.{Meaning, changed, then_code, then_value}
 use Rattle.rule_model.specs.Words.{in_order, in_word, told}
-use Rattle.rule_model.specs.declared.code.Code.TheVariants.{Value}
-use Rattle.rule_steps.specs.Rows.{row_view}
 use Rattle.rule_steps.specs.declared.calls.Call.{Call}
-use Rattle.rule_steps.specs.declared.rows.Row.{Row}
-use Rattle.plain_eval.specs.Stand.{Stand, stand, Ran, GoesOn, setting_of, inner_of}
+use Rattle.plain_eval.specs.Stand.{stand, Ran, setting_of, inner_of}
 use Rattle.plain_eval.specs.declared.context.Context.{Context}
 use Rattle.plain_eval.specs.declared.loops.Loop.{Loop}
-use Rattle.plain_eval.specs.declared.run.End.{End}
-use Rattle.plain_eval.specs.declared.run.End.TheVariants.{Done}
-use Rattle.plain_eval.specs.declared.run.Halted.{Halted}
 use Rattle.plain_eval.specs.declared.run.Run.{Run}
 
 module _ {E H : Type 0} (table : E → H → List (List ℕ) → HostStep H) (context : Context E) where
@@ -38,9 +31,10 @@ module _ {E H : Type 0} (table : E → H → List (List ℕ) → HostStep H) (co
       Ran wanted (meaning_of tree) (stand old before) new.end (stand new after)
 
   -- a condition, and what is done with its truth value
-  abbrev pub test_of : Node → (Bool → Meaning H) → Meaning H
-  test_of condition go path st =
-      then_truth (meaning_of (node_view condition) path st) (λ holds t. go holds path t)
+  abbrev pub test_of : (Tree → ℕ) → ℕ → Node → (Bool → Meaning H) → Meaning H
+  test_of price k condition go path st =
+      then_truth (child price k (node_view condition) (meaning_of (node_view condition)) path st)
+      (λ holds t. go holds path t)
 
   -- the pieces of a word
   abbrev pub pieces_of : (Tree → ℕ) → List Node → Meaning H
@@ -70,11 +64,11 @@ module _ {E H : Type 0} (table : E → H → List (List ℕ) → HostStep H) (co
       (child free 3 (node_view parts.body.now) (meaning_of (node_view parts.body.now)))
       (child free 2 (node_view parts.next.now) (meaning_of (node_view parts.next.now)))
 
-  -- the turns of a `foreach`
-  abbrev pub rows_of : ℕ → List Row → Node → Meaning H
-  rows_of k rows body = row_loop (setting_of table context).statics (map row_view rows)
-      (child free k (node_view body) (meaning_of (node_view body))) (most_turns (map row_view rows))
-      0
+  -- a loop's body, and what is left of the loop where it goes on
+  abbrev pub body_of : ℕ → Node → (Unit {0} → Meaning H) → Meaning H
+  body_of k body go path st =
+      then_code (child free k (node_view body) (meaning_of (node_view body)) path st)
+      (after_body (go tt path))
 
   -- what a command does with its words
   abbrev pub command_of : Verb → List (List ℕ) → Meaning H
@@ -91,12 +85,3 @@ module _ {E H : Type 0} (table : E → H → List (List ℕ) → HostStep H) (co
 abbrev pub loop_tree : Node → Loop → Tree
 loop_tree start parts = loop (node_view start) (node_view parts.test.now)
     (node_view parts.next.now) (node_view parts.body.now)
-
--- A turn of a loop: the loop goes on with a turn less, is over, or ends so.
-abbrev pub TurnRan : {H : Type 0} → (ℕ → Meaning H) → Stand H → Result Bool Halted → End → Stand H
-    → Type 0
-TurnRan turns before (Ok true) end mid =
-    (n : ℕ) → GoesOn true (turns (suc n)) before (turns n) mid
-TurnRan turns before (Ok false) end mid =
-    (n : ℕ) → Ran true (turns (suc n)) before (Done (Value [])) mid
-TurnRan turns before (Err h) end mid = (n : ℕ) → Ran true (turns (suc n)) before end mid

@@ -52,20 +52,16 @@ pub record GoesOn {H : Type 0} (w : Bool) (whole : Meaning H) (before : Stand H)
     (mid : Stand H) : Type 0 where
   pub closes : (end : End) (last : Stand H) → Ran w rest mid end last → Ran w whole before end last
 
--- what has no text as its value: whatever is done with the value, the whole comes to
-pub record Then {H A : Type 0} (m : (A → Meaning H) → Meaning H) (before : Stand H) (a : A)
-    (mid : Stand H) : Type 0 where
-  pub goes : (w : Bool) (go : A → Meaning H) → GoesOn w (m go) before (go a) mid
+-- with a result, the whole goes on as what is done with it; without one, it ends so
+abbrev pub Went : {H A : Type 0} → Bool → (whole : Meaning H) → Stand H → Result A Halted → End
+    → (A → Meaning H) → Stand H → Type 0
+Went w whole before (Ok a) end go mid = GoesOn w whole before (go a) mid
+Went w whole before (Err h) end go mid = Ran w whole before end mid
 
--- its end is that of the whole
-pub record Stops {H A : Type 0} (m : (A → Meaning H) → Meaning H) (before : Stand H) (end : End)
-    (mid : Stand H) : Type 0 where
-  pub stops : (w : Bool) (go : A → Meaning H) → Ran w (m go) before end mid
-
-abbrev pub Gave : {H A : Type 0} → ((A → Meaning H) → Meaning H) → Stand H → Result A Halted → End
-    → Stand H → Type 0
-Gave m before (Ok a) end mid = Then m before a mid
-Gave m before (Err h) end mid = Stops m before end mid
+-- what has a result, whatever is done with it
+pub record Gave {H A : Type 0} (m : (A → Meaning H) → Meaning H) (before : Stand H)
+    (r : Result A Halted) (end : End) (mid : Stand H) : Type 0 where
+  pub went : (w : Bool) (go : A → Meaning H) → Went w (m go) before r end go mid
 
 -- the setting that a context gives
 abbrev pub setting_of : {E H : Type 0} → (E → H → List (List ℕ) → HostStep H) → Context E

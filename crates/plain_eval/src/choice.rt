@@ -1,8 +1,9 @@
 // `switch`.
 
-ghost use Rattle.std.specs.Prelude.{◌≡◌};
+ghost use Rattle.std.specs.Prelude.{drop, option_and_then, option_map, ◌≡◌};
 ghost use Rattle.tcl_compile.specs.Tree.{switch, trees_of};
 ghost use Rattle.tcl_compile.specs.TreeView.{nodes_view};
+ghost use Rattle.rule_steps.specs.Choice.{first_body_of};
 ghost use Rattle.plain_eval.specs.End.{ended};
 ghost use Rattle.plain_eval.specs.Ran.{Evaluates};
 
@@ -34,11 +35,17 @@ pub(crate) fn eval_switch<H: PlainHost>(
 {
     let words = eval_words(context, levels, b"switch".len(), words, run, host)?;
     let hit = hit_of(context.alloc, front, words.as_slice());
-    let Some(number) = run.kept(hit)? else {
-        return run.nothing(context.alloc);
-    };
-    match first_body(bodies, number) {
+    let number = run.kept(hit)?;
+    match body_at(bodies, number) {
         Some(body) => eval_tree(context, levels, body, wanted, run, host),
         None => run.nothing(context.alloc),
     }
+}
+
+// The body of the case of this number, where one is hit.
+fn body_at(bodies: &[Node], number: Option<usize>) -> Option<&Node>
+    ensures { let body = option_and_then (λ k. first_body_of (drop k bodies.now)) number in
+        option_map (λ n. n.now) result ≡ body }
+{
+    first_body(bodies, number?)
 }

@@ -1,7 +1,7 @@
 // The evaluation of expressions.
 
-ghost use Rattle.std.specs.Prelude.{Err, IfErr, true, ◌≡◌};
-ghost use Rattle.tcl_compile.specs.Tree.{expr, operands_of, prefixed, row};
+ghost use Rattle.std.specs.Prelude.{Err, IfErr, true, ℕ, ◌≡◌};
+ghost use Rattle.tcl_compile.specs.Tree.{Tree, expr, operands_of, prefixed, row};
 ghost use Rattle.tcl_compile.specs.TreeView.{node_view, operands_view};
 ghost use Rattle.plain_eval.specs.End.{ended};
 ghost use Rattle.plain_eval.specs.Ran.{Evaluates, test_of};
@@ -27,9 +27,9 @@ pub(crate) fn eval_test<H: PlainHost>(
     host: &mut H,
 ) -> Result<bool, Halted>
     ensures halts { IfErr result (λ h. ended run.new.end ≡ Err h) }
-    ensures gave { let before = stand run.old host.old in
-        let after = stand run.new host.new in
-        Gave (test_of H.table context.now condition.now) before result run.new.end after }
+    ensures gave { (p : Tree → ℕ) (k : ℕ) →
+        let test = test_of H.table context.now p k condition.now in
+        Gave test (stand run.old host.old) result run.new.end (stand run.new host.new) }
 {
     eval_tree(context, levels, condition, true, run, host)?;
     let holds = truth_of(context.alloc, run.value());

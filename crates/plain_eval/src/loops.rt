@@ -1,21 +1,21 @@
 // Loops.
 
-ghost use Rattle.std.specs.Prelude.{Err, IfErr, true, ℕ, ◌≡◌};
+ghost use Rattle.std.specs.Prelude.{suc, true, ℕ, ◌≡◌};
 ghost use Rattle.tcl_compile.specs.Tree.{each, trees_of};
 ghost use Rattle.tcl_compile.specs.TreeView.{node_view, nodes_view};
 ghost use Rattle.rule_steps.specs.Goes.{body_goes, next_goes};
-ghost use Rattle.plain_eval.specs.End.{after_end, ended, going};
-ghost use Rattle.plain_eval.specs.Ran.{Evaluates, TurnRan, loop_tree, rows_of, turns_of};
-ghost use Rattle.plain_eval.specs.Stand.{Ran, stand};
+ghost use Rattle.plain_eval.specs.End.{after_end, ended};
+ghost use Rattle.plain_eval.specs.Ran.{Evaluates, body_of, loop_tree, turns_of};
+ghost use Rattle.plain_eval.specs.Stand.{Gave, Went, stand};
 
 use crate::context::Context;
 use crate::expressions::eval_test;
 use crate::host::PlainHost;
-use crate::run::{End, Halted, Halts, Run};
+use crate::run::{End, Halts, Run};
 use crate::tree::eval_tree;
 use crate::words::eval_words;
 use px_bytes::TclFault;
-use rule_steps::{Goes, Row, after_body, after_next, most_turns, rows_of, set_turn};
+use rule_steps::{Goes, after_body, after_next, most_turns, rows_of, set_turn};
 use tcl_compile::Node;
 
 /// A condition, what comes after each turn, and the body.
@@ -43,8 +43,8 @@ pub(crate) fn eval_loop<H: PlainHost>(
 {
     eval_tree(context, levels, start, false, run, host)?;
     for _ in 0..run.budget {
-        if !eval_turn(context, levels, parts, run, host)? {
-            return run.nothing(context.alloc);
+        if eval_turn(context, levels, parts, run, host).is_err() {
+            return run.ended();
         }
     }
     if eval_test(context, levels, parts.test, run, host)? {
@@ -53,7 +53,7 @@ pub(crate) fn eval_loop<H: PlainHost>(
     run.nothing(context.alloc)
 }
 
-// A turn of a loop: whether the loop goes on.
+// A turn of a loop: whether the loop goes on; if it doesn't, its end was noted.
 #[inline(never)]
 #[cycle(plain)]
 fn eval_turn<H: PlainHost>(
@@ -62,51 +62,56 @@ fn eval_turn<H: PlainHost>(
     parts: &Loop<'_>,
     run: &mut Run<'_>,
     host: &mut H,
-) -> Result<bool, Halted>
-    ensures halts { IfErr result (λ h. ended run.new.end ≡ Err h) }
-    ensures turned { let before = stand run.old host.old in
+) -> Halts
+    ensures { (n : ℕ) → let turns = turns_of H.table context.now parts.now in
+        let before = stand run.old host.old in
         let after = stand run.new host.new in
-        TurnRan (turns_of H.table context.now parts.now) before result run.new.end after }
+        Went true (turns (suc n)) before result run.new.end (λ on. turns n) after }
 {
     if !eval_test(context, levels, parts.test, run, host)? {
-        return Ok(false);
+        return run.go_on(context.alloc, Goes::Over);
     }
     run.spend(context.alloc)?;
-    let _ = eval_tree(context, levels, parts.body, false, run, host);
-    if !body_goes(run)? {
-        return Ok(false);
-    }
+    eval_body(context, levels, parts.body, run, host)?;
     let _ = eval_tree(context, levels, parts.next, false, run, host);
-    next_goes(run)
+    let goes = goes_after_next(&run.end);
+    run.go_on(context.alloc, goes)
 }
 
-// Whether a loop goes on after the end of its body, which was noted.
-fn body_goes(run: &Run<'_>) -> Result<bool, Halted>
-    ensures { result ≡ after_end body_goes run.now.end }
+// A body of a loop: whether the loop goes on; if it doesn't, its end was noted.
+#[cycle(plain)]
+fn eval_body<H: PlainHost>(
+    context: &Context<'_, H::Env>,
+    levels: usize,
+    body: &Node,
+    run: &mut Run<'_>,
+    host: &mut H,
+) -> Halts
+    ensures { (k : ℕ) → let body = body_of H.table context.now k body.now in
+        Gave body (stand run.old host.old) result run.new.end (stand run.new host.new) }
 {
-    match &run.end {
-        End::Done(code) => going(after_body(code)),
-        End::Waits(_) | End::Memory => Err(Halted),
+    let _ = eval_tree(context, levels, body, false, run, host);
+    let goes = goes_after_body(&run.end);
+    run.go_on(context.alloc, goes)
+}
+
+// What a loop does after the end of its body, which was noted.
+fn goes_after_body(end: &End) -> Goes
+    ensures { result ≡ after_end body_goes end.now }
+{
+    match end {
+        End::Done(code) => after_body(code),
+        End::Waits(_) | End::Memory => Goes::Ends,
     }
 }
 
 // The same after the end of what comes after each turn.
-fn next_goes(run: &Run<'_>) -> Result<bool, Halted>
-    ensures { result ≡ after_end next_goes run.now.end }
+fn goes_after_next(end: &End) -> Goes
+    ensures { result ≡ after_end next_goes end.now }
 {
-    match &run.end {
-        End::Done(code) => going(after_next(code)),
-        End::Waits(_) | End::Memory => Err(Halted),
-    }
-}
-
-fn going(goes: Goes) -> Result<bool, Halted>
-    ensures { result ≡ going goes }
-{
-    match goes {
-        Goes::On => Ok(true),
-        Goes::Over => Ok(false),
-        Goes::Ends => Err(Halted),
+    match end {
+        End::Done(code) => after_next(code),
+        End::Waits(_) | End::Memory => Goes::Ends,
     }
 }
 
@@ -125,33 +130,14 @@ pub(crate) fn eval_each<H: PlainHost>(
     ensures ran { let tree = each (trees_of (nodes_view words.now)) (node_view body.now) in
         Evaluates H.table context.now true tree run.old host.old run.new host.new }
 {
-    let words = eval_words(context, levels, b"foreach".len(), words, run, host)?;
-    let rows = run.kept(rows_of(context.alloc, &words))?;
-    eval_rows(context, levels, &rows, body, run, host)
-}
-
-// The turns of a `foreach` over these rows.
-#[inline(never)]
-#[cycle(plain)]
-fn eval_rows<H: PlainHost>(
-    context: &Context<'_, H::Env>,
-    levels: usize,
-    rows: &[Row],
-    body: &Node,
-    run: &mut Run<'_>,
-    host: &mut H,
-) -> Halts
-    ensures ended { result ≡ ended run.new.end }
-    ensures ran { (k : ℕ) → let turns = rows_of H.table context.now k rows.now body.now in
-        Ran true turns (stand run.old host.old) run.new.end (stand run.new host.new) }
-{
-    for number in 0..most_turns(rows) {
+    let lists = eval_words(context, levels, b"foreach".len(), words, run, host)?;
+    let rows = run.kept(rows_of(context.alloc, &lists))?;
+    for number in 0..most_turns(&rows) {
         run.spend(context.alloc)?;
-        let set = set_turn(context.alloc, context.statics, rows, number, &mut run.vars);
+        let set = set_turn(context.alloc, context.statics, &rows, number, &mut run.vars);
         run.kept(set)?;
-        let _ = eval_tree(context, levels, body, false, run, host);
-        if !body_goes(run)? {
-            return run.nothing(context.alloc);
+        if eval_body(context, levels, body, run, host).is_err() {
+            return run.ended();
         }
     }
     run.nothing(context.alloc)

@@ -4,11 +4,11 @@ ghost use Rattle.std.specs.Prelude.{Err, IfErr, Ok, [], ◌++◌, ◌≡◌, ◌
 ghost use Rattle.px_bytes.specs.Limit.{text_limit};
 ghost use Rattle.rule_model.specs.declared.code.Code.TheVariants.{Value};
 ghost use Rattle.plain_eval.specs.End.{AddsPiece, AddsValue, Limited, Spends, end_of, ended};
-ghost use Rattle.plain_eval.specs.End.{fault_end, kept, kept_end, noted, value_in};
+ghost use Rattle.plain_eval.specs.End.{fault_end, going, kept, kept_end, loop_end, noted, value_in};
 
 use px_bytes::{M, Raise, Reply, TEXT_LIMIT, TclFault, Text, Texts};
 use rule_model::Code;
-use rule_steps::coded;
+use rule_steps::{Goes, coded};
 use std::alloc::Global;
 use std::mem;
 use tcl_vars::Vars;
@@ -145,6 +145,21 @@ impl Run<'_> {
             return Err(self.raise(TclFault::too_long(alloc)));
         }
         self.ended()
+    }
+
+    /// Whether a loop goes on. The end of one that is over is the empty value.
+    pub(crate) fn go_on(&mut self, alloc: Global, goes: Goes) -> Halts
+        ensures noted { self.new ≡ record self.old { end = loop_end goes self.old.end } }
+        ensures going { result ≡ going goes }
+    {
+        match goes {
+            Goes::On => Ok(()),
+            Goes::Over => {
+                self.end = End::Done(Code::Value(Text::empty(alloc)));
+                Err(Halted)
+            }
+            Goes::Ends => Err(Halted),
+        }
     }
 
     /// Takes a unit of the budget.

@@ -1,7 +1,10 @@
 pub mod ListTests
 pub mod TakenBytes
 pub mod MadeServers
-pub mod TakenKept
+pub mod TakenRows
+pub mod TakenComes
+pub mod TakenCounts
+pub mod TakenRuns
 pub mod LineCuts
 pub mod ConnectionLines
 pub mod OneEvent

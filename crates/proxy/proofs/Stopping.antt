@@ -29,7 +29,7 @@ use Rattle.journal_text.specs.Notes.{note_lines}
 use Rattle.proxy.specs.Stops.{stop_of, with_line}
 use Rattle.proxy.specs.Taken.{took_of, with_took}
 use Rattle.proxy.specs.Written.{Stands, IsFront, WritesNotes, WritesFront, WritesFrontOf}
-use Rattle.proxy.proofs.TakenKept.{taken_kept}
+use Rattle.proxy.proofs.TakenRuns.{taken_kept}
 
 -- an error that is want of memory
 pub out_of_memory : {T : Type 0} (r : Result T Stop) (P : Stop → Type 0) → IsErrAnd r (λ e. e ≡ stop.Memory) → P stop.Memory → IfErr r P

@@ -52,7 +52,8 @@ use Rattle.proxy_core.proofs.Framing.{each_by, only_changed, touches}
 use Rattle.proxy_core.proofs.GroupNotes.{About, closing_due, due_about, due_choices, due_cut, due_quiet, due_replies, quiet_by, quiet_finish, settling_due, tells_all}
 use Rattle.proxy_core.proofs.Members.{eq_self}
 use Rattle.proxy_core.proofs.RunOn.{told_due}
-use Rattle.proxy_core.proofs.SoundEvents.{MayCome, first_notes, fresh, seen_accept}
+use Rattle.proxy_core.proofs.SoundComes.{MayCome}
+use Rattle.proxy_core.proofs.SoundAccepts.{first_notes, fresh, seen_accept}
 use Rattle.proxy_core.proofs.ServerLaws.{unserved_longer}
 use Rattle.proxy_core.proofs.ServerLeft.{unserved_at}
 use Rattle.proxy_core.proofs.SoundPast.{front_served, leads_sound, marked_accepted, may_come_at, none_holds, not_accepted, ran_on}

@@ -1,6 +1,6 @@
 -- The run of the front, of the whole ring; the answer to the front of the calls.
-use Rattle.std.proofs.Common.{◌≡◌, ◌≤◌, ◌-◌, ℕ, List, [], ◌∷◌, ◌++◌, length, length-append, ap, ◌∙◌, subst, sym, refl, Bool, true, false, inr, arith}
-use Rattle.conn.specs.Runs.{IsBounded, IsWhole}
+use Rattle.std.proofs.Common.{◌≡◌, ◌-◌, ℕ, List, [], ◌∷◌, ◌++◌, length, length-append, ap, ◌∙◌, subst, sym, refl, Bool, true, false, inr, arith}
+use Rattle.conn.specs.Runs.{IsWhole}
 use Rattle.conn.specs.RunsItems.{ends}
 use Rattle.conn.specs.declared.turn.ConnTurn.{ConnTurn}
 use Rattle.conn.specs.declared.turn.ConnTurn.TheVariants as turn
@@ -33,13 +33,6 @@ behind_over turn.More n rest e = cc
 behind_over (turn.Asks call) n rest e = refl
 behind_over turn.NotYet n rest e = refl
 behind_over turn.Over n rest e = refl
-
--- one that goes on is bounded
-pub bounded_on : (t : ConnTurn) (steps : ℕ) → ends t ≡ false → IsBounded t steps → steps ≤ 2000
-bounded_on turn.More steps e b = b
-bounded_on (turn.Asks call) steps e b = b
-bounded_on turn.NotYet steps e b = b
-bounded_on turn.Over steps e b = cc
 
 -- the notes that were added are those of the group
 pub given_is : (before after group : List Note) (t : ConnTurn) (steps : ℕ) → after ≡ before ++ group → IsWhole t steps (length after - length before) → IsWhole t steps (length group)

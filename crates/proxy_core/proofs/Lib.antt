@@ -33,7 +33,11 @@ pub mod Linking
 pub mod LinkedComes
 pub mod ServerLeft
 pub mod Licensing
-pub mod SoundEvents
+pub mod SoundAccepts
+pub mod SoundComes
+pub mod SoundLacks
+pub mod SoundTurns
+pub mod SoundRuns
 pub mod SoundPast
 pub mod Others
 pub mod Answering

@@ -55,7 +55,11 @@ use Rattle.proxy_core.proofs.Sums.{due_causes}
 use Rattle.proxy_core.proofs.Hearing.{Told, come_told, run_told, turn_told}
 use Rattle.proxy_core.proofs.Members.{eq_self}
 use Rattle.proxy_core.proofs.ReadyRing.{distinct_none, distinct_push, distinct_without}
-use Rattle.proxy_core.proofs.SoundEvents.{lack_served, failed_comes, first_notes, fresh_sound, seen_accept, MayCome, come_served, Answers, turned_to, turn_served, Behind, ran_at, run_about, run_served, failed_served}
+use Rattle.proxy_core.proofs.SoundLacks.{lack_served, failed_comes}
+use Rattle.proxy_core.proofs.SoundAccepts.{first_notes, fresh_sound, seen_accept}
+use Rattle.proxy_core.proofs.SoundComes.{MayCome, come_served}
+use Rattle.proxy_core.proofs.SoundTurns.{Answers, turned_to, turn_served}
+use Rattle.proxy_core.proofs.SoundRuns.{Behind, ran_at, run_about, run_served, failed_served}
 use Rattle.proxy_core.proofs.LinkedComes.{closing_closes, due_state}
 use Rattle.proxy_core.proofs.ServerCounts.{TookBy, more_of, come_took}
 use Rattle.proxy_core.proofs.ServerLeft.{server_left}

@@ -1,5 +1,5 @@
 -- What an event changes in a core, and the notes that come of it.
-use Rattle.std.specs.Prelude.{◌≡◌, ◌⊎◌, ℕ, ◌<◌, List, [], ◌∷◌, ◌++◌, length, Bool, true, false}
+use Rattle.std.specs.Prelude.{◌≡◌, ◌⊎◌, ℕ, ◌<◌, ◌≤◌, List, [], ◌∷◌, ◌++◌, length, Bool, true, false}
 use Rattle.std.specs.Prelude.{Option, Some, None, slice_get, slice_set, remove}
 use Rattle.px_bytes.specs.declared.addr.Addr.{Addr}
 use Rattle.px_bytes.specs.declared.addr.Side.TheVariants.{Client, Server}
@@ -11,7 +11,7 @@ use Rattle.connection_model.specs.Edges.{accepted_edges, edges_noted}
 use Rattle.connection_model.specs.Heard.{Input, Bytes, Ends, Takes, Resets, Connects, edges_met}
 use Rattle.conn.specs.Calls.{Begins}
 use Rattle.conn.specs.Ends.{fresh_ends}
-use Rattle.conn.specs.Runs.{IsBounded, IsWhole}
+use Rattle.conn.specs.Runs.{IsWhole}
 use Rattle.conn.specs.RunsItems.{ends}
 use Rattle.conn.specs.declared.connection.Conn.{Conn}
 use Rattle.conn.specs.declared.setup.Place.{Place}
@@ -101,8 +101,9 @@ pub record ComesOf (old new : Core) (number : ℕ) (input : Input) (group : List
   pub ends : over ≡ true → Goes old new at before
 
 -- The front of the ring runs, and leaves the ring, or goes to its back where there is more to do. It
--- goes on with its new state, or is over. It stops in the middle only behind so many steps or notes. Where
--- it stops at a call that goes to the back of the calls, which are fewer than connections may be.
+-- goes on with its new state, or is over. It stops in the middle only behind so many steps or notes, and
+-- counts 2,000 steps at most. Where it stops at a call that goes to the back of the calls, which are fewer
+-- than connections may be.
 pub record RunsFront (old new : Core) (number : ℕ) (rest : List ℕ) (group : List Note)
     (steps : ℕ) : Type 0 where
   pub keeps : KeepsConfig old new
@@ -121,7 +122,7 @@ pub record RunsFront (old new : Core) (number : ℕ) (rest : List ℕ) (group : 
   pub edges : ends turn ≡ false → edges_in after ≡ edges_noted group (edges_in before)
   pub runs : LiveRuns setup number before.edges before.conn after.conn group turn
   pub whole : IsWhole turn steps (length group)
-  pub bounded : IsBounded turn steps
+  pub bounded : steps ≤ 2000
   pub ring : new.live.ring ≡ ring_behind turn number rest
   pub queue : length old.queue.items < old.config.connections
       → new.queue.items ≡ queue_behind turn number old.queue.items

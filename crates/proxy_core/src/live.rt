@@ -6,7 +6,7 @@ ghost use Rattle.connection_model.specs.declared.note.Note.{Note};
 ghost use Rattle.connection_model.specs.Edges.{edges_noted};
 ghost use Rattle.connection_model.specs.Heard.{Bytes, Connects, Ends, Resets, Takes, edges_met};
 ghost use Rattle.conn.specs.Stages.{has_finished};
-ghost use Rattle.conn.specs.Runs.{IsBounded, IsWhole};
+ghost use Rattle.conn.specs.Runs.{IsWhole};
 ghost use Rattle.conn.specs.RunsItems.{ends};
 ghost use Rattle.conn.specs.Settling.{closing};
 ghost use Rattle.proxy_core.specs.Refusal.{input_refusal};
@@ -266,7 +266,7 @@ impl Live {
             × (ends result ≡ false → edges_in self.new ≡ edges_noted group (edges_in self.old)) }
         ensures slice { let given = length notes.new.items - length notes.old.items in
             IsWhole result (steps.new - steps.old) given }
-        ensures bounded { IsBounded result (steps.new - steps.old) }
+        ensures bounded { steps.new ≤ steps.old + 2000 }
         ensures few_notes { length notes.new.items ≤ length notes.old.items + 68 }
     {
         match &mut self.conn {

@@ -18,8 +18,7 @@ impl Core {
         requires { 68 ≤ notes.old.spare }
         ensures runs { (group : List Note) × (notes.new.items ≡ notes.old.items ++ group)
             × RunsRing self.old self.new self.old.live.ring group (steps.new - steps.old) }
-        ensures bounded { length self.old.live.items ≤ length self.new.live.items
-            → steps.new ≤ steps.old + 2000 }
+        ensures bounded { steps.new ≤ steps.old + 2000 }
         ensures few_notes { length notes.new.items ≤ length notes.old.items + 68 }
     {
         let Some(at) = self.live.pop_ready() else {

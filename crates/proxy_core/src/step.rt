@@ -15,8 +15,7 @@ use std::sync::ledger::Ledger;
 
 impl Core {
     /// Takes an event and adds its notes. A refused event changes nothing, gives no note and counts no
-    /// step. An accepted one gives 68 notes at most. One that ends no connection counts 2,000 steps at
-    /// most.
+    /// step. An accepted one gives 68 notes and counts 2,000 steps at most.
     pub fn step<L: Ledger>(
         &mut self,
         event: Event,
@@ -32,8 +31,7 @@ impl Core {
         ensures scheduled { IfErr result (λ why. IsRefused self.old event why) }
         ensures same { OnErr result ((self.new ≡ self.old) × (notes.new ≡ notes.old)) }
         ensures uncounted { OnErr result (steps.new ≡ steps.old) }
-        ensures bounded { length self.old.live.items ≤ length self.new.live.items
-            → steps.new ≤ steps.old + 2000 }
+        ensures bounded { steps.new ≤ steps.old + 2000 }
     {
         self.take(event, steps, notes)
     }
@@ -53,8 +51,7 @@ impl Core {
         ensures same { OnErr result ((self.new ≡ self.old) × (notes.new ≡ notes.old)) }
         ensures few_notes { OnOk result (length notes.new.items ≤ length notes.old.items + 68) }
         ensures uncounted { OnErr result (steps.new ≡ steps.old) }
-        ensures bounded { length self.old.live.items ≤ length self.new.live.items
-            → steps.new ≤ steps.old + 2000 }
+        ensures bounded { steps.new ≤ steps.old + 2000 }
     {
         match event {
             Event::Accept { conn, vs, from } => self.accept(conn, vs.as_bytes(), from, notes),

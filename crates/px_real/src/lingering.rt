@@ -18,12 +18,14 @@ const BYTES: usize = 65_536;
 /// sending half, and what still comes is thrown away for a while.
 #[derive(Drop)]
 pub(crate) struct Lingering {
+    // the one that was closed first is first
     held: Vec<Held>,
     room: Vec<u8>,
 }
 
 #[derive(Drop)]
 struct Held {
+    number: u32,
     stream: TcpStream,
     until: u64,
     left: usize,
@@ -41,40 +43,57 @@ impl Lingering {
         self.held.is_empty()
     }
 
-    /// Keeps a stream from this moment on, where there is room.
-    pub(crate) fn keep(&mut self, stream: TcpStream, now: u64) {
+    /// Keeps the stream of a link from this moment on, where there is room. The system reports it by
+    /// the link's number still, each time that something comes anew.
+    pub(crate) fn keep(&mut self, number: u32, stream: TcpStream, reported: bool, now: u64) {
         if self.held.len() >= MOST || stream.shutdown(Shutdown::Write).is_err() {
             return;
         }
-        let until = now.saturating_add(MILLIS);
-        let left = BYTES;
-        let _ = self.held.push(Held {
+        let mut held = Held {
+            number,
             stream,
-            until,
-            left,
-        });
+            until: now.saturating_add(MILLIS),
+            left: BYTES,
+        };
+        if reported && !held.stays(&mut self.room) {
+            return;
+        }
+        let _ = self.held.push(held);
     }
 
-    /// Throws away what came, and closes those that are over.
-    pub(crate) fn drain(&mut self, now: u64) {
-        let room = &mut self.room;
-        self.held.retain_mut(|held| held.stays(now, room));
+    /// Throws away what came of a link, and closes it where it is over.
+    pub(crate) fn drain(&mut self, number: u32) {
+        let Some(at) = self.held.iter().position(|held| held.number == number) else {
+            return;
+        };
+        let stays = match self.held.get_mut(at) {
+            Some(held) => held.stays(&mut self.room),
+            None => true,
+        };
+        if !stays {
+            self.held.remove(at);
+        }
+    }
+
+    /// Closes those that lingered long enough.
+    pub(crate) fn expire(&mut self, now: u64) {
+        match self.held.first() {
+            Some(held) if held.until <= now => self.held.retain(|held| now < held.until),
+            _ => {}
+        }
     }
 }
 
 impl Held {
-    // Whether it lingers on.
-    fn stays(&mut self, now: u64, room: &mut [u8]) -> bool {
-        if now >= self.until {
-            return false;
-        }
-        for _ in 0..16 {
+    // Reads all that came. Whether it lingers on.
+    fn stays(&mut self, room: &mut [u8]) -> bool {
+        for _ in 0..BYTES {
             match self.stream.read(room) {
                 Ok(n) if 0 < n && n < self.left => self.left -= n,
                 Ok(_) => return false,
                 Err(error) => return error.kind() == ErrorKind::WouldBlock,
             }
         }
-        true
+        false
     }
 }

@@ -24,6 +24,10 @@ pub(crate) struct Link {
     both: bool,
     // the end was read, or the link failed
     over: bool,
+    // Nagle's algorithm is on: what is written while small pieces aren't acknowledged yet would wait
+    delays: bool,
+    // something was written
+    wrote: bool,
 }
 
 impl Link {
@@ -36,6 +40,8 @@ impl Link {
             hung_up: false,
             both: false,
             over: false,
+            delays: true,
+            wrote: false,
         }
     }
 
@@ -49,6 +55,8 @@ impl Link {
             hung_up: refused,
             both: true,
             over: refused,
+            delays: true,
+            wrote: false,
         }
     }
 
@@ -113,6 +121,18 @@ impl Link {
         }
     }
 
+    // The first write leaves at once, since nothing is on its way; so Nagle's algorithm ends at the
+    // second, and a link that is written to once costs no call for it.
+    fn end_delays(&mut self) {
+        if !self.wrote || !self.delays {
+            return;
+        }
+        self.delays = false;
+        if let Some(stream) = &self.stream {
+            let _ = stream.set_nodelay(true);
+        }
+    }
+
     pub(crate) fn write(&mut self, bytes: &[u8]) -> WriteAnswer
         requires { 0 < length bytes.now }
         ensures { WritesWithin (length bytes.now) result }
@@ -120,6 +140,7 @@ impl Link {
         if !self.writable {
             return WriteAnswer::NotYet;
         }
+        self.end_delays();
         let Some(mut stream) = self.stream.as_ref() else {
             return WriteAnswer::Reset;
         };
@@ -129,6 +150,7 @@ impl Link {
                 WriteAnswer::NotYet
             }
             Ok(n) => {
+                self.wrote = true;
                 self.writable = n == bytes.len();
                 WriteAnswer::Took(n)
             }
@@ -165,8 +187,15 @@ impl Link {
         }
     }
 
-    /// Its stream, where bytes of the peer may be unread, or come still.
-    pub(crate) fn unread(self) -> Option<TcpStream> {
-        if self.over { None } else { self.stream }
+    /// Its stream, where bytes of the peer may be unread, or come still, and whether the system has
+    /// reported some.
+    pub(crate) fn unread(self) -> Option<(TcpStream, bool)> {
+        if self.over {
+            return None;
+        }
+        match self.stream {
+            Some(stream) => Some((stream, self.readable || self.hung_up)),
+            None => None,
+        }
     }
 }

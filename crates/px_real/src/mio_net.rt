@@ -107,13 +107,17 @@ fn counted(count: u64) -> u64
     count.saturating_add(1)
 }
 
-// Takes down what the system reports.
-fn mark(events: &Events, links: &mut Links)
+// Takes down what the system reports, and throws away what came of closed links.
+fn mark(events: &Events, links: &mut Links, lingering: &mut Lingering)
     ensures { SameLinks links.old links.new }
 {
     for event in events.iter() {
         if let Ok(number) = u32::try_from(event.token().0) {
-            links.mark(number, event);
+            if links.has(number) {
+                links.mark(number, event);
+            } else {
+                lingering.drain(number);
+            }
         }
     }
 }
@@ -195,7 +199,7 @@ impl<R: net::Net + time::Clock + Drop> Net for MioNet<R> {
     fn wait(&mut self, until: u64, out: &mut ReadyList) -> Result<(), Failed> {
         out.clear();
         let now = self.clock.now();
-        self.lingering.drain(now);
+        self.lingering.expire(now);
         let timeout = self.timeout(until, now);
         let waited = match &mut self.poll {
             Some(poll) => poll.poll(&mut self.events, timeout).is_ok(),
@@ -205,7 +209,7 @@ impl<R: net::Net + time::Clock + Drop> Net for MioNet<R> {
             self.faults = counted(self.faults);
             return Err(Failed::Failed);
         }
-        mark(&self.events, &mut self.links);
+        mark(&self.events, &mut self.links, &mut self.lingering);
         if self.scarce {
             self.scarce = false;
             list_listeners(&self.links, self.listeners.len(), out)?;
@@ -308,9 +312,9 @@ impl<R: net::Net + time::Clock + Drop> Net for MioNet<R> {
         let Some(closed) = self.links.remove(link) else {
             return;
         };
-        if let Some(stream) = closed.unread() {
+        if let Some((stream, reported)) = closed.unread() {
             let now = self.clock.now();
-            self.lingering.keep(stream, now);
+            self.lingering.keep(link, stream, reported, now);
         }
     }
 }

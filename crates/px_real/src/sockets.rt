@@ -54,7 +54,6 @@ pub(crate) fn open<R: Net>(rt: &R, poll: &Poll, slot: u32, at: Addr) -> io::Resu
 
 fn connected<R: Net>(rt: &R, poll: &Poll, link: u32, to: Addr) -> io::Result<TcpStream> {
     let mut stream = TcpStream::connect(rt, address(to))?;
-    let _ = stream.set_nodelay(true);
     let interest = Interest::READABLE | Interest::WRITABLE;
     poll.registry()
         .register(&mut stream, Token(link as usize), interest)?;
@@ -85,7 +84,6 @@ fn take_one(listener: &TcpListener, poll: &Poll, link: u32) -> Taken {
 }
 
 fn registered(mut stream: TcpStream, from: SocketAddr, poll: &Poll, link: u32) -> Taken {
-    let _ = stream.set_nodelay(true);
     let token = Token(link as usize);
     match poll
         .registry()

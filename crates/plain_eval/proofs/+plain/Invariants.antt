@@ -1,14 +1,13 @@
 use Rattle.plain_eval.proofs.Vocabulary
-use Vocabulary.{◌≡◌, ◌≤◌, ◌+◌, ◌-◌, ◌*◌, ◌++◌, length, drop, Ok, true, ℕ, List, Bool, sum_by}
-use Vocabulary.{text_limit, Tree, operands_of, trees_of, script, values_of, node_view, nodes_view}
-use Vocabulary.{operands_view, values_view, child, places_of, Meaning, ended, value_in, first_of}
-use Vocabulary.{loop_tree, meaning_of, pieces_of, rows_of, turns_of, words_of, GoesOn, inner_of}
+use Vocabulary.{[], drop, true, ℕ, ◌*◌, ◌++◌, ◌+◌, ◌-◌, ◌∷◌, Tree, operands_of, script, trees_of}
+use Vocabulary.{values_of, node_view, nodes_view, operands_view, values_view, child, places_of}
+use Vocabulary.{rows_view, first_of, loop_tree, meaning_of, pieces_of, turns_of, GoesOn, inner_of}
 use Vocabulary.{setting_of, stand}
-use Rattle.tcl_compile.specs.Tree.{row}
-use Rattle.plain_eval.proofs.InExpressions.{first_left, operands_left}
-use Rattle.plain_eval.proofs.InRows.{rows_left}
+use Rattle.tcl_compile.specs.Tree.{each, row}
+use Rattle.plain_eval.proofs.InExpressions.{RowLeft, first_left}
+use Rattle.plain_eval.proofs.InLoops.{rows_left}
 use Rattle.plain_eval.proofs.InScripts.{ScriptLeft}
-use Rattle.plain_eval.proofs.InWords.{pieces_left, words_left}
+use Rattle.plain_eval.proofs.InWords.{WordsLeft, pieces_left}
 use Rattle.plain_eval.proofs.+plain.Given as goal
 
 -- what a function of the cycle calls at the same level comes before it; one tree further in is a level
@@ -55,8 +54,8 @@ decreases-loops::eval_turn g l = at_level l.levels 2
 abbrev pub decreases-loops::eval_loop : goal.decreases-loops::eval_loop
 decreases-loops::eval_loop g l = at_level l.levels 3
 
-abbrev pub decreases-loops::eval_rows : goal.decreases-loops::eval_rows
-decreases-loops::eval_rows g l = at_level l.levels 1
+abbrev pub decreases-loops::eval_body : goal.decreases-loops::eval_body
+decreases-loops::eval_body g l = at_level l.levels 1
 
 abbrev pub decreases-loops::eval_each : goal.decreases-loops::eval_each
 decreases-loops::eval_each g l = at_level l.levels 3
@@ -81,18 +80,12 @@ decreases-calls::eval_expression g l = at_level l.levels 1
 
 abbrev pub invariant-tree::eval_script-loop-command : goal.invariant-tree::eval_script-loop-command
 invariant-tree::eval_script-loop-command g l =
-    ScriptLeft (setting_of g.H.PlainHost.table l.context) (inner_of g.H.PlainHost.table l.context) l.last l.wanted (meaning_of g.H.PlainHost.table l.context (script (trees_of (nodes_view l.commands))))
-    (stand l.fn.run l.fn.host) l.front l.command-index (stand l.run l.host)
+    ScriptLeft (setting_of g.H.PlainHost.table l.context) (inner_of g.H.PlainHost.table l.context) l.wanted (meaning_of g.H.PlainHost.table l.context (script (trees_of (nodes_view l.commands))))
+    (stand l.fn.run l.fn.host) (drop l.command-index l.front ++ l.last ∷ []) l.command-index (stand l.run l.host)
 
 abbrev pub invariant-words::eval_words-loop-word : goal.invariant-words::eval_words-loop-word
 invariant-words::eval_words-loop-word g l =
-    record {
-      total : l.total ≡ l.name_len + sum_by length l.values;
-      fits : l.total ≤ text_limit;
-      left : (w : Bool) (name : List (List ℕ)) (k : ℕ) (p : Tree → ℕ) (go : List (List ℕ) → Meaning _) → sum_by length name ≡ l.name_len
-          → GoesOn w (words_of g.H.PlainHost.table l.context name k p l.words go) (stand l.fn.run l.fn.host)
-          (words_left (setting_of g.H.PlainHost.table l.context) (inner_of g.H.PlainHost.table l.context) (λ all. go (drop (length name) all)) p l.words l.word-index (k + l.word-index) (name ++ l.values)) (stand l.run l.host);
-    }
+    WordsLeft (setting_of g.H.PlainHost.table l.context) (inner_of g.H.PlainHost.table l.context) (stand l.fn.run l.fn.host) l.words l.word-index l.name_len l.total l.values (stand l.run l.host)
 
 abbrev pub invariant-words::eval_word-loop-part : goal.invariant-words::eval_word-loop-part
 invariant-words::eval_word-loop-part g l =
@@ -101,23 +94,20 @@ invariant-words::eval_word-loop-part g l =
 
 abbrev pub invariant-expressions::eval_row-loop-joint : goal.invariant-expressions::eval_row-loop-joint
 invariant-expressions::eval_row-loop-joint g l =
-    record {
-      value : Ok tt ≡ ended l.run.end;
-      left : GoesOn true (meaning_of g.H.PlainHost.table l.context (row (node_view l.first) (operands_of (operands_view l.rest)))) (stand l.fn.run l.fn.host)
-          (operands_left (setting_of g.H.PlainHost.table l.context) (inner_of g.H.PlainHost.table l.context) l.rest l.joint-index (value_in l.run.end)) (stand l.run l.host);
-    }
+    RowLeft (setting_of g.H.PlainHost.table l.context) (inner_of g.H.PlainHost.table l.context) (meaning_of g.H.PlainHost.table l.context (row (node_view l.first) (operands_of (operands_view l.rest))))
+    (stand l.fn.run l.fn.host) l.rest l.joint-index l.run.end (stand l.run l.host)
 
 abbrev pub invariant-branches::eval_branches-loop-condition : goal.invariant-branches::eval_branches-loop-condition
 invariant-branches::eval_branches-loop-condition g l =
     (n : ℕ) (p q r : Tree → ℕ) → GoesOn l.wanted (first_of g.H.PlainHost.table l.context n p q r l.values l.last) (stand l.fn.run l.fn.host)
-    (first_left (setting_of g.H.PlainHost.table l.context) (inner_of g.H.PlainHost.table l.context) n p q l.values l.condition-index (l.condition-index * 2)
+    (first_left (setting_of g.H.PlainHost.table l.context) (inner_of g.H.PlainHost.table l.context) n p q l.values l.condition-index
     (child r (places_of (values_of (values_view l.values))) (node_view l.last) (meaning_of g.H.PlainHost.table l.context (node_view l.last)))) (stand l.run l.host)
 
 abbrev pub invariant-loops::eval_loop-loop : goal.invariant-loops::eval_loop-loop
 invariant-loops::eval_loop-loop g l =
     GoesOn true (meaning_of g.H.PlainHost.table l.context (loop_tree l.start l.parts)) (stand l.fn.run l.fn.host) (turns_of g.H.PlainHost.table l.context l.parts (l.end - l.counter)) (stand l.run l.host)
 
-abbrev pub invariant-loops::eval_rows-loop-number : goal.invariant-loops::eval_rows-loop-number
-invariant-loops::eval_rows-loop-number g l =
-    (k : ℕ) → GoesOn true (rows_of g.H.PlainHost.table l.context k l.rows l.body) (stand l.fn.run l.fn.host)
-    (rows_left g.H.PlainHost.table l.context l.rows l.body k (l.number-end - l.number) l.number) (stand l.run l.host)
+abbrev pub invariant-loops::eval_each-loop-number : goal.invariant-loops::eval_each-loop-number
+invariant-loops::eval_each-loop-number g l =
+    GoesOn true (meaning_of g.H.PlainHost.table l.context (each (trees_of (nodes_view l.words)) (node_view l.body))) (stand l.fn.run l.fn.host)
+    (rows_left g.H.PlainHost.table l.context l.words l.body (rows_view l.rows) (l.number-end - l.number) l.number) (stand l.run l.host)

@@ -166,3 +166,17 @@ fn a_hundred_calls_of_a_hundred_bodies_have_stack(rt: HostRuntime) -> Result<(),
     assert_eq!(rt; end.as_bytes(), b"too many nested calls".as_slice());
     Ok(())
 }
+
+#[test]
+fn a_hundred_calls_of_a_hundred_loops_have_stack(rt: HostRuntime) -> Result<(), Fail> {
+    let end = calls_itself(rt.alloc(), 99, b"while 1 {", b"}")?;
+    assert_eq!(rt; end.as_bytes(), b"too many nested calls".as_slice());
+    Ok(())
+}
+
+#[test]
+fn a_hundred_calls_of_a_hundred_turns_over_lists_have_stack(rt: HostRuntime) -> Result<(), Fail> {
+    let end = calls_itself(rt.alloc(), 99, b"foreach x 1 {", b"}")?;
+    assert_eq!(rt; end.as_bytes(), b"too many nested calls".as_slice());
+    Ok(())
+}

@@ -9,7 +9,6 @@ use Rattle.frame_machine.specs.Owed.{is_flat}
 use Rattle.frame_machine.specs.Reads.{known}
 use Rattle.frame_machine.specs.StillMoves.{still_begin}
 use Rattle.frame_machine.specs.Stills.{spent}
-use Rattle.frame_machine.proofs.FewTicks.{still_begin_few}
 use Rattle.frame_machine.proofs.InBegins.{first_moved, flat_moved}
 use Rattle.frame_machine.proofs.InKinds.{still_begins, still_begins_owes}
 use Rattle.frame_machine.proofs.InMoves.{comes_moved}
@@ -76,10 +75,3 @@ returns-clause-owed g c = λ e.
     let k = c.in_ok-began.ensures.cost in
     let s = c.in_ok-began.ensures.ticks in
     rw c.in_ok-began.ensures.next (omega (arith, o, k, s))
-
-pub returns-clause-few : goal.returns-clause-few
-returns-clause-few g c =
-    let level = option_map (λ v. v.now.statics) c.args.context.now.statics in
-    let few = still_begin_few (known level c.args.vars.now) (node_view c.args.node.now) c.args.wanted c.args.budget.now in
-    let s = c.in_ok-began.ensures.ticks in
-    omega (arith, few, s)

@@ -8,15 +8,15 @@ use Rattle.frame_machine.proofs.InEnds.{call_free, makes_move, makes_still, make
 use Rattle.frame_machine.proofs.InReading.{reading}
 use Rattle.frame_machine.proofs.ends.end_command.Goals as goal
 
-pub returns-in_ok-next-in-Call : goal.returns-in_ok-next-in-Call
-returns-in_ok-next-in-Call g c =
+pub returns-in_ok-next-in-Call-clause-did : goal.returns-in_ok-next-in-Call-clause-did
+returns-in_ok-next-in-Call-clause-did g c =
     let n = c.in_ok-next-in-Call.ensures in
     let caller = caller_view c.args.caller.now in
     rw c.in-Call.is (makes_written (call_move caller c.args.words.now c.args.vars.now) _ _ _ _ _ _
     (call_free caller c.args.words.now c.args.vars.now) n.next n.vars refl)
 
-pub returns-in_ok-next-in-ExprOfWords : goal.returns-in_ok-next-in-ExprOfWords
-returns-in_ok-next-in-ExprOfWords g c =
+pub returns-in_ok-next-in-ExprOfWords-clause-did : goal.returns-in_ok-next-in-ExprOfWords-clause-did
+returns-in_ok-next-in-ExprOfWords-clause-did g c =
     let n = c.in_ok-next-in-ExprOfWords in
     let k = known (caller_view c.args.caller.now).statics c.args.vars.now in
     let r = c.args.caller.now.room in
@@ -25,8 +25,8 @@ returns-in_ok-next-in-ExprOfWords g c =
     rw c.in-ExprOfWords.is
     (makes_move m _ _ _ _ _ _ n.ensures.cost n.ensures.ticks (n.next, n.ensures.next, refl))
 
-pub returns-in_default : goal.returns-in_default
-returns-in_default g c =
+pub returns-in_default-clause-did : goal.returns-in_default-clause-did
+returns-in_default-clause-did g c =
     let d = c.in_default in
     rw (c.stop.ensures, c.empty.ensures)
     (makes_still _ _ _ _ _ (other_verb (caller_view c.args.caller.now) c.args.verb c.args.words.now _ _

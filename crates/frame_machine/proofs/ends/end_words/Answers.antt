@@ -7,8 +7,8 @@ use Rattle.frame_machine.proofs.FirstViews.{has_words_view}
 use Rattle.frame_machine.proofs.InEnds.{catch_in_is, each_is, makes_still, switch_is, wordless}
 use Rattle.frame_machine.proofs.ends.end_words.Goals as goal
 
-pub returns-in_ok-next-in-Foreach : goal.returns-in_ok-next-in-Foreach
-returns-in_ok-next-in-Foreach g c =
+pub returns-in_ok-next-in-Foreach-clause-did : goal.returns-in_ok-next-in-Foreach-clause-did
+returns-in_ok-next-in-Foreach-clause-did g c =
     let ok = c.in-Foreach.all.ok.0 in
     let len = c.len-place.ensures in
     let place : c.len-place.result ≡ length c.in-Foreach.all.items = omega (arith, ok, len) in
@@ -16,16 +16,16 @@ returns-in_ok-next-in-Foreach g c =
     (each_is (caller_view c.args.caller.now) c.in-Foreach.all c.in-Foreach.body c.len-place.result
     c.args.words.now _ _ _ _ _ _ _ _ place (rw c.deref.ensures at c.in_ok-next-in-Foreach.ensures))
 
-pub returns-in_ok-next-in-Switch : goal.returns-in_ok-next-in-Switch
-returns-in_ok-next-in-Switch g c =
+pub returns-in_ok-next-in-Switch-clause-did : goal.returns-in_ok-next-in-Switch-clause-did
+returns-in_ok-next-in-Switch-clause-did g c =
     let s = c.in-Switch in
     rw (ap node_view s.is)
     (switch_is (caller_view c.args.caller.now) s.front s.all s.bodies c.args.words.now _ _ _ _ _
     (rw (c.deref-in-Switch.ensures.value, c.deref-in-Switch-2.ensures.value, c.behind_name.ensures) at
     c.in_ok-next-in-Switch.ensures))
 
-pub returns-in_ok-next-in-CatchIn : goal.returns-in_ok-next-in-CatchIn
-returns-in_ok-next-in-CatchIn g c =
+pub returns-in_ok-next-in-CatchIn-clause-did : goal.returns-in_ok-next-in-CatchIn-clause-did
+returns-in_ok-next-in-CatchIn-clause-did g c =
     let n = c.in_ok-next-in-CatchIn.ensures in
     let body = c.deref-in-CatchIn.ensures in
     rw (ap node_view c.in-CatchIn.is)
@@ -33,8 +33,8 @@ returns-in_ok-next-in-CatchIn g c =
     _ _
     (rw body at n.next, rw body at n.vars))
 
-pub returns-in_default : goal.returns-in_default
-returns-in_default g c =
+pub returns-in_default-clause-did : goal.returns-in_default-clause-did
+returns-in_default-clause-did g c =
     let n = c.args.node.now in
     let none : has_words_in (out-Node n) ≡ false = search rules in
     rw (c.stop.ensures, c.empty.ensures)

@@ -35,20 +35,15 @@ pub returns-clause-did : goal.returns-clause-did
 returns-clause-did g c =
     ends_moved (setting_of g.H.Host.table c.args.context.now) c.args.room c.args.wanted
     (node_view c.args.node.now) c.args.words _ _ _ _ _ (sym c.word_verb.ensures ∙ c.in-None.is)
-    c.in_ok-next-in-None.ensures (g.met.H.Host.made_none _)
+    c.in_ok-next-in-None.ensures.did (g.met.H.Host.made_none _)
 
 pub returns-clause-ready : goal.returns-clause-ready
 returns-clause-ready g c =
     (ends_owe (caller_at (setting_of g.H.Host.table c.args.context.now) c.args.room c.args.wanted)
-    (node_view c.args.node.now) c.args.words _ _ _ c.in_ok-next-in-None.ensures).ready
+    (node_view c.args.node.now) c.args.words _ _ _ c.in_ok-next-in-None.ensures.did).ready
 
 pub returns-clause-owed : goal.returns-clause-owed
 returns-clause-owed g c =
     let o = (ends_owe (caller_at (setting_of g.H.Host.table c.args.context.now) c.args.room c.args.wanted)
-    (node_view c.args.node.now) c.args.words _ _ _ c.in_ok-next-in-None.ensures).owed in
+    (node_view c.args.node.now) c.args.words _ _ _ c.in_ok-next-in-None.ensures.did).owed in
     omega (arith, o)
-
-pub returns-clause-few : goal.returns-clause-few
-returns-clause-few g c =
-    (ends_owe (caller_at (setting_of g.H.Host.table c.args.context.now) c.args.room c.args.wanted)
-    (node_view c.args.node.now) c.args.words _ _ _ c.in_ok-next-in-None.ensures).few

@@ -5,7 +5,6 @@ use Rattle.frame_machine.specs.Frames.{inner_of}
 use Rattle.frame_machine.specs.Given.{setting_of}
 use Rattle.tcl_compile.specs.Procedures.{procs_view}
 use Rattle.frame_machine.specs.StillMoves.{still_goes}
-use Rattle.frame_machine.proofs.FewTicks.{still_goes_few}
 use Rattle.frame_machine.proofs.InBegins.{behind_moved, words_moved}
 use Rattle.frame_machine.proofs.InKinds.{not_words, still_goes_on, still_goes_owes}
 use Rattle.frame_machine.proofs.InMoves.{comes_moved}
@@ -57,7 +56,6 @@ returns-in_ok-went-in_default g c =
     let n = c.in_ok-went-in_default.ensures in
     let h = not_words f c.in_default.not-Words in
     let o = still_goes_owes (procs_view c.args.context.now.procs.now) level c.args.vars.now t f c.args.code c.args.wanted c.args.budget.now h in
-    let few = still_goes_few level c.args.vars.now t f c.args.code c.args.wanted c.args.budget.now in
     let cost = n.cost in
     let ticks = n.ticks in
     record {
@@ -68,5 +66,5 @@ returns-in_ok-went-in_default g c =
       owed = (let k = o.0 in rw n.next (omega (arith, k, cost, ticks)));
       grows = omega (arith, cost);
       ticks = omega (arith, ticks);
-      few = omega (arith, ticks, few);
+      few = n.few;
     }

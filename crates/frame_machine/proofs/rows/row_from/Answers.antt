@@ -5,8 +5,8 @@ use Rattle.frame_machine.specs.Rows.{most_operators}
 use Rattle.frame_machine.proofs.RowSteps.{operand_here, row_ends, row_goes, row_stays}
 use Rattle.frame_machine.proofs.rows.row_from.Goals as goal
 
-pub returns-then-at-first-eq-MOST_OPERATORS : goal.returns-then-at-first-eq-MOST_OPERATORS
-returns-then-at-first-eq-MOST_OPERATORS g c =
+pub returns-then-at-first-eq-MOST_OPERATORS-clause-did : goal.returns-then-at-first-eq-MOST_OPERATORS-clause-did
+returns-then-at-first-eq-MOST_OPERATORS-clause-did g c =
     let l = c.loop-at in
     let four = c.if-at-first-eq-MOST_OPERATORS.true in
     let is = row_stays (known_by c.args.reads.now) (most_operators - (l.at - c.args.first)) l.at
@@ -17,11 +17,11 @@ returns-then-at-first-eq-MOST_OPERATORS g c =
       ticked_is = omega (arith, l.invariant.ticks, ap (λ r. r.ticks) is);
     }
 
-pub returns-in-Ends : goal.returns-in-Ends
-returns-in-Ends g c =
+pub returns-in-Ends-clause-did : goal.returns-in-Ends-clause-did
+returns-in-Ends-clause-did g c =
     let l = c.loop-at in
     let o = c.index-joints-at.result in
-    let joined = c.in_ok-value.ensures in
+    let joined = c.in_ok-value.ensures.did in
     let here = operand_here c.args.joints.now l.at o c.index-joints-at.is c.loop-at-test.true in
     let more = c.if-at-first-eq-MOST_OPERATORS.false in
     let is = row_ends (known_by c.args.reads.now) (most_operators - (l.at + 1 - c.args.first))
@@ -37,7 +37,7 @@ pub loop-at-preserved : goal.loop-at-preserved
 loop-at-preserved g c =
     let l = c.loop-at in
     let o = c.index-joints-at.result in
-    let joined = c.in_ok-value.ensures in
+    let joined = c.in_ok-value.ensures.did in
     let here = operand_here c.args.joints.now l.at o c.index-joints-at.is c.loop-at-test.true in
     let more = c.if-at-first-eq-MOST_OPERATORS.false in
     let is = row_goes (known_by c.args.reads.now) (most_operators - (l.at + 1 - c.args.first))
@@ -48,4 +48,11 @@ loop-at-preserved g c =
       value = sym (ap (λ r. r.value) is) ∙ l.invariant.value;
       cost = omega (arith, l.invariant.cost, ap (λ r. r.cost) is, joined.paid_is);
       ticks = omega (arith, l.invariant.ticks, ap (λ r. r.ticks) is, joined.ticked_is);
+      counted = omega (arith, l.invariant.counted, l.auto.at, c.in_ok-value.ensures.few);
     }
+
+pub returns-in-Ends-clause-few : goal.returns-in-Ends-clause-few
+returns-in-Ends-clause-few g c =
+    let l = c.loop-at in
+    let more = c.if-at-first-eq-MOST_OPERATORS.false in
+    omega (arith, more, l.invariant.few, l.invariant.counted, c.in_ok-value.ensures.few)

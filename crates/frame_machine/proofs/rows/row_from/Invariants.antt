@@ -15,4 +15,5 @@ invariant-loop-at g l =
       value : rest.value ≡ begun.value;
       cost : l.paid + rest.cost ≡ l.fn.paid + begun.cost;
       ticks : l.steps + rest.ticks ≡ l.fn.steps + begun.ticks;
+      counted : l.steps ≤ l.fn.steps + (l.at - l.first);
     }

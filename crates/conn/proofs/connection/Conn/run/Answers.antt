@@ -6,7 +6,7 @@ use Rattle.conn.specs.Runs.{DropsQueued}
 use Rattle.conn.specs.declared.turn.Act.TheVariants as done
 use Rattle.conn.specs.declared.turn.ConnTurn.{ConnTurn}
 use Rattle.conn.proofs.Advancing.{rests_quiet}
-use Rattle.conn.proofs.Running.{drops_told, RunsBy, at_first, one_more, runs_more, runs_asks, runs_rests, runs_out, rested_few, rests_whole, rests_bounded}
+use Rattle.conn.proofs.Running.{drops_told, RunsBy, at_first, one_more, runs_more, runs_asks, runs_rests, runs_out, rested_few, rests_whole}
 use Rattle.conn.proofs.connection.Conn.run.Goals as goal
 
 pub loop-moved-init : goal.loop-moved-init
@@ -25,7 +25,7 @@ loop-moved-preserved g c =
     let wide = k.2 in
     let counted = k.3 in
     let ticks = c.in-Ok-Goes.ensures.ticks in
-    let few = c.in-Ok-Goes.ensures.few in
+    let few = c.advance.ensures.few in
     let sums = c.in-Ok-Goes.ensures.counted in
     let so_far = k.4 in
     (one_more c.args.setup.now c.args.number c.args.self.now c.loop-moved.self c.advance.new.self c.args.notes.now.items c.loop-moved.notes.items c.advance.new.notes.items k.0 acted, omega (arith, grows, within), omega (arith, room, wide), omega (arith, counted, ticks), omega (arith, so_far, sums), omega (arith, so_far, sums, few, k.5), omega (arith, room, c.advance.ensures.spare, k.1))
@@ -64,13 +64,17 @@ returns-in-Err-clause-slice g c = rw c.fail.ensures.over tt
 pub returns-then-spent-gt-MOST_STEPS-clause-ran : goal.returns-then-spent-gt-MOST_STEPS-clause-ran
 returns-then-spent-gt-MOST_STEPS-clause-ran g c = runs_more c.args.setup.now c.args.number c.args.self.now c.loop-moved.self c.args.notes.now.items c.loop-moved.notes.items c.loop-moved.invariant.0
 
+pub returns-in-Ok-Asks-clause-bounded : goal.returns-in-Ok-Asks-clause-bounded
+returns-in-Ok-Asks-clause-bounded g c =
+    omega (arith, c.loop-moved.invariant.4, c.if-spent-gt-MOST_STEPS.false, c.advance.ensures.few)
+
 pub returns-in-Ok-Rests-clause-bounded : goal.returns-in-Ok-Rests-clause-bounded
 returns-in-Ok-Rests-clause-bounded g c =
-    let k = c.loop-moved.invariant in
-    rests_bounded c.args.number c.advance.new.self c.comes_to_rest.new.self c.advance.new.notes.items c.comes_to_rest.new.notes.items c.comes_to_rest.result _ c.comes_to_rest.ensures.rested (omega (arith, k.4, c.if-spent-gt-MOST_STEPS.false, c.in-Ok-Rests.ensures.few))
+    omega (arith, c.loop-moved.invariant.4, c.if-spent-gt-MOST_STEPS.false, c.advance.ensures.few)
 
 pub returns-in-Err-clause-bounded : goal.returns-in-Err-clause-bounded
-returns-in-Err-clause-bounded g c = rw c.fail.ensures.over tt
+returns-in-Err-clause-bounded g c =
+    omega (arith, c.loop-moved.invariant.4, c.if-spent-gt-MOST_STEPS.false, c.advance.ensures.few)
 
 pub returns-in-OutOfMemory-clause-dropped : goal.returns-in-OutOfMemory-clause-dropped
 returns-in-OutOfMemory-clause-dropped g c =

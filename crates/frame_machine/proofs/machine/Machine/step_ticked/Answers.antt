@@ -4,7 +4,7 @@ use Rattle.frame_machine.proofs.machine.Machine.step_ticked.Goals as goal
 
 pub returns-in-Ok-clause-went : goal.returns-in-Ok-clause-went
 returns-in-Ok-clause-went g c =
-    let few = rw c.in-Ok.is at c.step_counted.ensures.few in
+    let few = c.step_counted.ensures.few in
     let n = told_ticks _ _ _ c.new-ticks.ensures few c.count.ensures in
     let s = c.tell_ticks.ensures.steps in
     let z = c.new-ticks.ensures in
@@ -13,7 +13,7 @@ returns-in-Ok-clause-went g c =
 
 pub returns-in-Ok-clause-some : goal.returns-in-Ok-clause-some
 returns-in-Ok-clause-some g c =
-    let few = rw c.in-Ok.is at c.step_counted.ensures.few in
+    let few = c.step_counted.ensures.few in
     let some = rw c.in-Ok.is at c.step_counted.ensures.ticks in
     let n = told_ticks _ _ _ c.new-ticks.ensures few c.count.ensures in
     let t = c.tell_ticks.ensures.ticked in
@@ -21,9 +21,17 @@ returns-in-Ok-clause-some g c =
 
 pub returns-in-Ok-clause-few : goal.returns-in-Ok-clause-few
 returns-in-Ok-clause-few g c =
-    let few = rw c.in-Ok.is at c.step_counted.ensures.few in
+    let few = c.step_counted.ensures.few in
     let n = told_ticks _ _ _ c.new-ticks.ensures few c.count.ensures in
     let t = c.tell_ticks.ensures.ticked in
+    let z = c.new-ticks.ensures in
+    omega (arith, n, t, few, z)
+
+pub returns-clause-few : goal.returns-clause-few
+returns-clause-few g c =
+    let few = c.step_counted.ensures.few in
+    let n = told_ticks _ _ _ c.new-ticks.ensures few c.count-in-Err.ensures in
+    let t = c.tell_ticks-in-Err.ensures.ticked in
     let z = c.new-ticks.ensures in
     omega (arith, n, t, few, z)
 

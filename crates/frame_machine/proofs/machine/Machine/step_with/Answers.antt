@@ -1,4 +1,4 @@
-use Rattle.std.proofs.Common.{◌≡◌, refl, ◌∙◌, [], ap, sym, None, append-nil, arith}
+use Rattle.std.proofs.Common.{◌≡◌, refl, ◌∙◌, [], sym, None, append-nil, arith}
 use Rattle.std.proofs.lemmas.List.{nil_from_length}
 use Rattle.tcl_compile.specs.Procedures.{procs_view}
 use Rattle.tcl_compile.specs.TreeView.{node_view}

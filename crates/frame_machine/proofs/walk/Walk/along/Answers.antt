@@ -1,4 +1,4 @@
-use Rattle.std.proofs.Common.{◌≡◌, refl, ap, ◌<◌, sym, length, arith}
+use Rattle.std.proofs.Common.{refl, ap, ◌<◌, sym, length, arith}
 use Rattle.tcl_compile.specs.Procedures.{procs_view}
 use Rattle.tcl_compile.specs.TreeView.{node_view}
 use Rattle.frame_machine.proofs.InWalks.{along_more, along_so_far}

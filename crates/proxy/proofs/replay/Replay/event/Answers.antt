@@ -4,7 +4,7 @@ use Rattle.proxy.specs.Stops.{StopsWith}
 use Rattle.proxy.specs.Taken.{with_took}
 use Rattle.proxy.proofs.Stopping.{out_of_memory, not_written, stands_front, written_front, Given}
 use Rattle.proxy.proofs.Stopping.{stands_next, front_in_notes, only_group}
-use Rattle.proxy.proofs.TakenKept.{are_rising}
+use Rattle.proxy.proofs.TakenRows.{are_rising}
 use Rattle.proxy.proofs.replay.Replay.event.Goals as goal
 
 pub returns-in_err-reserve-clause-stops : goal.returns-in_err-reserve-clause-stops

@@ -1,9 +1,9 @@
-use Rattle.std.proofs.Common.{◌≡◌, ◌∙◌, ℕ, ◌<◌, [], ap, append-nil, arith, false, get_or, length, length-set, refl, remove, set, subst, sym, true}
+use Rattle.std.proofs.Common.{◌≡◌, ◌∙◌, ℕ, ◌<◌, [], ap, append-nil, arith, false, get_or, length, refl, remove, set, subst, sym, true}
 use Rattle.connection_table.proofs.Ring.{without_missing}
 use Rattle.proxy_core.specs.Calls.{queue_behind}
 use Rattle.proxy_core.specs.Ready.{ring_behind, without}
 use Rattle.proxy_core.specs.Serving.{IsSetup}
-use Rattle.proxy_core.proofs.FrontRuns.{behind_over, bounded_on, front_runs, given_is, idle_runs}
+use Rattle.proxy_core.proofs.FrontRuns.{behind_over, front_runs, given_is, idle_runs}
 use Rattle.proxy_core.proofs.Places.{number_at, number_in, read_again, remove_set}
 use Rattle.proxy_core.proofs.Tables.{gone, kept, place_there}
 use Rattle.proxy_core.proofs.core_state.Core.run.Goals as goal
@@ -139,7 +139,7 @@ returns-then-put_behind-clause-runs g c =
         turn = c.run-turn.result;
         runs = rw n at c.run-turn.ensures.runs.2;
         whole = given_is _ _ c.run-turn.ensures.runs.0 c.run-turn.result _ c.run-turn.ensures.runs.1 c.run-turn.ensures.slice;
-        bounded = c.run-turn.ensures.bounded;
+        bounded = omega (arith, c.run-turn.ensures.bounded);
         ring = gone_ring;
         queue = λ few. queue_is few;
         goes_on = λ f. let t : true ≡ false = sym over ∙ f in (cc);
@@ -191,31 +191,13 @@ returns-else-put_behind-clause-runs g c =
         turn = c.run-turn.result;
         runs = rw n at c.run-turn.ensures.runs.2;
         whole = given_is _ _ c.run-turn.ensures.runs.0 c.run-turn.result _ c.run-turn.ensures.runs.1 c.run-turn.ensures.slice;
-        bounded = c.run-turn.ensures.bounded;
+        bounded = omega (arith, c.run-turn.ensures.bounded);
         ring = ring;
         queue = λ few. queue_is few;
         goes_on = λ f. items;
         over = λ f. let t : true ≡ false = sym f ∙ over in (cc);
       }),
     )
-
-pub returns-then-put_behind-clause-bounded : goal.returns-then-put_behind-clause-bounded
-returns-then-put_behind-clause-bounded g c kept =
-    let s = c.args.self.now in
-    let ls = s.live.items in
-    let at = c.in-Some.at in
-    let l = c.index_mut.result.now in
-    let m = c.run-turn.new.self in
-    let i = c.pop_ready.ensures.items in
-    let h = rw i at c.index_mut.ensures.value in
-    let items = c.put_behind.ensures.items ∙ ap (λ k. set k at m) i in
-    let ns = c.put_behind.ensures.numbers ∙ c.pop_ready.ensures.numbers in
-    absurd (omega (arith, kept, c.remove.ensures.len, ap length items, length-set ls at m))
-
-pub returns-else-put_behind-clause-bounded : goal.returns-else-put_behind-clause-bounded
-returns-else-put_behind-clause-bounded g c kept =
-    let few = bounded_on c.run-turn.result _ (sym c.put_behind.ensures.over ∙ c.if-put_behind.false) c.run-turn.ensures.bounded in
-    omega (arith, few)
 
 pub returns-in_default-clause-runs : goal.returns-in_default-clause-runs
 returns-in_default-clause-runs g c =
