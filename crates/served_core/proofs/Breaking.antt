@@ -108,7 +108,7 @@ kept_some {gave = gave} C core old new {conns} stands begins walked =
     }
 
 -- the journal's sink is no net
-pub never_net : {a b : ℕ} {X : Type 0} (why : ServeFault) → FromSink a b why → why ≡ fault.Net → X
-never_net fault.Net never e = absurd never
-never_net fault.Write rose e = cc
-never_net fault.Memory free e = cc
+pub never_net : {X : Type 0} (a b : ℕ) (why : ServeFault) → FromSink a b why → why ≡ fault.Net → X
+never_net a b fault.Net never e = absurd never
+never_net a b fault.Write rose e = absurd (let no_net : fault.Write ≡ fault.Net → ⊥ = λ x. cc in no_net e)
+never_net a b fault.Memory free e = absurd (let no_net : fault.Memory ≡ fault.Net → ⊥ = λ x. cc in no_net e)
