@@ -1,5 +1,5 @@
 -- What was served up to a fault keeps the core's promise.
-use Rattle.std.proofs.Common.{◌≡◌, ℕ, ◌+◌, List, [], ◌∷◌, ◌++◌, take, drop, Bool, Option, Some, None, refl, ap, sym, ◌∙◌, subst, append_assoc}
+use Rattle.std.proofs.Common.{◌≡◌, ℕ, ◌+◌, List, [], ◌∷◌, ◌++◌, take, drop, Bool, Some, None, refl, ap, sym, ◌∙◌, subst, append_assoc}
 use Rattle.std.proofs.Math.Seq.{take-add}
 use Rattle.std.proofs.lemmas.List.{append-nil}
 use Rattle.px_outside.specs.Net.{Call}
@@ -17,10 +17,10 @@ use Rattle.serve_loop.specs.Fallen.{WalkedSome}
 use Rattle.serve_loop.specs.Faults.{FromSink}
 use Rattle.serve_loop.specs.Part.{stand}
 use Rattle.serve_loop.specs.Server.{Begins, Running}
-use Rattle.serve_loop.specs.Walk.{Around, Given, Step, Own, Asked}
+use Rattle.serve_loop.specs.Walk.{Around, Step, Own, Asked}
 use Rattle.serve_loop.specs.declared.fault.ServeFault.{ServeFault}
 use Rattle.serve_loop.specs.declared.fault.ServeFault.TheVariants as fault
-use Rattle.served_core.proofs.Pieces.{PiecesAre, call_pieces, own_pieces, in_side, took_side}
+use Rattle.served_core.proofs.Pieces.{PiecesAre, call_pieces, own_pieces, took_side}
 use Rattle.served_core.proofs.Promising.{StandsFor, begins_with, event_past, none_taken, same_took, walks_past}
 use Rattle.served_core.specs.Pieces.{piece_of, pieces_of, sent_side, ungiven_piece}
 use Rattle.served_core.specs.Served.{served_face}
