@@ -1,5 +1,5 @@
 -- What was served up to a fault keeps the core's promise.
-use Rattle.std.proofs.Common.{◌≡◌, ℕ, ◌+◌, List, [], ◌∷◌, ◌++◌, take, drop, Bool, Option, Some, None, refl, ap, sym, ◌∙◌, subst, append_assoc}
+use Rattle.std.proofs.Common.{◌≡◌, ℕ, ◌+◌, List, [], ◌∷◌, ◌++◌, take, drop, Bool, Some, None, refl, ap, sym, ◌∙◌, subst, append_assoc}
 use Rattle.std.proofs.Math.Seq.{take-add}
 use Rattle.std.proofs.lemmas.List.{append-nil}
 use Rattle.px_outside.specs.Net.{Call}
@@ -17,10 +17,10 @@ use Rattle.serve_loop.specs.Fallen.{WalkedSome}
 use Rattle.serve_loop.specs.Faults.{FromSink}
 use Rattle.serve_loop.specs.Part.{stand}
 use Rattle.serve_loop.specs.Server.{Begins, Running}
-use Rattle.serve_loop.specs.Walk.{Around, Given, Step, Own, Asked}
+use Rattle.serve_loop.specs.Walk.{Around, Step, Own, Asked}
 use Rattle.serve_loop.specs.declared.fault.ServeFault.{ServeFault}
 use Rattle.serve_loop.specs.declared.fault.ServeFault.TheVariants as fault
-use Rattle.served_core.proofs.Pieces.{PiecesAre, call_pieces, own_pieces, in_side, took_side}
+use Rattle.served_core.proofs.Pieces.{PiecesAre, call_pieces, own_pieces, took_side}
 use Rattle.served_core.proofs.Promising.{StandsFor, begins_with, event_past, none_taken, same_took, walks_past}
 use Rattle.served_core.specs.Pieces.{piece_of, pieces_of, sent_side, ungiven_piece}
 use Rattle.served_core.specs.Served.{served_face}
@@ -108,7 +108,7 @@ kept_some {gave = gave} C core old new {conns} stands begins walked =
     }
 
 -- the journal's sink is no net
-pub never_net : {a b : ℕ} {X : Type 0} (why : ServeFault) → FromSink a b why → why ≡ fault.Net → X
-never_net fault.Net never e = absurd never
-never_net fault.Write rose e = cc
-never_net fault.Memory free e = cc
+pub never_net : {X : Type 0} (a b : ℕ) (why : ServeFault) → FromSink a b why → why ≡ fault.Net → X
+never_net a b fault.Net never e = absurd never
+never_net a b fault.Write rose e = absurd (let no_net : fault.Write ≡ fault.Net → ⊥ = λ x. cc in no_net e)
+never_net a b fault.Memory free e = absurd (let no_net : fault.Memory ≡ fault.Net → ⊥ = λ x. cc in no_net e)

@@ -1,5 +1,5 @@
 -- The piece that a write with its event tells a side to have taken.
-use Rattle.std.proofs.Common.{◌≡◌, ℕ, ◌<◌, ◌-◌, List, [], ◌∷◌, length, take, drop, Bool, true, false, Option, Some, None, nat_eq, if◌then◌else◌, inl, inr, refl, ap, sym, ◌∙◌, subst, arith}
+use Rattle.std.proofs.Common.{◌≡◌, ℕ, ◌<◌, ◌-◌, List, [], length, take, drop, Bool, true, false, Option, Some, None, nat_eq, if◌then◌else◌, inl, inr, refl, ap, sym, ◌∙◌, subst, arith}
 use Rattle.std.specs.Prelude.{Ok, Err, option_map, unwrap_or}
 use Rattle.std.proofs.lemmas.List.{length-drop}
 use Rattle.px_bytes.specs.declared.addr.Side.{Side}
@@ -17,7 +17,7 @@ use Rattle.journal_text.specs.declared.event.Event.TheVariants as told
 use Rattle.connection_model.specs.Edges.{may_take}
 use Rattle.conn.specs.declared.connection.Conn.{Conn}
 use Rattle.connection_model.specs.Heard.{EventKind, Heard, has_made, taken_by}
-use Rattle.connection_model.specs.Item.{Item, client_output, server_output}
+use Rattle.connection_model.specs.Item.{client_output, server_output}
 use Rattle.proxy_core.specs.Asked.{edges_of, left_of}
 use Rattle.proxy_core.specs.Past.{Past, heard, kind_of, shared}
 use Rattle.proxy_core.specs.Ready.{is_in}

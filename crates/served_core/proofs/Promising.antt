@@ -27,7 +27,7 @@ use Rattle.serve_loop.specs.Walk.{Around, Given, Step, Own, Asked, Gives, Become
 use Rattle.serve_loop.specs.Faults.{FromNetOrSink}
 use Rattle.serve_loop.specs.declared.fault.ServeEnd.{ServeEnd}
 use Rattle.serve_loop.specs.declared.fault.ServeFault.{ServeFault}
-use Rattle.serve_loop.specs.declared.server.Server.{Server}
+use Rattle.serve_loop.specs.declared.server.Server.{Server as LoopServer}
 use Rattle.serve_loop.proofs.Failing.{either_later}
 use Rattle.served_core.proofs.Growing.{fits, grows, heard_took, one_more, took_in}
 use Rattle.served_core.proofs.ServerGrowing.{first_made, server_fits, server_heard, server_in, one_more as server_more}
@@ -133,7 +133,7 @@ none_is_some : (r : Row) → None ≡ Some r → ⊥
 none_is_some r e = cc
 
 -- how a server begins
-pub begins_with : {S : Type 0} {did : S → Call → S → Type 0} (gave : ℕ → Type 0) (C : Config) (core : Core) (first : Server Served) {conns : ℕ} {net begun : S}
+pub begins_with : {S : Type 0} {did : S → Call → S → Type 0} (gave : ℕ → Type 0) (C : Config) (core : Core) (first : LoopServer Served) {conns : ℕ} {net begun : S}
     → Represents C [] no_connections core → Begins served_face did (record { core = core }) conns net begun first
     → Represents C [] no_connections first.serving.core.core × Ready served_face gave first.serving
 begins_with gave C core first stands begins =

@@ -1,16 +1,15 @@
 -- What one event adds to what the server of a connection took.
-use Rattle.std.proofs.Common.{◌≡◌, ◌⊎◌, ℕ, suc, ◌+◌, ◌≤◌, List, [], ◌∷◌, ◌++◌, length, take, drop, Bool, true, false, Option, Some, None, nat_eq, if◌then◌else◌, inl, inr, refl, ap, sym, ◌∙◌, subst, arith}
+use Rattle.std.proofs.Common.{◌≡◌, ◌⊎◌, ℕ, ◌+◌, ◌≤◌, List, [], ◌∷◌, ◌++◌, length, take, drop, Bool, true, false, Option, Some, None, nat_eq, if◌then◌else◌, inl, inr, refl, ap, sym, ◌∙◌, subst, arith}
 use Rattle.std.specs.Bool.{MatchBool}
 use Rattle.std.specs.Prelude.{◌||◌}
 use Rattle.std.proofs.Math.Seq.{take-add}
 use Rattle.std.proofs.lemmas.List.{append-nil, take-append-le}
 use Rattle.std.proofs.lemmas.Grind.{flat_map-append}
-use Rattle.px_bytes.specs.declared.addr.Side.{Side}
 use Rattle.px_bytes.specs.declared.addr.Side.TheVariants.{Client, Server}
 use Rattle.connection_model.specs.declared.note.Note.{Note}
 use Rattle.connection_model.specs.Further.{Coming}
 use Rattle.connection_model.specs.Heard.{Input, Bytes, Ends, Resets, Connects, Takes, EventKind, Accepts, Comes, Ticks, Turns, Runs, Marks}
-use Rattle.connection_model.specs.Heard.{Heard, SideHeard, Brought, at_last, brings_in, brought, brought_nothing, edges_met, event_brings, event_marks, accepts, fresh_side, has_made, hears, hears_by, hears_more, marks}
+use Rattle.connection_model.specs.Heard.{Heard, SideHeard, at_last, brings_in, brought, brought_nothing, edges_met, event_brings, event_marks, accepts, fresh_side, has_made, hears, hears_by, hears_more, marks}
 use Rattle.connection_model.specs.Item.{Item, to_server, server_output}
 use Rattle.connection_model.specs.Tellings.{finish_told, notes_about}
 use Rattle.proxy_core.specs.Moves.{MovesBy, MovesFailed, MovesOn, MovesLacks}

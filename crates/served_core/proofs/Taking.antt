@@ -1,6 +1,6 @@
 -- Events that aren't refused.
 use Rattle.std.proofs.Common.{◌≡◌, ℕ, ◌<◌, ◌≤◌, ◌+◌, zero, suc, List, [], ◌∷◌, length, Bool, true, false, Option, Some, None, refl, ap, sym, ◌∙◌, subst, arith, rules}
-use Rattle.std.specs.Prelude.{not, ◌&&◌, ◌||◌, nat_lt, nat_le, is_none, option_map, unwrap_or, if◌then◌else◌}
+use Rattle.std.specs.Prelude.{not, ◌&&◌, ◌||◌, nat_lt, nat_le, is_none, option_map, if◌then◌else◌}
 use Rattle.std.proofs.lemmas.Grind.{common_steps}
 use Rattle.px_bytes.specs.declared.addr.Addr.{Addr}
 use Rattle.px_bytes.specs.declared.addr.Side.{Side}
@@ -30,7 +30,7 @@ use Rattle.journal_text.specs.declared.event.Event.TheVariants as told
 use Rattle.serve_loop.specs.Face.{MayCome, MayTake}
 use Rattle.std.specs.List.{slice_get, position_from}
 use Rattle.std.specs.Str.{bytes_eq}
-use Rattle.served_core.specs.Asked.{name_at, on_edge}
+use Rattle.served_core.specs.Asked.{name_at}
 use Rattle.served_core.specs.Served.{TakesEvent}
 use Rattle.served_core.specs.Told.{Always}
 

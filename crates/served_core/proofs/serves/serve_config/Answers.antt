@@ -65,7 +65,7 @@ returns-in_err-write_start-clause-stopped g c =
     at_fault _ c.from_residual-in_err-write_start.result why c.from_residual-in_err-write_start.ensures.1 (inl (record {
       no_moment = refl;
       wrote = subst (λ (l : List Note). WroteSome (note_lines l) before after) (c.as_slice.ensures ∙ c.in_ok-core.ensures.notes) c.in_err-write_start.ensures.some;
-      all_written = never_net why c.in_err-write_start.ensures.fails;
+      all_written = never_net (g.K.Sink.faults c.args.journal.now) (g.K.Sink.faults c.write_start.new.journal) why c.in_err-write_start.ensures.fails;
       listens = inl refl;
     }))
 
