@@ -1,42 +1,26 @@
 -- A Run and a Turn leave what sides took, and so does every event what it doesn't count.
-use Rattle.std.proofs.Common.{map, ◌≡◌, refl, sym, ap, subst, ◌∙◌, ℕ, zero, suc, ◌+◌, ◌≤◌, ◌<◌, length, take, drop}
-use Rattle.std.proofs.Common.{List, [], ◌∷◌, ◌++◌, Bool, true, false, ◌||◌}
-use Rattle.std.proofs.Common.{Option, Some, None, nat_eq, nat_le, nat_lt, arith, if◌then◌else◌, ◌⊎◌}
+use Rattle.std.proofs.Common.{◌≡◌, refl, sym, ap, subst, ◌∙◌, ℕ, ◌≤◌, length, take}
+use Rattle.std.proofs.Common.{List, [], ◌∷◌, ◌++◌, Bool, true, false}
+use Rattle.std.proofs.Common.{None, nat_eq, arith, if◌then◌else◌, ◌⊎◌}
 use Rattle.std.proofs.Common.{inl, inr}
 use Rattle.std.specs.Bool.{MatchBool}
-use Rattle.std.specs.Prelude.{is_none, is_some}
-use Rattle.std.specs.List.{IsDistinct, flat_map}
-use Rattle.std.proofs.lemmas.Bool.Decides.{nat_tests}
-use Rattle.std.proofs.lemmas.List.{map-append, take-append-le}
+use Rattle.std.specs.List.{flat_map}
+use Rattle.std.proofs.lemmas.List.{take-append-le}
 use Rattle.std.proofs.lemmas.Grind.{flat_map-append}
-use Rattle.std.proofs.lemmas.Map.Keys.{IsDistinct-head, IsDistinct-tail}
-use Rattle.px_bytes.specs.declared.addr.Addr.{Addr}
-use Rattle.px_bytes.specs.declared.addr.Side.{Side}
 use Rattle.px_bytes.specs.declared.addr.Side.TheVariants.{Client, Server}
-use Rattle.connection_model.specs.declared.note.Cause.TheVariants.{Memory}
 use Rattle.connection_model.specs.declared.note.Note.{Note}
-use Rattle.connection_model.specs.declared.note.Note.TheVariants.{Finish}
-use Rattle.connection_model.specs.Heard.{Input, Bytes, Ends, Resets, Connects, Takes, EventKind, Accepts, Comes, Runs, Ticks, Turns, Marks, Accepted, Heard, has_made, edges_met, hears}
+use Rattle.connection_model.specs.Heard.{Bytes, Ends, Resets, Connects, Runs, Ticks, Turns, Marks, Heard, hears}
 use Rattle.connection_model.specs.Item.{Item, to_client, to_server, client_output, server_output}
-use Rattle.connection_model.specs.Tellings.{finish_told, notes_about}
 use Rattle.connection_model.proofs.Hearing.{others_not_heard}
-use Rattle.conn.specs.declared.connection.Conn.{Conn}
-use Rattle.conn.specs.Holds.{Around}
-use Rattle.conn.specs.Queues.{queue_in}
 use Rattle.proxy_core.specs.Calls.{asker}
 use Rattle.proxy_core.specs.History.{store_of}
-use Rattle.proxy_core.specs.Live.{met_by, pending_in}
-use Rattle.proxy_core.specs.Moves.{Leads, Moves, MovesBy, Rests, MovesFailed, MovesLacks, MovesOn}
+use Rattle.proxy_core.specs.Moves.{Leads, Moves, Rests}
 use Rattle.proxy_core.specs.Moves.{MovesRing, MovesQueue, RunsOn, RunsOut, RunsFailed}
 use Rattle.proxy_core.specs.Past.{Happened, Past, kind_of, heard, with_accepted, shared}
-use Rattle.proxy_core.specs.Queries.{front_of, front_in, queue_on}
-use Rattle.proxy_core.specs.Ready.{is_in}
-use Rattle.proxy_core.specs.Refusal.{known, core_standing, core_known, refusal_rows, takes_too_much}
-use Rattle.proxy_core.specs.Refusal.{refused, refusal, refusal_of}
-use Rattle.proxy_core.specs.Refusals.{live_at}
-use Rattle.proxy_core.specs.Represents.{ConnectionContinues, HoldsQueues, AgreesAt, Represents, around}
-use Rattle.proxy_core.specs.Scheduler.{State, Seen, last_took, seen}
-use Rattle.proxy_core.specs.Sound.{unseen, Served, Sound}
+use Rattle.proxy_core.specs.Refusal.{refused, refusal}
+use Rattle.proxy_core.specs.Represents.{Represents}
+use Rattle.proxy_core.specs.Scheduler.{State, last_took, seen}
+use Rattle.proxy_core.specs.Sound.{Served, Sound}
 use Rattle.proxy_core.specs.declared.call.Asked.{Asked}
 use Rattle.proxy_core.specs.declared.config.Config.{Config}
 use Rattle.proxy_core.specs.declared.core_state.Core.{Core}
@@ -44,25 +28,17 @@ use Rattle.proxy_core.specs.declared.event.Event.{Event}
 use Rattle.proxy_core.specs.declared.event.Event.TheVariants.{Accept, FromClient, ClientEnd, ClientReset, Connected, Refused}
 use Rattle.proxy_core.specs.declared.event.Event.TheVariants.{FromServer, ServerEnd, ServerReset, ClientTook, ServerTook}
 use Rattle.proxy_core.specs.declared.event.Event.TheVariants.{Tick, Turn, Run, Mark}
-use Rattle.proxy_core.specs.declared.live.Live.{Live}
-use Rattle.proxy_core.specs.Others.{about, front}
-use Rattle.proxy_core.proofs.Framing.{touches, only_changed}
+use Rattle.proxy_core.specs.Others.{front}
 use Rattle.proxy_core.proofs.Hearing.{run_stays, turn_stays}
-use Rattle.proxy_core.proofs.Meeting.{TakesThere, around_met, around_last, none_took}
-use Rattle.proxy_core.proofs.Members.{eq_self, eq_same, eq_turned, in_pushed_other}
-use Rattle.proxy_core.proofs.ReadyRing.{distinct_none, distinct_push, absent_all}
-use Rattle.proxy_core.proofs.SoundEvents.{fresh, seen_accept}
-use Rattle.proxy_core.proofs.SoundPast.{none_holds, not_accepted, front_served, unchanged}
-use Rattle.connection_table.specs.Table.{Rises}
-use Rattle.connection_table.proofs.Numbers.{rises_push}
+use Rattle.proxy_core.proofs.Members.{eq_self, eq_same}
+use Rattle.proxy_core.proofs.SoundPast.{front_served, unchanged}
 use Rattle.proxy.specs.declared.taken.Taken.{Taken}
 use Rattle.proxy_core.specs.OneServer.{OneServer}
-use Rattle.proxy_core.specs.Servers.{makes, servers_made, took_of as took_of_number}
+use Rattle.proxy_core.specs.Servers.{makes, servers_made}
 use Rattle.proxy_core.proofs.OneServer.{one_server}
-use Rattle.proxy.specs.Replay.{accepted, numbers_to, taken_bytes, taken_by, taken_of}
-use Rattle.proxy.specs.ServerBytes.{on_last}
-use Rattle.proxy.specs.Taken.{AreRising, more_of, took_of, none_taken, begins_server, took_on, changed, with_took}
-use Rattle.proxy.proofs.MadeServers.{none_made, other_makes, servers_are, servers_seen, unmade}
+use Rattle.proxy.specs.Replay.{accepted, taken_by, taken_of}
+use Rattle.proxy.specs.Taken.{took_of, with_took}
+use Rattle.proxy.proofs.MadeServers.{servers_seen}
 use Rattle.proxy.proofs.TakenRows.{rising, kept_of, entry_is, other_stays, same_each, accept_kept}
 use Rattle.proxy.proofs.TakenComes.{came_kept, connects_kept}
 use Rattle.proxy.proofs.TakenCounts.{took_kept}
