@@ -9,7 +9,8 @@ PROGRAM is crates/proxy/out/proxy. Four runs, each with a program of its own:
   slow    so many clients read nothing, and send a byte a second
   resets  clients connect, read a part of their answer or none, and reset; as many at a time as there is room for
   scarce  the program may have 64 descriptors, and 100 clients stay: those above the limit wait, and are answered once
-          others have gone; with 5 descriptors it can't listen, which is status 8
+          others have gone; with 5 descriptors it can't listen, and with just enough to listen it can accept no
+          client at all: status 8 both, and the journal stands
 
 All run in a network of their own (so as root), in which the system keeps 32,768 bytes at most of what a client doesn't
 read: by itself it would keep all of such an answer, and nothing would be left to the program.
@@ -202,7 +203,26 @@ def scarce(words, folder):
     few = Program(words.program, folder, 5)
     status = few.process.wait(20)
     print(f"with 5 descriptors: status {status}", flush=True)
-    return waited and got == ANSWER and ran and status == 8
+    return none_for_a_client(words, folder) and waited and got == ANSWER and ran and status == 8
+
+
+def none_for_a_client(words, folder):
+    """The least number of descriptors with which the program listens: none is left for a client."""
+    for descriptors in range(6, 30):
+        journal = f"{folder}/journal{descriptors}"
+        program = Program(words.program, folder, descriptors, ("--record", journal))
+        try:
+            program.process.wait(1)
+        except subprocess.TimeoutExpired:
+            break
+    ran = program.runs()
+    client = socket.create_connection(("127.0.0.1", program.port), 5)
+    status = program.process.wait(20)
+    client.close()
+    replayed = subprocess.run([words.program, "replay", program.config, journal], capture_output=True)
+    print(f"with {descriptors} it {'listens' if ran else 'DOES NOT LISTEN'}, and at the first client: status {status}, "
+          f"its journal replays with status {replayed.returncode}", flush=True)
+    return ran and status == 8 and replayed.returncode == 0
 
 
 def main():

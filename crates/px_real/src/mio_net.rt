@@ -86,6 +86,11 @@ impl<R: net::Net + time::Clock + Drop> MioNet<R> {
         self.links.len()
     }
 
+    // Whether no link is there, open or lingering, whose end would give a descriptor back.
+    fn holds_none(&self) -> bool {
+        self.links.len() == 0 && self.lingering.is_empty()
+    }
+
     // None for a wait without end.
     fn timeout(&self, until: u64, now: u64) -> Option<Duration> {
         if !self.refused.is_empty() {
@@ -238,7 +243,11 @@ impl<R: net::Net + time::Clock + Drop> Net for MioNet<R> {
                 Ok(Accepted::One { link: number, from })
             }
             Taken::NotYet => Ok(Accepted::NotYet),
-            Taken::Broken | Taken::Scarce => {
+            Taken::Full if self.holds_none() => {
+                self.faults = counted(self.faults);
+                Err(Failed::Failed)
+            }
+            Taken::Broken | Taken::Scarce | Taken::Full => {
                 self.scarce = true;
                 self.lost = counted(self.lost);
                 Ok(Accepted::NotYet)

@@ -13,8 +13,11 @@ pub(crate) const LISTENERS: usize = 1 << 32;
 /// How many connections that were broken off are passed over in one accept.
 const TRIES: u32 = 16;
 
+/// The error of a process that has as many descriptors as it may have.
+const FULL: i32 = 24;
+
 /// The errors of a system that is out of descriptors, of memory or of buffers.
-const SCARCE: [i32; 4] = [23, 24, 12, 105];
+const SCARCE: [i32; 3] = [23, 12, 105];
 
 /// What an accept gives.
 #[derive(Drop)]
@@ -23,8 +26,10 @@ pub(crate) enum Taken {
     NotYet,
     // the connection was broken off while it waited
     Broken,
-    // descriptors or memory have run out
+    // the system has run out of descriptors or memory
     Scarce,
+    // the process has as many descriptors as it may have
+    Full,
     Failed,
 }
 
@@ -105,6 +110,7 @@ fn fault_of(error: &io::Error) -> Taken {
         | ErrorKind::Interrupted => Taken::Broken,
         ErrorKind::OutOfMemory => Taken::Scarce,
         _ => match error.raw_os_error() {
+            Some(FULL) => Taken::Full,
             Some(number) if SCARCE.contains(&number) => Taken::Scarce,
             _ => Taken::Failed,
         },

@@ -1,5 +1,5 @@
 use super::side::Tried;
-use px_outside::{Accepted, ConnectAnswer, Net};
+use px_outside::{Accepted, ConnectAnswer, Failed, Net};
 use std::fs::File;
 use std::net::{Ipv4Addr, SocketAddr, TcpStream};
 use std::test::Fail;
@@ -11,7 +11,7 @@ const MOST: u32 = 70_000;
 fn descriptors_run_out(rt: HostRuntime) -> Result<(), Fail> {
     let mut tried = Tried::new(&rt)?;
     let at = SocketAddr::from((Ipv4Addr::LOCALHOST, tried.at.port));
-    let peer = TcpStream::connect(&rt, at)?;
+    let peers = (TcpStream::connect(&rt, at)?, TcpStream::connect(&rt, at)?);
     let mut files = Vec::new(rt.alloc());
     let mut full = false;
     for _ in 0..MOST {
@@ -24,16 +24,20 @@ fn descriptors_run_out(rt: HostRuntime) -> Result<(), Fail> {
         }
     }
     if full {
-        // a connect is refused, and an accept is tried again
+        // a connect is refused, and an accept fails where no link could give a descriptor back
         let link = tried.net.connect(tried.at)?;
         assert_eq!(rt; tried.answer(link)?, ConnectAnswer::Refused);
         tried.wait()?;
+        assert_eq!(rt; tried.net.accept(0), Err(Failed::Failed));
+        // beside a link it is tried again
+        drop(files.pop());
+        assert!(rt; tried.accepted()? > 0);
         assert_eq!(rt; tried.net.accept(0), Ok(Accepted::NotYet));
     }
     drop(files);
     tried.wait()?;
     assert!(rt; tried.listed.len() > 0, "the listener is not listed again");
     assert!(rt; tried.accepted()? > 0);
-    drop(peer);
+    drop(peers);
     Ok(())
 }
