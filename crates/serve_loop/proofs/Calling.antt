@@ -42,17 +42,19 @@ pub call_quiet : {C S : Type 0} {face : Face C} {did : S → Call → S → Type
     → Part face did gave (CallStep face conns call) x x n m
 call_quiet x n m call d once may after = record {
   from = λ s. record {
-    steps = Asks call None ∷ [];
-    chain = (m, d, refl);
-    leads = record {
-      given = None;
-      steps_are = refl;
-      calls = record { event = None; may = may; links = x.links; after = after; becomes = refl };
+    made = record {
+      steps = Asks call None ∷ [];
+      chain = (m, d, refl);
+      leads = record {
+        given = None;
+        steps_are = refl;
+        calls = record { event = None; may = may; links = x.links; after = after; becomes = refl };
+      };
+      ready = record { stands = s.stands; known = λ l r e. once.lasts l (s.known l r e) };
+      once = once;
+      owners = owners_same _ x.links;
     };
-    ready = record { stands = s.stands; known = λ l r e. once.lasts l (s.known l r e) };
     told = tells_nothing x.journal;
-    once = once;
-    owners = owners_same _ x.links;
     conns = refl;
   };
 }
@@ -66,19 +68,21 @@ pub call_heard : {C S : Type 0} {face : Face C} {did : S → Call → S → Type
 call_heard {C} {S} {face} {did} {gave} x t y n m k call e d once owners known may after takes given = record {
   from = λ s.
       let it = given.from (record { stands = s.stands; known = known s.known }) takes in record {
-        steps = Asks call (Some it.given) ∷ [];
-        chain = chain_append did (call ∷ it.given.calls) [] n k k (m, d, it.chain) refl;
-        leads = record {
-          given = Some it.given;
-          steps_are = refl;
-          calls = record { event = Some e; may = may; links = t; after = after; becomes = it.gives };
+        made = record {
+          steps = Asks call (Some it.given) ∷ [];
+          chain = chain_append did (call ∷ it.given.calls) [] n k k (m, d, it.chain) refl;
+          leads = record {
+            given = Some it.given;
+            steps_are = refl;
+            calls = record { event = Some e; may = may; links = t; after = after; becomes = it.gives };
+          };
+          ready = it.ready;
+          once = subst (λ (l : List Call). GivesOnce (gave n) (gave k) (links_given (call ∷ l))) (sym (append-nil it.given.calls))
+              (once_then (gave n) (gave m) (gave k) (call ∷ []) it.given.calls once it.once);
+          owners = owners_then (gave n) (gave m) x.links t y.links once.lasts owners it.owners;
         };
-        ready = it.ready;
         told = subst (λ (l : List ℕ). Tells x.journal y.journal l)
             (sym (append-nil (group_text it.given.event it.given.group))) it.told;
-        once = subst (λ (l : List Call). GivesOnce (gave n) (gave k) (links_given (call ∷ l))) (sym (append-nil it.given.calls))
-            (once_then (gave n) (gave m) (gave k) (call ∷ []) it.given.calls once it.once);
-        owners = owners_then (gave n) (gave m) x.links t y.links once.lasts owners it.owners;
         conns = it.conns;
       };
 }
@@ -210,13 +214,15 @@ pub part_waits : {C S : Type 0} {face : Face C} {did : S → Call → S → Type
     (x : Serving C) (n m : S) → did n (Wait until listed (Ok tt)) m → ((l : ℕ) → gave n l → gave m l) → Part face did gave (Waits until listed) x x n m
 part_waits until listed x n m d lasts = record {
   from = λ s. record {
-    steps = Asks (Wait until listed (Ok tt)) None ∷ [];
-    chain = (m, d, refl);
-    leads = record { waits = refl; same = refl };
-    ready = record { stands = s.stands; known = λ l r e. lasts l (s.known l r e) };
+    made = record {
+      steps = Asks (Wait until listed (Ok tt)) None ∷ [];
+      chain = (m, d, refl);
+      leads = record { waits = refl; same = refl };
+      ready = record { stands = s.stands; known = λ l r e. lasts l (s.known l r e) };
+      once = once_none lasts;
+      owners = owners_same _ x.links;
+    };
     told = tells_nothing x.journal;
-    once = once_none lasts;
-    owners = owners_same _ x.links;
     conns = refl;
   };
 }
@@ -227,14 +233,16 @@ pub part_own : {C S : Type 0} {face : Face C} {did : S → Call → S → Type 0
 part_own {C} {S} {face} {did} {gave} e {x} {y} {n} {m} takes given = record {
   from = λ s.
       let it = given.from s (takes s.stands) in record {
-        steps = Own it.given ∷ [];
-        chain = subst (λ cs. Chain did n cs m) (sym (append-nil it.given.calls)) it.chain;
-        leads = record { given = it.given; steps_are = refl; gives = it.gives };
-        ready = it.ready;
+        made = record {
+          steps = Own it.given ∷ [];
+          chain = subst (λ cs. Chain did n cs m) (sym (append-nil it.given.calls)) it.chain;
+          leads = record { given = it.given; steps_are = refl; gives = it.gives };
+          ready = it.ready;
+          once = subst (λ (l : List Call). GivesOnce (gave n) (gave m) (links_given l)) (sym (append-nil it.given.calls)) it.once;
+          owners = it.owners;
+        };
         told = subst (λ (l : List ℕ). Tells x.journal y.journal l)
             (sym (append-nil (group_text it.given.event it.given.group))) it.told;
-        once = subst (λ (l : List Call). GivesOnce (gave n) (gave m) (links_given l)) (sym (append-nil it.given.calls)) it.once;
-        owners = it.owners;
         conns = it.conns;
       };
 }

@@ -10,7 +10,7 @@ use Rattle.serve_loop.specs.declared.serving.Serving.{Serving}
 use Rattle.serve_loop.specs.Events.{kept, Tells}
 use Rattle.serve_loop.specs.Face.{Face}
 use Rattle.serve_loop.specs.Walk.{Around, Step, calls_of, calls_in, text_of, text_in, Walks, Then}
-use Rattle.serve_loop.specs.Part.{stand, Part}
+use Rattle.serve_loop.specs.Part.{stand, Ready, Made, Part}
 
 pub calls_append : (xs ys : List Step) → calls_in (xs ++ ys) ≡ calls_in xs ++ calls_in ys
 calls_append [] ys = refl
@@ -55,89 +55,80 @@ once_steps gave mid gave' xs ys p q =
     subst (λ (l : List Call). GivesOnce gave gave' (links_given l)) (sym (calls_append xs ys))
     (once_then gave mid gave' (calls_in xs) (calls_in ys) p q)
 
--- one part after another
-pub part_then : {C S : Type 0} {face : Face C} {did : S → Call → S → Type 0} {gave : S → ℕ → Type 0}
-    {R Q : Around C → List Step → Around C → Type 0} {x y z : Serving C} {n m k : S}
-    → Part face did gave R x y n m → Part face did gave Q y z m k → Part face did gave (Then R Q) x z n k
-part_then {C} {S} {face} {did} {gave} {R} {Q} {x} {y} {z} {n} {m} {k} p q = record {
+unfoldable pub made_nothing : {C S : Type 0} {face : Face C} {did : S → Call → S → Type 0} {gave : S → ℕ → Type 0}
+    (R : Around C → List Step → Around C → Type 0) (a : Around C) (n : S) → Ready face (gave n) a → R a [] a → Made face did gave R a a n n
+made_nothing R a n ready none =
+    record { steps = []; chain = refl; leads = none; ready = ready; once = once_none (λ l there. there); owners = owners_same _ a.links }
+
+unfoldable pub made_then : {C S : Type 0} {face : Face C} {did : S → Call → S → Type 0} {gave : S → ℕ → Type 0}
+    {R Q W : Around C → List Step → Around C → Type 0} {a b c : Around C} {n m k : S} (one : Made face did gave R a b n m)
+    (two : Made face did gave Q b c m k) → W a (one.steps ++ two.steps) c → Made face did gave W a c n k
+made_then {C} {S} {face} {did} {gave} {R} {Q} {W} {a} {b} {c} {n} {m} {k} one two leads = record {
+  steps = one.steps ++ two.steps;
+  chain = subst (λ cs. Chain did n cs k) (sym (calls_append one.steps two.steps))
+      (chain_append did (calls_in one.steps) (calls_in two.steps) n m k one.chain two.chain);
+  leads = leads;
+  ready = two.ready;
+  once = once_steps (gave n) (gave m) (gave k) one.steps two.steps one.once two.once;
+  owners = owners_then (gave n) (gave m) a.links b.links c.links one.once.lasts one.owners two.owners;
+}
+
+-- one part after another, where the second is said by how many connections may be accepted
+pub part_next : {C S : Type 0} {face : Face C} {did : S → Call → S → Type 0} {gave : S → ℕ → Type 0}
+    {R : Around C → List Step → Around C → Type 0} (Q : ℕ → Around C → List Step → Around C → Type 0) {x y z : Serving C} {n m k : S}
+    → Part face did gave R x y n m → Part face did gave (Q y.conns) y z m k → Part face did gave (Then R (Q x.conns)) x z n k
+unfolding made_then
+part_next Q {x} {y} {z} p q = record {
   from = λ s.
       let one = p.from s in
-      let two = q.from one.ready in record {
-        steps = one.steps ++ two.steps;
-        chain = subst (λ cs. Chain did n cs k) (sym (calls_append one.steps two.steps))
-            (chain_append did (calls_in one.steps) (calls_in two.steps) n m k one.chain two.chain);
-        leads = (stand y, one.steps, two.steps, refl, one.leads, two.leads);
-        ready = two.ready;
-        told = subst (λ t. Tells x.journal z.journal t) (sym (text_append one.steps two.steps))
-            (tells_then one.told two.told);
-        once = once_steps (gave n) (gave m) (gave k) one.steps two.steps one.once two.once;
-        owners = owners_then (gave n) (gave m) x.links y.links z.links one.once.lasts one.owners two.owners;
+      let two = q.from one.made.ready in
+      let xs = one.made.steps in
+      let ys = two.made.steps in record {
+        made = made_then one.made two.made
+            (stand y, xs, ys, refl, one.made.leads, subst (λ t. Q t (stand y) ys (stand z)) one.conns two.made.leads);
+        told = subst (λ t. Tells x.journal z.journal t) (sym (text_append xs ys)) (tells_then one.told two.told);
         conns = two.conns ∙ one.conns;
       };
 }
 
--- what says more says less
-pub part_less : {C S : Type 0} {face : Face C} {did : S → Call → S → Type 0} {gave : S → ℕ → Type 0}
-    {R Q : Around C → List Step → Around C → Type 0} {x y : Serving C} {n m : S}
-    → ((a : Around C) (steps : List Step) (b : Around C) → R a steps b → Q a steps b)
-    → Part face did gave R x y n m → Part face did gave Q x y n m
-part_less {C} {S} {face} {did} {gave} {R} {Q} {x} {y} less p = record {
-  from = λ s.
-      let it = p.from s in record {
-        steps = it.steps;
-        chain = it.chain;
-        leads = less (stand x) it.steps (stand y) it.leads;
-        ready = it.ready;
-        told = it.told;
-        once = it.once;
-        owners = it.owners;
-        conns = it.conns;
-      };
-}
+pub part_then : {C S : Type 0} {face : Face C} {did : S → Call → S → Type 0} {gave : S → ℕ → Type 0}
+    {R Q : Around C → List Step → Around C → Type 0} {x y z : Serving C} {n m k : S}
+    → Part face did gave R x y n m → Part face did gave Q y z m k → Part face did gave (Then R Q) x z n k
+part_then {Q = Q} p q = part_next (λ (conns : ℕ). Q) p q
 
-pub walks_then : {C : Type 0} (face : Face C) (conns : ℕ) (a : Around C) (steps : List Step) (b : Around C)
-    → Then (Walks face conns) (Walks face conns) a steps b → Walks face conns a steps b
-walks_then face conns a steps b t =
-    subst (λ l. Walks face conns a l b) (sym t.3) (walks_append face conns t.1 t.2 a t.0 b t.4 t.5)
-
--- walks after walks
-pub walk_on : {C S : Type 0} {face : Face C} {did : S → Call → S → Type 0} {gave : S → ℕ → Type 0}
-    {conns : ℕ} {x y z : Serving C} {n m k : S}
-    → Part face did gave (Walks face conns) x y n m → Part face did gave (Walks face conns) y z m k
-    → Part face did gave (Walks face conns) x z n k
-walk_on {conns = conns} p q = part_less (walks_then _ conns) (part_then p q)
-
-pub part_nothing : {C S : Type 0} {face : Face C} {did : S → Call → S → Type 0} {gave : S → ℕ → Type 0}
-    (R : Around C → List Step → Around C → Type 0) (x : Serving C) (n : S)
-    → R (stand x) [] (stand x) → Part face did gave R x x n n
-part_nothing R x n none = record {
-  from = λ s. record {
-    steps = [];
-    chain = refl;
-    leads = none;
-    ready = s;
-    told = tells_nothing x.journal;
-    once = once_none (λ l there. there);
-    owners = owners_same _ x.links;
-    conns = refl;
-  };
-}
-
--- likewise, from there to here alone
+-- what says more says less, from there to here
 pub part_at : {C S : Type 0} {face : Face C} {did : S → Call → S → Type 0} {gave : S → ℕ → Type 0}
     {R Q : Around C → List Step → Around C → Type 0} {x y : Serving C} {n m : S}
     → ((steps : List Step) → R (stand x) steps (stand y) → Q (stand x) steps (stand y))
     → Part face did gave R x y n m → Part face did gave Q x y n m
 part_at less p = record {
   from = λ s.
-      let it = p.from s in record {
-        steps = it.steps;
-        chain = it.chain;
-        leads = less it.steps it.leads;
-        ready = it.ready;
+      let it = p.from s in
+      let made = it.made in record {
+        made = record {
+          steps = made.steps;
+          chain = made.chain;
+          leads = less made.steps made.leads;
+          ready = made.ready;
+          once = made.once;
+          owners = made.owners;
+        };
         told = it.told;
-        once = it.once;
-        owners = it.owners;
         conns = it.conns;
       };
+}
+
+-- anywhere
+pub part_less : {C S : Type 0} {face : Face C} {did : S → Call → S → Type 0} {gave : S → ℕ → Type 0}
+    {R Q : Around C → List Step → Around C → Type 0} {x y : Serving C} {n m : S}
+    → ((a : Around C) (steps : List Step) (b : Around C) → R a steps b → Q a steps b)
+    → Part face did gave R x y n m → Part face did gave Q x y n m
+part_less {x = x} {y} less p = part_at (λ steps r. less (stand x) steps (stand y) r) p
+
+pub part_nothing : {C S : Type 0} {face : Face C} {did : S → Call → S → Type 0} {gave : S → ℕ → Type 0}
+    (R : Around C → List Step → Around C → Type 0) (x : Serving C) (n : S)
+    → R (stand x) [] (stand x) → Part face did gave R x x n n
+unfolding made_nothing
+part_nothing R x n none = record {
+  from = λ s. record { made = made_nothing R (stand x) n s none; told = tells_nothing x.journal; conns = refl };
 }

@@ -1,18 +1,17 @@
 -- Turns are a walk, and where they end.
-use Rattle.std.proofs.Common.{◌≡◌, ℕ, zero, suc, ◌+◌, List, [], ◌++◌, Bool, true, false, not, Option, Some, None, inl, refl, sym, ap, subst, ◌∙◌, append_assoc, add-one}
+use Rattle.std.proofs.Common.{◌≡◌, ℕ, zero, suc, ◌+◌, List, [], ◌++◌, Bool, true, false, not, Option, Some, None, inl, refl, sym, ap, subst, ◌∙◌}
+use Rattle.std.proofs.Common.{append_assoc, add-one}
 use Rattle.std.proofs.lemmas.List.{append-nil}
 use Rattle.std.specs.Prelude.{Result, Ok, Err, OnErr}
-use Rattle.px_outside.specs.Net.{Call, Chain}
+use Rattle.px_outside.specs.Net.{Call}
 use Rattle.px_outside.specs.Outside.{told_more}
 use Rattle.serve_loop.specs.declared.serving.Serving.{Serving}
 use Rattle.serve_loop.specs.Face.{Face}
 use Rattle.serve_loop.specs.Part.{stand}
 use Rattle.serve_loop.specs.Server.{Running, Turns, Done, Walked, IsOver, GoesOn, IsOverOr, Behind}
 use Rattle.serve_loop.specs.Turn.{CanAccept}
-use Rattle.serve_loop.specs.Walk.{Walks, calls_in, text_in}
-use Rattle.serve_loop.proofs.Chains.{chain_append}
-use Rattle.serve_loop.proofs.Compose.{calls_append, text_append, walks_append, once_steps}
-use Rattle.serve_loop.proofs.Fresh.{once_none, owners_same, owners_then}
+use Rattle.serve_loop.specs.Walk.{Walks, text_in}
+use Rattle.serve_loop.proofs.Compose.{made_nothing, made_then, text_append, walks_append}
 use Rattle.serve_loop.proofs.Walking.{rounds_walk}
 
 pub told_nothing : (o : Option (List ℕ)) → o ≡ told_more o []
@@ -26,26 +25,31 @@ told_then (Some text) a b = ap Some (append_assoc text a b)
 -- all turns
 pub turns_walk : {C S T : Type 0} (face : Face C) (did : S → Call → S → Type 0) (gave : S → ℕ → Type 0) (ticked : T → ℕ → T → Type 0)
     (n : ℕ) (old new : Running C S T) → Turns face did gave ticked n old new → Walked face did gave old new
+unfolding made_nothing made_then
 turns_walk {C} {S} {T} face did gave ticked zero old new same ready none =
-    subst (λ (x : Running C S T). Done face did gave (Walks face old.server.serving.conns) old.server.serving x.server.serving old.net x.net old.written x.written) (sym same)
-    (record { steps = []; chain = refl; leads = refl; ready = ready; told = told_nothing old.written; once = once_none (λ l there. there); owners = owners_same _ old.server.serving.links; no_line_waits = none; conns = refl })
+    let first = old.server.serving in
+    subst (λ (x : Running C S T). Done face did gave (Walks face first.conns) first x.server.serving old.net x.net old.written x.written) (sym same) (record {
+      made = made_nothing (Walks face first.conns) (stand first) old.net ready refl;
+      told = told_nothing old.written;
+      no_line_waits = none;
+      conns = refl;
+    })
 turns_walk {C} {S} {T} face did gave ticked (suc n) old new turns ready none =
     let mid = turns.0 in
     let turn = turns.3.2 in
     let one = turns_walk face did gave ticked n old mid turns.1 ready none in
-    let two = turn.done one.ready one.no_line_waits in
-    let walks = rounds_walk face turn.round mid.server.serving.conns (stand mid.server.serving) two.steps (stand new.server.serving) two.leads in
+    let two = turn.done one.made.ready one.no_line_waits in
+    let xs = one.made.steps in
+    let ys = two.made.steps in
+    let a = stand old.server.serving in
+    let b = stand mid.server.serving in
+    let c = stand new.server.serving in
+    let walks = rounds_walk face turn.round mid.server.serving.conns b ys c two.made.leads in
     record {
-      steps = one.steps ++ two.steps;
-      chain = subst (λ (calls : List Call). Chain did old.net calls new.net) (sym (calls_append one.steps two.steps))
-          (chain_append did (calls_in one.steps) (calls_in two.steps) old.net mid.net new.net one.chain two.chain);
-      leads = walks_append face old.server.serving.conns one.steps two.steps (stand old.server.serving) (stand mid.server.serving) (stand new.server.serving) one.leads
-          (subst (λ (conns : ℕ). Walks face conns (stand mid.server.serving) two.steps (stand new.server.serving)) one.conns walks);
-      ready = two.ready;
-      told = two.told ∙ ap (λ (o : Option (List ℕ)). told_more o (text_in two.steps)) one.told ∙ told_then old.written (text_in one.steps) (text_in two.steps)
-          ∙ ap (λ (text : List ℕ). told_more old.written text) (sym (text_append one.steps two.steps));
-      once = once_steps (gave old.net) (gave mid.net) (gave new.net) one.steps two.steps one.once two.once;
-      owners = owners_then (gave old.net) (gave mid.net) old.server.serving.links mid.server.serving.links new.server.serving.links one.once.lasts one.owners two.owners;
+      made = made_then one.made two.made (walks_append face old.server.serving.conns xs ys a b c one.made.leads
+          (subst (λ (conns : ℕ). Walks face conns b ys c) one.conns walks));
+      told = two.told ∙ ap (λ (o : Option (List ℕ)). told_more o (text_in ys)) one.told ∙ told_then old.written (text_in xs) (text_in ys)
+          ∙ ap (λ (text : List ℕ). told_more old.written text) (sym (text_append xs ys));
       no_line_waits = two.no_line_waits;
       conns = two.conns ∙ one.conns;
     }

@@ -9,15 +9,15 @@ use Rattle.journal_text.specs.Notes.{note_lines}
 use Rattle.served_links.specs.declared.links.Links.{Links}
 use Rattle.serve_loop.specs.declared.journal.Journal.{Journal}
 use Rattle.serve_loop.specs.declared.serving.Serving.{Serving}
-use Rattle.serve_loop.specs.Broken.{FrontOf, IsGivenSome}
+use Rattle.serve_loop.specs.Broken.{IsGivenSome}
 use Rattle.serve_loop.specs.Carrying.{Carries, Carried, CarriesUpTo, CarriesSome, CarriedSome}
-use Rattle.serve_loop.specs.Events.{Tells}
+use Rattle.serve_loop.specs.Events.{Tells, TellsFront}
 use Rattle.serve_loop.specs.Face.{Face}
 use Rattle.serve_loop.specs.Part.{IsGiven}
 use Rattle.serve_loop.proofs.Carried.{up_to_short}
 use Rattle.serve_loop.proofs.Compose.{tells_then, tells_nothing}
 use Rattle.serve_loop.proofs.Fresh.{once_none}
-use Rattle.serve_loop.proofs.Fronts.{front_all, front_after}
+use Rattle.serve_loop.proofs.Fronts.{tells_whole, tells_behind}
 
 -- the notes of a step, where none were there before
 pub group_items : {P : List Note → Type 0} (before items : List Note) → before ≡ []
@@ -64,9 +64,7 @@ given_none {C} {S} {face} e x y n core journal = record {
     chain = refl;
     stands = subst face.stands (sym core) s.stands;
     once = once_none (λ l g. g);
-    text = [];
-    told = subst (λ (j : Journal). Tells x.journal j []) (sym journal) (tells_nothing x.journal);
-    front = front_all true [];
+    lines = tells_whole true [] (subst (λ (j : Journal). Tells x.journal j []) (sym journal) (tells_nothing x.journal));
   };
 }
 
@@ -86,14 +84,14 @@ carried_whole notes a b n m p = record { calls = p.calls; chain = p.chain; carri
 
 -- an event was given
 pub given_some : {C S : Type 0} {face : Face C} {did : S → Call → S → Type 0} {gave : S → ℕ → Type 0}
-    (short : Bool) (e : Event) (x y : Serving C) (n m : S) (items : List Note) (b : Bool) (j : Journal) (text : List ℕ)
+    (short : Bool) (e : Event) (x y : Serving C) (n m : S) (items : List Note) (b : Bool) (j : Journal)
     → (face.stands x.core → face.takes x.core e → b ≡ true)
     → (IsTrue b → (group : List Note) × (items ≡ group) × face.moved x.core e group y.core)
     → (face.stands x.core → face.stands y.core)
     → CarriedSome did gave (CarriesSome short items x.links) n m
-    → Tells x.journal j (event_line e) → Tells j y.journal text → FrontOf short (note_lines items) text
+    → Tells x.journal j (event_line e) → TellsFront (Tells j y.journal) short (note_lines items)
     → IsGivenSome face did gave short e x y n m
-given_some {C} {S} {face} {did} {gave} short e x y n m items b j text taken moved stands carried one two front = record {
+given_some {C} {S} {face} {did} {gave} short e x y n m items b j taken moved stands carried one lines = record {
   from = λ s t.
       let it = moved (taken s.stands t) in record {
         given = Some (record { event = e; group = items; calls = carried.calls });
@@ -106,8 +104,6 @@ given_some {C} {S} {face} {did} {gave} short e x y n m items b j text taken move
         chain = carried.chain;
         stands = stands s.stands;
         once = carried.once;
-        text = event_line e ++ text;
-        told = tells_then one two;
-        front = front_after (event_line e) front;
+        lines = tells_behind (event_line e) (λ text two. tells_then one two) lines;
       };
 }

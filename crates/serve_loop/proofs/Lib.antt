@@ -8,7 +8,6 @@ pub mod Giving
 pub mod Calling
 pub mod Trying
 pub mod Anyone
-pub mod Listing
 pub mod Turning
 pub mod Pairs
 pub mod Walking

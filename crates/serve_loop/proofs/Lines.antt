@@ -3,14 +3,7 @@ use Rattle.std.proofs.Common.{◌≡◌, ℕ, List, [], ◌++◌, take, drop, Bo
 use Rattle.std.proofs.lemmas.List.{append-nil, take-append-drop}
 use Rattle.px_outside.specs.Outside.{told_more, AddsPrefix}
 use Rattle.serve_loop.specs.declared.journal.Journal.{Journal}
-use Rattle.serve_loop.specs.Broken.{FrontOf}
-use Rattle.serve_loop.specs.Events.{Tells, kept}
-
--- a front of these lines was written
-pub record WroteFront (short : Bool) (lines : List ℕ) (before after : Option (List ℕ)) : Type 0 where
-  pub text : List ℕ
-  pub told : after ≡ told_more before text
-  pub front : FrontOf short lines text
+use Rattle.serve_loop.specs.Events.{Tells, kept, Grew, TellsFront}
 
 untold_same : (o : Option (List ℕ)) (s t : List ℕ) → o ≡ None → told_more o s ≡ told_more o t
 untold_same None s t none = refl
@@ -22,21 +15,19 @@ pub told_kept : (b : Bool) (before : Option (List ℕ)) (old more : List ℕ) �
 told_kept true before old more none untold = ap (λ (l : List ℕ). told_more before (l ++ more)) none
 told_kept false before old more none untold = untold_same before old more (untold refl)
 
--- the lines that wait are these, where anything is kept of them
-pub record LinesWait (j k : Journal) (before : Option (List ℕ)) (text : List ℕ) : Type 0 where
-  pub told : Tells j k text
+-- where no line waited before
+pub record NoneWaits (j : Journal) (before : Option (List ℕ)) : Type 0 where
   pub none_before : j.text ≡ []
   pub untold : j.recording ≡ false → before ≡ None
 
-pub wrote_all : (j k : Journal) (before after : Option (List ℕ)) (text : List ℕ) → LinesWait j k before text → after ≡ told_more before k.text
-    → after ≡ told_more before text
-wrote_all j k before after text w is =
-    is ∙ ap (told_more before) w.told.text ∙ told_kept j.recording before j.text text w.none_before w.untold
+pub wrote_all : {j k : Journal} {before after : Option (List ℕ)} (text : List ℕ) → NoneWaits j before → Tells j k text → Grew before after k.text
+    → Grew before after text
+wrote_all {j} {k} {before} {after} text w told is =
+    is ∙ ap (told_more before) told.text ∙ told_kept j.recording before j.text text w.none_before w.untold
 
-pub wrote_ok : {short : Bool} {lines text : List ℕ} {j k : Journal} {before after : Option (List ℕ)} → LinesWait j k before text → FrontOf short lines text
-    → after ≡ told_more before k.text → WroteFront short lines before after
-wrote_ok {text = text} {j} {k} {before} {after} w front is =
-    record { text = text; told = wrote_all j k before after text w is; front = front }
+pub wrote_ok : {short : Bool} {lines : List ℕ} {j k : Journal} {before after : Option (List ℕ)} → NoneWaits j before → Grew before after k.text
+    → TellsFront (Tells j k) short lines → TellsFront (Grew before after) short lines
+wrote_ok w is it = record { text = it.text; told = wrote_all it.text w it.told is; front = it.front }
 
 -- where the sink took some of them
 record Cut (text : List ℕ) (before after : Option (List ℕ)) : Type 0 where
@@ -60,16 +51,17 @@ cut_by false before after old text bytes n none untold is wrote = record {
   told = wrote ∙ untold_same before (take n bytes) text (untold refl);
 }
 
-pub wrote_err : {short : Bool} {lines text : List ℕ} {j k : Journal} {before after : Option (List ℕ)} → LinesWait j k before text → FrontOf short lines text
-    → AddsPrefix k.text before after → WroteFront true lines before after
-wrote_err {short} {lines} {text} {j} {k} {before} {after} w front some =
-    let cut = cut_by j.recording before after j.text text k.text some.taken w.none_before w.untold w.told.text some.written in
+pub wrote_err : {short : Bool} {lines : List ℕ} {j k : Journal} {before after : Option (List ℕ)} → NoneWaits j before → AddsPrefix k.text before after
+    → TellsFront (Tells j k) short lines → TellsFront (Grew before after) true lines
+wrote_err {short} {lines} {j} {k} {before} {after} w some it =
+    let cut = cut_by j.recording before after j.text it.text k.text some.taken w.none_before w.untold it.told.text some.written in
+    let rest = it.front.missing in
     record {
       text = cut.some;
       told = cut.told;
       front = record {
-        missing = cut.rest ++ front.missing;
-        text_is = front.text_is ∙ ap (λ (l : List ℕ). l ++ front.missing) cut.text_is ∙ append_assoc cut.some cut.rest front.missing;
+        missing = cut.rest ++ rest;
+        text_is = it.front.text_is ∙ ap (λ (l : List ℕ). l ++ rest) cut.text_is ∙ append_assoc cut.some cut.rest rest;
         whole = λ e. cc;
       };
     }

@@ -43,5 +43,5 @@ pub ran_never : {C S : Type 0} {face : Face C} {did : S → Call → S → Type 
     → Part face did gave (PairOnce face mid after is.Stays) y z m k → Part face did gave (Ran face times true before after) x z n k
 ran_never {face = face} times before mid after often {x} {y} {z} p q = record {
   from = λ s.
-      absurd ((q.from (p.from s).ready).leads);
+      absurd ((q.from (p.from s).made.ready).made.leads);
 }

@@ -1,47 +1,17 @@
 -- Things that are tried until they give no more, and each of a list.
-use Rattle.std.proofs.Common.{◌≡◌, ℕ, zero, suc, ◌+◌, ◌≤◌, List, [], ◌∷◌, ◌++◌, drop, Bool, true, false, Some, refl, ap, sym, ◌∙◌, subst, append_assoc, inl, inr, add-one}
+use Rattle.std.proofs.Common.{◌≡◌, ℕ, zero, suc, ◌+◌, ◌≤◌, List, [], ◌∷◌, ◌++◌, drop, Bool, true, false, Some, refl, ap, sym, ◌∙◌, subst, append_assoc}
+use Rattle.std.proofs.Common.{inl, inr, add-one}
 use Rattle.std.specs.List.{slice_get}
 use Rattle.std.proofs.lemmas.List.{append-nil}
-use Rattle.px_outside.specs.Net.{Call, Chain}
+use Rattle.px_outside.specs.Net.{Call}
 use Rattle.serve_loop.specs.declared.asked.Asked.{Asked}
 use Rattle.serve_loop.specs.declared.asked.Asked.TheVariants as is
 use Rattle.serve_loop.specs.declared.serving.Serving.{Serving}
-use Rattle.serve_loop.specs.Events.{Tells}
 use Rattle.serve_loop.specs.Face.{Face}
-use Rattle.serve_loop.specs.Often.{GaveOften, Tried, staying, Each}
-use Rattle.serve_loop.specs.Walk.{Around, Step, calls_in, Then}
-use Rattle.serve_loop.specs.Part.{stand, Part}
-use Rattle.serve_loop.proofs.Chains.{chain_append}
-use Rattle.serve_loop.proofs.Compose.{part_less, part_nothing, calls_append, text_append, tells_then, once_steps}
-use Rattle.serve_loop.proofs.Fresh.{owners_then}
-
--- one part after another, where the second is said by how many connections may be accepted
-pub part_next : {C S : Type 0} {face : Face C} {did : S → Call → S → Type 0} {gave : S → ℕ → Type 0}
-    {R : Around C → List Step → Around C → Type 0} (Q : ℕ → Around C → List Step → Around C → Type 0) {x y z : Serving C} {n m k : S}
-    → Part face did gave R x y n m → Part face did gave (Q y.conns) y z m k → Part face did gave (Then R (Q x.conns)) x z n k
-part_next {C} {S} {face} {did} {gave} {R} Q {x} {y} {z} {n} {m} {k} p q = record {
-  from = λ s.
-      let one = p.from s in
-      let two = q.from one.ready in record {
-        steps = one.steps ++ two.steps;
-        chain = subst (λ cs. Chain did n cs k) (sym (calls_append one.steps two.steps))
-            (chain_append did (calls_in one.steps) (calls_in two.steps) n m k one.chain two.chain);
-        leads = (
-          stand y,
-          one.steps,
-          two.steps,
-          refl,
-          one.leads,
-          subst (λ t. Q t (stand y) two.steps (stand z)) one.conns two.leads,
-        );
-        ready = two.ready;
-        told = subst (λ t. Tells x.journal z.journal t) (sym (text_append one.steps two.steps))
-            (tells_then one.told two.told);
-        once = once_steps (gave n) (gave m) (gave k) one.steps two.steps one.once two.once;
-        owners = owners_then (gave n) (gave m) x.links y.links z.links one.once.lasts one.owners two.owners;
-        conns = two.conns ∙ one.conns;
-      };
-}
+use Rattle.serve_loop.specs.Often.{GaveOften, Tried, staying, Each, OneOf}
+use Rattle.serve_loop.specs.Walk.{Around, Step, Then}
+use Rattle.serve_loop.specs.Part.{Part}
+use Rattle.serve_loop.proofs.Compose.{part_less, part_next, part_nothing}
 
 pub often_none : {C S : Type 0} {face : Face C} {did : S → Call → S → Type 0} {gave : S → ℕ → Type 0}
     (Once : Asked → Around C → List Step → Around C → Type 0) (x : Serving C) (n : S) → Part face did gave (GaveOften Once 0) x x n n
@@ -153,3 +123,13 @@ front_suc (y ∷ ys) (suc i) x e = front_suc ys i x e
 
 pub slice_front : (xs : List ℕ) (i x : ℕ) → slice_get xs i ≡ Some x → drop i xs ≡ x ∷ drop (i + 1) xs
 slice_front xs i x e = front_suc xs i x e ∙ ap (λ k. x ∷ drop k xs) (sym (add-one i))
+
+-- one more of a list
+pub each_one_of : {C S : Type 0} {face : Face C} {did : S → Call → S → Type 0} {gave : S → ℕ → Type 0}
+    (At : ℕ → ℕ → Bool → Around C → List Step → Around C → Type 0) (order : List ℕ) (i : ℕ) (before after : List ℕ) {x y z : Serving C} {n m k : S}
+    → Part face did gave (EachFirst (At x.conns) order i before) x y n m
+    → OneOf (λ number stays. Part face did gave (At y.conns number stays) y z m k) order i before after
+    → Part face did gave (EachFirst (At x.conns) order (i + 1) after) x z n k
+each_one_of {face = face} {did = did} {gave = gave} At order i before after {x} {y} {z} {n} {m} {k} p q =
+    subst (λ (stay : List ℕ). Part face did gave (EachFirst (At x.conns) order (i + 1) stay) x z n k) (sym q.kept)
+    (each_next At order i (i + 1) q.number before q.stays (slice_front order i q.number q.is) p q.did)

@@ -16,8 +16,8 @@ use Rattle.serve_loop.specs.Broken.{AreAsks, IsAsk}
 use Rattle.serve_loop.specs.Face.{Face}
 use Rattle.serve_loop.specs.Often.{NotAsked, GaveOften, TriedLast, Tried, Each}
 use Rattle.serve_loop.specs.Running.{OwnStep, OnePair, GavePairs, RanLast, Ran}
-use Rattle.serve_loop.specs.Server.{Round, WaitsFor, RunsAndWrites, AsksLinks, AsksAll, WaitsAndAsks, Rounds}
-use Rattle.serve_loop.specs.Turn.{Ticks, Waits, WorkAt, WritesAt, ListenerAt, LinkAt, due_now, listed_slots, listed_links}
+use Rattle.serve_loop.specs.Server.{Round, RunsAndWrites, AsksLinks, AsksAll, Rounds}
+use Rattle.serve_loop.specs.Turn.{Ticks, Waits, WaitsFor, TicksAndWaits, WorkAt, WritesAt, ListenerAt, LinkAt, due_now, listed_slots, listed_links}
 use Rattle.serve_loop.specs.Walk.{Around, Given, Step, Own, Asked as Asks, IsOwn, Takes, Walks, Then}
 use Rattle.serve_loop.specs.Writing.{OneWrite, WroteOnce, Wrote}
 use Rattle.serve_loop.proofs.Compose.{walks_append}
@@ -57,7 +57,7 @@ pub ticks_walks : {C : Type 0} (face : Face C) (conns now : ℕ) (a : Around C) 
 ticks_walks face conns now a l b it =
     elim it.ticks [ inl x ↦ own_walks face conns _ tt a l b x.1 | inr x ↦ none_walks face conns a l b x.none x.same ]
 
-pub waited_walks : {C : Type 0} (face : Face C) (conns until : ℕ) (listed : List ReadyAt) (a : Around C) (l : List Step) (b : Around C)
+waited_walks : {C : Type 0} (face : Face C) (conns until : ℕ) (listed : List ReadyAt) (a : Around C) (l : List Step) (b : Around C)
     → Waits until listed a l b → Walks face conns a l b
 waited_walks face conns until listed a l b it =
     step_walks face conns a l b _ it.waits (record { event = None; may = refl; links = a.links; after = refl; becomes = it.same })
@@ -191,7 +191,8 @@ pub pairs_goes : {C : Type 0} (face : Face C) (conns n : ℕ) (before after : Li
     → GavePairs face n before after a l b → Goes face conns a l b
 pairs_goes face conns zero before after a l b it = none_goes face conns a l b it.1.0 it.1.1
 pairs_goes face conns (suc n) before after a l b it =
-    then_goes face conns (GavePairs face n before it.0) (OnePair face it.0 after) (pairs_goes face conns n before it.0) (pair_goes face conns it.0 after) a l b it.1
+    then_goes face conns (GavePairs face n before it.0) (OnePair face it.0 after) (pairs_goes face conns n before it.0)
+    (pair_goes face conns it.0 after) a l b it.1
 
 ran_last_goes : {C : Type 0} (face : Face C) (conns often times : ℕ) (ready : Bool) (before after : List ℕ) (a : Around C) (l : List Step) (b : Around C)
     → RanLast face often times ready before after a l b → Goes face conns a l b
@@ -206,18 +207,28 @@ ran_goes face conns times ready before after a l b it =
 
 -- ---- all five parts
 
-asks_goes : {C : Type 0} (face : Face C) (r : Round) (conns : ℕ) (a : Around C) (l : List Step) (b : Around C) → AsksAll face r conns a l b → Goes face conns a l b
+pub all_goes : {C : Type 0} (face : Face C) (w : Work) (conns : ℕ) (order stay : List ℕ) (a : Around C) (l : List Step) (b : Around C)
+    → Each (WorkAt face w conns) order stay a l b → Goes face conns a l b
+all_goes face w conns = each_goes face conns (WorkAt face w conns) (work_goes face w conns)
+
+asks_goes : {C : Type 0} (face : Face C) (r : Round) (conns : ℕ) (a : Around C) (l : List Step) (b : Around C) → AsksAll face r conns a l b
+    → Goes face conns a l b
 asks_goes face r conns =
     then_goes face conns (Each (ListenerAt face conns) (due_now r.slots (listed_slots r.listed)) r.slots_stay) (AsksLinks face r conns)
-    (each_goes face conns (ListenerAt face conns) (work_goes face work.Listener conns) _ _)
-    (then_goes face conns (Each (LinkAt face conns) (due_now r.links (listed_links r.listed)) r.links_stay) (RunsAndWrites face r conns)
-    (each_goes face conns (LinkAt face conns) (work_goes face work.Link conns) _ _)
+    (all_goes face work.Listener conns _ _)
+    (then_goes face conns (Each (LinkAt face conns) (due_now r.links (listed_links r.listed)) r.links_stay)
+    (RunsAndWrites face r conns) (all_goes face work.Link conns _ _)
     (then_goes face conns (Ran face 2048 r.ready r.writers_were r.writers) (Each (WritesAt face conns) r.writers r.writers_stay)
-    (ran_goes face conns 2048 r.ready r.writers_were r.writers) (each_goes face conns (WritesAt face conns) (work_goes face work.Writer conns) _ _)))
+    (ran_goes face conns 2048 r.ready r.writers_were r.writers) (all_goes face work.Writer conns _ _)))
+
+pub waits_walks : {C : Type 0} (face : Face C) (conns now : ℕ) (slots links : List ℕ) (until : ℕ) (listed : List ReadyAt) (a : Around C) (l : List Step)
+    (b : Around C) → TicksAndWaits face conns now slots links until listed a l b → Walks face conns a l b
+waits_walks face conns now slots links until listed =
+    then_walks face conns (Ticks face now) (WaitsFor face conns slots links until listed) (ticks_walks face conns now)
+    (λ a l b it. waited_walks face conns until listed a l b it.waits)
 
 pub rounds_walk : {C : Type 0} (face : Face C) (r : Round) (conns : ℕ) (a : Around C) (l : List Step) (b : Around C)
     → Rounds face r conns a l b → Walks face conns a l b
 rounds_walk face r conns =
-    then_walks face conns (Ticks face r.now) (WaitsAndAsks face r conns) (ticks_walks face conns r.now)
-    (then_walks face conns (WaitsFor face conns r) (AsksAll face r conns) (λ a l b it. waited_walks face conns r.until r.listed a l b it.waits)
-    (λ a l b it. (asks_goes face r conns a l b it).0))
+    then_walks face conns (TicksAndWaits face conns r.now r.slots r.links r.until r.listed) (AsksAll face r conns)
+    (waits_walks face conns r.now r.slots r.links r.until r.listed) (λ a l b it. (asks_goes face r conns a l b it).0)

@@ -83,7 +83,8 @@ AskedOnce face conns at is.Over a steps b = OneCall face conns at true a steps b
     ⊎ NotAsked (λ x. IsUnknown face x at) a steps b
 
 -- so many bytes of a side are wanted, or more
-pub record IsWanted {C : Type 0} (face : Face C) (core : C) (c : ℕ) (side : Side) (n : ℕ) : Type 0 where
+pub record IsWanted {C : Type 0} (face : Face C) (core : C) (c : ℕ) (side : Side) (n : ℕ)
+    : Type 0 where
   pub wanted : ℕ
   pub wants : face.wants core c side wanted
   pub within : n ≤ wanted

@@ -61,8 +61,8 @@ pub record Carried {S : Type 0} (did : S → Call → S → Type 0) (gave : S �
 
 -- ---- where they break off
 
--- the answer of a connect at which they may: the net failed; where memory was refused, any answer, since a
--- link may find no room in the table
+-- the answer of a connect at which they may: the net failed; where memory was refused, any answer,
+-- since a link may find no room in the table
 abbrev pub StopsAt : (short : Bool) → Result ℕ Failed → Type 0
 StopsAt true answer = Unit {0}
 StopsAt false answer = answer ≡ Err failed.Failed
@@ -73,7 +73,8 @@ ConnectStops short (does.Connects c to) calls =
 ConnectStops short other calls = ⊥
 
 -- the calls of the notes before a connect, and this one
-pub record CarriesUpTo (short : Bool) (notes : List Note) (a : Links) (calls : List Call) : Type 0 where
+pub record CarriesUpTo (short : Bool) (notes : List Note) (a : Links) (calls : List Call)
+    : Type 0 where
   pub before : List Note
   pub note : Note
   pub after : List Note

@@ -1,5 +1,5 @@
 -- What answers of a net become, and the text of events with their notes.
-use Rattle.std.specs.Prelude.{◌≡◌, ℕ, List, ◌++◌, Bool, true, false, Option, Some, None}
+use Rattle.std.specs.Prelude.{◌≡◌, ℕ, List, [], ◌++◌, Bool, true, false, Option, Some, None}
 use Rattle.connection_model.specs.declared.note.Note.{Note}
 use Rattle.journal_text.specs.declared.event.Event.{Event}
 use Rattle.journal_text.specs.declared.event.Event.TheVariants as event
@@ -12,6 +12,7 @@ use Rattle.px_outside.specs.declared.answers.WriteAnswer.{WriteAnswer}
 use Rattle.px_outside.specs.declared.answers.WriteAnswer.TheVariants as write
 use Rattle.px_outside.specs.declared.answers.ConnectAnswer.{ConnectAnswer}
 use Rattle.px_outside.specs.declared.answers.ConnectAnswer.TheVariants as connect
+use Rattle.px_outside.specs.Outside.{told_more}
 use Rattle.serve_loop.specs.declared.journal.Journal.{Journal}
 use Rattle.serve_loop.specs.Face.{from_event, end_event, reset_event, took_event}
 
@@ -47,3 +48,19 @@ kept true text more = text ++ more
 pub record Tells (old new : Journal) (more : List ℕ) : Type 0 where
   pub text : new.text ≡ kept old.recording old.text more
   pub same : new.recording ≡ old.recording
+
+-- what was written grew by this text
+abbrev pub Grew : (before after : Option (List ℕ)) → List ℕ → Type 0
+Grew before after text = after ≡ told_more before text
+
+-- a text from its first byte on; all of it where nothing may be missing
+pub record FrontOf (short : Bool) (text front : List ℕ) : Type 0 where
+  pub missing : List ℕ
+  pub text_is : text ≡ front ++ missing
+  pub whole : short ≡ false → missing ≡ []
+
+-- a front of these lines was told
+pub record TellsFront (Told : List ℕ → Type 0) (short : Bool) (lines : List ℕ) : Type 0 where
+  pub text : List ℕ
+  pub told : Told text
+  pub front : FrontOf short lines text

@@ -1,33 +1,35 @@
 -- A turn that met a fault, and the turns before it.
-use Rattle.std.specs.Prelude.{◌≡◌, ◌⊎◌, ℕ, ◌<◌, ◌≤◌, List, [], ◌++◌, Bool, true, Option, Some, Err, min}
+use Rattle.std.specs.Prelude.{◌≡◌, ◌⊎◌, ℕ, ◌<◌, ◌≤◌, List, [], ◌++◌, Bool, true, Option, Some, Err}
+use Rattle.std.specs.Prelude.{min}
 use Rattle.px_bytes.specs.declared.addr.Addr.{Addr}
 use Rattle.px_outside.specs.declared.answers.ReadyAt.{ReadyAt}
 use Rattle.px_outside.specs.declared.failed.Failed.{Failed}
 use Rattle.px_outside.specs.Net.{Call, Chain, Listen}
-use Rattle.px_outside.specs.Outside.{told_more}
 use Rattle.serve_loop.specs.declared.fault.ServeFault.{ServeFault}
 use Rattle.serve_loop.specs.declared.fault.ServeFault.TheVariants as fault
 use Rattle.serve_loop.specs.declared.serving.Serving.{Serving}
-use Rattle.serve_loop.specs.Broken.{Broken, Unbegun, Breaks, Broke, FrontOf, steps_of}
+use Rattle.serve_loop.specs.Broken.{Broken, Unbegun, BrokenWalk, IsBroken, steps_of}
 use Rattle.serve_loop.specs.Broken.{IsTick, IsWait, AtMostOne, AreAsks}
+use Rattle.serve_loop.specs.Events.{Grew, TellsFront}
 use Rattle.serve_loop.specs.Face.{Face}
 use Rattle.serve_loop.specs.Faults.{fault_of, is_not_net}
-use Rattle.serve_loop.specs.Fresh.{GivesOnce, OwnersStay, links_given}
 use Rattle.serve_loop.specs.Part.{Ready, stand}
-use Rattle.serve_loop.specs.Server.{Round, Rounds, Running, Turns, Behind, Walked, ListensTo}
-use Rattle.serve_loop.specs.Turn.{Ticks, Waits, IsUntil, tick_limit}
-use Rattle.serve_loop.specs.Walk.{Around, Step, Walks, calls_in, text_in}
+use Rattle.serve_loop.specs.Server.{Round, BeginsAt, Rounds}
+use Rattle.serve_loop.specs.Server.{Running, Turns, Behind, Walked, ListensTo}
+use Rattle.serve_loop.specs.Turn.{Ticks, TicksAndWaits, IsUntil, tick_limit}
+use Rattle.serve_loop.specs.Walk.{Around, Step, text_in}
 
 -- It met the fault in its Tick, of a moment above the present one.
-pub record FellTicking {C : Type 0} (face : Face C) (now : ℕ) (a : Around C) (all : List Step) : Type 0 where
+pub record FellTicking {C : Type 0} (face : Face C) (now : ℕ) (a : Around C) (all : List Step)
+    : Type 0 where
   pub present : ℕ
   pub is_present : face.moment a.core present
   pub above : present < min now tick_limit
   pub tick : AtMostOne (IsTick now) all
 
 -- Or behind it in its wait, no longer than until something can be done.
-pub record FellWaiting {C : Type 0} (face : Face C) (conns now : ℕ) (slots links : List ℕ) (a : Around C)
-    (all : List Step) : Type 0 where
+pub record FellWaiting {C : Type 0} (face : Face C) (conns now : ℕ) (slots links : List ℕ)
+    (a : Around C) (all : List Step) : Type 0 where
   pub ticked : Around C
   pub tick : List Step
   pub wait : List Step
@@ -37,20 +39,17 @@ pub record FellWaiting {C : Type 0} (face : Face C) (conns now : ℕ) (slots lin
   pub is_until : IsUntil face conns ticked slots links until
   pub waits : AtMostOne (IsWait until) wait
 
--- Or behind that, where listeners and links are asked, what is ready goes on, and what is pending is written.
-pub record FellAsking {C : Type 0} (face : Face C) (conns now : ℕ) (slots links : List ℕ) (a : Around C)
-    (all : List Step) : Type 0 where
-  pub ticked : Around C
+-- Or behind that, where listeners and links are asked, what is ready goes on, and what is pending
+-- is written.
+pub record FellAsking {C : Type 0} (face : Face C) (conns now : ℕ) (slots links : List ℕ)
+    (a : Around C) (all : List Step) : Type 0 where
   pub waited : Around C
-  pub tick : List Step
   pub wait : List Step
   pub asks : List Step
-  pub all_are : all ≡ tick ++ (wait ++ asks)
-  pub ticks : Ticks face now a tick ticked
+  pub all_are : all ≡ wait ++ asks
   pub until : ℕ
-  pub is_until : IsUntil face conns ticked slots links until
   pub listed : List ReadyAt
-  pub waits : Waits until listed ticked wait waited
+  pub waits : TicksAndWaits face conns now slots links until listed a wait waited
   pub are_asks : AreAsks asks
 
 -- the steps of a turn up to where it broke off, in their order
@@ -59,79 +58,68 @@ abbrev pub InOrder : {C : Type 0} → Face C → (conns now : ℕ) → (slots li
 InOrder face conns now slots links a all = FellTicking face now a all
     ⊎ (FellWaiting face conns now slots links a all ⊎ FellAsking face conns now slots links a all)
 
+-- what was done of a turn at this moment, wherever the loop stood
+abbrev pub IsFallen : {C S : Type 0} → Face C → (S → Call → S → Type 0) → (S → ℕ → Type 0)
+    → (now : ℕ) → (slots links : List ℕ) → (short : Bool) → (old new : Serving C) → (net net' : S)
+    → Type 0
+IsFallen face did gave now slots links short old new net net' =
+    IsBroken face did gave (InOrder face old.conns now slots links (stand old)) short
+    old new net net'
+
 -- or all steps of a turn, where only the writing of their lines failed
-pub record WholeRound {C : Type 0} (face : Face C) (conns now : ℕ) (slots links : List ℕ) (a : Around C)
-    (steps : List Step) (b : Around C) (broken : Broken) : Type 0 where
+pub record WholeRound {C : Type 0} (face : Face C) (conns now : ℕ) (slots links : List ℕ)
+    (a : Around C) (steps : List Step) (b : Around C) (broken : Broken) : Type 0 where
   pub round : Round
-  pub now_is : round.now ≡ now
-  pub slots_were : round.slots ≡ slots
-  pub links_were : round.links ≡ links
+  pub begins : BeginsAt round now slots links
   pub rounds : Rounds face round conns a steps b
   pub none_broken : broken ≡ Unbegun
 
--- what was done of a turn at this moment
-pub record Fallen {C : Type 0} (face : Face C) {S : Type 0} (did : S → Call → S → Type 0)
-    (gave : S → ℕ → Type 0) (now : ℕ) (slots links : List ℕ) (short : Bool) (old new : Serving C)
-    (net net' : S) : Type 0 where
-  pub broke : Broke face did gave short old new net net'
-  pub order : InOrder face old.conns now slots links (stand old) (broke.steps ++ steps_of broke.broken)
-
--- wherever the loop stood
-pub record IsFallen {C : Type 0} (face : Face C) {S : Type 0} (did : S → Call → S → Type 0)
-    (gave : S → ℕ → Type 0) (now : ℕ) (slots links : List ℕ) (short : Bool) (old new : Serving C)
-    (net net' : S) : Type 0 where
-  pub from : Ready face (gave net) old → Fallen face did gave now slots links short old new net net'
-
--- Whole steps, and one that broke off: the calls of all are the net's, in order, and a front of their lines
--- was written, which is all of them where the net failed. An answer of the net is lost only where memory was
--- refused.
+-- Whole steps, and one that broke off, and a front of their lines was written, which is all of them
+-- where the net failed. An answer of the net is lost only where memory was refused.
 pub record DoneSome {C : Type 0} (face : Face C) {S : Type 0} (did : S → Call → S → Type 0)
     (gave : S → ℕ → Type 0) (why : ServeFault) (old new : Serving C) (net net' : S)
     (before after : Option (List ℕ)) : Type 0 where
   pub short : Bool
   pub at_memory : short ≡ true → why ≡ fault.Memory
-  pub steps : List Step
-  pub mid : Around C
-  pub walks : Walks face old.conns (stand old) steps mid
-  pub broken : Broken
-  pub breaks : Breaks face old.conns short mid broken new.core
-  pub chain : Chain did net (calls_in (steps ++ steps_of broken)) net'
-  pub stands : face.stands new.core
-  pub once : GivesOnce (gave net) (gave net') (links_given (calls_in (steps ++ steps_of broken)))
-  pub owners : OwnersStay (gave net) old.links mid.links
-  pub text : List ℕ
-  pub told : after ≡ told_more before text
-  pub front : FrontOf (is_not_net why) (text_in (steps ++ steps_of broken)) text
+  pub walk : BrokenWalk face did gave old.conns short (stand old) new.core net net'
+  pub lines : TellsFront (Grew before after) (is_not_net why)
+      (text_in (walk.steps ++ steps_of walk.broken))
 
 -- in the order of a turn at this moment
 pub record TurnSome {C : Type 0} (face : Face C) {S : Type 0} (did : S → Call → S → Type 0)
-    (gave : S → ℕ → Type 0) (why : ServeFault) (now : ℕ) (slots links : List ℕ) (old new : Serving C)
-    (net net' : S) (before after : Option (List ℕ)) : Type 0 where
+    (gave : S → ℕ → Type 0) (why : ServeFault) (now : ℕ) (slots links : List ℕ)
+    (old new : Serving C) (net net' : S) (before after : Option (List ℕ)) : Type 0 where
   pub done : DoneSome face did gave why old new net net' before after
-  pub order : WholeRound face old.conns now slots links (stand old) done.steps done.mid done.broken
-      ⊎ InOrder face old.conns now slots links (stand old) (done.steps ++ steps_of done.broken)
+  pub order : WholeRound face old.conns now slots links (stand old)
+      done.walk.steps done.walk.mid done.walk.broken
+      ⊎ InOrder face old.conns now slots links (stand old)
+      (done.walk.steps ++ steps_of done.walk.broken)
 
--- A turn that met a fault: one moment was asked for, and this was done, from wherever the server stood with
--- no line that waits.
-pub record Fell {C S T : Type 0} (face : Face C) (did : S → Call → S → Type 0) (gave : S → ℕ → Type 0)
-    (ticked : T → ℕ → T → Type 0) (why : ServeFault) (old new : Running C S T) : Type 0 where
+-- A turn that met a fault: one moment was asked for, and this was done, from wherever the server
+-- stood with no line that waits.
+pub record Fell {C S T : Type 0} (face : Face C) (did : S → Call → S → Type 0)
+    (gave : S → ℕ → Type 0) (ticked : T → ℕ → T → Type 0) (why : ServeFault)
+    (old new : Running C S T) : Type 0 where
   pub now : ℕ
   pub asked : ticked old.clock now new.clock
-  pub turn : Ready face (gave old.net) old.server.serving → old.server.serving.journal.text ≡ []
-      → TurnSome face did gave why now old.server.slots old.server.links old.server.serving new.server.serving
-      old.net new.net old.written new.written
+  pub turn : Ready face (gave old.net) (stand old.server.serving)
+      → old.server.serving.journal.text ≡ []
+      → TurnSome face did gave why now old.server.slots old.server.links
+      old.server.serving new.server.serving old.net new.net old.written new.written
 
 -- all steps of all turns, those of the one that met the fault among them
 abbrev pub WalkedSome : {C S T : Type 0} → Face C → (S → Call → S → Type 0) → (S → ℕ → Type 0)
     → ServeFault → Running C S T → Running C S T → Type 0
 WalkedSome face did gave why old new =
-    Ready face (gave old.net) old.server.serving → old.server.serving.journal.text ≡ []
-    → DoneSome face did gave why old.server.serving new.server.serving old.net new.net old.written new.written
+    Ready face (gave old.net) (stand old.server.serving) → old.server.serving.journal.text ≡ []
+    → DoneSome face did gave why old.server.serving new.server.serving
+    old.net new.net old.written new.written
 
--- Fewer turns than all were made, behind each of which it went on, and the next one met a fault. What those
--- did is exact, and their lines stand in the journal.
-pub record Stopped {C S T : Type 0} (face : Face C) (did : S → Call → S → Type 0) (gave : S → ℕ → Type 0)
-    (ticked : T → ℕ → T → Type 0) (turns : ℕ) (old new : Running C S T) (why : ServeFault) : Type 0 where
+-- Fewer turns than all were made, behind each of which it went on, and the next one met a fault.
+-- What those did is exact, and their lines stand in the journal.
+pub record Stopped {C S T : Type 0} (face : Face C) (did : S → Call → S → Type 0)
+    (gave : S → ℕ → Type 0) (ticked : T → ℕ → T → Type 0) (turns : ℕ) (old new : Running C S T)
+    (why : ServeFault) : Type 0 where
   pub made : ℕ
   pub fewer : made < turns
   pub mid : Running C S T
@@ -152,7 +140,8 @@ pub record ListenFails {C : Type 0} (face : Face C) {S : Type 0} (did : S → Ca
   pub is_why : why ≡ fault_of failed
   pub call : did net (Listen slot at (Err failed)) net'
 
--- The first listeners of a core were made, in order, and the next one failed, or memory was refused.
+-- The first listeners of a core were made, in order, and the next one failed, or memory was
+-- refused.
 pub record ListensSome {C : Type 0} (face : Face C) {S : Type 0} (did : S → Call → S → Type 0)
     (why : ServeFault) (core : C) (net net' : S) : Type 0 where
   pub count : ℕ

@@ -41,8 +41,8 @@ is_not_net fault.Net = false
 is_not_net fault.Write = true
 is_not_net fault.Memory = true
 
--- how a turn ends, by the end of what it did and that of the writing of its lines: want of memory goes first,
--- then a fault of the journal
+-- how a turn ends, by the end of what it did and that of the writing of its lines: want of memory
+-- goes first, then a fault of the journal
 abbrev pub turn_end : (done written : Result (Unit {0}) ServeFault) → Result (Unit {0}) ServeFault
 turn_end (Err fault.Memory) written = Err fault.Memory
 turn_end done (Err why) = Err why

@@ -23,6 +23,7 @@ pub record GivesOnce (gave gave' : ℕ → Type 0) (links : List ℕ) : Type 0 w
   pub once : IsDistinct nat_eq links
   pub lasts : (l : ℕ) → gave l → gave' l
 
--- Of a link that was given before the owner is the same, or there is none: no other connection gets it.
+-- Of a link that was given before the owner is the same, or there is none: no other connection gets
+-- it.
 pub record OwnersStay (gave : ℕ → Type 0) (old new : Links) : Type 0 where
   pub stays : (l : ℕ) → gave l → (owner_in new l ≡ owner_in old l) ⊎ (owner_in new l ≡ None)

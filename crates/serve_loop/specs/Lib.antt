@@ -11,6 +11,5 @@ pub mod Writing
 pub mod Running
 pub mod Turn
 pub mod Broken
-pub mod Listing
 pub mod Fallen
 pub mod Server

@@ -1,5 +1,6 @@
 -- Something is tried until it gives no more, so often at most; and each of a list in order.
-use Rattle.std.specs.Prelude.{◌≡◌, ◌⊎◌, ℕ, zero, suc, ◌≤◌, List, [], ◌∷◌, ◌++◌, Bool, true, false}
+use Rattle.std.specs.Prelude.{◌≡◌, ◌⊎◌, ℕ, zero, suc, ◌≤◌, List, [], ◌∷◌, ◌++◌}
+use Rattle.std.specs.Prelude.{Bool, true, false, Some, slice_get}
 use Rattle.serve_loop.specs.declared.asked.Asked.{Asked}
 use Rattle.serve_loop.specs.declared.asked.Asked.TheVariants as is
 use Rattle.serve_loop.specs.Walk.{Around, Step, Then}
@@ -17,8 +18,8 @@ abbrev pub GaveOften : {C : Type 0} → (Asked → Around C → List Step → Ar
 GaveOften Once zero a steps b = (steps ≡ []) × (b ≡ a)
 GaveOften Once (suc n) a steps b = Then (GaveOften Once n) (Once is.Again) a steps b
 
--- And then it is tried no more: it stays for the next turn, also where it gave as often as it may; or
--- it gives no more.
+-- And then it is tried no more: it stays for the next turn, also where it gave as often as it may;
+-- or it gives no more.
 abbrev pub TriedLast : {C : Type 0} → (Asked → Around C → List Step → Around C → Type 0)
     → (often times : ℕ) → (stays : Bool) → Around C → List Step → Around C → Type 0
 TriedLast Once often times true a steps b =
@@ -42,3 +43,11 @@ abbrev pub Each : {C : Type 0} → (ℕ → Bool → Around C → List Step → 
 Each At [] stay a steps b = (stay ≡ []) × (steps ≡ []) × (b ≡ a)
 Each At (n ∷ order) stay a steps b = (stays : Bool) × (rest : List ℕ)
     × (stay ≡ staying stays n ++ rest) × Then (At n stays) (Each At order rest) a steps b
+
+-- one of a list, kept where it stays
+pub record OneOf (P : ℕ → Bool → Type 0) (order : List ℕ) (at : ℕ) (old new : List ℕ) : Type 0 where
+  pub number : ℕ
+  pub is : slice_get order at ≡ Some number
+  pub stays : Bool
+  pub kept : new ≡ old ++ staying stays number
+  pub did : P number stays

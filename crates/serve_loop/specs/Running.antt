@@ -26,8 +26,8 @@ abbrev pub RunAndTurn : {C : Type 0} → Face C → Around C → List Step → A
 RunAndTurn face a steps b = Then (OwnStep face event.Run) (OwnStep face event.Turn) a steps b
 
 -- Something is ready, and a Run and a Turn are given. The connection that runs is noted.
-pub record OnePair {C : Type 0} (face : Face C) (before after : List ℕ) (a : Around C) (steps : List Step)
-    (b : Around C) : Type 0 where
+pub record OnePair {C : Type 0} (face : Face C) (before after : List ℕ) (a : Around C)
+    (steps : List Step) (b : Around C) : Type 0 where
   pub unsettled : face.settled a.core false
   pub ready : Option ℕ
   pub is_ready : face.ready a.core ready
@@ -50,8 +50,8 @@ GavePairs face (suc n) before after a steps b =
     (mid : List ℕ) × Then (GavePairs face n before mid) (OnePair face mid after) a steps b
 
 -- and then nothing is ready, or so many were given as may be in a turn
-abbrev pub RanLast : {C : Type 0} → Face C → (often times : ℕ) → (ready : Bool) → (before after : List ℕ)
-    → Around C → List Step → Around C → Type 0
+abbrev pub RanLast : {C : Type 0} → Face C → (often times : ℕ) → (ready : Bool)
+    → (before after : List ℕ) → Around C → List Step → Around C → Type 0
 RanLast face often times true before after a steps b =
     (after ≡ before) × NotAsked (λ x. often ≡ times) a steps b
 RanLast face often times false before after a steps b = PairOnce face before after is.Over a steps b
@@ -61,4 +61,5 @@ pub record Ran {C : Type 0} (face : Face C) (times : ℕ) (ready : Bool) (before
   pub often : ℕ
   pub within : often ≤ times
   pub mid : List ℕ
-  pub pairs : Then (GavePairs face often before mid) (RanLast face often times ready mid after) a steps b
+  pub pairs : Then (GavePairs face often before mid) (RanLast face often times ready mid after)
+      a steps b

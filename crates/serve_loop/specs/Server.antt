@@ -6,23 +6,22 @@ use Rattle.px_outside.specs.Net.{Call, Chain, Listen}
 use Rattle.served_links.specs.Added.{added}
 use Rattle.served_links.specs.Links.{IsEmpty}
 use Rattle.px_bytes.specs.declared.addr.Addr.{Addr}
-use Rattle.px_outside.specs.Outside.{told_more}
 use Rattle.serve_loop.specs.declared.fault.ServeEnd.{ServeEnd}
 use Rattle.serve_loop.specs.declared.fault.ServeEnd.TheVariants as ending
 use Rattle.serve_loop.specs.declared.server.Server.{Server}
 use Rattle.serve_loop.specs.declared.serving.Serving.{Serving}
+use Rattle.serve_loop.specs.Events.{Grew}
 use Rattle.serve_loop.specs.Face.{Face}
-use Rattle.serve_loop.specs.Fresh.{GivesOnce, OwnersStay, links_given}
 use Rattle.serve_loop.specs.Often.{Each}
-use Rattle.serve_loop.specs.Part.{Part, Ready, stand}
+use Rattle.serve_loop.specs.Part.{Made, Part, Ready, stand}
 use Rattle.serve_loop.specs.Running.{Ran}
-use Rattle.serve_loop.specs.Turn.{Ticks, Waits, CanAccept, IsUntil, listed_slots, listed_links, due_now}
+use Rattle.serve_loop.specs.Turn.{TicksAndWaits, CanAccept, listed_slots, listed_links, due_now}
 use Rattle.serve_loop.specs.Turn.{ListenerAt, LinkAt, WritesAt}
-use Rattle.serve_loop.specs.Walk.{Around, Step, Walks, calls_in, text_in, Then}
+use Rattle.serve_loop.specs.Walk.{Around, Step, Walks, text_in, Then}
 
--- what a turn found and left: how long it waited, what was listed, which listeners and links stay due,
--- whether something is ready, on which connections something was pending, to which it wrote, those and
--- all that ran, and on which something is pending still
+-- what a turn found and left: how long it waited, what was listed, which listeners and links stay
+-- due, whether something is ready, on which connections something was pending, to which it wrote,
+-- those and all that ran, and on which something is pending still
 pub record Round : Type 0 where
   pub now : ℕ
   pub slots : List ℕ
@@ -36,14 +35,9 @@ pub record Round : Type 0 where
   pub writers : List ℕ
   pub writers_stay : List ℕ
 
--- one wait, no longer than until something can be done
-pub record WaitsFor {C : Type 0} (face : Face C) (conns : ℕ) (r : Round) (a : Around C) (steps : List Step)
-    (b : Around C) : Type 0 where
-  pub until : IsUntil face conns a r.slots r.links r.until
-  pub waits : Waits r.until r.listed a steps b
-
 -- what is ready is run, then what is pending is written
-abbrev pub RunsAndWrites : {C : Type 0} → Face C → Round → ℕ → Around C → List Step → Around C → Type 0
+abbrev pub RunsAndWrites : {C : Type 0} → Face C → Round → ℕ → Around C → List Step → Around C
+    → Type 0
 RunsAndWrites face r conns a steps b =
     Then (Ran face 2048 r.ready r.writers_were r.writers)
     (Each (WritesAt face conns) r.writers r.writers_stay) a steps b
@@ -60,37 +54,48 @@ AsksAll face r conns a steps b =
     Then (Each (ListenerAt face conns) (due_now r.slots (listed_slots r.listed)) r.slots_stay)
     (AsksLinks face r conns) a steps b
 
-abbrev pub WaitsAndAsks : {C : Type 0} → Face C → Round → ℕ → Around C → List Step → Around C → Type 0
-WaitsAndAsks face r conns a steps b = Then (WaitsFor face conns r) (AsksAll face r conns) a steps b
-
 -- the five things of a turn, in order
 abbrev pub Rounds : {C : Type 0} → Face C → Round → ℕ → Around C → List Step → Around C → Type 0
-Rounds face r conns a steps b = Then (Ticks face r.now) (WaitsAndAsks face r conns) a steps b
+Rounds face r conns a steps b =
+    Then (TicksAndWaits face conns r.now r.slots r.links r.until r.listed) (AsksAll face r conns)
+    a steps b
+
+-- the Tick and the wait of a turn, and until when it waited
+pub record Waited {C : Type 0} (face : Face C) {S : Type 0} (did : S → Call → S → Type 0)
+    (gave : S → ℕ → Type 0) (now : ℕ) (slots links : List ℕ) (listed : List ReadyAt)
+    (old new : Serving C) (net net' : S) : Type 0 where
+  pub until : ℕ
+  pub part : Part face did gave (TicksAndWaits face old.conns now slots links until listed)
+      old new net net'
+
+-- It was at this moment, with these listeners and links due from before.
+pub record BeginsAt (r : Round) (now : ℕ) (slots links : List ℕ) : Type 0 where
+  pub now_is : r.now ≡ now
+  pub slots_were : r.slots ≡ slots
+  pub links_were : r.links ≡ links
+
+-- what it found pending and left due and pending
+pub record Leaves {C : Type 0} (r : Round) (old new : Server C) : Type 0 where
+  pub writers_were : r.writers_were ≡ old.writers
+  pub slots_are : new.slots ≡ r.slots_stay
+  pub links_are : new.links ≡ r.links_stay
+  pub writers_are : new.writers ≡ added [] r.writers_stay
 
 -- one turn at this moment of the clock
 pub record Turned {C : Type 0} (face : Face C) {S : Type 0} (did : S → Call → S → Type 0)
     (gave : S → ℕ → Type 0) (now : ℕ) (old new : Server C) (net net' : S) : Type 0 where
   pub round : Round
-  pub now_is : round.now ≡ now
-  pub part : Part face did gave (Rounds face round old.serving.conns) old.serving new.serving net net'
-  pub slots_were : round.slots ≡ old.slots
-  pub links_were : round.links ≡ old.links
-  pub writers_were : round.writers_were ≡ old.writers
-  pub slots_are : new.slots ≡ round.slots_stay
-  pub links_are : new.links ≡ round.links_stay
-  pub writers_are : new.writers ≡ added [] round.writers_stay
+  pub begins : BeginsAt round now old.slots old.links
+  pub part : Part face did gave (Rounds face round old.serving.conns)
+      old.serving new.serving net net'
+  pub leaves : Leaves round old new
 
 -- the steps of a part, where the lines of their events were written too
 pub record Done {C : Type 0} (face : Face C) {S : Type 0} (did : S → Call → S → Type 0)
     (gave : S → ℕ → Type 0) (R : Around C → List Step → Around C → Type 0) (old new : Serving C)
     (net net' : S) (before after : Option (List ℕ)) : Type 0 where
-  pub steps : List Step
-  pub chain : Chain did net (calls_in steps) net'
-  pub leads : R (stand old) steps (stand new)
-  pub ready : Ready face (gave net') new
-  pub told : after ≡ told_more before (text_in steps)
-  pub once : GivesOnce (gave net) (gave net') (links_given (calls_in steps))
-  pub owners : OwnersStay (gave net) old.links new.links
+  pub made : Made face did gave R (stand old) (stand new) net net'
+  pub told : Grew before after (text_in made.steps)
   pub no_line_waits : new.journal.text ≡ []
   pub conns : new.conns ≡ old.conns
 
@@ -99,15 +104,11 @@ pub record OneTurn {C : Type 0} (face : Face C) {S : Type 0} (did : S → Call �
     (gave : S → ℕ → Type 0) (now : ℕ) (old new : Server C) (net net' : S)
     (before after : Option (List ℕ)) : Type 0 where
   pub round : Round
-  pub now_is : round.now ≡ now
-  pub done : Ready face (gave net) old.serving → old.serving.journal.text ≡ []
-      → Done face did gave (Rounds face round old.serving.conns) old.serving new.serving net net' before after
-  pub slots_were : round.slots ≡ old.slots
-  pub links_were : round.links ≡ old.links
-  pub writers_were : round.writers_were ≡ old.writers
-  pub slots_are : new.slots ≡ round.slots_stay
-  pub links_are : new.links ≡ round.links_stay
-  pub writers_are : new.writers ≡ added [] round.writers_stay
+  pub begins : BeginsAt round now old.slots old.links
+  pub done : Ready face (gave net) (stand old.serving) → old.serving.journal.text ≡ []
+      → Done face did gave (Rounds face round old.serving.conns)
+      old.serving new.serving net net' before after
+  pub leaves : Leaves round old new
 
 -- a server, with its net, its clock, and what was written of its journal
 pub record Running (C S T : Type 0) : Type 0 where
@@ -115,6 +116,10 @@ pub record Running (C S T : Type 0) : Type 0 where
   pub net : S
   pub clock : T
   pub written : Option (List ℕ)
+
+abbrev pub running : {C S T : Type 0} → Server C → S → T → Option (List ℕ) → Running C S T
+running server net clock written =
+    record { server = server; net = net; clock = clock; written = written }
 
 -- as many connections were accepted as may be, and none is live
 pub record IsOver {C : Type 0} (face : Face C) (s : Serving C) : Type 0 where
@@ -134,8 +139,8 @@ abbrev pub Behind : {C : Type 0} → Face C → (made : ℕ) → Serving C → T
 Behind face zero s = Unit {0}
 Behind face (suc n) s = GoesOn face s
 
--- one turn after another, each at the moment that the clock gave then; none behind one at whose end all
--- were over
+-- one turn after another, each at the moment that the clock gave then; none behind one at whose end
+-- all were over
 abbrev pub Turns : {C S T : Type 0} → Face C → (S → Call → S → Type 0) → (S → ℕ → Type 0)
     → (T → ℕ → T → Type 0) → ℕ → Running C S T → Running C S T → Type 0
 Turns face did gave ticked zero old new = new ≡ old
@@ -144,22 +149,24 @@ Turns {C} {S} {T} face did gave ticked (suc n) old new =
     × ((now : ℕ) × ticked mid.clock now new.clock
     × OneTurn face did gave now mid.server new.server mid.net new.net mid.written new.written)
 
--- So many turns were made, one at least, and then every connection was over; or all turns, and it goes on.
+-- So many turns were made, one at least, and then every connection was over; or all turns, and it
+-- goes on.
 abbrev pub EndsAs : {C : Type 0} → Face C → (turns made : ℕ) → Serving C → ServeEnd → Type 0
 EndsAs face turns made s ending.Conns = (0 < made) × ((made ≤ turns) × IsOver face s)
 EndsAs face turns made s ending.Turns = (made ≡ turns) × Behind face made s
 
--- All steps of all turns: where a server began ready and no line waited, their calls are the net's, in order,
--- their events' lines were written, and each link was given once.
+-- All steps of all turns: where a server began ready and no line waited, their calls are the net's,
+-- in order, their events' lines were written, and each link was given once.
 abbrev pub Walked : {C S T : Type 0} → Face C → (S → Call → S → Type 0) → (S → ℕ → Type 0)
     → Running C S T → Running C S T → Type 0
 Walked face did gave old new =
-    Ready face (gave old.net) old.server.serving → old.server.serving.journal.text ≡ []
+    Ready face (gave old.net) (stand old.server.serving) → old.server.serving.journal.text ≡ []
     → Done face did gave (Walks face old.server.serving.conns) old.server.serving new.server.serving
     old.net new.net old.written new.written
 
-pub record Served {C S T : Type 0} (face : Face C) (did : S → Call → S → Type 0) (gave : S → ℕ → Type 0)
-    (ticked : T → ℕ → T → Type 0) (turns : ℕ) (old new : Running C S T) (end : ServeEnd) : Type 0 where
+pub record Served {C S T : Type 0} (face : Face C) (did : S → Call → S → Type 0)
+    (gave : S → ℕ → Type 0) (ticked : T → ℕ → T → Type 0) (turns : ℕ) (old new : Running C S T)
+    (end : ServeEnd) : Type 0 where
   pub made : ℕ
   pub turned : Turns face did gave ticked made old new
   pub walked : Walked face did gave old new
@@ -173,8 +180,8 @@ listen_calls slot (Some at) = Listen slot at (Ok tt) ∷ []
 -- the listeners of the first n slots, in order
 abbrev pub ListensTo : {C : Type 0} → Face C → C → ℕ → List Call → Type 0
 ListensTo face core zero calls = calls ≡ []
-ListensTo face core (suc n) calls = (before : List Call) × (at : Option Addr) × ListensTo face core n before
-    × face.listens core n at × (calls ≡ before ++ listen_calls n at)
+ListensTo face core (suc n) calls = (before : List Call) × (at : Option Addr)
+    × ListensTo face core n before × face.listens core n at × (calls ≡ before ++ listen_calls n at)
 
 -- A server before its first turn: it listens, no link is known, nothing is due, and no line waits.
 pub record Begins {C : Type 0} (face : Face C) {S : Type 0} (did : S → Call → S → Type 0) (core : C)
@@ -192,8 +199,8 @@ pub record Begins {C : Type 0} (face : Face C) {S : Type 0} (did : S → Call �
   pub none_pending : server.writers ≡ []
 
 -- the listeners of a core
-pub record ListensAll {C : Type 0} (face : Face C) {S : Type 0} (did : S → Call → S → Type 0) (core : C)
-    (n : ℕ) (net net' : S) : Type 0 where
+pub record ListensAll {C : Type 0} (face : Face C) {S : Type 0} (did : S → Call → S → Type 0)
+    (core : C) (n : ℕ) (net net' : S) : Type 0 where
   pub calls : List Call
   pub listens : ListensTo face core n calls
   pub chain : Chain did net calls net'

@@ -23,11 +23,12 @@ abbrev pub tick_limit : ℕ
 tick_limit = 2 ^ 53
 
 -- where the clock's moment is above the present one, a Tick is given; 2 ^ 53 stands for any greater
-pub record Ticks {C : Type 0} (face : Face C) (now : ℕ) (a : Around C) (steps : List Step) (b : Around C)
-    : Type 0 where
+pub record Ticks {C : Type 0} (face : Face C) (now : ℕ) (a : Around C) (steps : List Step)
+    (b : Around C) : Type 0 where
   pub present : ℕ
   pub is_present : face.moment a.core present
-  pub ticks : ((present < min now tick_limit) × OwnStep face (event.Tick (min now tick_limit)) a steps b)
+  pub ticks : ((present < min now tick_limit)
+      × OwnStep face (event.Tick (min now tick_limit)) a steps b)
       ⊎ NotAsked (λ x. min now tick_limit ≤ present) a steps b
 
 -- one wait that answered
@@ -51,7 +52,8 @@ pub record LinkAsks {C : Type 0} (face : Face C) (a : Around C) (link : ℕ) : T
 
 abbrev pub CanAsk : {C : Type 0} → Face C → ℕ → Around C → ℕ → Bool → Type 0
 CanAsk face conns a link true = LinkAsks face a link
-CanAsk face conns a link false = IsUnknown face a (ready.Link link) ⊎ MayNot face conns a (ready.Link link)
+CanAsk face conns a link false = IsUnknown face a (ready.Link link)
+    ⊎ MayNot face conns a (ready.Link link)
 
 -- one of these links may be asked, or none
 abbrev pub AnyAsks : {C : Type 0} → Face C → ℕ → Around C → List ℕ → Bool → Type 0
@@ -74,8 +76,21 @@ IsQuiet face conns a (s ∷ slots) links = face.settled a.core true
 
 -- it waits for no time where something can be done, else until something is due by time alone
 abbrev pub IsUntil : {C : Type 0} → Face C → ℕ → Around C → (slots links : List ℕ) → ℕ → Type 0
-IsUntil face conns a slots links until = (IsBusy face conns a slots links × face.moment a.core until)
+IsUntil face conns a slots links until =
+    (IsBusy face conns a slots links × face.moment a.core until)
     ⊎ (IsQuiet face conns a slots links × face.due a.core until)
+
+-- one wait, no longer than until something can be done
+pub record WaitsFor {C : Type 0} (face : Face C) (conns : ℕ) (slots links : List ℕ) (until : ℕ)
+    (listed : List ReadyAt) (a : Around C) (steps : List Step) (b : Around C) : Type 0 where
+  pub is_until : IsUntil face conns a slots links until
+  pub waits : Waits until listed a steps b
+
+-- the Tick before
+abbrev pub TicksAndWaits : {C : Type 0} → Face C → (conns now : ℕ) → (slots links : List ℕ)
+    → (until : ℕ) → List ReadyAt → Around C → List Step → Around C → Type 0
+TicksAndWaits face conns now slots links until listed a steps b =
+    Then (Ticks face now) (WaitsFor face conns slots links until listed) a steps b
 
 -- the listeners and the links of what a wait listed
 abbrev pub listed_slots : List ReadyAt → List ℕ
@@ -92,12 +107,14 @@ listed_links (ready.Link link ∷ more) = link ∷ listed_links more
 abbrev pub due_now : (stayed listed : List ℕ) → List ℕ
 due_now stayed listed = added (added [] stayed) listed
 
-abbrev pub ListenerAt : {C : Type 0} → Face C → ℕ → ℕ → Bool → Around C → List Step → Around C → Type 0
+abbrev pub ListenerAt : {C : Type 0} → Face C → ℕ → ℕ → Bool → Around C → List Step → Around C
+    → Type 0
 ListenerAt face conns slot stays a steps b =
     Tried (AskedOnce face conns (ready.Listener slot)) 16 stays a steps b
 
 abbrev pub LinkAt : {C : Type 0} → Face C → ℕ → ℕ → Bool → Around C → List Step → Around C → Type 0
-LinkAt face conns link stays a steps b = Tried (AskedOnce face conns (ready.Link link)) 4 stays a steps b
+LinkAt face conns link stays a steps b =
+    Tried (AskedOnce face conns (ready.Link link)) 4 stays a steps b
 
 abbrev pub either : Bool → Bool → Bool
 either true y = true
@@ -112,7 +129,8 @@ pub record WritesAt {C : Type 0} (face : Face C) (conns c : ℕ) (stays : Bool) 
   pub writes : Then (Wrote face conns c Client client) (Wrote face conns c Server server) a steps b
 
 -- what is done with a number, and whether it stays
-abbrev pub WorkAt : {C : Type 0} → Face C → Work → ℕ → ℕ → Bool → Around C → List Step → Around C → Type 0
+abbrev pub WorkAt : {C : Type 0} → Face C → Work → ℕ → ℕ → Bool → Around C → List Step → Around C
+    → Type 0
 WorkAt face work.Listener = ListenerAt face
 WorkAt face work.Link = LinkAt face
 WorkAt face work.Writer = WritesAt face

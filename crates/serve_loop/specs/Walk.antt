@@ -1,5 +1,5 @@
--- What the loop did: calls on the net with their answers, the events that these became, events of its
--- own, and the calls that notes asked for.
+-- What the loop did: calls on the net with their answers, the events that these became, events of
+-- its own, and the calls that notes asked for.
 use Rattle.std.specs.Prelude.{◌≡◌, ℕ, ◌<◌, ◌≤◌, List, [], ◌∷◌, ◌++◌, length, true}
 use Rattle.std.specs.Prelude.{Option, Some, None, Ok}
 use Rattle.px_bytes.specs.declared.addr.Side.{Side}
@@ -174,4 +174,5 @@ Walks {C} face conns a (x ∷ steps) b =
 abbrev pub Then : {C : Type 0} → (Around C → List Step → Around C → Type 0)
     → (Around C → List Step → Around C → Type 0) → Around C → List Step → Around C → Type 0
 Then {C} R Q a steps b =
-    (mid : Around C) × (first rest : List Step) × (steps ≡ first ++ rest) × R a first mid × Q mid rest b
+    (mid : Around C) × (first rest : List Step) × (steps ≡ first ++ rest)
+    × R a first mid × Q mid rest b

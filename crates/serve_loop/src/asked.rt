@@ -27,7 +27,8 @@ pub enum Asked {
 
 /// What an answer to a read becomes, with the bytes that stand at the start of the room.
 pub fn read_to_event(alloc: Global, row: Row, answer: ReadAnswer, room: &[u8]) -> M<Option<Event>>
-    ensures { IfOk result (λ event. event ≡ read_event row.conn row.side answer (got answer room.now)) }
+    ensures { IfOk result
+        (λ event. event ≡ read_event row.conn row.side answer (got answer room.now)) }
 {
     match answer {
         ReadAnswer::Got(n) => {

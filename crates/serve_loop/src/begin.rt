@@ -29,7 +29,7 @@ impl<C: Core + Drop> Server<C> {
         net: &mut N,
         conns: u32,
     ) -> Result<Server<C>, ServeFault>
-        ensures begins { IfOk result (λ server. Begins C.face N.did core conns net.old net.new server) }
+        ensures begins { IfOk result (Begins C.face N.did core conns net.old net.new) }
         ensures broke { IfErr result (λ why. ListensSome C.face N.did why core net.old net.new) }
         ensures fails { IfErr result (FromNet (N.faults net.old) (N.faults net.new)) }
         ensures faults_never_fall { N.faults net.old ≤ N.faults net.new }
@@ -78,7 +78,8 @@ fn listen_all<C: Core, N: Net>(core: &C, net: &mut N) -> Result<(), ServeFault>
 fn listen_at<C: Core, N: Net>(core: &C, net: &mut N, slot: u32) -> Result<(), ServeFault>
     ensures listens { OnOk result ((at : Option Addr) × C.face.listens core.now slot at
         × Chain N.did net.old (listen_calls slot at) net.new) }
-    ensures broke { IfErr result (λ why. ListenFails C.face N.did why core.now slot net.old net.new) }
+    ensures broke { IfErr result
+        (λ why. ListenFails C.face N.did why core.now slot net.old net.new) }
     ensures fails { IfErr result (FromNet (N.faults net.old) (N.faults net.new)) }
     ensures faults_never_fall { N.faults net.old ≤ N.faults net.new }
 {

@@ -4,28 +4,28 @@ ghost use Rattle.std.specs.Prelude.{◌≡◌, IfOk};
 ghost use Rattle.serve_loop.specs.Turn.{due_now, listed_slots, listed_links};
 
 use px_bytes::{M, Seq};
-use px_outside::ReadyAt;
+use px_outside::{ReadyAt, ReadyList};
 use served_links::Numbers;
 use std::alloc::Global;
 
 /// The listeners that are due, each once.
-pub fn due_slots(alloc: Global, stayed: &[u32], listed: &[ReadyAt]) -> M<Numbers>
+pub fn due_slots(alloc: Global, stayed: &Seq<u32>, listed: &ReadyList) -> M<Numbers>
     ensures { IfOk result (λ due. due ≡ due_now stayed.now (listed_slots listed.now)) }
 {
     let mut due = Numbers::new(alloc);
-    due.add_all(stayed)?;
-    let listed = slots_in(alloc, listed)?;
+    due.add_all(stayed.as_slice())?;
+    let listed = slots_in(alloc, listed.as_slice())?;
     due.add_all(listed.as_slice())?;
     Ok(due)
 }
 
 /// The links that are due, each once.
-pub fn due_links(alloc: Global, stayed: &[u32], listed: &[ReadyAt]) -> M<Numbers>
+pub fn due_links(alloc: Global, stayed: &Seq<u32>, listed: &ReadyList) -> M<Numbers>
     ensures { IfOk result (λ due. due ≡ due_now stayed.now (listed_links listed.now)) }
 {
     let mut due = Numbers::new(alloc);
-    due.add_all(stayed)?;
-    let listed = links_in(alloc, listed)?;
+    due.add_all(stayed.as_slice())?;
+    let listed = links_in(alloc, listed.as_slice())?;
     due.add_all(listed.as_slice())?;
     Ok(due)
 }

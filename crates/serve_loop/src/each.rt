@@ -1,8 +1,7 @@
 // The same is done with each number of a list.
 
 ghost use Rattle.std.specs.Prelude.{◌≡◌, ◌<◌, IfOk, OnOk, length, vec_len, IfErr, ◌≤◌};
-ghost use Rattle.serve_loop.specs.Listing.{AllOf, OneOf};
-ghost use Rattle.serve_loop.specs.Often.{Each};
+ghost use Rattle.serve_loop.specs.Often.{Each, OneOf};
 ghost use Rattle.serve_loop.specs.Part.{Part};
 ghost use Rattle.serve_loop.specs.Turn.{WorkAt, WritesAt, either};
 ghost use Rattle.serve_loop.specs.Broken.{AreAsks, IsBroken};
@@ -16,7 +15,7 @@ use px_outside::Net;
 use served_links::Numbers;
 
 impl<C: Core + Drop> Serving<C> {
-    /// Does this with each number of a list, in order, and adds those that stay.
+    /// Does this with each number of a list, in order, and leaves those that stay.
     #[tactic(auto, using(crate::proofs::Failing::from_later, crate::proofs::Failing::from_memory))]
     pub(crate) fn each<N: Net>(
         &mut self,
@@ -24,20 +23,21 @@ impl<C: Core + Drop> Serving<C> {
         work: Work,
         order: &Numbers,
         room: &mut Vec<u8>,
-        keep: &mut Seq<u32>,
+        stay: &mut Seq<u32>,
     ) -> Result<(), ServeFault>
         requires { 0 < vec_len room.old }
-        ensures all { OnOk result (AllOf
-            (λ stay. Part C.face N.did N.gave (Each (WorkAt C.face work self.old.conns) order.now stay)
-            self.old self.new net.old net.new) keep.old keep.new) }
+        ensures part { OnOk result (Part C.face N.did N.gave
+            (Each (WorkAt C.face work self.old.conns) order.now stay.new)
+            self.old self.new net.old net.new) }
         ensures room { vec_len room.new ≡ vec_len room.old }
         ensures broke { IfErr result (λ why. IsBroken C.face N.did N.gave AreAsks (is_memory why)
             self.old self.new net.old net.new) }
         ensures fails { IfErr result (FromNet (N.faults net.old) (N.faults net.new)) }
         ensures faults_never_fall { N.faults net.old ≤ N.faults net.new }
     {
+        stay.clear();
         for at in 0..order.len() {
-            self.each_at(net, work, order, at, room, keep)?;
+            self.each_at(net, work, order, at, room, stay)?;
         }
         Ok(())
     }
@@ -50,13 +50,13 @@ impl<C: Core + Drop> Serving<C> {
         order: &Numbers,
         at: usize,
         room: &mut Vec<u8>,
-        keep: &mut Seq<u32>,
+        stay: &mut Seq<u32>,
     ) -> Result<(), ServeFault>
         requires within { at < length order.now }
         requires some { 0 < vec_len room.old }
-        ensures one { OnOk result (OneOf
-            (λ number stays. Part C.face N.did N.gave (WorkAt C.face work self.old.conns number stays)
-            self.old self.new net.old net.new) order.now at keep.old keep.new) }
+        ensures one { OnOk result (OneOf (λ number stays. Part C.face N.did N.gave
+            (WorkAt C.face work self.old.conns number stays) self.old self.new net.old net.new)
+            order.now at stay.old stay.new) }
         ensures room { vec_len room.new ≡ vec_len room.old }
         ensures broke { IfErr result (λ why. IsBroken C.face N.did N.gave AreAsks (is_memory why)
             self.old self.new net.old net.new) }
@@ -65,7 +65,7 @@ impl<C: Core + Drop> Serving<C> {
     {
         let number = order.number(at);
         if self.one(net, work, number, room)? {
-            keep.push(number)?;
+            stay.push(number)?;
             return Ok(());
         }
         Ok(())

@@ -1,6 +1,7 @@
 // The core that is served.
 
-ghost use Rattle.std.specs.Prelude.{◌≡◌, ◌≤◌, ◌<◌, ◌++◌, ℕ, Some, List, length, true, option_map, IsTrue, IfSome};
+ghost use Rattle.std.specs.Prelude.{◌≡◌, ◌≤◌, ◌<◌, ◌++◌, ℕ, Some, List, length, true};
+ghost use Rattle.std.specs.Prelude.{option_map, IsTrue, IfSome};
 ghost use Rattle.connection_model.specs.declared.note.Note.{Note};
 ghost use Rattle.journal_text.specs.declared.event.Event.TheVariants as event;
 ghost use Rattle.serve_loop.specs.Face.{Face, MayCome, MayTake, MayAnswer};
@@ -28,7 +29,8 @@ pub trait Core {
     fn next(&self) -> Option<u32>
         ensures next { face.next self.now result }
         ensures takes { IfSome result (λ n. (slot : ℕ) (name : List ℕ) (from : Addr)
-            → face.name self.now slot (Some name) → face.takes self.now (event.Accept n name from)) };
+            → face.name self.now slot (Some name)
+            → face.takes self.now (event.Accept n name from)) };
 
     /// How many connections are live.
     fn live(&self) -> u32

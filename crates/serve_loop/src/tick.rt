@@ -1,17 +1,18 @@
 // The clock, and how long to wait.
 
 ghost use Rattle.std.specs.Prelude.{◌≡◌, OnOk, min, IfErr, ◌≤◌};
-ghost use Rattle.serve_loop.specs.Server.{IsOverOr};
+ghost use Rattle.serve_loop.specs.Server.{IsOverOr, Waited};
 ghost use Rattle.serve_loop.specs.Part.{Part, stand};
-ghost use Rattle.serve_loop.specs.Turn.{Ticks, Waits, CanAccept, CanAsk, AnyAsks, IsUntil, tick_limit};
+ghost use Rattle.serve_loop.specs.Turn.{Ticks, Waits, IsUntil, tick_limit};
+ghost use Rattle.serve_loop.specs.Turn.{AnyAsks, CanAccept, CanAsk};
 ghost use Rattle.serve_loop.specs.Broken.{AtMostOne, IsBroken, IsWait};
-ghost use Rattle.serve_loop.specs.Fallen.{FellTicking};
+ghost use Rattle.serve_loop.specs.Fallen.{FellTicking, IsFallen};
 ghost use Rattle.serve_loop.specs.Faults.{FromNet, is_memory};
 
 use crate::serving::Serving;
 use crate::{Core, ServeFault};
 use journal_text::Event;
-use px_bytes::Side;
+use px_bytes::{Seq, Side};
 use px_outside::{Net, ReadyList};
 
 /// The greatest moment of a Tick.
@@ -20,7 +21,7 @@ const TICK_LIMIT: u64 = 9_007_199_254_740_992;
 impl<C: Core + Drop> Serving<C> {
     /// Gives the present moment to the core, where it is above the last one.
     #[tactic(auto, using(crate::proofs::Failing::from_later, crate::proofs::Failing::from_memory))]
-    pub(crate) fn tick<N: Net>(&mut self, net: &mut N, now: u64) -> Result<(), ServeFault>
+    fn tick<N: Net>(&mut self, net: &mut N, now: u64) -> Result<(), ServeFault>
         ensures part { OnOk result (Part C.face N.did N.gave
             (Ticks C.face now) self.old self.new net.old net.new) }
         ensures broke { IfErr result (λ why. IsBroken C.face N.did N.gave
@@ -37,9 +38,33 @@ impl<C: Core + Drop> Serving<C> {
         Ok(())
     }
 
+    /// Gives the present moment to the core, and waits until something may be ready, where these
+    /// listeners and links are due.
+    #[tactic(auto, using(crate::proofs::Failing::from_later, crate::proofs::Failing::from_memory))]
+    pub(crate) fn wait_for_ready<N: Net>(
+        &mut self,
+        net: &mut N,
+        now: u64,
+        slots: &Seq<u32>,
+        links: &Seq<u32>,
+        listed: &mut ReadyList,
+    ) -> Result<(), ServeFault>
+        ensures waited { OnOk result (Waited C.face N.did N.gave now slots.now links.now listed.new
+            self.old self.new net.old net.new) }
+        ensures fallen { IfErr result (λ why. IsFallen C.face N.did N.gave now slots.now links.now
+            (is_memory why) self.old self.new net.old net.new) }
+        ensures fails { IfErr result (FromNet (N.faults net.old) (N.faults net.new)) }
+        ensures faults_never_fall { N.faults net.old ≤ N.faults net.new }
+    {
+        self.tick(net, now)?;
+        let until = self.until(slots.as_slice(), links.as_slice());
+        self.wait(net, until, listed)?;
+        Ok(())
+    }
+
     /// Waits until something may be ready.
     #[tactic(auto, using(crate::proofs::Failing::from_later, crate::proofs::Failing::from_memory))]
-    pub(crate) fn wait<N: Net>(
+    fn wait<N: Net>(
         &mut self,
         net: &mut N,
         until: u64,
@@ -57,7 +82,7 @@ impl<C: Core + Drop> Serving<C> {
     }
 
     /// Until when to wait, where these listeners and links are due.
-    pub(crate) fn until(&self, slots: &[u32], links: &[u32]) -> u64
+    fn until(&self, slots: &[u32], links: &[u32]) -> u64
         ensures { IsUntil C.face self.now.conns (stand self.now) slots.now links.now result }
     {
         if !self.core.settled() {

@@ -3,7 +3,7 @@
 ghost use Rattle.std.specs.Prelude.{◌≡◌, ◌≤◌, ℕ, IfErr, OnOk};
 ghost use Rattle.serve_loop.specs.Fallen.{Fell, IsFallen};
 ghost use Rattle.serve_loop.specs.Faults.{FromNet, FromNetOrSink, is_memory};
-ghost use Rattle.serve_loop.specs.Server.{OneTurn, Turned};
+ghost use Rattle.serve_loop.specs.Server.{OneTurn, Turned, running};
 
 use crate::due::{due_links, due_slots};
 use crate::fault::turn_end;
@@ -14,8 +14,9 @@ use px_bytes::Seq;
 use px_outside::{Clock, Net, Sink};
 
 impl<C: Core + Drop> Server<C> {
-    /// One turn: a Tick where time went on, one wait, each due listener and link in order, pairs of a
-    /// Run and a Turn, and what is pending; then the lines of the journal are written, also behind a fault.
+    /// One turn: a Tick where time went on, one wait, each due listener and link in order, pairs of
+    /// a Run and a Turn, and what is pending; then the lines of the journal are written, also
+    /// behind a fault.
     pub fn turn<N: Net, T: Clock, K: Sink>(
         &mut self,
         net: &mut N,
@@ -28,18 +29,8 @@ impl<C: Core + Drop> Server<C> {
         ensures fails { IfErr result (FromNetOrSink (N.faults net.old) (N.faults net.new)
             (K.faults journal.old) (K.faults journal.new)) }
         ensures fell { IfErr result (λ why. Fell C.face N.did N.gave T.gave why
-            (record {
-              server = self.old;
-              net = net.old;
-              clock = clock.old;
-              written = K.written journal.old;
-            })
-            (record {
-              server = self.new;
-              net = net.new;
-              clock = clock.new;
-              written = K.written journal.new;
-            })) }
+            (running self.old net.old clock.old (K.written journal.old))
+            (running self.new net.new clock.new (K.written journal.new))) }
         ensures net_faults_never_fall { N.faults net.old ≤ N.faults net.new }
         ensures journal_faults_never_fall { K.faults journal.old ≤ K.faults journal.new }
         ensures clock_faults_never_fall { T.faults clock.old ≤ T.faults clock.new }
@@ -54,30 +45,26 @@ impl<C: Core + Drop> Server<C> {
     // One turn at this moment.
     #[tactic(auto, using(crate::proofs::Failing::from_later, crate::proofs::Failing::from_memory))]
     pub(crate) fn round<N: Net>(&mut self, net: &mut N, now: u64) -> Result<(), ServeFault>
-        ensures turned { OnOk result (Turned C.face N.did N.gave now self.old self.new net.old net.new) }
-        ensures fallen { IfErr result (λ why. IsFallen C.face N.did N.gave now self.old.slots self.old.links
-            (is_memory why) self.old.serving self.new.serving net.old net.new) }
+        ensures turned { OnOk result
+            (Turned C.face N.did N.gave now self.old self.new net.old net.new) }
+        ensures fallen { IfErr result (λ why. IsFallen C.face N.did N.gave now self.old.slots
+            self.old.links (is_memory why) self.old.serving self.new.serving net.old net.new) }
         ensures fails { IfErr result (FromNet (N.faults net.old) (N.faults net.new)) }
         ensures faults_never_fall { N.faults net.old ≤ N.faults net.new }
     {
-        self.serving.tick(net, now)?;
-        let until = self
-            .serving
-            .until(self.slots.as_slice(), self.links.as_slice());
-        self.serving.wait(net, until, &mut self.listed)?;
+        self.serving
+            .wait_for_ready(net, now, &self.slots, &self.links, &mut self.listed)?;
         let alloc = self.serving.alloc;
-        let slots = due_slots(alloc, self.slots.as_slice(), self.listed.as_slice())?;
-        let links = due_links(alloc, self.links.as_slice(), self.listed.as_slice())?;
-        self.slots.clear();
-        self.links.clear();
+        let slots = due_slots(alloc, &self.slots, &self.listed)?;
+        let links = due_links(alloc, &self.links, &self.listed)?;
         self.serving.each(net, Work::Listener, &slots, &mut self.room, &mut self.slots)?;
         self.serving
             .each(net, Work::Link, &links, &mut self.room, &mut self.links)?;
         self.serving.run_pairs(net, &mut self.writers)?;
-        let mut later = Seq::new(alloc);
-        self.serving.each(net, Work::Writer, &self.writers, &mut self.room, &mut later)?;
+        let mut stay = Seq::new(alloc);
+        self.serving.each(net, Work::Writer, &self.writers, &mut self.room, &mut stay)?;
         self.writers.clear();
-        self.writers.add_all(later.as_slice())?;
+        self.writers.add_all(stay.as_slice())?;
         Ok(())
     }
 }

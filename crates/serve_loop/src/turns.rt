@@ -4,7 +4,7 @@ ghost use Rattle.std.specs.Prelude.{◌≡◌, ◌≤◌, IfOk, IfErr};
 ghost use Rattle.serve_loop.specs.Fallen.{Stopped};
 ghost use Rattle.serve_loop.specs.Faults.{FromNetOrSink};
 ghost use Rattle.serve_loop.specs.Part.{stand};
-ghost use Rattle.serve_loop.specs.Server.{IsOver, Served};
+ghost use Rattle.serve_loop.specs.Server.{IsOver, Served, running};
 ghost use Rattle.serve_loop.specs.Turn.{CanAccept};
 
 use crate::server::Server;
@@ -19,15 +19,14 @@ pub fn serve<C: Core + Drop, N: Net, T: Clock, K: Sink>(
     journal: &mut K,
     turns: u64,
 ) -> Result<ServeEnd, ServeFault>
-    ensures served { IfOk result (λ end. Served C.face N.did N.gave T.gave turns
-        (record { server = server.old; net = net.old; clock = clock.old; written = K.written journal.old })
-        (record { server = server.new; net = net.new; clock = clock.new; written = K.written journal.new })
-        end) }
+    ensures served { IfOk result (Served C.face N.did N.gave T.gave turns
+        (running server.old net.old clock.old (K.written journal.old))
+        (running server.new net.new clock.new (K.written journal.new))) }
     ensures fails { IfErr result (FromNetOrSink (N.faults net.old) (N.faults net.new)
         (K.faults journal.old) (K.faults journal.new)) }
     ensures stopped { IfErr result (Stopped C.face N.did N.gave T.gave turns
-        (record { server = server.old; net = net.old; clock = clock.old; written = K.written journal.old })
-        (record { server = server.new; net = net.new; clock = clock.new; written = K.written journal.new })) }
+        (running server.old net.old clock.old (K.written journal.old))
+        (running server.new net.new clock.new (K.written journal.new))) }
     ensures net_faults_never_fall { N.faults net.old ≤ N.faults net.new }
     ensures journal_faults_never_fall { K.faults journal.old ≤ K.faults journal.new }
 {

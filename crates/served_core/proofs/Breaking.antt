@@ -1,30 +1,27 @@
 -- What was served up to a fault keeps the core's promise.
-use Rattle.std.proofs.Common.{◌≡◌, ℕ, ◌+◌, List, [], ◌∷◌, ◌++◌, take, drop, Bool, Some, None, refl, ap, sym, ◌∙◌, subst, append_assoc}
+use Rattle.std.proofs.Common.{◌≡◌, ℕ, ◌+◌, List, [], ◌∷◌, ◌++◌, take, drop, Bool, Option, Some, None, refl, ap, sym, ◌∙◌, subst, append_assoc}
 use Rattle.std.proofs.Math.Seq.{take-add}
 use Rattle.std.proofs.lemmas.List.{append-nil}
 use Rattle.px_outside.specs.Net.{Call}
 use Rattle.px_bytes.specs.declared.addr.Side.{Side}
-use Rattle.px_bytes.specs.declared.addr.Side.TheVariants.{Client, Server}
 use Rattle.journal_text.specs.declared.event.Event.{Event as Told}
 use Rattle.proxy_core.specs.Past.{Past, heard}
 use Rattle.proxy_core.specs.Represents.{Represents}
 use Rattle.proxy_core.specs.Scheduler.{State, no_connections}
 use Rattle.proxy_core.specs.declared.config.Config.{Config}
-use Rattle.proxy_core.specs.declared.core_state.Core.{Core}
-use Rattle.proxy_core.proofs.Promises.{every_past_matches}
 use Rattle.serve_loop.specs.Broken.{Broken, Unbegun, Ungiven, OwnSome, AskedSome, Breaks, steps_of}
 use Rattle.serve_loop.specs.Fallen.{WalkedSome}
 use Rattle.serve_loop.specs.Faults.{FromSink}
 use Rattle.serve_loop.specs.Part.{stand}
-use Rattle.serve_loop.specs.Server.{Begins, Running}
+use Rattle.serve_loop.specs.Server.{Running}
 use Rattle.serve_loop.specs.Walk.{Around, Step, Own, Asked}
 use Rattle.serve_loop.specs.declared.fault.ServeFault.{ServeFault}
 use Rattle.serve_loop.specs.declared.fault.ServeFault.TheVariants as fault
-use Rattle.served_core.proofs.Pieces.{PiecesAre, call_pieces, own_pieces, took_side}
-use Rattle.served_core.proofs.Promising.{StandsFor, begins_with, event_past, none_taken, same_took, walks_past}
+use Rattle.served_core.proofs.Pieces.{PiecesAre, call_pieces, own_pieces, told_pieces, took_side, untaken}
+use Rattle.served_core.proofs.Promising.{StandsFor, begins_with, event_past, keeps_by, none_taken, same_took, walks_past}
 use Rattle.served_core.specs.Pieces.{piece_of, pieces_of, sent_side, ungiven_piece}
 use Rattle.served_core.specs.Served.{served_face}
-use Rattle.served_core.specs.Serves.{EventsSome, past_after}
+use Rattle.served_core.specs.Serves.{EventsSome, Starts, past_after, started}
 use Rattle.served_core.specs.declared.served.Served.{Served}
 
 past_append : (xs ys : List Step) (past : Past) → past_after (xs ++ ys) past ≡ past_after ys (past_after xs past)
@@ -56,13 +53,14 @@ broken_past C conns short (OwnSome g) past took a core it p =
 broken_past C conns short (AskedSome call g) past took a core it p =
     same_took C _ (λ side c. took side c ++ piece_of c side call g.event) (λ side c. took side c ++ (piece_of c side call g.event ++ [])) core.core
     (λ side c. ap (λ (l : List ℕ). took side c ++ l) (append-nil (piece_of c side call g.event)))
-    (event_past C past took (λ side c. piece_of c side call g.event) it.event a.core.core g core.core it.gives.event_is it.gives.taken it.gives.moved
-    (λ s r. subst (λ (x : Told). PiecesAre past s it.event (λ side c. piece_of c side call x)) (sym it.gives.event_is) (call_pieces C past s conns a call it.event r it.may)) p)
+    (event_past C past took (told_pieces call g.event) it.event a.core.core g core.core it.gives.event_is it.gives.taken it.gives.moved
+    (λ s r. subst (λ (x : Told). PiecesAre past s it.event (told_pieces call x)) (sym it.gives.event_is)
+    (call_pieces C past s conns a call it.event r it.may)) p)
 
 -- a piece that was taken, and wasn't told to the core
 ungiven_by : (C : Config) (conns : ℕ) (short : Bool) (broken : Broken) (past : Past) (s : State) (a : Around Served) (core : Served)
     → Breaks served_face conns short a broken core → Represents C past s core.core → (side : Side) (c : ℕ)
-    → (n : ℕ) × (ungiven_piece c side broken ≡ take n (drop (took_side side (heard c past)) (sent_side side (s.places c))))
+    → (n : ℕ) × (ungiven_piece c side broken ≡ take n (untaken past s side c))
 ungiven_by C conns short Unbegun past s a core it r side c = (0, refl)
 ungiven_by C conns short (Ungiven call e) past s a core it r side c =
     (_, (call_pieces C past s conns a call e (subst (λ (x : Served). Represents C past s x.core) it.2 r) it.1).is side c)
@@ -73,38 +71,37 @@ front_more : (t n : ℕ) (sent pieces more : List ℕ) → pieces ≡ take t sen
 front_more t n sent pieces more p m =
     ap (λ (l : List ℕ). l ++ more) p ∙ ap (λ (l : List ℕ). take t sent ++ l) m ∙ sym (take-add t n sent)
 
-pub kept_some : {S T : Type 0} {did : S → Call → S → Type 0} {gave : S → ℕ → Type 0} {why : ServeFault} (C : Config) (core : Core)
-    (old new : Running Served S T) {conns : ℕ} {net begun : S} → Represents C [] no_connections core → Begins served_face did (record { core = core }) conns net begun old.server
-    → WalkedSome served_face did gave why old new
-    → EventsSome did gave C why old.server new.server old.net new.net old.written new.written
-kept_some {gave = gave} C core old new {conns} stands begins walked =
-    let here = begins_with (gave old.net) C core old.server stands begins in
-    let done = walked here.1 begins.no_line_waits in
-    let n = old.server.serving.conns in
-    let rest = steps_of done.broken in
-    let all : List Step = done.steps ++ rest in
-    let walks = walks_past C n done.steps [] (λ side c. []) (stand old.server.serving) done.mid done.walks
+pub kept_some : {S T : Type 0} {did : S → Call → S → Type 0} {gave : S → ℕ → Type 0} {why : ServeFault} {C : Config} {conns : ℕ} {net : S}
+    (start : Starts did C conns net) (clock : T) (before : Option (List ℕ)) (new : Running Served S T)
+    → WalkedSome served_face did gave why (started start clock before) new → EventsSome did gave C why (started start clock before) new
+unfolding keeps_by
+kept_some {gave = gave} {C = C} start clock before new walked =
+    let here = begins_with (gave start.begun) start in
+    let done = walked here.1 start.begins.no_line_waits in
+    let first = start.server.serving in
+    let core = new.server.serving.core in
+    let walk = done.walk in
+    let rest = steps_of walk.broken in
+    let all : List Step = walk.steps ++ rest in
+    let whole = walks_past C first.conns walk.steps [] (λ side c. []) (stand first) walk.mid walk.walks
     (record { state = no_connections; represents = here.0; each = none_taken }) in
-    let parts = broken_past C n done.short done.broken (past_after done.steps []) (λ side c. pieces_of c side done.steps) done.mid new.server.serving.core done.breaks walks in
-    let past : StandsFor C (past_after all []) (λ side c. pieces_of c side all) new.server.serving.core.core
-    = subst (λ (p : Past). StandsFor C p (λ side c. pieces_of c side all) new.server.serving.core.core) (sym (past_append done.steps rest []))
-    (same_took C _ (λ side c. pieces_of c side done.steps ++ pieces_of c side rest) (λ side c. pieces_of c side all) new.server.serving.core.core
-    (λ side c. pieces_append c side done.steps rest) parts) in
+    let parts = broken_past C first.conns done.short walk.broken (past_after walk.steps []) (λ side c. pieces_of c side walk.steps) walk.mid core
+    walk.breaks whole in
+    let past : StandsFor C (past_after all []) (λ side c. pieces_of c side all) core.core
+    = subst (λ (p : Past). StandsFor C p (λ side c. pieces_of c side all) core.core) (sym (past_append walk.steps rest []))
+    (same_took C _ (λ side c. pieces_of c side walk.steps ++ pieces_of c side rest) (λ side c. pieces_of c side all) core.core
+    (λ side c. pieces_append c side walk.steps rest) parts) in
     record {
       done = done;
       steps = all;
       steps_are = refl;
-      state = past.state;
-      represents = past.represents;
-      took = past.each Client;
-      server_took = past.each Server;
+      keeps = keeps_by C all core.core past;
       ungiven = λ side c.
-          let more = ungiven_by C n done.short done.broken (past_after all []) past.state done.mid new.server.serving.core done.breaks past.represents side c in (
-            took_side side (heard c (past_after all [])) + more.0,
-            front_more (took_side side (heard c (past_after all []))) more.0 (sent_side side (past.state.places c)) (pieces_of c side all)
-                (ungiven_piece c side done.broken) (past.each side c) more.1,
+          let took = took_side side (heard c (past_after all [])) in
+          let more = ungiven_by C first.conns done.short walk.broken (past_after all []) past.state walk.mid core walk.breaks past.represents side c in (
+            took + more.0,
+            front_more took more.0 (sent_side side (past.state.places c)) (pieces_of c side all) (ungiven_piece c side walk.broken) (past.each side c) more.1,
           );
-      matches = every_past_matches C (past_after all []) past.state past.represents.sound.leads;
     }
 
 -- the journal's sink is no net

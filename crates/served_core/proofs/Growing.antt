@@ -1,6 +1,8 @@
 -- What one event adds to the items of a connection, and to what its client took.
-use Rattle.std.proofs.Common.{◌≡◌, ◌⊎◌, ℕ, ◌+◌, ◌≤◌, List, [], ◌∷◌, ◌++◌, length, take, drop, Bool, true, false, None, nat_eq, if◌then◌else◌, inl, inr, refl, ap, sym, ◌∙◌, subst, arith}
+use Rattle.std.proofs.Common.{◌≡◌, ◌⊎◌, ℕ, ◌+◌, ◌≤◌, List, [], ◌∷◌, ◌++◌, length, take, drop, Bool, true, false, None, nat_eq, if◌then◌else◌}
+use Rattle.std.proofs.Common.{inl, inr, refl, ap, sym, ◌∙◌, subst, arith}
 use Rattle.std.specs.Bool.{MatchBool}
+use Rattle.std.specs.List.{flat_map}
 use Rattle.std.specs.Prelude.{is_some}
 use Rattle.std.proofs.Math.Seq.{take-add}
 use Rattle.std.proofs.lemmas.List.{append-nil, take-append-le}
@@ -10,7 +12,7 @@ use Rattle.connection_model.specs.declared.note.Note.{Note}
 use Rattle.connection_model.specs.Further.{Coming}
 use Rattle.connection_model.specs.Heard.{Input, Bytes, Ends, Resets, Connects, Takes, EventKind, Accepts, Comes, Ticks, Turns, Runs, Marks}
 use Rattle.connection_model.specs.Heard.{Heard, SideHeard, edges_met, hears, hears_by, marks, accepts, event_marks, brought}
-use Rattle.connection_model.specs.Item.{Item, to_client, client_output}
+use Rattle.connection_model.specs.Item.{Item, client_output}
 use Rattle.proxy_core.specs.History.{store_of}
 use Rattle.proxy_core.specs.Moves.{MovesBy, MovesFailed, MovesOn, MovesLacks, MovesRing, MovesQueue, RunsFailed, RunsOn, RunsOut, ran}
 use Rattle.proxy_core.specs.Past.{Past, heard, shared}
@@ -44,11 +46,12 @@ ran_grows old new d ring queue more e c true is = record {
 ran_grows old new d ring queue more e c false is =
     stays old new c (ap (λ (y : State). y.places c) e ∙ ap (λ (b : Bool). if b then old.places d ++ more else old.places c) is)
 
-failed_grows : (C : Config) (input : Input) (before now : Heard) (d : ℕ) (group : List Note) (old new : State) (c : ℕ) → (b : Bool)
-    → MatchBool b (MovesFailed d group old new) (MovesOn C now d (edges_met input before.edges) group old new ⊎ MovesLacks input d group old new) → Grows old new c
-failed_grows C input before now d group old new c true k = stays old new c (ap (λ (y : State). y.places c) k.state)
-failed_grows C input before now d group old new c false (inl k) = stays old new c (ap (λ (y : State). y.places c) k.state)
-failed_grows C input before now d group old new c false (inr k) = stays old new c (ap (λ (y : State). y.places c) k.state)
+pub come_stays : (C : Config) (input : Input) (before now : Heard) (d : ℕ) (group : List Note) (old new : State) (c : ℕ) → (b : Bool)
+    → MatchBool b (MovesFailed d group old new) (MovesOn C now d (edges_met input before.edges) group old new ⊎ MovesLacks input d group old new)
+    → new.places c ≡ old.places c
+come_stays C input before now d group old new c true k = ap (λ (y : State). y.places c) k.state
+come_stays C input before now d group old new c false (inl k) = ap (λ (y : State). y.places c) k.state
+come_stays C input before now d group old new c false (inr k) = ap (λ (y : State). y.places c) k.state
 
 front_grows : (C : Config) (h : Heard) (d : ℕ) (rest : List ℕ) (group : List Note) (old new : State) (c : ℕ) → (b : Bool)
     → MatchBool b (RunsFailed h d rest group old new) (RunsOn C h d rest group old new ⊎ RunsOut C h d rest group old new) → Grows old new c
@@ -68,7 +71,7 @@ queue_grows C past (a ∷ rest) group old new c k = stays old new c (ap (λ (y :
 pub grows : (C : Config) (past : Past) (v : EventKind) (group : List Note) (old new : State) → MovesBy C past v group old new → (c : ℕ) → Grows old new c
 grows C past (Accepts d vs from) group old new m c = stays old new c (ap (λ (y : State). y.places c) m.state)
 grows C past (Comes d input) group old new m c =
-    failed_grows C input (heard d past) (hears d (heard d past) (Comes d input) group) d group old new c (heard d past).failed m
+    stays old new c (come_stays C input (heard d past) (hears d (heard d past) (Comes d input) group) d group old new c (heard d past).failed m)
 grows C past (Ticks moment) group old new m c = stays old new c (ap (λ (y : State). y.places c) m.1)
 grows C past Turns group old new m c = queue_grows C past old.queue group old new c m
 grows C past Runs group old new m c = ring_grows C past old.ring group old new c m
@@ -81,7 +84,7 @@ abbrev pub took_in : ℕ → EventKind → ℕ
 took_in c (Comes d (Takes Client n)) = if nat_eq d c then n else 0
 took_in c other = 0
 
-none_more : (n : ℕ) → n ≡ n + 0
+pub none_more : (n : ℕ) → n ≡ n + 0
 none_more n = omega arith
 
 keeps_took : (b : Bool) (x h : Heard) → x.client.took ≡ h.client.took → (if b then x else h).client.took ≡ h.client.took + 0
@@ -106,7 +109,7 @@ marked c Turns h = none_more h.client.took
 marked c Runs h = none_more h.client.took
 marked c (Marks pool member up) h = none_more h.client.took
 
-took_same : (b : Bool) (k : Coming) (s : SideHeard) → (hears_by b k s).took ≡ s.took
+pub took_same : (b : Bool) (k : Coming) (s : SideHeard) → (hears_by b k s).took ≡ s.took
 took_same true k s = refl
 took_same false k s = refl
 
@@ -134,7 +137,8 @@ took_fits : (C : Config) (past : Past) (s : State) (core : Core) (d n c : ℕ) �
 took_fits C past s core d n c r fine true is =
     let P : ℕ → Type 0 = λ k. (heard k past).client.took + n ≤ length (client_output (s.places k)) in
     let sum = heard_took d (heard d past) (Comes d (Takes Client n)) [] ∙ ap (λ (b : Bool). (heard d past).client.took + (if b then n else 0)) (eq_self d) in
-    let there : P d = subst (λ k. k ≤ length (client_output (s.places d))) sum ((may_come_at C past s d (Takes Client n) (r.sound.each d) fine).within []).client in
+    let within = (may_come_at C past s d (Takes Client n) (r.sound.each d) fine).within [] in
+    let there : P d = subst (λ k. k ≤ length (client_output (s.places d))) sum within.client in
     subst P (eq_same d c is) there
 took_fits C past s core d n c r fine false is = plain_fits C past s core c r
 
@@ -155,13 +159,14 @@ fits C past s core (Marks pool member up) c r fine = plain_fits C past s core c 
 
 -- ---- both
 
-grown : (t : ℕ) (p more : List Item) → t ≤ length (client_output p) → take t (client_output (p ++ more)) ≡ take t (client_output p)
-grown t p more le = ap (take t) (flat_map-append to_client p more) ∙ take-append-le t (client_output p) (client_output more) le
+grown : (sent : Item → List ℕ) (t : ℕ) (p more : List Item) → t ≤ length (flat_map sent p) → take t (flat_map sent (p ++ more)) ≡ take t (flat_map sent p)
+grown sent t p more le = ap (take t) (flat_map-append sent p more) ∙ take-append-le t (flat_map sent p) (flat_map sent more) le
 
--- what was taken before and one piece more is what is taken then
-pub one_more : (t n t' : ℕ) (before piece : List ℕ) (p more p' : List Item) → before ≡ take t (client_output p) → piece ≡ take n (drop t (client_output p))
-    → t + n ≤ length (client_output p) → t' ≡ t + n → p' ≡ p ++ more → before ++ piece ≡ take t' (client_output p')
-one_more t n t' before piece p more p' was is le sum place =
-    ap (λ (l : List ℕ). l ++ piece) was ∙ ap (λ (l : List ℕ). take t (client_output p) ++ l) is ∙ sym (take-add t n (client_output p))
-    ∙ sym (grown (t + n) p more le) ∙ ap (λ k. take k (client_output (p ++ more))) (sym sum)
-    ∙ ap (λ (l : List Item). take t' (client_output l)) (sym place)
+-- what was taken before and one piece more is what is taken then, of what items send
+pub one_more : (sent : Item → List ℕ) (t n t' : ℕ) (before piece : List ℕ) (p more p' : List Item) → before ≡ take t (flat_map sent p)
+    → piece ≡ take n (drop t (flat_map sent p)) → t + n ≤ length (flat_map sent p) → t' ≡ t + n → p' ≡ p ++ more
+    → before ++ piece ≡ take t' (flat_map sent p')
+one_more sent t n t' before piece p more p' was is le sum place =
+    ap (λ (l : List ℕ). l ++ piece) was ∙ ap (λ (l : List ℕ). take t (flat_map sent p) ++ l) is ∙ sym (take-add t n (flat_map sent p))
+    ∙ sym (grown sent (t + n) p more le) ∙ ap (λ k. take k (flat_map sent (p ++ more))) (sym sum)
+    ∙ ap (λ (l : List Item). take t' (flat_map sent l)) (sym place)

@@ -1,5 +1,6 @@
 -- The piece that a write with its event tells a side to have taken.
-use Rattle.std.proofs.Common.{◌≡◌, ℕ, ◌<◌, ◌-◌, List, [], length, take, drop, Bool, true, false, Option, Some, None, nat_eq, if◌then◌else◌, inl, inr, refl, ap, sym, ◌∙◌, subst, arith}
+use Rattle.std.proofs.Common.{◌≡◌, ℕ, ◌<◌, ◌-◌, List, [], length, take, drop, Bool, true, false, Option, Some, None, nat_eq, if◌then◌else◌, inl, inr}
+use Rattle.std.proofs.Common.{refl, ap, sym, ◌∙◌, subst, arith}
 use Rattle.std.specs.Prelude.{Ok, Err, option_map, unwrap_or}
 use Rattle.std.proofs.lemmas.List.{length-drop}
 use Rattle.px_bytes.specs.declared.addr.Side.{Side}
@@ -45,7 +46,8 @@ use Rattle.served_core.proofs.ServerGrowing.{server_in}
 no_byte : (bytes : List ℕ) → bytes ≡ [] → 0 < length bytes → ⊥
 no_byte bytes e some = let n : length bytes ≡ 0 = ap length e in omega (arith, some, n)
 
-queued_by : (opened live reset : Bool) (t : ℕ) (out bytes : List ℕ) → bytes ≡ (if opened then unwrap_or (if live then Some (left_of (taken_by reset t) out) else None) [] else [])
+queued_by : (opened live reset : Bool) (t : ℕ) (out bytes : List ℕ)
+    → bytes ≡ (if opened then unwrap_or (if live then Some (left_of (taken_by reset t) out) else None) [] else [])
     → 0 < length bytes → bytes ≡ drop t out
 queued_by true true false t out bytes e some = e
 queued_by true true true t out bytes e some = absurd (no_byte bytes e some)
@@ -64,7 +66,8 @@ conn_by : (C : Config) (z : Seen) (o : Option Conn) (bytes : List ℕ) → Conne
     → bytes ≡ drop (last_took z.heard.connects) (server_output 1 z.place)
 conn_by C z None bytes k e some = absurd (no_byte bytes e some)
 conn_by C z (Some conn) bytes k e some =
-    reset_by conn.ends.server.reset conn.ends.server.queued (drop (last_took z.heard.connects) (server_output 1 z.place)) bytes (queues_of C z conn k).server e some
+    reset_by conn.ends.server.reset conn.ends.server.queued (drop (last_took z.heard.connects) (server_output 1 z.place)) bytes
+    (queues_of C z conn k).server e some
 
 live_by : (C : Config) (z : Seen) (opened : Bool) (o : Option Live) (bytes : List ℕ) → AgreesAt C z o
     → bytes ≡ (if opened then unwrap_or (option_map (λ l. queue_on Server l.conn) o) [] else []) → 0 < length bytes
@@ -80,14 +83,21 @@ abbrev pub took_side : Side → Heard → ℕ
 took_side Client h = h.client.took
 took_side Server h = last_took h.connects
 
+-- what was sent to it and taken, and what wasn't taken
+abbrev pub taken : Past → State → Side → ℕ → List ℕ
+taken past s side c = take (took_side side (heard c past)) (sent_side side (s.places c))
+
+abbrev pub untaken : Past → State → Side → ℕ → List ℕ
+untaken past s side c = drop (took_side side (heard c past)) (sent_side side (s.places c))
+
 -- how many bytes more an event says that the side took
 abbrev pub in_side : Side → ℕ → EventKind → ℕ
 in_side Client c v = took_in c v
 in_side Server c v = server_in c v
 
 -- what is pending is what was sent and not taken
-queued : (C : Config) (past : Past) (s : State) (core : Core) (c : ℕ) (side : Side) (bytes : List ℕ) → Represents C past s core → bytes ≡ to_write past s c side
-    → 0 < length bytes → bytes ≡ drop (took_side side (heard c past)) (sent_side side (s.places c))
+queued : (C : Config) (past : Past) (s : State) (core : Core) (c : ℕ) (side : Side) (bytes : List ℕ) → Represents C past s core
+    → bytes ≡ to_write past s c side → 0 < length bytes → bytes ≡ untaken past s side c
 queued C past s core c Client bytes r e some =
     queued_by (on_edge (edges_of past c) Client may_take) (is_in (shared past).live c) (heard c past).client.reset (heard c past).client.took
     (client_output (s.places c)) bytes e some
@@ -137,90 +147,99 @@ own_quiet told.Turn own = (λ c. refl, λ c. refl)
 own_quiet told.Run own = (λ c. refl, λ c. refl)
 own_quiet (told.Mark pool member up) own = absurd own
 
--- the pieces that an event tells each side of each connection to have taken; a server took some only where one was made
+-- the pieces that a call and the event of its answer tell each side of each connection to have taken
+abbrev pub told_pieces : Call → Event → Side → ℕ → List ℕ
+told_pieces call e side c = piece_of c side call e
+
+-- they are what the event says; a server took some only where one was made
 pub record PiecesAre (past : Past) (s : State) (e : Event) (piece : Side → ℕ → List ℕ) : Type 0 where
-  pub is : (side : Side) (c : ℕ)
-      → piece side c ≡ take (in_side side c (kind_of (meaning e))) (drop (took_side side (heard c past)) (sent_side side (s.places c)))
+  pub is : (side : Side) (c : ℕ) → piece side c ≡ take (in_side side c (kind_of (meaning e))) (untaken past s side c)
   pub first : (c : ℕ) → has_made (heard c past).connects ≡ false → server_in c (kind_of (meaning e)) ≡ 0
 
 by_side : (P : Side → Type 0) → P Client → P Server → (side : Side) → P side
 by_side P client server Client = client
 by_side P client server Server = server
 
+pieces_by : (past : Past) (s : State) (e : Event) (piece : Side → ℕ → List ℕ)
+    → ((c : ℕ) → piece Client c ≡ take (took_in c (kind_of (meaning e))) (untaken past s Client c))
+    → ((c : ℕ) → piece Server c ≡ take (server_in c (kind_of (meaning e))) (untaken past s Server c))
+    → ((c : ℕ) → has_made (heard c past).connects ≡ false → server_in c (kind_of (meaning e)) ≡ 0) → PiecesAre past s e piece
+pieces_by past s e piece client server first = record {
+  is = by_side (λ side. (c : ℕ) → piece side c ≡ take (in_side side c (kind_of (meaning e))) (untaken past s side c)) client server;
+  first = first;
+}
+
+pieces_as : (past : Past) (s : State) (call : Call) (x e : Event) → Some e ≡ Some x → PiecesAre past s x (told_pieces call x)
+    → PiecesAre past s e (told_pieces call e)
+pieces_as past s call x e is p = subst (λ (y : Event). PiecesAre past s y (told_pieces call y)) (sym (some_same e x is)) p
+
 none_of : (k : ℕ) (piece rest : List ℕ) → piece ≡ [] → k ≡ 0 → piece ≡ take k rest
 none_of k piece rest none zero_more = none ∙ ap (λ n. take n rest) (sym zero_more)
 
-quiet_pieces : (past : Past) (s : State) (e : Event) (piece : Side → ℕ → List ℕ) → IsQuiet e → ((c : ℕ) → piece Client c ≡ []) → ((c : ℕ) → piece Server c ≡ [])
-    → PiecesAre past s e piece
-quiet_pieces past s e piece quiet client server = record {
-  is = by_side (λ side. (c : ℕ) → piece side c ≡ take (in_side side c (kind_of (meaning e))) (drop (took_side side (heard c past)) (sent_side side (s.places c))))
-      (λ c. none_of (took_in c (kind_of (meaning e))) (piece Client c) _ (client c) (quiet.0 c))
-      (λ c. none_of (server_in c (kind_of (meaning e))) (piece Server c) _ (server c) (quiet.1 c));
-  first = λ c none. quiet.1 c;
-}
+quiet_pieces : (past : Past) (s : State) (e : Event) (piece : Side → ℕ → List ℕ) → IsQuiet e → ((c : ℕ) → piece Client c ≡ [])
+    → ((c : ℕ) → piece Server c ≡ []) → PiecesAre past s e piece
+quiet_pieces past s e piece quiet client server =
+    pieces_by past s e piece (λ c. none_of (took_in c (kind_of (meaning e))) (piece Client c) _ (client c) (quiet.0 c))
+    (λ c. none_of (server_in c (kind_of (meaning e))) (piece Server c) _ (server c) (quiet.1 c)) (λ c none. quiet.1 c)
 
 pub own_pieces : (past : Past) (s : State) (e : Event) → IsOwn e → PiecesAre past s e (λ side c. [])
 own_pieces past s e own = quiet_pieces past s e (λ side c. []) (own_quiet e own) (λ c. refl) (λ c. refl)
 
-took_piece : (side : Side) (past : Past) (s : State) (d n : ℕ) (bytes : List ℕ) → bytes ≡ drop (took_side side (heard d past)) (sent_side side (s.places d)) → (c : ℕ)
-    → (b : Bool) → nat_eq d c ≡ b
-    → (if b then take n bytes else []) ≡ take (if b then n else 0) (drop (took_side side (heard c past)) (sent_side side (s.places c)))
-took_piece side past s d n bytes is c true f =
-    ap (take n) is ∙ ap (λ k. take n (drop (took_side side (heard k past)) (sent_side side (s.places k)))) (eq_same d c f)
+took_piece : (side : Side) (past : Past) (s : State) (d n : ℕ) (bytes : List ℕ) → bytes ≡ untaken past s side d → (c : ℕ)
+    → (b : Bool) → nat_eq d c ≡ b → (if b then take n bytes else []) ≡ take (if b then n else 0) (untaken past s side c)
+took_piece side past s d n bytes is c true f = ap (take n) is ∙ ap (λ k. take n (untaken past s side k)) (eq_same d c f)
 took_piece side past s d n bytes is c false f = refl
 
 -- where bytes are pending to a server one was made
-made_there : (past : Past) (s : State) (d : ℕ) (bytes : List ℕ) → OneServer past s d → bytes ≡ drop (last_took (heard d past).connects) (server_output 1 (s.places d))
+made_there : (past : Past) (s : State) (d : ℕ) (bytes : List ℕ) → OneServer past s d → bytes ≡ untaken past s Server d
     → 0 < length bytes → has_made (heard d past).connects ≡ false → ⊥
 made_there past s d bytes one is some none =
-    let left : length bytes ≡ length (server_output 1 (s.places d)) - last_took (heard d past).connects = ap length is ∙ length-drop (last_took (heard d past).connects) (server_output 1 (s.places d)) in
-    let zero_sent : length (server_output 1 (s.places d)) ≡ 0 = ap length (one.unsent none) in
+    let took = last_took (heard d past).connects in
+    let sent = server_output 1 (s.places d) in
+    let left : length bytes ≡ length sent - took = ap length is ∙ length-drop took sent in
+    let zero_sent : length sent ≡ 0 = ap length (one.unsent none) in
     omega (arith, some, left, zero_sent)
 
-made_first : (past : Past) (s : State) (d n : ℕ) (bytes : List ℕ) → OneServer past s d → bytes ≡ drop (last_took (heard d past).connects) (server_output 1 (s.places d))
+made_first : (past : Past) (s : State) (d n : ℕ) (bytes : List ℕ) → OneServer past s d → bytes ≡ untaken past s Server d
     → 0 < length bytes → (c : ℕ) → has_made (heard c past).connects ≡ false → (b : Bool) → nat_eq d c ≡ b → (if b then n else 0) ≡ 0
 made_first past s d n bytes one is some c none true f =
-    absurd (made_there past s d bytes one is some (let P : ℕ → Type 0 = λ k. has_made (heard k past).connects ≡ false in subst P (sym (eq_same d c f)) none))
+    let P : ℕ → Type 0 = λ k. has_made (heard k past).connects ≡ false in
+    absurd (made_there past s d bytes one is some (subst P (sym (eq_same d c f)) none))
 made_first past s d n bytes one is some c none false f = refl
 
 -- what a write told
 write_pieces : (past : Past) (s : State) (d : ℕ) (side : Side) (link : ℕ) (bytes : List ℕ) (answer : WriteAnswer) (e : Event) → OneServer past s d
-    → bytes ≡ drop (took_side side (heard d past)) (sent_side side (s.places d)) → 0 < length bytes → Some e ≡ write_event d side answer
-    → PiecesAre past s e (λ of c. piece_of c of (Write link bytes answer) e)
+    → bytes ≡ untaken past s side d → 0 < length bytes → Some e ≡ write_event d side answer
+    → PiecesAre past s e (told_pieces (Write link bytes answer) e)
 write_pieces past s d Client link bytes (write.Took n) e one is some told_is =
-    subst (λ (x : Event). PiecesAre past s x (λ of c. piece_of c of (Write link bytes (write.Took n)) x)) (sym (some_same e (told.ClientTook d n) told_is)) (record {
-      is = by_side (λ of. (c : ℕ) → piece_of c of (Write link bytes (write.Took n)) (told.ClientTook d n) ≡ take (in_side of c (kind_of (meaning (told.ClientTook d n)))) (drop (took_side of (heard c past)) (sent_side of (s.places c))))
-          (λ c. took_piece Client past s d n bytes is c (nat_eq d c) refl) (λ c. refl);
-      first = λ c none. refl;
-    })
+    pieces_as past s (Write link bytes (write.Took n)) (told.ClientTook d n) e told_is (pieces_by past s (told.ClientTook d n) _
+    (λ c. took_piece Client past s d n bytes is c (nat_eq d c) refl) (λ c. refl) (λ c none. refl))
 write_pieces past s d Server link bytes (write.Took n) e one is some told_is =
-    subst (λ (x : Event). PiecesAre past s x (λ of c. piece_of c of (Write link bytes (write.Took n)) x)) (sym (some_same e (told.ServerTook d n) told_is)) (record {
-      is = by_side (λ of. (c : ℕ) → piece_of c of (Write link bytes (write.Took n)) (told.ServerTook d n) ≡ take (in_side of c (kind_of (meaning (told.ServerTook d n)))) (drop (took_side of (heard c past)) (sent_side of (s.places c))))
-          (λ c. refl) (λ c. took_piece Server past s d n bytes is c (nat_eq d c) refl);
-      first = λ c none. made_first past s d n bytes one is some c none (nat_eq d c) refl;
-    })
+    pieces_as past s (Write link bytes (write.Took n)) (told.ServerTook d n) e told_is (pieces_by past s (told.ServerTook d n) _
+    (λ c. refl) (λ c. took_piece Server past s d n bytes is c (nat_eq d c) refl)
+    (λ c none. made_first past s d n bytes one is some c none (nat_eq d c) refl))
 write_pieces past s d side link bytes write.NotYet e one is some told_is = cc
 write_pieces past s d Client link bytes write.Reset e one is some told_is =
-    subst (λ (x : Event). PiecesAre past s x (λ of c. piece_of c of (Write link bytes write.Reset) x)) (sym (some_same e (told.ClientReset d) told_is))
-    (quiet_pieces past s (told.ClientReset d) (λ of c. piece_of c of (Write link bytes write.Reset) (told.ClientReset d)) (λ c. refl, λ c. refl) (λ c. refl) (λ c. refl))
+    pieces_as past s (Write link bytes write.Reset) (told.ClientReset d) e told_is
+    (quiet_pieces past s (told.ClientReset d) _ (λ c. refl, λ c. refl) (λ c. refl) (λ c. refl))
 write_pieces past s d Server link bytes write.Reset e one is some told_is =
-    subst (λ (x : Event). PiecesAre past s x (λ of c. piece_of c of (Write link bytes write.Reset) x)) (sym (some_same e (told.ServerReset d) told_is))
-    (quiet_pieces past s (told.ServerReset d) (λ of c. piece_of c of (Write link bytes write.Reset) (told.ServerReset d)) (λ c. refl, λ c. refl) (λ c. refl) (λ c. refl))
+    pieces_as past s (Write link bytes write.Reset) (told.ServerReset d) e told_is
+    (quiet_pieces past s (told.ServerReset d) _ (λ c. refl, λ c. refl) (λ c. refl) (λ c. refl))
 
 -- what a call told
 pub call_pieces : (C : Config) (past : Past) (s : State) (conns : ℕ) (a : Around Served) (call : Call) (e : Event) → Represents C past s a.core.core
-    → MayCall served_face conns a call (Some e) → PiecesAre past s e (λ side c. piece_of c side call e)
+    → MayCall served_face conns a call (Some e) → PiecesAre past s e (told_pieces call e)
 call_pieces C past s conns a (Listen slot at answer) e r may = absurd may
 call_pieces C past s conns a (Wait until listed answer) e r may = cc
 call_pieces C past s conns a (Accept slot (Ok (accepted.One link from))) e r may =
-    quiet_pieces past s e (λ side c. piece_of c side (Accept slot (Ok (accepted.One link from))) e) (quiet_as (told.Accept may.number may.name from) e may.becomes (λ k. refl, λ k. refl)) (λ c. refl) (λ c. refl)
+    quiet_pieces past s e _ (quiet_as (told.Accept may.number may.name from) e may.becomes (λ k. refl, λ k. refl)) (λ c. refl) (λ c. refl)
 call_pieces C past s conns a (Accept slot (Ok accepted.NotYet)) e r may = let none = may.1 in cc
 call_pieces C past s conns a (Accept slot (Err why)) e r may = let none = may.1 in cc
 call_pieces C past s conns a (Connect to answer) e r may = absurd may
 call_pieces C past s conns a (Ask link answer) e r may =
-    quiet_pieces past s e (λ side c. piece_of c side (Ask link answer) e) (connect_quiet may.row.conn answer e may.becomes) (λ c. refl) (λ c. refl)
+    quiet_pieces past s e _ (connect_quiet may.row.conn answer e may.becomes) (λ c. refl) (λ c. refl)
 call_pieces C past s conns a (Read link room answer bytes) e r may =
-    quiet_pieces past s e (λ side c. piece_of c side (Read link room answer bytes) e) (read_quiet may.row.conn may.row.side answer bytes e may.becomes) (λ c. refl) (λ c. refl)
+    quiet_pieces past s e _ (read_quiet may.row.conn may.row.side answer bytes e may.becomes) (λ c. refl) (λ c. refl)
 call_pieces C past s conns a (Write link bytes answer) e r may =
     write_pieces past s may.conn may.side link bytes answer e (one_server C past s r.sound.leads may.conn)
     (queued C past s a.core.core may.conn may.side bytes r (may.queued C past s r) may.some) may.some may.becomes

@@ -1,5 +1,5 @@
 -- What is served keeps the core's promise.
-use Rattle.std.proofs.Common.{◌≡◌, ◌≤◌, ℕ, List, [], ◌∷◌, ◌++◌, take, Option, Some, None, refl, ap, sym, ◌∙◌, subst, append_assoc}
+use Rattle.std.proofs.Common.{◌≡◌, ◌≤◌, ℕ, List, [], ◌∷◌, ◌++◌, Option, Some, None, refl, ap, sym, ◌∙◌, subst, append_assoc}
 use Rattle.std.specs.Prelude.{Result, Ok, Err, IfErr}
 use Rattle.std.proofs.lemmas.List.{append-nil}
 use Rattle.px_outside.specs.Net.{Call}
@@ -8,6 +8,7 @@ use Rattle.px_bytes.specs.declared.addr.Side.{Side}
 use Rattle.px_bytes.specs.declared.addr.Side.TheVariants.{Client, Server}
 use Rattle.connection_model.specs.declared.note.Note.{Note}
 use Rattle.connection_model.specs.Heard.{hears}
+use Rattle.connection_model.specs.Item.{to_client, to_server}
 use Rattle.proxy_core.specs.Represents.{Represents}
 use Rattle.proxy_core.specs.Past.{Happened, Past, heard, kind_of}
 use Rattle.proxy_core.specs.Steps.{StandsAfter}
@@ -22,19 +23,18 @@ use Rattle.proxy_core.proofs.Promises.{every_past_matches}
 use Rattle.served_links.specs.declared.links.Links.{Links}
 use Rattle.served_links.specs.declared.row.Row.{Row}
 use Rattle.serve_loop.specs.Part.{stand, Ready}
-use Rattle.serve_loop.specs.Server.{Begins, Running, Walked}
+use Rattle.serve_loop.specs.Server.{Running, Walked}
 use Rattle.serve_loop.specs.Walk.{Around, Given, Step, Own, Asked, Gives, Becomes, IsOwn, MayCall, Walks}
 use Rattle.serve_loop.specs.Faults.{FromNetOrSink}
 use Rattle.serve_loop.specs.declared.fault.ServeEnd.{ServeEnd}
 use Rattle.serve_loop.specs.declared.fault.ServeFault.{ServeFault}
-use Rattle.serve_loop.specs.declared.server.Server.{Server as LoopServer}
 use Rattle.serve_loop.proofs.Failing.{either_later}
 use Rattle.served_core.proofs.Growing.{fits, grows, heard_took, one_more, took_in}
-use Rattle.served_core.proofs.ServerGrowing.{first_made, server_fits, server_heard, server_in, one_more as server_more}
-use Rattle.served_core.proofs.Pieces.{PiecesAre, call_pieces, own_pieces, took_side}
-use Rattle.served_core.specs.Pieces.{piece_of, pieces_of, sent_side}
+use Rattle.served_core.proofs.ServerGrowing.{first_made, server_fits, server_heard, server_in}
+use Rattle.served_core.proofs.Pieces.{PiecesAre, call_pieces, own_pieces, taken, told_pieces}
+use Rattle.served_core.specs.Pieces.{piece_of, pieces_of}
 use Rattle.served_core.specs.Served.{Moved, TakesEvent, served_face}
-use Rattle.served_core.specs.Serves.{ServedEvents, happened, past_after}
+use Rattle.served_core.specs.Serves.{KeepsPromise, ServedEvents, Starts, happened, past_after, started}
 use Rattle.served_core.specs.Told.{meaning}
 use Rattle.served_core.specs.declared.served.Served.{Served}
 
@@ -42,7 +42,7 @@ use Rattle.served_core.specs.declared.served.Served.{Served}
 pub record StandsFor (C : Config) (past : Past) (took : Side → ℕ → List ℕ) (core : Core) : Type 0 where
   pub state : State
   pub represents : Represents C past state core
-  pub each : (side : Side) (c : ℕ) → took side c ≡ take (took_side side (heard c past)) (sent_side side (state.places c))
+  pub each : (side : Side) (c : ℕ) → took side c ≡ taken past state side c
 
 pub same_took : (C : Config) (past : Past) (before after : Side → ℕ → List ℕ) (core : Core) → ((side : Side) (c : ℕ) → after side c ≡ before side c)
     → StandsFor C past before core → StandsFor C past after core
@@ -52,22 +52,25 @@ same_took C past before after core same p = record { state = p.state; represents
 took_then : (C : Config) (past : Past) (s next : State) (core new : Core) (e : Told) (group : List Note) (took piece : Side → ℕ → List ℕ)
     → Represents C past s core → refused C past s (kind_of (meaning e)) ≡ None → MovesBy C past (kind_of (meaning e)) group s next
     → Represents C (record { event = meaning e; group = group } ∷ past) next new → PiecesAre past s e piece
-    → ((side : Side) (c : ℕ) → took side c ≡ take (took_side side (heard c past)) (sent_side side (s.places c)))
-    → (side : Side) (c : ℕ) → took side c ++ piece side c ≡ take (took_side side (heard c (record { event = meaning e; group = group } ∷ past))) (sent_side side (next.places c))
+    → ((side : Side) (c : ℕ) → took side c ≡ taken past s side c)
+    → (side : Side) (c : ℕ) → took side c ++ piece side c ≡ taken (record { event = meaning e; group = group } ∷ past) next side c
 took_then C past s next core new e group took piece r fine moves r' pieces each Client c =
     let v = kind_of (meaning e) in
     let grown = grows C past v group s next moves c in
-    one_more (heard c past).client.took (took_in c v) (hears c (heard c past) v group).client.took (took Client c) (piece Client c) (s.places c) grown.more
-    (next.places c) (each Client c) (pieces.is Client c) (fits C past s core v c r fine) (heard_took c (heard c past) v group) grown.place
+    one_more to_client (heard c past).client.took (took_in c v) (hears c (heard c past) v group).client.took (took Client c) (piece Client c)
+    (s.places c) grown.more (next.places c) (each Client c) (pieces.is Client c) (fits C past s core v c r fine)
+    (heard_took c (heard c past) v group) grown.place
 took_then C past s next core new e group took piece r fine moves r' pieces each Server c =
     let v = kind_of (meaning e) in
     let x : Happened = record { event = meaning e; group = group } in
+    let before = last_took (heard c past).connects in
+    let after = last_took (hears c (heard c past) v group).connects in
     let grown = grows C past v group s next moves c in
     let one' = one_server C (x ∷ past) next r'.sound.leads c in
     let sum = server_heard c (heard c past) v group (pieces.first c) (first_made c past x one'.once) in
-    server_more (last_took (heard c past).connects) (server_in c v) (last_took (hears c (heard c past) v group).connects) (took Server c) (piece Server c) (s.places c) grown.more
-    (next.places c) (each Server c) (pieces.is Server c)
-    (server_fits C past s next v group c (last_took (hears c (heard c past) v group).connects) (one_server C past s r.sound.leads c) moves sum one'.within) sum grown.place
+    one_more (to_server 1) before (server_in c v) after (took Server c) (piece Server c) (s.places c) grown.more (next.places c)
+    (each Server c) (pieces.is Server c)
+    (server_fits C past s next v group c after (one_server C past s r.sound.leads c) moves sum one'.within) sum grown.place
 
 -- an event, and the piece that each side took with it
 pub event_past : (C : Config) (past : Past) (took piece : Side → ℕ → List ℕ) (e : Told) (a : Core) (g : Given) (b : Core) → g.event ≡ e → TakesEvent a e
@@ -84,8 +87,8 @@ event_past C past took piece e a g b event_is taken moved pieces p =
       each = took_then C past s more.next a b e g.group took piece p.represents fine more.moves more.represents (pieces s p.represents) p.each;
     })
 
-gives_past : (C : Config) (past : Past) (took piece : Side → ℕ → List ℕ) (e : Told) (a : Around Served) (g : Given) (b : Around Served) → Gives served_face e a g b
-    → ((s : State) → Represents C past s a.core.core → PiecesAre past s e piece)
+gives_past : (C : Config) (past : Past) (took piece : Side → ℕ → List ℕ) (e : Told) (a : Around Served) (g : Given) (b : Around Served)
+    → Gives served_face e a g b → ((s : State) → Represents C past s a.core.core → PiecesAre past s e piece)
     → StandsFor C past took a.core.core → StandsFor C (happened g ∷ past) (λ side c. took side c ++ piece side c) b.core.core
 gives_past C past took piece e a g b it pieces p = event_past C past took piece e a.core.core g b.core.core it.event_is it.taken it.moved pieces p
 
@@ -94,16 +97,16 @@ none_past : (C : Config) (o : Option Told) (past : Past) (took : Side → ℕ �
 none_past C None past took a b it p = subst (λ (x : Around Served). StandsFor C past took x.core.core) (sym it) p
 none_past C (Some e) past took a b it p = absurd it
 
-some_past : (C : Config) (conns : ℕ) (call : Call) (o : Option Told) (past : Past) (took : Side → ℕ → List ℕ) (a : Around Served) (links : Links) (g : Given) (b : Around Served)
-    → MayCall served_face conns a call o → Becomes served_face o (record { core = a.core; links = links }) (Some g) b → StandsFor C past took a.core.core
-    → StandsFor C (happened g ∷ past) (λ side c. took side c ++ piece_of c side call g.event) b.core.core
+some_past : (C : Config) (conns : ℕ) (call : Call) (o : Option Told) (past : Past) (took : Side → ℕ → List ℕ) (a : Around Served) (links : Links)
+    (g : Given) (b : Around Served) → MayCall served_face conns a call o → Becomes served_face o (record { core = a.core; links = links }) (Some g) b
+    → StandsFor C past took a.core.core → StandsFor C (happened g ∷ past) (λ side c. took side c ++ piece_of c side call g.event) b.core.core
 some_past C conns call None past took a links g b may it p = absurd it
 some_past C conns call (Some e) past took a links g b may it p =
-    gives_past C past took (λ side c. piece_of c side call g.event) e (record { core = a.core; links = links }) g b it
-    (λ s r. subst (λ (x : Told). PiecesAre past s e (λ side c. piece_of c side call x)) (sym it.event_is) (call_pieces C past s conns a call e r may)) p
+    gives_past C past took (told_pieces call g.event) e (record { core = a.core; links = links }) g b it
+    (λ s r. subst (λ (x : Told). PiecesAre past s e (told_pieces call x)) (sym it.event_is) (call_pieces C past s conns a call e r may)) p
 
-own_past : (C : Config) (past : Past) (took : Side → ℕ → List ℕ) (a : Around Served) (g : Given) (b : Around Served) → IsOwn g.event → Gives served_face g.event a g b
-    → StandsFor C past took a.core.core → StandsFor C (happened g ∷ past) took b.core.core
+own_past : (C : Config) (past : Past) (took : Side → ℕ → List ℕ) (a : Around Served) (g : Given) (b : Around Served) → IsOwn g.event
+    → Gives served_face g.event a g b → StandsFor C past took a.core.core → StandsFor C (happened g ∷ past) took b.core.core
 own_past C past took a g b own it p =
     same_took C (happened g ∷ past) (λ side c. took side c ++ []) took b.core.core (λ side c. sym (append-nil (took side c)))
     (gives_past C past took (λ side c. []) g.event a g b it (λ s r. own_pieces past s g.event own) p)
@@ -125,7 +128,7 @@ walks_past C conns (Asked call (Some g) ∷ steps) past took a b it p =
     (some_past C conns call it.1.event past took a it.1.links g it.0 it.1.may it.1.becomes p))
 
 -- nothing was taken yet
-pub none_taken : (side : Side) (c : ℕ) → [] ≡ take (took_side side (heard c [])) (sent_side side (no_connections.places c))
+pub none_taken : (side : Side) (c : ℕ) → [] ≡ taken [] no_connections side c
 none_taken Client c = refl
 none_taken Server c = refl
 
@@ -133,40 +136,42 @@ none_is_some : (r : Row) → None ≡ Some r → ⊥
 none_is_some r e = cc
 
 -- how a server begins
-pub begins_with : {S : Type 0} {did : S → Call → S → Type 0} (gave : ℕ → Type 0) (C : Config) (core : Core) (first : LoopServer Served) {conns : ℕ} {net begun : S}
-    → Represents C [] no_connections core → Begins served_face did (record { core = core }) conns net begun first
-    → Represents C [] no_connections first.serving.core.core × Ready served_face gave first.serving
-begins_with gave C core first stands begins =
-    let same : first.serving.core.core ≡ core = ap (λ (x : Served). x.core) begins.core_is in
-    let here : Represents C [] no_connections first.serving.core.core = subst (λ (x : Core). Represents C [] no_connections x) (sym same) stands in (
+pub begins_with : {S : Type 0} {did : S → Call → S → Type 0} (gave : ℕ → Type 0) {C : Config} {conns : ℕ} {net : S} (start : Starts did C conns net)
+    → Represents C [] no_connections start.server.serving.core.core × Ready served_face gave (stand start.server.serving)
+begins_with gave {C} start =
+    let same = ap (λ (x : Served). x.core) start.begins.core_is in
+    let here = subst (λ (x : Core). Represents C [] no_connections x) (sym same) start.stands in (
       here,
       record {
         stands = record { config = C; past = []; state = no_connections; represents = here };
-        known = λ l r e. absurd (none_is_some r (sym (begins.no_link.owner l) ∙ e));
+        known = λ l r e. absurd (none_is_some r (sym (start.begins.no_link.owner l) ∙ e));
       },
     )
 
-pub kept : {S T : Type 0} {did : S → Call → S → Type 0} {gave : S → ℕ → Type 0} (C : Config) (core : Core)
-    (old new : Running Served S T) {conns : ℕ} {net begun : S} → Represents C [] no_connections core → Begins served_face did (record { core = core }) conns net begun old.server
-    → Walked served_face did gave old new
-    → ServedEvents did C conns old.server new.server old.net new.net old.written new.written
-kept {gave = gave} C core old new {conns} stands begins walked =
-    let here = begins_with (gave old.net) C core old.server stands begins in
-    let done = walked here.1 begins.no_line_waits in
-    let walks = subst (λ (n : ℕ). Walks served_face n (stand old.server.serving) done.steps (stand new.server.serving)) begins.conns_is done.leads in
-    let past = walks_past C conns done.steps [] (λ side c. []) (stand old.server.serving) (stand new.server.serving) walks
+-- the promise, by what the core stands for
+unfoldable pub keeps_by : (C : Config) (steps : List Step) (core : Core) → StandsFor C (past_after steps []) (λ side c. pieces_of c side steps) core
+    → KeepsPromise C steps core
+keeps_by C steps core p = record {
+  state = p.state;
+  represents = p.represents;
+  took = p.each Client;
+  server_took = p.each Server;
+  matches = every_past_matches C (past_after steps []) p.state p.represents.sound.leads;
+}
+
+pub kept : {S T : Type 0} {did : S → Call → S → Type 0} {gave : S → ℕ → Type 0} {C : Config} {conns : ℕ} {net : S} (start : Starts did C conns net)
+    (clock : T) (before : Option (List ℕ)) (new : Running Served S T) → Walked served_face did gave (started start clock before) new
+    → ServedEvents did C conns (started start clock before) new
+kept {gave = gave} {C} {conns} start clock before new walked =
+    let here = begins_with (gave start.begun) start in
+    let done = walked here.1 start.begins.no_line_waits in
+    let steps = done.made.steps in
+    let first = start.server.serving in
+    let last = new.server.serving in
+    let walks = subst (λ (n : ℕ). Walks served_face n (stand first) steps (stand last)) start.begins.conns_is done.made.leads in
+    let past = walks_past C conns steps [] (λ side c. []) (stand first) (stand last) walks
     (record { state = no_connections; represents = here.0; each = none_taken }) in
-    record {
-      steps = done.steps;
-      chain = done.chain;
-      walks = walks;
-      written = done.told;
-      state = past.state;
-      represents = past.represents;
-      took = past.each Client;
-      server_took = past.each Server;
-      matches = every_past_matches C (past_after done.steps []) past.state past.represents.sound.leads;
-    }
+    record { steps = steps; chain = done.made.chain; walks = walks; written = done.told; keeps = keeps_by C steps last.core.core past }
 
 -- a fault's cause, where neither count fell before
 pub fails_later : (b m n c o d : ℕ) (r : Result ServeEnd ServeFault) → b ≤ m → c ≤ o → IfErr r (FromNetOrSink m n o d) → IfErr r (FromNetOrSink b n c d)

@@ -1,18 +1,16 @@
 -- What one event adds to what the server of a connection took.
-use Rattle.std.proofs.Common.{◌≡◌, ◌⊎◌, ℕ, ◌+◌, ◌≤◌, List, [], ◌∷◌, ◌++◌, length, take, drop, Bool, true, false, Option, Some, None, nat_eq, if◌then◌else◌, inl, inr, refl, ap, sym, ◌∙◌, subst, arith}
-use Rattle.std.specs.Bool.{MatchBool}
+use Rattle.std.proofs.Common.{◌≡◌, ◌⊎◌, ℕ, ◌+◌, ◌≤◌, List, [], ◌∷◌, ◌++◌, length, Bool, true, false, Option, Some, None, nat_eq, if◌then◌else◌}
+use Rattle.std.proofs.Common.{inl, inr, refl, ap, sym, ◌∙◌, subst, arith}
 use Rattle.std.specs.Prelude.{◌||◌}
-use Rattle.std.proofs.Math.Seq.{take-add}
-use Rattle.std.proofs.lemmas.List.{append-nil, take-append-le}
-use Rattle.std.proofs.lemmas.Grind.{flat_map-append}
+use Rattle.std.proofs.lemmas.List.{append-nil}
 use Rattle.px_bytes.specs.declared.addr.Side.TheVariants.{Client, Server}
 use Rattle.connection_model.specs.declared.note.Note.{Note}
-use Rattle.connection_model.specs.Further.{Coming}
 use Rattle.connection_model.specs.Heard.{Input, Bytes, Ends, Resets, Connects, Takes, EventKind, Accepts, Comes, Ticks, Turns, Runs, Marks}
-use Rattle.connection_model.specs.Heard.{Heard, SideHeard, at_last, brings_in, brought, brought_nothing, edges_met, event_brings, event_marks, accepts, fresh_side, has_made, hears, hears_by, hears_more, marks}
-use Rattle.connection_model.specs.Item.{Item, to_server, server_output}
+use Rattle.connection_model.specs.Heard.{Heard, SideHeard, at_last, brings_in, brought, brought_nothing, event_brings, event_marks, accepts}
+use Rattle.connection_model.specs.Heard.{fresh_side, has_made, hears, hears_more, marks}
+use Rattle.connection_model.specs.Item.{Item, server_output}
 use Rattle.connection_model.specs.Tellings.{finish_told, notes_about}
-use Rattle.proxy_core.specs.Moves.{MovesBy, MovesFailed, MovesOn, MovesLacks}
+use Rattle.proxy_core.specs.Moves.{MovesBy}
 use Rattle.proxy_core.specs.OneServer.{OneServer}
 use Rattle.proxy_core.specs.Past.{Happened, Past, heard, kind_of}
 use Rattle.proxy_core.specs.Scheduler.{State, last_took}
@@ -20,14 +18,12 @@ use Rattle.proxy_core.specs.Servers.{made, makes, servers_made}
 use Rattle.proxy_core.specs.declared.config.Config.{Config}
 use Rattle.proxy_core.proofs.HeardServers.{heard_servers}
 use Rattle.proxy_core.proofs.Meeting.{last_keeps, last_more, none_took, took_answered, took_refused}
+use Rattle.served_core.proofs.Growing.{come_stays, none_more, took_same}
 
 -- how many bytes more an event says that the server of connection c took
 abbrev pub server_in : ℕ → EventKind → ℕ
 server_in c (Comes d (Takes Server n)) = if nat_eq d c then n else 0
 server_in c other = 0
-
-none_more : (n : ℕ) → n ≡ n + 0
-none_more n = omega arith
 
 keeps : (b : Bool) (x h : Heard) → last_took x.connects ≡ last_took h.connects → last_took (if b then x else h).connects ≡ last_took h.connects + 0
 keeps true x h e = e ∙ none_more (last_took h.connects)
@@ -108,10 +104,6 @@ group_new : (c : ℕ) (v : EventKind) (h : Heard) → FirstMade c v h → (b : B
 group_new c v h first true = inl refl
 group_new c v h first false = event_new c v h first
 
-took_same : (b : Bool) (k : Coming) (s : SideHeard) → (hears_by b k s).took ≡ s.took
-took_same true k s = refl
-took_same false k s = refl
-
 pub server_heard : (c : ℕ) (h : Heard) (v : EventKind) (group : List Note) → (has_made h.connects ≡ false → server_in c v ≡ 0) → FirstMade c v h
     → last_took (hears c h v group).connects ≡ last_took h.connects + server_in c v
 server_heard c h v group none first =
@@ -133,13 +125,6 @@ first_made c past x once d is same =
 
 -- ---- places
 
-come_stays : (C : Config) (input : Input) (before now : Heard) (d : ℕ) (group : List Note) (old new : State) (c : ℕ) → (b : Bool)
-    → MatchBool b (MovesFailed d group old new) (MovesOn C now d (edges_met input before.edges) group old new ⊎ MovesLacks input d group old new)
-    → new.places c ≡ old.places c
-come_stays C input before now d group old new c true k = ap (λ (y : State). y.places c) k.state
-come_stays C input before now d group old new c false (inl k) = ap (λ (y : State). y.places c) k.state
-come_stays C input before now d group old new c false (inr k) = ap (λ (y : State). y.places c) k.state
-
 plain_fits : (past : Past) (s : State) (c : ℕ) → OneServer past s c → last_took (heard c past).connects + 0 ≤ length (server_output 1 (s.places c))
 plain_fits past s c one = subst (λ k. k ≤ length (server_output 1 (s.places c))) (none_more (last_took (heard c past).connects)) one.within
 
@@ -154,22 +139,11 @@ server_fits C past s next (Comes d (Resets side)) group c took one m sum le = pl
 server_fits C past s next (Comes d (Connects answer)) group c took one m sum le = plain_fits past s c one
 server_fits C past s next (Comes d (Takes Client n)) group c took one m sum le = plain_fits past s c one
 server_fits C past s next (Comes d (Takes Server n)) group c took one m sum le =
-    let stays = come_stays C (Takes Server n) (heard d past) (hears d (heard d past) (Comes d (Takes Server n)) group) d group s next c (heard d past).failed m in
+    let h = heard d past in
+    let stays = come_stays C (Takes Server n) h (hears d h (Comes d (Takes Server n)) group) d group s next c h.failed m in
     subst (λ k. k ≤ length (server_output 1 (s.places c))) sum
     (subst (λ (p : List Item). took ≤ length (server_output 1 p)) stays le)
 server_fits C past s next (Ticks moment) group c took one m sum le = plain_fits past s c one
 server_fits C past s next Turns group c took one m sum le = plain_fits past s c one
 server_fits C past s next Runs group c took one m sum le = plain_fits past s c one
 server_fits C past s next (Marks pool member up) group c took one m sum le = plain_fits past s c one
-
-grown : (t : ℕ) (p more : List Item) → t ≤ length (server_output 1 p) → take t (server_output 1 (p ++ more)) ≡ take t (server_output 1 p)
-grown t p more le = ap (take t) (flat_map-append (to_server 1) p more) ∙ take-append-le t (server_output 1 p) (server_output 1 more) le
-
--- what was taken before and one piece more is what is taken then
-pub one_more : (t n t' : ℕ) (before piece : List ℕ) (p more p' : List Item) → before ≡ take t (server_output 1 p)
-    → piece ≡ take n (drop t (server_output 1 p)) → t + n ≤ length (server_output 1 p) → t' ≡ t + n → p' ≡ p ++ more
-    → before ++ piece ≡ take t' (server_output 1 p')
-one_more t n t' before piece p more p' was is le sum place =
-    ap (λ (l : List ℕ). l ++ piece) was ∙ ap (λ (l : List ℕ). take t (server_output 1 p) ++ l) is ∙ sym (take-add t n (server_output 1 p))
-    ∙ sym (grown (t + n) p more le) ∙ ap (λ k. take k (server_output 1 (p ++ more))) (sym sum)
-    ∙ ap (λ (l : List Item). take t' (server_output 1 l)) (sym place)

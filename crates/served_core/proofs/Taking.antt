@@ -1,5 +1,6 @@
 -- Events that aren't refused.
-use Rattle.std.proofs.Common.{◌≡◌, ℕ, ◌<◌, ◌≤◌, ◌+◌, zero, suc, List, [], ◌∷◌, length, Bool, true, false, Option, Some, None, refl, ap, sym, ◌∙◌, subst, arith, rules}
+use Rattle.std.proofs.Common.{◌≡◌, ℕ, ◌<◌, ◌≤◌, ◌+◌, zero, suc, List, [], ◌∷◌, length, Bool, true, false, Option, Some, None, refl, ap, sym, ◌∙◌}
+use Rattle.std.proofs.Common.{subst, arith, rules}
 use Rattle.std.specs.Prelude.{not, ◌&&◌, ◌||◌, nat_lt, nat_le, is_none, option_map, if◌then◌else◌}
 use Rattle.std.proofs.lemmas.Grind.{common_steps}
 use Rattle.px_bytes.specs.declared.addr.Addr.{Addr}
@@ -12,7 +13,8 @@ use Rattle.connection_model.specs.Heard.{Input, Bytes, Ends, Resets, Takes, Acce
 use Rattle.proxy_core.specs.Asked.{edges_of, live_of, wants_of, pending_of}
 use Rattle.proxy_core.specs.Past.{Past, heard, shared}
 use Rattle.proxy_core.specs.Ready.{is_in}
-use Rattle.proxy_core.specs.Refusal.{Standing, Known, known, standing_by, standing_of, refused, refusal_by, is_late, answers_nothing, comes_too_much, takes_too_much, wants_at}
+use Rattle.proxy_core.specs.Refusal.{Standing, Known, known, standing_by, standing_of, refused, refusal_by}
+use Rattle.proxy_core.specs.Refusal.{is_late, answers_nothing, comes_too_much, takes_too_much, wants_at}
 use Rattle.proxy_core.specs.Refusals.{virtual_place}
 use Rattle.proxy_core.specs.Scheduler.{State, seen, untaken_of}
 use Rattle.proxy_core.specs.Queries.{queue_on, pending_on as pending_on_side}
@@ -151,25 +153,31 @@ took_taken C past s c side edges n k told takes pending le =
 pub may_come_of : (core : Core) (c : ℕ) (side : Side) (edges : Edges) (n : ℕ) → Always core (λ C past s. Some edges ≡ edges_of past c)
     → may_send (edge_of side edges) ≡ true → Always core (λ C past s. Some n ≡ wants_of C past s c side) → MayCome (TakesEvent core) c side n
 may_come_of core c Client edges n told sends wants = record {
-  bytes = λ b le e is C past s r. by_event C past s e (event.FromClient c b) is (bytes_taken C past s c Client edges n b (told C past s r) sends (wants C past s r) le);
+  bytes = λ b le e is C past s r.
+      by_event C past s e (event.FromClient c b) is (bytes_taken C past s c Client edges n b (told C past s r) sends (wants C past s r) le);
   ended = λ e is C past s r. by_event C past s e (event.ClientEnd c) is (ends_taken C past s c Client edges (told C past s r) sends);
-  reset = λ e is C past s r. by_event C past s e (event.ClientReset c) is (resets_taken C past s c Client edges (told C past s r) (sends_takes (edge_of Client edges) sends));
+  reset = λ e is C past s r.
+      by_event C past s e (event.ClientReset c) is (resets_taken C past s c Client edges (told C past s r) (sends_takes (edge_of Client edges) sends));
 }
 may_come_of core c Server edges n told sends wants = record {
-  bytes = λ b le e is C past s r. by_event C past s e (event.FromServer c b) is (bytes_taken C past s c Server edges n b (told C past s r) sends (wants C past s r) le);
+  bytes = λ b le e is C past s r.
+      by_event C past s e (event.FromServer c b) is (bytes_taken C past s c Server edges n b (told C past s r) sends (wants C past s r) le);
   ended = λ e is C past s r. by_event C past s e (event.ServerEnd c) is (ends_taken C past s c Server edges (told C past s r) sends);
-  reset = λ e is C past s r. by_event C past s e (event.ServerReset c) is (resets_taken C past s c Server edges (told C past s r) (sends_takes (edge_of Server edges) sends));
+  reset = λ e is C past s r.
+      by_event C past s e (event.ServerReset c) is (resets_taken C past s c Server edges (told C past s r) (sends_takes (edge_of Server edges) sends));
 }
 
 -- a side that takes may take all that is pending, or reset
 pub may_take_of : (core : Core) (c : ℕ) (side : Side) (edges : Edges) (n : ℕ) → Always core (λ C past s. Some edges ≡ edges_of past c)
     → may_take (edge_of side edges) ≡ true → Always core (λ C past s. Some n ≡ pending_of past s c side) → MayTake (TakesEvent core) c side n
 may_take_of core c Client edges n told takes pending = record {
-  took = λ k le e is C past s r. by_event C past s e (event.ClientTook c k) is (took_taken C past s c Client edges n k (told C past s r) takes (pending C past s r) le);
+  took = λ k le e is C past s r.
+      by_event C past s e (event.ClientTook c k) is (took_taken C past s c Client edges n k (told C past s r) takes (pending C past s r) le);
   broken = λ e is C past s r. by_event C past s e (event.ClientReset c) is (resets_taken C past s c Client edges (told C past s r) takes);
 }
 may_take_of core c Server edges n told takes pending = record {
-  took = λ k le e is C past s r. by_event C past s e (event.ServerTook c k) is (took_taken C past s c Server edges n k (told C past s r) takes (pending C past s r) le);
+  took = λ k le e is C past s r.
+      by_event C past s e (event.ServerTook c k) is (took_taken C past s c Server edges n k (told C past s r) takes (pending C past s r) le);
   broken = λ e is C past s r. by_event C past s e (event.ServerReset c) is (resets_taken C past s c Server edges (told C past s r) takes);
 }
 

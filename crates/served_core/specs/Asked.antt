@@ -1,5 +1,6 @@
 -- What a loop asks of a core, by the past and the scheduler's state.
-use Rattle.std.specs.Prelude.{ℕ, ◌+◌, ◌-◌, ◌^◌, List, [], Bool, false, ◌&&◌, Option, Some, None, nat_lt, slice_get, option_map, unwrap_or, if◌then◌else◌}
+use Rattle.std.specs.Prelude.{ℕ, ◌+◌, ◌-◌, ◌^◌, List, [], Bool, false, ◌&&◌, Option, Some, None}
+use Rattle.std.specs.Prelude.{nat_lt, slice_get, option_map, unwrap_or, if◌then◌else◌}
 use Rattle.px_bytes.specs.declared.addr.Addr.{Addr}
 use Rattle.px_bytes.specs.declared.addr.Side.{Side}
 use Rattle.px_bytes.specs.declared.addr.Side.TheVariants.{Server}

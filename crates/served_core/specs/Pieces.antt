@@ -21,7 +21,8 @@ abbrev pub pieces_of : ℕ → Side → List Step → List ℕ
 pieces_of c side [] = []
 pieces_of c side (Own g ∷ steps) = pieces_of c side steps
 pieces_of c side (Asked call None ∷ steps) = pieces_of c side steps
-pieces_of c side (Asked call (Some g) ∷ steps) = piece_of c side call g.event ++ pieces_of c side steps
+pieces_of c side (Asked call (Some g) ∷ steps) =
+    piece_of c side call g.event ++ pieces_of c side steps
 
 -- the piece of a write that told that the side took it, where this wasn't given to the core
 abbrev pub ungiven_piece : ℕ → Side → Broken → List ℕ

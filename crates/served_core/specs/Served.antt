@@ -13,7 +13,8 @@ use Rattle.proxy_core.specs.declared.core_state.Core.{Core}
 use Rattle.proxy_core.specs.declared.event.Event.{Event}
 use Rattle.serve_loop.specs.Face.{Face}
 use Rattle.served_core.specs.declared.served.Served.{Served}
-use Rattle.served_core.specs.Asked.{next_number, name_at, listen_at, may_come, to_write, is_waiting, due_at}
+use Rattle.served_core.specs.Asked.{next_number, name_at, listen_at, due_at}
+use Rattle.served_core.specs.Asked.{may_come, to_write, is_waiting}
 use Rattle.served_core.specs.Told.{Always, Means}
 
 -- it stands for a past
@@ -25,7 +26,8 @@ pub record Stands (core : Core) : Type 0 where
 
 -- the event isn't refused, whatever it stands for
 abbrev pub TakesEvent : Core → Told → Type 0
-TakesEvent core told = (e : Event) → Means told e → Always core (λ C past s. refused C past s (kind_of e) ≡ None)
+TakesEvent core told = (e : Event) → Means told e
+    → Always core (λ C past s. refused C past s (kind_of e) ≡ None)
 
 pub record Moved (old new : Core) (told : Told) (group : List Note) : Type 0 where
   pub event : Event

@@ -13,11 +13,12 @@ use Rattle.proxy_core.specs.Scheduler.{State, last_took, no_connections}
 use Rattle.proxy_core.specs.Setup.{init_notes}
 use Rattle.proxy_core.specs.declared.config.Config.{Config}
 use Rattle.proxy_core.specs.declared.core_state.Core.{Core}
+use Rattle.serve_loop.specs.Events.{Grew}
 use Rattle.serve_loop.specs.Part.{stand}
 use Rattle.serve_loop.specs.Walk.{Given, Step, Own, Asked, Walks, calls_in, text_in}
 use Rattle.serve_loop.specs.Broken.{steps_of}
 use Rattle.serve_loop.specs.Fallen.{DoneSome, ListensSome, Stopped}
-use Rattle.serve_loop.specs.Server.{Begins, Served as IsServed}
+use Rattle.serve_loop.specs.Server.{Begins, Running, Served as IsServed, running}
 use Rattle.serve_loop.specs.declared.fault.ServeEnd.{ServeEnd}
 use Rattle.serve_loop.specs.declared.fault.ServeFault.{ServeFault}
 use Rattle.serve_loop.specs.declared.fault.ServeFault.TheVariants as fault
@@ -38,33 +39,38 @@ past_after (Own g ∷ steps) past = past_after steps (happened g ∷ past)
 past_after (Asked call None ∷ steps) past = past_after steps past
 past_after (Asked call (Some g) ∷ steps) past = past_after steps (happened g ∷ past)
 
--- All that was done, step by step: the calls on the net are exactly those of the steps, in order; each step
--- is what the loop may do there, and no event is refused; the journal grew by exactly the lines of the
--- events and their notes. The core stands for the past of exactly these events, and the promise holds of
--- it: what each client took is a front of what the evaluator gives, and all that `OutputMatchesEvaluator`
--- says. The pieces that its link took, in order, are that front, and those of its server's link likewise:
--- one at most is made.
-pub record ServedEvents {S : Type 0} (did : S → Call → S → Type 0) (C : Config) (conns : ℕ)
-    (first last : Server Served) (begun net : S) (before after : Option (List ℕ)) : Type 0 where
-  pub steps : List Step
-  pub chain : Chain did begun (calls_in steps) net
-  pub walks : Walks served_face conns (stand first.serving) steps (stand last.serving)
-  pub written : after ≡ told_more before (text_in steps)
+-- The core stands for the past of exactly the events of these steps, and the promise holds of it:
+-- what each client took is a front of what the evaluator gives, and all that
+-- `OutputMatchesEvaluator` says. The pieces that its link took, in order, are that front, and those
+-- of its server's link likewise: one at most is made.
+pub record KeepsPromise (C : Config) (steps : List Step) (core : Core) : Type 0 where
   pub state : State
-  pub represents : Represents C (past_after steps []) state last.serving.core.core
+  pub represents : Represents C (past_after steps []) state core
   pub took : (c : ℕ) → pieces_of c side.Client steps
       ≡ take (heard c (past_after steps [])).client.took (client_output (state.places c))
   pub server_took : (c : ℕ) → pieces_of c side.Server steps
       ≡ take (last_took (heard c (past_after steps [])).connects) (server_output 1 (state.places c))
   pub matches : OutputMatchesEvaluator C (past_after steps []) state
 
+-- All that was done, step by step: the calls on the net are exactly those of the steps, in order;
+-- each step is what the loop may do there, and no event is refused; the journal grew by exactly the
+-- lines of the events and their notes. The core keeps its promise.
+pub record ServedEvents {S T : Type 0} (did : S → Call → S → Type 0) (C : Config) (conns : ℕ)
+    (old new : Running Served S T) : Type 0 where
+  pub steps : List Step
+  pub chain : Chain did old.net (calls_in steps) new.net
+  pub walks : Walks served_face conns (stand old.server.serving) steps (stand new.server.serving)
+  pub written : Grew old.written new.written (text_in steps)
+  pub keeps : KeepsPromise C steps new.server.serving.core.core
+
 -- so much of a text was written
 pub record WroteSome (text : List ℕ) (before after : Option (List ℕ)) : Type 0 where
   pub count : ℕ
   pub written : after ≡ told_more before (take count text)
 
--- It stopped before the first turn: no moment was asked for, a front of the notes of its start was written,
--- all of them where the net failed, and of the net no more was asked than the first listeners, in order.
+-- It stopped before the first turn: no moment was asked for, a front of the notes of its start was
+-- written, all of them where the net failed, and of the net no more was asked than the first
+-- listeners, in order.
 pub record NeverServed {S T : Type 0} (did : S → Call → S → Type 0) (C : Config) (why : ServeFault)
     (net net' : S) (clock clock' : T) (before after : Option (List ℕ)) : Type 0 where
   pub no_moment : clock' ≡ clock
@@ -73,77 +79,64 @@ pub record NeverServed {S T : Type 0} (did : S → Call → S → Type 0) (C : C
   pub listens : (net' ≡ net) ⊎ ((core : Core) × Represents C [] no_connections core
       × ListensSome served_face did why (record { core = core }) net net')
 
--- All that was done up to a fault: whole steps, and one that broke off. The core stands for the past of
--- exactly the events that were given, those of the turn that met the fault among them, and the promise
--- holds of it. The pieces that each client and its server took, as the events say, are fronts of what was
--- sent to them; with the piece of a last write, whose event couldn't be given for want of memory, they are
--- a front still.
-pub record EventsSome {S : Type 0} (did : S → Call → S → Type 0) (gave : S → ℕ → Type 0) (C : Config)
-    (why : ServeFault) (first last : Server Served) (begun net : S) (before after : Option (List ℕ))
-    : Type 0 where
-  pub done : DoneSome served_face did gave why first.serving last.serving begun net before after
+-- All that was done up to a fault: whole steps, and one that broke off. The core keeps its promise
+-- with exactly the events that were given, those of the turn that met the fault among them. With
+-- the piece of a last write, whose event couldn't be given for want of memory, the pieces that each
+-- client and its server took are fronts of what was sent to them still.
+pub record EventsSome {S T : Type 0} (did : S → Call → S → Type 0) (gave : S → ℕ → Type 0)
+    (C : Config) (why : ServeFault) (old new : Running Served S T) : Type 0 where
+  pub done : DoneSome served_face did gave why old.server.serving new.server.serving
+      old.net new.net old.written new.written
   pub steps : List Step
-  pub steps_are : steps ≡ done.steps ++ steps_of done.broken
-  pub state : State
-  pub represents : Represents C (past_after steps []) state last.serving.core.core
-  pub took : (c : ℕ) → pieces_of c side.Client steps
-      ≡ take (heard c (past_after steps [])).client.took (client_output (state.places c))
-  pub server_took : (c : ℕ) → pieces_of c side.Server steps
-      ≡ take (last_took (heard c (past_after steps [])).connects) (server_output 1 (state.places c))
-  pub ungiven : (of : Side) (c : ℕ) → (n : ℕ)
-      × (pieces_of c of steps ++ ungiven_piece c of done.broken ≡ take n (sent_side of (state.places c)))
-  pub matches : OutputMatchesEvaluator C (past_after steps []) state
+  pub steps_are : steps ≡ done.walk.steps ++ steps_of done.walk.broken
+  pub keeps : KeepsPromise C steps new.server.serving.core.core
+  pub ungiven : (of : Side) (c : ℕ) → (n : ℕ) × (pieces_of c of steps
+      ++ ungiven_piece c of done.walk.broken ≡ take n (sent_side of (keeps.state.places c)))
 
--- It was served for fewer turns than all, and the next one met a fault: what those did is exact, and stands
--- in the journal, and what that one did up to the fault is said with them.
+-- A core that stands for no event begins to be served.
+pub record Starts {S : Type 0} (did : S → Call → S → Type 0) (C : Config) (conns : ℕ) (net : S)
+    : Type 0 where
+  pub core : Core
+  pub stands : Represents C [] no_connections core
+  pub server : Server Served
+  pub begun : S
+  pub begins : Begins served_face did (record { core = core }) conns net begun server
+
+-- behind the notes of its start
+abbrev pub started : {S T : Type 0} {did : S → Call → S → Type 0} {C : Config} {conns : ℕ} {net : S}
+    → Starts did C conns net → T → Option (List ℕ) → Running Served S T
+started {C = C} start clock before =
+    running start.server start.begun clock (told_more before (note_lines (init_notes C)))
+
+-- It was served for fewer turns than all, and the next one met a fault: what those did is exact,
+-- and stands in the journal, and what that one did up to the fault is said with them.
 pub record ServedSome {S T : Type 0} (did : S → Call → S → Type 0) (gave : S → ℕ → Type 0)
     (ticked : T → ℕ → T → Type 0) (C : Config) (conns turns : ℕ) (why : ServeFault) (net net' : S)
     (clock clock' : T) (before after : Option (List ℕ)) : Type 0 where
-  pub core : Core
-  pub stands : Represents C [] no_connections core
-  pub first : Server Served
-  pub begun : S
-  pub begins : Begins served_face did (record { core = core }) conns net begun first
+  pub start : Starts did C conns net
   pub last : Server Served
-  pub stopped : Stopped served_face did gave ticked turns
-      (record {
-        server = first;
-        net = begun;
-        clock = clock;
-        written = told_more before (note_lines (init_notes C));
-      })
-      (record { server = last; net = net'; clock = clock'; written = after }) why
-  pub events : ServedEvents did C conns first stopped.mid.server begun stopped.mid.net
-      (told_more before (note_lines (init_notes C))) stopped.mid.written
-  pub all_events : EventsSome did gave C why first last begun net'
-      (told_more before (note_lines (init_notes C))) after
+  pub stopped : Stopped served_face did gave ticked turns (started start clock before)
+      (running last net' clock' after) why
+  pub events : ServedEvents did C conns (started start clock before) stopped.mid
+  pub all_events : EventsSome did gave C why (started start clock before)
+      (running last net' clock' after)
 
 -- what was done before a fault
-abbrev pub StopsConfig : {S T : Type 0} → (S → Call → S → Type 0) → (S → ℕ → Type 0) → (T → ℕ → T → Type 0)
-    → Config → (conns turns : ℕ) → ServeFault → (net net' : S) → (clock clock' : T)
-    → (before after : Option (List ℕ)) → Type 0
+abbrev pub StopsConfig : {S T : Type 0} → (S → Call → S → Type 0) → (S → ℕ → Type 0)
+    → (T → ℕ → T → Type 0) → Config → (conns turns : ℕ) → ServeFault → (net net' : S)
+    → (clock clock' : T) → (before after : Option (List ℕ)) → Type 0
 StopsConfig did gave ticked C conns turns why net net' clock clock' before after =
     NeverServed did C why net net' clock clock' before after
     ⊎ ServedSome did gave ticked C conns turns why net net' clock clock' before after
 
--- A core that stands for no event begins to be served, behind the notes of its start, and is served turn by
--- turn.
+-- A core that stands for no event begins to be served, behind the notes of its start, and is served
+-- turn by turn.
 pub record ServesConfig {S T : Type 0} (did : S → Call → S → Type 0) (gave : S → ℕ → Type 0)
     (ticked : T → ℕ → T → Type 0) (C : Config) (conns turns : ℕ) (net net' : S) (clock clock' : T)
     (before after : Option (List ℕ)) (end : ServeEnd) : Type 0 where
-  pub core : Core
-  pub stands : Represents C [] no_connections core
-  pub first : Server Served
-  pub begun : S
-  pub begins : Begins served_face did (record { core = core }) conns net begun first
+  pub start : Starts did C conns net
   pub last : Server Served
-  pub served : IsServed served_face did gave ticked turns
-      (record {
-        server = first;
-        net = begun;
-        clock = clock;
-        written = told_more before (note_lines (init_notes C));
-      })
-      (record { server = last; net = net'; clock = clock'; written = after }) end
-  pub events : ServedEvents did C conns first last begun net'
-      (told_more before (note_lines (init_notes C))) after
+  pub served : IsServed served_face did gave ticked turns (started start clock before)
+      (running last net' clock' after) end
+  pub events : ServedEvents did C conns (started start clock before)
+      (running last net' clock' after)

@@ -112,8 +112,10 @@ impl serve_loop::Core for Served {
         }
     }
 
-    ghost always = { λ s stands.
-        (λ e is C past st r. taken_run e is C past st, λ e is C past st r. taken_turn e is C past st) };
+    ghost always = { λ s stands. (
+      λ e is C past st r. taken_run e is C past st,
+      λ e is C past st r. taken_turn e is C past st,
+    ) };
 }
 
 // Gives an event, by steps that this ledger counts.
@@ -124,7 +126,8 @@ fn counted<L: Ledger>(core: &mut Core, event: Event, notes: &mut Notes, blank: B
     requires some { 0 < blank.parts }
     ensures taken { Stands core.old
         → Always core.old (λ C past s. refused C past s (kind_of event) ≡ None) → result ≡ true }
-    ensures moved { IsTrue result → ((group : List Note) × (notes.new.items ≡ notes.old.items ++ group)
+    ensures moved { IsTrue result → ((group : List Note)
+        × (notes.new.items ≡ notes.old.items ++ group)
         × KeepsStanding core.old core.new (record { event = event; group = group })) }
     ensures stands { Stands core.old → Stands core.new }
 {

@@ -25,10 +25,10 @@ pub fn serve_config<N: Net, T: Clock, K: Sink>(
     conns: u32,
     turns: u64,
 ) -> Result<ServeEnd, ServeFault>
-    ensures serves { IfOk result (ServesConfig N.did N.gave T.gave config conns turns net.old net.new
-        clock.old clock.new (K.written journal.old) (K.written journal.new)) }
-    ensures stopped { IfErr result (λ why. StopsConfig N.did N.gave T.gave config conns turns why net.old net.new
-        clock.old clock.new (K.written journal.old) (K.written journal.new)) }
+    ensures serves { IfOk result (ServesConfig N.did N.gave T.gave config conns turns
+        net.old net.new clock.old clock.new (K.written journal.old) (K.written journal.new)) }
+    ensures stopped { IfErr result (λ why. StopsConfig N.did N.gave T.gave config conns turns why
+        net.old net.new clock.old clock.new (K.written journal.old) (K.written journal.new)) }
     ensures fails { IfErr result (FromNetOrSink (N.faults net.old) (N.faults net.new)
         (K.faults journal.old) (K.faults journal.new)) }
     ensures net_faults_never_fall { N.faults net.old ≤ N.faults net.new }

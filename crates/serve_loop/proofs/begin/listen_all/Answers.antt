@@ -9,8 +9,11 @@ loop-slot-init g c =
     (record { calls = _; listens = refl; chain = refl }, omega arith)
 
 pub loop-slot-preserved : goal.loop-slot-preserved
-loop-slot-preserved g c =
-    (listens_next g.C.Core.face g.N.Net.did c.args.core.now c.loop-slot.slot c.args.net.now c.loop-slot.net c.listen_at.new.net c.loop-slot.invariant.0 (c.in_ok-listen_at.ensures.listens), omega (arith, c.loop-slot.invariant.1, c.listen_at.ensures.faults_never_fall))
+loop-slot-preserved g c = (
+  listens_next g.C.Core.face g.N.Net.did c.args.core.now c.loop-slot.slot c.args.net.now c.loop-slot.net c.listen_at.new.net
+      c.loop-slot.invariant.0 c.in_ok-listen_at.ensures.listens,
+  omega (arith, c.loop-slot.invariant.1, c.listen_at.ensures.faults_never_fall),
+)
 
 pub returns-clause-listens : goal.returns-clause-listens
 returns-clause-listens g c =

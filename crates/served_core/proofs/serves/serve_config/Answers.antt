@@ -5,11 +5,10 @@ use Rattle.px_outside.specs.Outside.{told_more}
 use Rattle.connection_model.specs.declared.note.Note.{Note}
 use Rattle.journal_text.specs.Notes.{note_lines}
 use Rattle.serve_loop.specs.Fallen.{Stopped}
-use Rattle.serve_loop.specs.Server.{Served}
-use Rattle.serve_loop.specs.declared.fault.ServeEnd.{ServeEnd}
+use Rattle.serve_loop.specs.Server.{Served, running}
 use Rattle.serve_loop.specs.declared.fault.ServeFault.TheVariants.{Memory as OutOfMemory}
 use Rattle.served_core.specs.Served.{served_face}
-use Rattle.served_core.specs.Serves.{ServedEvents, ServesConfig, WroteSome}
+use Rattle.served_core.specs.Serves.{Starts, WroteSome}
 use Rattle.served_core.proofs.Breaking.{kept_some, never_net}
 use Rattle.served_core.proofs.Promising.{fails_later, kept}
 use Rattle.serve_loop.proofs.Ending.{told_nothing}
@@ -19,27 +18,26 @@ use Rattle.served_core.proofs.serves.serve_config.Goals as goal
 
 pub returns-clause-serves : goal.returns-clause-serves
 returns-clause-serves g c =
-    let written = c.in_ok-write_start.ensures.written
-    ∙ ap (λ (l : List Note). told_more (g.K.Sink.written c.args.journal.now) (note_lines l)) (c.as_slice.ensures ∙ c.in_ok-core.ensures.notes) in
-    IfOk-weaker c.serve.result _
-    (λ (end : ServeEnd). ServesConfig g.N.Net.did g.N.Net.gave g.T.Clock.gave c.args.config c.args.conns c.args.turns c.args.net.now c.serve.new.net
-    c.args.clock.now c.serve.new.clock (g.K.Sink.written c.args.journal.now) (g.K.Sink.written c.serve.new.journal) end)
-    (λ end it. record {
+    let before = g.K.Sink.written c.args.journal.now in
+    let after = g.K.Sink.written c.serve.new.journal in
+    let notes = c.as_slice.ensures ∙ c.in_ok-core.ensures.notes in
+    let written = c.in_ok-write_start.ensures.written ∙ ap (λ (l : List Note). told_more before (note_lines l)) notes in
+    IfOk-weaker c.serve.result _ _ (λ end it.
+    let start : Starts g.N.Net.did c.args.config c.args.conns c.args.net.now = record {
       core = c.in_ok-core.core;
       stands = c.in_ok-core.ensures.stands;
-      first = c.in_ok-server.server;
+      server = c.in_ok-server.server;
       begun = c.new-2.new.net;
       begins = c.in_ok-server.ensures.begins;
+    } in
+    let served = subst (λ (w : Option (List ℕ)). Served served_face g.N.Net.did g.N.Net.gave g.T.Clock.gave c.args.turns
+    (running c.in_ok-server.server c.new-2.new.net c.args.clock.now w)
+    (running c.serve.new.server c.serve.new.net c.serve.new.clock after) end) written it in
+    record {
+      start = start;
       last = c.serve.new.server;
-      served = subst (λ (w : Option (List ℕ)). Served served_face g.N.Net.did g.N.Net.gave g.T.Clock.gave c.args.turns
-          (record { server = c.in_ok-server.server; net = c.new-2.new.net; clock = c.args.clock.now; written = w })
-          (record { server = c.serve.new.server; net = c.serve.new.net; clock = c.serve.new.clock; written = g.K.Sink.written c.serve.new.journal }) end)
-          written it;
-      events = subst (λ (w : Option (List ℕ)). ServedEvents g.N.Net.did c.args.config c.args.conns c.in_ok-server.server c.serve.new.server c.new-2.new.net c.serve.new.net w (g.K.Sink.written c.serve.new.journal))
-          written (kept c.args.config c.in_ok-core.core
-          (record { server = c.in_ok-server.server; net = c.new-2.new.net; clock = c.args.clock.now; written = g.K.Sink.written c.write_start.new.journal })
-          (record { server = c.serve.new.server; net = c.serve.new.net; clock = c.serve.new.clock; written = g.K.Sink.written c.serve.new.journal })
-          c.in_ok-core.ensures.stands c.in_ok-server.ensures.begins it.walked);
+      served = served;
+      events = kept start c.args.clock.now before _ served.walked;
     }) c.serve.ensures.served
 
 pub returns-clause-fails : goal.returns-clause-fails
@@ -62,9 +60,10 @@ returns-in_err-write_start-clause-stopped g c =
     let why = c.in_err-write_start.field-0.0 in
     let before = g.K.Sink.written c.args.journal.now in
     let after = g.K.Sink.written c.write_start.new.journal in
+    let notes = c.as_slice.ensures ∙ c.in_ok-core.ensures.notes in
     at_fault _ c.from_residual-in_err-write_start.result why c.from_residual-in_err-write_start.ensures.1 (inl (record {
       no_moment = refl;
-      wrote = subst (λ (l : List Note). WroteSome (note_lines l) before after) (c.as_slice.ensures ∙ c.in_ok-core.ensures.notes) c.in_err-write_start.ensures.some;
+      wrote = subst (λ (l : List Note). WroteSome (note_lines l) before after) notes c.in_err-write_start.ensures.some;
       all_written = never_net (g.K.Sink.faults c.args.journal.now) (g.K.Sink.faults c.write_start.new.journal) why c.in_err-write_start.ensures.fails;
       listens = inl refl;
     }))
@@ -73,43 +72,38 @@ pub returns-in_err-server-clause-stopped : goal.returns-in_err-server-clause-sto
 returns-in_err-server-clause-stopped g c =
     let text = note_lines (init_notes c.args.config) in
     let why = c.in_err-server.field-0.0 in
-    let written = c.in_ok-write_start.ensures.written
-    ∙ ap (λ (l : List Note). told_more (g.K.Sink.written c.args.journal.now) (note_lines l)) (c.as_slice.ensures ∙ c.in_ok-core.ensures.notes) in
+    let before = g.K.Sink.written c.args.journal.now in
+    let notes = c.as_slice.ensures ∙ c.in_ok-core.ensures.notes in
+    let written = c.in_ok-write_start.ensures.written ∙ ap (λ (l : List Note). told_more before (note_lines l)) notes in
     let whole : length text ≤ length text = omega arith in
     at_fault _ c.from_residual-in_err-server.result why c.from_residual-in_err-server.ensures.1 (inl (record {
       no_moment = refl;
-      wrote = record {
-        count = length text;
-        written = written ∙ ap (told_more (g.K.Sink.written c.args.journal.now)) (sym (take_all (length text) text whole));
-      };
+      wrote = record { count = length text; written = written ∙ ap (told_more before) (sym (take_all (length text) text whole)) };
       all_written = λ e. written;
       listens = inr (c.in_ok-core.core, c.in_ok-core.ensures.stands, c.in_err-server.ensures.broke);
     }))
 
 pub returns-clause-stopped : goal.returns-clause-stopped
 returns-clause-stopped g c =
-    let text = note_lines (init_notes c.args.config) in
     let before = g.K.Sink.written c.args.journal.now in
     let after = g.K.Sink.written c.serve.new.journal in
-    let written = c.in_ok-write_start.ensures.written
-    ∙ ap (λ (l : List Note). told_more before (note_lines l)) (c.as_slice.ensures ∙ c.in_ok-core.ensures.notes) in
+    let notes = c.as_slice.ensures ∙ c.in_ok-core.ensures.notes in
+    let written = c.in_ok-write_start.ensures.written ∙ ap (λ (l : List Note). told_more before (note_lines l)) notes in
     IfErr-weaker c.serve.result _ _ (λ why it.
-    let stopped = subst (λ (w : Option (List ℕ)). Stopped served_face g.N.Net.did g.N.Net.gave g.T.Clock.gave c.args.turns
-    (record { server = c.in_ok-server.server; net = c.new-2.new.net; clock = c.args.clock.now; written = w })
-    (record { server = c.serve.new.server; net = c.serve.new.net; clock = c.serve.new.clock; written = after }) why) written it in
-    inr (record {
+    let start : Starts g.N.Net.did c.args.config c.args.conns c.args.net.now = record {
       core = c.in_ok-core.core;
       stands = c.in_ok-core.ensures.stands;
-      first = c.in_ok-server.server;
+      server = c.in_ok-server.server;
       begun = c.new-2.new.net;
       begins = c.in_ok-server.ensures.begins;
+    } in
+    let stopped = subst (λ (w : Option (List ℕ)). Stopped served_face g.N.Net.did g.N.Net.gave g.T.Clock.gave c.args.turns
+    (running c.in_ok-server.server c.new-2.new.net c.args.clock.now w)
+    (running c.serve.new.server c.serve.new.net c.serve.new.clock after) why) written it in
+    inr (record {
+      start = start;
       last = c.serve.new.server;
       stopped = stopped;
-      events = kept c.args.config c.in_ok-core.core
-          (record { server = c.in_ok-server.server; net = c.new-2.new.net; clock = c.args.clock.now; written = told_more before text })
-          stopped.mid c.in_ok-core.ensures.stands c.in_ok-server.ensures.begins stopped.walked;
-      all_events = kept_some c.args.config c.in_ok-core.core
-          (record { server = c.in_ok-server.server; net = c.new-2.new.net; clock = c.args.clock.now; written = told_more before text })
-          (record { server = c.serve.new.server; net = c.serve.new.net; clock = c.serve.new.clock; written = after })
-          c.in_ok-core.ensures.stands c.in_ok-server.ensures.begins stopped.all;
+      events = kept start c.args.clock.now before stopped.mid stopped.walked;
+      all_events = kept_some start c.args.clock.now before _ stopped.all;
     })) c.serve.ensures.stopped

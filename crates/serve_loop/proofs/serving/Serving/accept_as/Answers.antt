@@ -30,9 +30,11 @@ returns-in_ok-give-in-One-clause-part g c =
     (Accept c.args.slot (Ok (accepted.One c.in-One.link c.in-One.from))) _
     (subst (λ r. g.N.Net.did c.args.net.now (Accept c.args.slot r) c.accept.new.self) answer c.accept.ensures.did)
     (once_one c.in-One.link new c.accept.ensures.lasts.given)
-    (owners_open (g.N.Net.gave c.args.net.now) c.args.self.now.links c.open.new.self c.in-One.link c.args.number Client new.before c.in_ok-open-in-One.ensures.opens)
-    (known_open (g.N.Net.gave c.args.net.now) (g.N.Net.gave c.accept.new.self) c.args.self.now.links c.open.new.self c.in-One.link c.args.number Client c.accept.ensures.lasts.given new.now c.in_ok-open-in-One.ensures.opens)
-    refl (record { number = c.args.number; may = (c.requires.next, c.requires.within); name = c.args.vs; named = c.requires.named; becomes = refl })
+    (owners_open (g.N.Net.gave c.args.net.now) c.args.self.now.links c.open.new.self c.in-One.link c.args.number Client new.before
+    c.in_ok-open-in-One.ensures.opens)
+    (known_open (g.N.Net.gave c.args.net.now) (g.N.Net.gave c.accept.new.self) c.args.self.now.links c.open.new.self c.in-One.link c.args.number Client
+    c.accept.ensures.lasts.given new.now c.in_ok-open-in-One.ensures.opens) refl
+    (record { number = c.args.number; may = (c.requires.next, c.requires.within); name = c.args.vs; named = c.requires.named; becomes = refl })
     (c.args.number, c.requires.next, c.in_ok-open-in-One.ensures.opens) (c.requires.may c.in-One.from) c.in_ok-give-in-One.ensures.gives)
 
 pub returns-in_err-accept-clause-broke : goal.returns-in_err-accept-clause-broke
@@ -63,6 +65,7 @@ returns-in_err-give-in-One-clause-broke g c =
     (Accept c.args.slot (Ok (accepted.One c.in-One.link c.in-One.from))) (event.Accept c.args.number c.args.vs c.in-One.from)
     (subst (λ r. g.N.Net.did c.args.net.now (Accept c.args.slot r) c.accept.new.self) answer c.accept.ensures.did)
     (once_one c.in-One.link new c.accept.ensures.lasts.given)
-    (known_open (g.N.Net.gave c.args.net.now) (g.N.Net.gave c.accept.new.self) c.args.self.now.links c.open.new.self c.in-One.link c.args.number Client c.accept.ensures.lasts.given new.now c.in_ok-open-in-One.ensures.opens)
+    (known_open (g.N.Net.gave c.args.net.now) (g.N.Net.gave c.accept.new.self) c.args.self.now.links c.open.new.self c.in-One.link c.args.number Client
+    c.accept.ensures.lasts.given new.now c.in_ok-open-in-One.ensures.opens)
     (record { number = c.args.number; may = (c.requires.next, c.requires.within); name = c.args.vs; named = c.requires.named; becomes = refl })
     (c.args.number, c.requires.next, c.in_ok-open-in-One.ensures.opens) (λ o. (tt, tt)) (c.requires.may c.in-One.from) c.in_err-give-in-One.ensures.broke)

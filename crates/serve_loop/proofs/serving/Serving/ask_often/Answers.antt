@@ -1,7 +1,6 @@
-use Rattle.std.proofs.Common.{◌≡◌, ℕ, ◌≤◌, subst, arith}
+use Rattle.std.proofs.Common.{◌≡◌, ℕ, ◌≤◌, arith}
 use Rattle.px_outside.specs.declared.answers.ReadyAt.TheVariants as ready
 use Rattle.serve_loop.specs.Asking.{AskedOnce}
-use Rattle.serve_loop.specs.Part.{Part}
 use Rattle.serve_loop.proofs.Trying.{often_none, often_next, tried_stays, tried_over, tried_all}
 use Rattle.serve_loop.proofs.Breaking.{broke_after}
 use Rattle.serve_loop.proofs.Exits.{at_fault}
@@ -13,20 +12,33 @@ loop-often-init g c =
     (often_none (AskedOnce g.C.Core.face c.args.self.now.conns (ready.Link c.args.link)) c.args.self.now c.args.net.now, omega arith)
 
 pub loop-often-preserved : goal.loop-often-preserved
-loop-often-preserved g c =
-    (often_next (λ (conns : ℕ). AskedOnce g.C.Core.face conns (ready.Link c.args.link)) c.loop-often.often c.loop-often.invariant.0 (subst (λ o. Part g.C.Core.face g.N.Net.did g.N.Net.gave (AskedOnce g.C.Core.face c.loop-often.self.conns (ready.Link c.args.link) o) c.loop-often.self c.ask_link.new.self c.loop-often.net c.ask_link.new.net) c.in-Again.is c.in_ok-ask_link.ensures.part), omega (arith, c.loop-often.invariant.1, c.ask_link.ensures.faults_never_fall))
+loop-often-preserved g c = (
+  often_next (λ (conns : ℕ). AskedOnce g.C.Core.face conns (ready.Link c.args.link)) c.loop-often.often c.loop-often.invariant.0
+      (rw c.in-Again.is at c.in_ok-ask_link.ensures.part),
+  omega (arith, c.loop-often.invariant.1, c.ask_link.ensures.faults_never_fall),
+)
 
 pub returns-in-Stays-clause-part : goal.returns-in-Stays-clause-part
-returns-in-Stays-clause-part g c = let within : c.loop-often.often ≤ 4 = omega arith in tried_stays (λ (conns : ℕ). AskedOnce g.C.Core.face conns (ready.Link c.args.link)) c.loop-often.often 4 within c.loop-often.invariant.0 (subst (λ o. Part g.C.Core.face g.N.Net.did g.N.Net.gave (AskedOnce g.C.Core.face c.loop-often.self.conns (ready.Link c.args.link) o) c.loop-often.self c.ask_link.new.self c.loop-often.net c.ask_link.new.net) c.in-Stays.is c.in_ok-ask_link.ensures.part)
+returns-in-Stays-clause-part g c =
+    let within : c.loop-often.often ≤ 4 = omega arith in
+    tried_stays (λ (conns : ℕ). AskedOnce g.C.Core.face conns (ready.Link c.args.link)) c.loop-often.often 4 within c.loop-often.invariant.0
+    (rw c.in-Stays.is at c.in_ok-ask_link.ensures.part)
 
 pub returns-in-Over-clause-part : goal.returns-in-Over-clause-part
-returns-in-Over-clause-part g c = let within : c.loop-often.often ≤ 4 = omega arith in tried_over (λ (conns : ℕ). AskedOnce g.C.Core.face conns (ready.Link c.args.link)) c.loop-often.often 4 within c.loop-often.invariant.0 (subst (λ o. Part g.C.Core.face g.N.Net.did g.N.Net.gave (AskedOnce g.C.Core.face c.loop-often.self.conns (ready.Link c.args.link) o) c.loop-often.self c.ask_link.new.self c.loop-often.net c.ask_link.new.net) c.in-Over.is c.in_ok-ask_link.ensures.part)
+returns-in-Over-clause-part g c =
+    let within : c.loop-often.often ≤ 4 = omega arith in
+    tried_over (λ (conns : ℕ). AskedOnce g.C.Core.face conns (ready.Link c.args.link)) c.loop-often.often 4 within c.loop-often.invariant.0
+    (rw c.in-Over.is at c.in_ok-ask_link.ensures.part)
 
 pub returns-clause-part : goal.returns-clause-part
-returns-clause-part g c = let within : c.loop-often.often ≤ 4 = omega arith in let all : c.loop-often.often ≡ 4 = omega arith in tried_all (λ (conns : ℕ). AskedOnce g.C.Core.face conns (ready.Link c.args.link)) c.loop-often.often 4 within all c.loop-often.invariant.0
+returns-clause-part g c =
+    let within : c.loop-often.often ≤ 4 = omega arith in
+    let all : c.loop-often.often ≡ 4 = omega arith in
+    tried_all (λ (conns : ℕ). AskedOnce g.C.Core.face conns (ready.Link c.args.link)) c.loop-often.often 4 within all c.loop-often.invariant.0
 
 pub returns-in_err-ask_link-clause-broke : goal.returns-in_err-ask_link-clause-broke
 returns-in_err-ask_link-clause-broke g c =
     at_fault _ c.from_residual.result c.in_err-ask_link.field-0.0 c.from_residual.ensures.1
     (broke_after (often_goes g.C.Core.face c.args.self.now.conns (AskedOnce g.C.Core.face c.args.self.now.conns (ready.Link c.args.link))
-    (asked_goes g.C.Core.face c.args.self.now.conns (ready.Link c.args.link)) c.loop-often.often) c.loop-often.invariant.0 c.in_err-ask_link.ensures.broke)
+    (asked_goes g.C.Core.face c.args.self.now.conns (ready.Link c.args.link)) c.loop-often.often) c.loop-often.invariant.0
+    c.in_err-ask_link.ensures.broke)

@@ -1,7 +1,5 @@
-use Rattle.std.proofs.Common.{Bool, true, false, sym, subst}
+use Rattle.std.proofs.Common.{true, false, sym}
 use Rattle.std.proofs.lemmas.List.{append-nil}
-use Rattle.serve_loop.specs.Part.{Part}
-use Rattle.serve_loop.specs.Turn.{WorkAt}
 use Rattle.serve_loop.specs.declared.fault.ServeFault.TheVariants.{Memory as OutOfMemory}
 use Rattle.serve_loop.specs.Broken.{AreAsks}
 use Rattle.serve_loop.proofs.Breaking.{broke_after, broke_nothing}
@@ -14,12 +12,13 @@ returns-clause-one g c = record {
   number = c.number-number.result;
   is = c.number-number.ensures;
   stays = false;
-  kept = sym (append-nil c.args.keep.now);
-  did = subst (λ (b : Bool). Part g.C.Core.face g.N.Net.did g.N.Net.gave (WorkAt g.C.Core.face c.args.work c.args.self.now.conns c.number-number.result b) c.args.self.now c.one.new.self c.args.net.now c.one.new.net) c.if-branch.false c.in_ok-one.ensures.part;
+  kept = sym (append-nil c.args.stay.now);
+  did = rw c.if-branch.false at c.in_ok-one.ensures.part;
 }
 
 pub returns-in_err-one-clause-broke : goal.returns-in_err-one-clause-broke
-returns-in_err-one-clause-broke g c = at_fault _ c.from_residual.result c.in_err-one.field-0.0 c.from_residual.ensures.1 c.in_err-one.ensures.broke
+returns-in_err-one-clause-broke g c =
+    at_fault _ c.from_residual.result c.in_err-one.field-0.0 c.from_residual.ensures.1 c.in_err-one.ensures.broke
 
 pub returns-in_err-push-clause-broke : goal.returns-in_err-push-clause-broke
 returns-in_err-push-clause-broke g c =

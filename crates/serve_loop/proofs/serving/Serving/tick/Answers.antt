@@ -17,7 +17,8 @@ returns-clause-part g c =
     let above : c.moment.result < min c.args.now tick_limit = subst (λ t. c.moment.result < t) c.limited-moment.ensures c.if-moment.false in
     let le : c.moment.result ≤ c.limited-moment.result = omega arith in
     part_at (λ steps r. record { present = c.moment.result; is_present = c.moment.ensures.moment; ticks = inl (above, r) })
-    (subst (λ (t : ℕ). Part g.C.Core.face g.N.Net.did g.N.Net.gave (OwnStep g.C.Core.face (event.Tick t)) c.args.self.now c.give.new.self c.args.net.now c.give.new.net) c.limited-moment.ensures
+    (subst (λ (t : ℕ). Part g.C.Core.face g.N.Net.did g.N.Net.gave (OwnStep g.C.Core.face (event.Tick t)) c.args.self.now c.give.new.self
+    c.args.net.now c.give.new.net) c.limited-moment.ensures
     (part_own (event.Tick c.limited-moment.result) (λ s. c.moment.ensures.takes c.limited-moment.result le) c.in_ok-give.ensures.gives))
 
 pub returns-then-moment-clause-part : goal.returns-then-moment-clause-part

@@ -1,5 +1,4 @@
-use Rattle.std.proofs.Common.{◌≡◌, ℕ, ◌≤◌, ◌+◌, length, subst, arith}
-use Rattle.serve_loop.specs.Part.{Part}
+use Rattle.std.proofs.Common.{◌≡◌, ℕ, ◌≤◌, ◌+◌, length, arith}
 use Rattle.serve_loop.specs.Writing.{WroteOnce}
 use Rattle.serve_loop.proofs.Compose.{part_at}
 use Rattle.serve_loop.proofs.Trying.{often_none, often_next, tried_stays, tried_over, tried_all}
@@ -13,28 +12,39 @@ loop-often-init g c =
     (often_none (WroteOnce g.C.Core.face c.args.self.now.conns c.args.conn c.args.side) c.args.self.now c.args.net.now, omega arith)
 
 pub loop-often-preserved : goal.loop-often-preserved
-loop-often-preserved g c =
-    (often_next (λ (conns : ℕ). WroteOnce g.C.Core.face conns c.args.conn c.args.side) c.loop-often.often c.loop-often.invariant.0 (subst (λ o. Part g.C.Core.face g.N.Net.did g.N.Net.gave (WroteOnce g.C.Core.face c.loop-often.self.conns c.args.conn c.args.side o) c.loop-often.self c.write_once.new.self c.loop-often.net c.write_once.new.net) c.in-Again.is c.in_ok-write_once.ensures.part), omega (arith, c.loop-often.invariant.1, c.write_once.ensures.faults_never_fall))
+loop-often-preserved g c = (
+  often_next (λ (conns : ℕ). WroteOnce g.C.Core.face conns c.args.conn c.args.side) c.loop-often.often c.loop-often.invariant.0
+      (rw c.in-Again.is at c.in_ok-write_once.ensures.part),
+  omega (arith, c.loop-often.invariant.1, c.write_once.ensures.faults_never_fall),
+)
 
 pub returns-in-Stays-clause-part : goal.returns-in-Stays-clause-part
-returns-in-Stays-clause-part g c = let within : c.loop-often.often ≤ length c.front-pending.result.now + 1 = omega arith in
+returns-in-Stays-clause-part g c =
+    let times = length c.front-pending.result.now + 1 in
+    let within : c.loop-often.often ≤ times = omega arith in
     part_at (λ steps r. record { pending = c.front-pending.result.now; queued = c.front-pending.ensures.queue; tried = r })
-    (tried_stays (λ (conns : ℕ). WroteOnce g.C.Core.face conns c.args.conn c.args.side) c.loop-often.often (length c.front-pending.result.now + 1) within c.loop-often.invariant.0 (subst (λ o. Part g.C.Core.face g.N.Net.did g.N.Net.gave (WroteOnce g.C.Core.face c.loop-often.self.conns c.args.conn c.args.side o) c.loop-often.self c.write_once.new.self c.loop-often.net c.write_once.new.net) c.in-Stays.is c.in_ok-write_once.ensures.part))
+    (tried_stays (λ (conns : ℕ). WroteOnce g.C.Core.face conns c.args.conn c.args.side) c.loop-often.often times within c.loop-often.invariant.0
+    (rw c.in-Stays.is at c.in_ok-write_once.ensures.part))
 
 pub returns-in-Over-clause-part : goal.returns-in-Over-clause-part
-returns-in-Over-clause-part g c = let within : c.loop-often.often ≤ length c.front-pending.result.now + 1 = omega arith in
+returns-in-Over-clause-part g c =
+    let times = length c.front-pending.result.now + 1 in
+    let within : c.loop-often.often ≤ times = omega arith in
     part_at (λ steps r. record { pending = c.front-pending.result.now; queued = c.front-pending.ensures.queue; tried = r })
-    (tried_over (λ (conns : ℕ). WroteOnce g.C.Core.face conns c.args.conn c.args.side) c.loop-often.often (length c.front-pending.result.now + 1) within c.loop-often.invariant.0 (subst (λ o. Part g.C.Core.face g.N.Net.did g.N.Net.gave (WroteOnce g.C.Core.face c.loop-often.self.conns c.args.conn c.args.side o) c.loop-often.self c.write_once.new.self c.loop-often.net c.write_once.new.net) c.in-Over.is c.in_ok-write_once.ensures.part))
+    (tried_over (λ (conns : ℕ). WroteOnce g.C.Core.face conns c.args.conn c.args.side) c.loop-often.often times within c.loop-often.invariant.0
+    (rw c.in-Over.is at c.in_ok-write_once.ensures.part))
 
 pub returns-clause-part : goal.returns-clause-part
 returns-clause-part g c =
-    let within : c.loop-often.often ≤ length c.front-pending.result.now + 1 = omega arith in
-    let all : c.loop-often.often ≡ length c.front-pending.result.now + 1 = omega arith in
+    let times = length c.front-pending.result.now + 1 in
+    let within : c.loop-often.often ≤ times = omega arith in
+    let all : c.loop-often.often ≡ times = omega arith in
     part_at (λ steps r. record { pending = c.front-pending.result.now; queued = c.front-pending.ensures.queue; tried = r })
-    (tried_all (λ (conns : ℕ). WroteOnce g.C.Core.face conns c.args.conn c.args.side) c.loop-often.often (length c.front-pending.result.now + 1) within all c.loop-often.invariant.0)
+    (tried_all (λ (conns : ℕ). WroteOnce g.C.Core.face conns c.args.conn c.args.side) c.loop-often.often times within all c.loop-often.invariant.0)
 
 pub returns-in_err-write_once-clause-broke : goal.returns-in_err-write_once-clause-broke
 returns-in_err-write_once-clause-broke g c =
     at_fault _ c.from_residual.result c.in_err-write_once.field-0.0 c.from_residual.ensures.1
     (broke_after (often_goes g.C.Core.face c.args.self.now.conns (WroteOnce g.C.Core.face c.args.self.now.conns c.args.conn c.args.side)
-    (wrote_goes g.C.Core.face c.args.self.now.conns c.args.conn c.args.side) c.loop-often.often) c.loop-often.invariant.0 c.in_err-write_once.ensures.broke)
+    (wrote_goes g.C.Core.face c.args.self.now.conns c.args.conn c.args.side) c.loop-often.often) c.loop-often.invariant.0
+    c.in_err-write_once.ensures.broke)
