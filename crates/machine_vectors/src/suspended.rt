@@ -64,6 +64,55 @@ impl<'a> Suspended<'a> {
         self.body
             .step(alloc, handler, statics, vars, host, &false, steps, spent)
     }
+
+    // Goes on slice by slice while replies are left, and writes what each came to.
+    fn run<L: Ledger>(
+        &mut self,
+        alloc: Global,
+        replies: &[Reply],
+        out: &mut Text,
+        steps: &mut Steps<L>,
+    ) -> M<()> {
+        let mut left = replies;
+        for _ in 0..MOST_SLICES {
+            let turn = self.slice(alloc, steps)?;
+            match self.tell(alloc, turn, left, out)? {
+                Some(more) => left = more,
+                None => return Ok(()),
+            }
+        }
+        out.push(b"unfinished")
+    }
+
+    // What a slice came to, and the replies that are left; none where the body goes no further.
+    fn tell<'r>(
+        &mut self,
+        alloc: Global,
+        turn: Turn,
+        left: &'r [Reply],
+        out: &mut Text,
+    ) -> M<Option<&'r [Reply]>> {
+        match turn {
+            Turn::More => Ok(Some(left)),
+            Turn::Asks(call) => {
+                out.push(asks(alloc, &call)?.as_bytes())?;
+                self.answer(left, out)
+            }
+            Turn::Done(code) => {
+                out.push(ended(alloc, &code)?.as_bytes())?;
+                Ok(None)
+            }
+        }
+    }
+
+    fn answer<'r>(&mut self, left: &'r [Reply], out: &mut Text) -> M<Option<&'r [Reply]>> {
+        let Some((reply, more)) = left.split_first() else {
+            return Ok(None);
+        };
+        out.push(b"; ")?;
+        self.body.resume(reply)?;
+        Ok(Some(more))
+    }
 }
 
 /// What a body comes to on these replies, and what it sent: each call stops it, and its reply lets it go on.
@@ -90,26 +139,8 @@ fn run_counted<L: Ledger>(
     let mut steps = Steps::<L>::new(blank);
     let mut body = body;
     let mut out = Text::empty(alloc);
-    let mut left = replies;
-    for _ in 0..MOST_SLICES {
-        match body.slice(alloc, &mut steps)? {
-            Turn::More => {}
-            Turn::Asks(call) => {
-                out.push(asks(alloc, &call)?.as_bytes())?;
-                let Some((reply, more)) = left.split_first() else {
-                    return told(alloc, out, &body.host);
-                };
-                out.push(b"; ")?;
-                body.body.resume(reply)?;
-                left = more;
-            }
-            Turn::Done(code) => {
-                out.push(ended(alloc, &code)?.as_bytes())?;
-                return told(alloc, out, &body.host);
-            }
-        }
-    }
-    Text::new(alloc, b"unfinished")
+    body.run(alloc, replies, &mut out, &mut steps)?;
+    told(alloc, out, &body.host)
 }
 
 // The same with what was sent.
