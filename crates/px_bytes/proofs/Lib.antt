@@ -12,4 +12,5 @@ pub mod Nets
 pub mod PlainRuns
 pub mod Positions
 pub mod Rows
+pub mod ShortNumbers
 pub mod Wholes

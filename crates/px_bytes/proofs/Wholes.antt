@@ -1,7 +1,7 @@
 -- Which texts are whole numbers.
 use Rattle.std.proofs.Common.{◌≡◌, ℕ, suc, ◌+◌, ◌-◌, ◌*◌, ◌^◌, ◌<◌, ◌≤◌, Bool, true, false, ◌==◌}
 use Rattle.std.proofs.Common.{cond, ltb, List, [], ◌∷◌, length, get_or, take, drop, Option, Some}
-use Rattle.std.proofs.Common.{None, ℤ, pos, negsuc, neg_ℤ, sym, ap, ap₂, refl, ◌∙◌, arith}
+use Rattle.std.proofs.Common.{Result, Ok, Err, IfOk, None, ℤ, pos, negsuc, neg_ℤ, sym, ap, ap₂, refl, ◌∙◌, arith}
 use Rattle.std.specs.Char.{digit_value, is_digit}
 use Rattle.std.specs.Fmt.{decimal, signed_decimal}
 use Rattle.std.specs.List.{prefix_len, suffix_len}
@@ -17,7 +17,7 @@ use Rattle.std.proofs.lemmas.List.Sums.{prefix_len_is, suffix_len_is}
 use Rattle.std.proofs.lemmas.Str.Parse.{digit_at}
 use Rattle.px_bytes.specs.White.{is_space, trimmed_start, trimmed_end, trimmed}
 use Rattle.px_bytes.specs.Whole.{digits_behind, digits, is_hexadecimal, is_octal, magnitude}
-use Rattle.px_bytes.specs.Whole.{fits_64, signed, signed_number, whole}
+use Rattle.px_bytes.specs.Whole.{fits_64, positive, signed, signed_number, whole}
 use Rattle.px_bytes.proofs.Decimals.{begins_plainly, lone_zero}
 
 too_large_now : (n : ℕ) → 2 ^ 64 ≤ n → fits_64 (Some n) ≡ None
@@ -86,11 +86,11 @@ digits_behind_all n (c ∷ cs) all =
     ap (λ t. cond t (digits_behind 10 (n * 10 + digit_value c) cs) None) (lt-ltb (digit_value c) 10 all.0) ∙ digits_behind_all (n * 10 + digit_value c) cs all.1
 
 -- what a decimal is made of
-record Decimal (n : ℕ) (ds : List ℕ) : Type 0 where
-  some : 1 ≤ length ds
-  all : AllDigits 10 ds
-  value : digits_value 10 ds ≡ n
-  alone : get_or ds 0 0 ≡ 48 → length ds ≡ 1
+pub record Decimal (n : ℕ) (ds : List ℕ) : Type 0 where
+  pub some : 1 ≤ length ds
+  pub all : AllDigits 10 ds
+  pub value : digits_value 10 ds ≡ n
+  pub alone : get_or ds 0 0 ≡ 48 → length ds ≡ 1
 
 decimal_is : (n : ℕ) → n < 2 ^ 64 → Decimal n (decimal n)
 decimal_is n fits = record {
@@ -122,15 +122,16 @@ trimmed_plain xs some first last =
     let same : trimmed_start xs ≡ xs = ap (λ n. drop n xs) front in
     ap trimmed_end same ∙ ap (λ n. take (length xs - n) xs) back ∙ take_all (length xs - 0) xs (omega arith)
 
-whole_decimal : (n : ℕ) (ds : List ℕ) → n < 2 ^ 63 → Decimal n ds → magnitude ds ≡ Some n → whole ds ≡ Some (pos n)
-whole_decimal n ds fits d m =
+-- a decimal is the number that it writes, where that fits
+pub whole_decimal : (n : ℕ) (ds : List ℕ) → Decimal n ds → whole ds ≡ positive n
+whole_decimal n ds d =
     let first = digit_in n ds 0 d (omega (arith, d.some)) in
     let last = digit_in n ds (length ds - 1) d (omega (arith, d.some)) in
     let around : trimmed ds ≡ ds = trimmed_plain ds d.some (not_space _ first) (not_space _ last) in
     let minus : starts_with_minus ds ≡ false = ne_eqb _ 45 (λ e. omega arith) in
     let plus : (get_or ds 0 0 == 43) ≡ false = ne_eqb _ 43 (λ e. omega arith) in
     let number : without_leading_sign ds ≡ ds = ap (λ t. cond t (drop 1 ds) (without_leading_plus ds)) minus ∙ ap (λ t. drop (cond t 1 0) ds) plus in
-    ap signed_number around ∙ ap₂ (λ t xs. signed t (magnitude xs)) minus number ∙ ap (signed false) m ∙ ap (λ t. cond t (Some (pos n)) None) (lt-ltb n (2 ^ 63) fits)
+    ap signed_number around ∙ ap₂ (λ t xs. signed t (magnitude xs)) minus number ∙ ap (signed false) (magnitude_by n ds _ _ refl refl d)
 
 whole_minus : (n : ℕ) (ds : List ℕ) → n ≤ 2 ^ 63 → Decimal n ds → magnitude ds ≡ Some n → whole (45 ∷ ds) ≡ Some (neg_ℤ (pos n))
 whole_minus n ds fits d m =
@@ -139,8 +140,14 @@ whole_minus n ds fits d m =
     let around : trimmed (45 ∷ ds) ≡ 45 ∷ ds = trimmed_plain (45 ∷ ds) (omega arith) refl (ap is_space end ∙ not_space _ last) in
     ap signed_number around ∙ ap (signed true) m ∙ ap (λ t. cond t (Some (neg_ℤ (pos n))) None) (le-leb n (2 ^ 63) fits)
 
-pub printed_reads_back : (z : ℤ) → mag z < 2 ^ 63 → whole (signed_decimal z) ≡ Some z
+printed_reads_back : (z : ℤ) → mag z < 2 ^ 63 → whole (signed_decimal z) ≡ Some z
 printed_reads_back (pos n) fits =
-    whole_decimal n (decimal n) fits (decimal_is n (omega arith)) (magnitude_decimal n (omega arith))
+    whole_decimal n (decimal n) (decimal_is n (omega arith)) ∙ ap (λ t. cond t (Some (pos n)) None) (lt-ltb n (2 ^ 63) fits)
 printed_reads_back (negsuc n) fits =
     whole_minus (suc n) (decimal (suc n)) (omega arith) (decimal_is (suc n) (omega arith)) (magnitude_decimal (suc n) (omega arith))
+
+-- a text that may have been printed
+pub each_reads_back : {E : Type 0} (r : Result (List ℕ) E) (bytes : List ℕ) (z : ℤ) → IfOk r (λ text. text ≡ bytes) → bytes ≡ signed_decimal z → mag z < 2 ^ 63
+    → IfOk r (λ text. whole text ≡ Some z)
+each_reads_back (Ok text) bytes z same is fits = ap whole (same ∙ is) ∙ printed_reads_back z fits
+each_reads_back (Err e) bytes z same is fits = tt

@@ -12,6 +12,7 @@ pub mod GlobTest
 pub mod HexRead
 pub mod Hexadecimal
 pub mod Host
+pub mod InPlace
 pub mod Letters
 pub mod Limit
 pub mod Net

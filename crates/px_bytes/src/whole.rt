@@ -1,17 +1,55 @@
 // Whole numbers of 64 bits.
 
-ghost use Rattle.std.specs.Prelude.{◌≡◌, ◌≤◌, ◌^◌, IfOk, Some};
+ghost use Rattle.std.specs.Prelude.{◌≡◌, ◌≤◌, ◌^◌, length, IfOk, IfSome, Some};
 ghost use Rattle.std.specs.Fmt.{signed_decimal};
 ghost use Rattle.std.specs.Str.Parse.{starts_with_minus, without_leading_sign};
 ghost use Rattle.px_bytes.specs.Whole.{digits_behind, digits, fits_64, magnitude, signed, whole};
 
 use crate::{M, Text, trimmed};
+use itoa::Buffer;
 use std::alloc::Global;
 
 /// The whole number that a text spells, from -2^63 to 2^63 - 1: decimal, octal behind `0`, or
 /// hexadecimal behind `0x`, with an optional sign, and with or without white space around it. It
 /// takes no memory.
 pub fn read_whole(text: &[u8]) -> Option<i64>
+    ensures { result ≡ whole text.now }
+{
+    match read_short(text) {
+        Some(value) => Some(value),
+        None => read_signed(text),
+    }
+}
+
+// A number of at most 18 decimal digits and nothing else, which no 0 begins but that of 0 itself:
+// most numbers are written so.
+fn read_short(text: &[u8]) -> Option<i64>
+    ensures { IfSome result (λ value. whole text.now ≡ Some value) }
+{
+    let [first, behind @ ..] = text else {
+        return None;
+    };
+    if behind.len() > 17 || (*first == b'0' && !behind.is_empty()) {
+        return None;
+    }
+    with_sign(false, read_short_digits(text)?)
+}
+
+fn read_short_digits(text: &[u8]) -> Option<u64>
+    requires short { length text.now ≤ 18 }
+    ensures { IfSome result (λ value. digits_behind 10 0 text.now ≡ Some value) }
+{
+    let mut value: u64 = 0;
+    for byte in text {
+        if !byte.is_ascii_digit() {
+            return None;
+        }
+        value = value * 10 + u64::from(*byte - b'0');
+    }
+    Some(value)
+}
+
+fn read_signed(text: &[u8]) -> Option<i64>
     ensures { result ≡ whole text.now }
 {
     let (minus, number) = split_sign(trimmed(text));
@@ -23,7 +61,8 @@ pub fn print_whole(alloc: Global, value: i64) -> M<Text>
     ensures decimal { IfOk result (λ text. text ≡ signed_decimal value) }
     ensures reads_back { IfOk result (λ text. whole text ≡ Some value) }
 {
-    Ok(Text::from_vec(format!(in alloc; "{value}")?.into_bytes()))
+    let mut digits = Buffer::new();
+    Text::new(alloc, digits.format(value).as_bytes())
 }
 
 // Whether the text begins with `-`, and the text without `-` or `+` before it.

@@ -28,4 +28,5 @@ pub mod Put
 pub mod Carried
 pub mod MovedWords
 pub mod VariableNames
+pub mod WholeOperators
 pub mod InsertedNumbers

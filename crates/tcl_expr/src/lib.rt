@@ -18,6 +18,7 @@ mod operator_rows;
 mod prefixes;
 mod tokens;
 mod truth;
+mod whole_operator;
 
 pub use apply::{apply1, apply2};
 pub use expr::{Expr, Joint};
@@ -28,3 +29,4 @@ pub use laws::{
 };
 pub use operator::{Op1, Op2};
 pub use truth::read_truth;
+pub use whole_operator::whole_2;

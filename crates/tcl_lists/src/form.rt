@@ -7,7 +7,7 @@ ghost use Rattle.tcl_lists.specs.Write.{escape_letter, fits_braces, is_special, 
 use px_bytes::is_space;
 
 /// Whether an element that isn't empty needs neither braces nor backslashes.
-pub(crate) fn stands_bare(element: &[u8]) -> bool
+pub fn stands_bare(element: &[u8]) -> bool
     ensures { result ≡ stands_bare element.now }
 {
     !has_special(element) && !matches!(element, [b'#', ..])

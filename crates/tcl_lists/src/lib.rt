@@ -14,6 +14,7 @@ mod value;
 mod write;
 
 pub use fault::ListFault;
+pub use form::stands_bare;
 pub use laws::{
     braces_keep_bytes, places_hold_values, reads_exactly_lists, white_space_moves,
     written_lists_join, written_reads_back,

@@ -20,6 +20,6 @@ pub use assigning::{assign, assign_named, assign_row};
 pub use incr::incr_command;
 pub use info::info_command;
 pub use lappend::lappend_command;
-pub use reading::read;
+pub use reading::{read, value};
 pub use set::set_command;
 pub use unset::unset_command;

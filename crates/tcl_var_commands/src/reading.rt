@@ -32,7 +32,7 @@ pub fn read(
 }
 
 /// The value of a variable, where there is one.
-pub(crate) fn value<'a>(
+pub fn value<'a>(
     statics: Option<&'a Vars>,
     vars: &'a Vars,
     name: &[u8],

@@ -1,6 +1,7 @@
 pub mod AfterSet
 pub mod AppendedBytes
 pub mod Appends
+pub mod InPlace
 pub mod Inserted
 pub mod Keys
 pub mod LevelBytes

@@ -9,7 +9,9 @@ ghost use Rattle.tcl_vars.specs.Scopes.{Level as LevelValue};
 ghost use Rattle.tcl_vars.specs.Scopes.{no_level, value_in, with_value_in, level_bytes};
 ghost use Rattle.tcl_vars.specs.Scopes.{is_set_in, without_value_in};
 ghost use Rattle.tcl_vars.specs.Tables.{IsInOrderAt, index_bytes};
+ghost use Rattle.std.specs.Bool.{OnFalse, OnTrue};
 ghost use Rattle.tcl_vars.specs.Appended.{appended_in};
+ghost use Rattle.tcl_vars.specs.Changed.{ChangedLevel, by_bytes, by_sum, to_bytes, to_number};
 ghost use Rattle.tcl_vars.specs.Indexes.{indexes_in};
 
 use crate::table::Table;
@@ -143,6 +145,64 @@ impl Level {
         }
         self.bytes = bytes;
         Ok(())
+    }
+
+    /// Adds to the whole number that a variable is, where it takes no memory: whether it was done,
+    /// and nothing changes where it wasn't.
+    pub(crate) fn add_whole(&mut self, name: &[u8], more: i64) -> bool
+        requires room { level_bytes self.old + 22 ≤ usize.MAX }
+        ensures changed { let change = by_sum more in
+            OnTrue result (ChangedLevel change 22 name.now self.old self.new) }
+        ensures unchanged { OnFalse result (self.new ≡ self.old) }
+    {
+        let Some(change) = self.plain.add_whole(name, more) else {
+            return false;
+        };
+        self.bytes = self.bytes - change.before + change.after;
+        true
+    }
+
+    /// Gives a variable that is there a whole number, by the same rules.
+    pub(crate) fn refill_whole(&mut self, name: &[u8], value: i64) -> bool
+        requires room { level_bytes self.old + 22 ≤ usize.MAX }
+        ensures changed { let change = to_number value in
+            OnTrue result (ChangedLevel change 22 name.now self.old self.new) }
+        ensures unchanged { OnFalse result (self.new ≡ self.old) }
+    {
+        let Some(change) = self.plain.refill_whole(name, value) else {
+            return false;
+        };
+        self.bytes = self.bytes - change.before + change.after;
+        true
+    }
+
+    /// Gives a variable that is there these bytes, by the same rules.
+    pub(crate) fn refill(&mut self, name: &[u8], bytes: &[u8]) -> bool
+        requires room { level_bytes self.old + 22 ≤ usize.MAX }
+        ensures changed { let change = to_bytes bytes.now in
+            OnTrue result (ChangedLevel change 22 name.now self.old self.new) }
+        ensures unchanged { OnFalse result (self.new ≡ self.old) }
+    {
+        let Some(change) = self.plain.refill(name, bytes) else {
+            return false;
+        };
+        self.bytes = self.bytes - change.before + change.after;
+        true
+    }
+
+    /// Adds bytes behind a variable that is there, and `between` before them where it isn't empty.
+    pub(crate) fn extend(&mut self, name: &[u8], between: &[u8], more: &[u8]) -> bool
+        requires room { level_bytes self.old + (length between.now + length more.now) ≤ usize.MAX }
+        ensures changed { let change = by_bytes between.now more.now in
+            let most = (length between.now + length more.now) in
+            OnTrue result (ChangedLevel change most name.now self.old self.new) }
+        ensures unchanged { OnFalse result (self.new ≡ self.old) }
+    {
+        let Some(change) = self.plain.extend(name, between, more) else {
+            return false;
+        };
+        self.bytes = self.bytes - change.before + change.after;
+        true
     }
 
     /// The indexes under which a name has values, in the order of their bytes.

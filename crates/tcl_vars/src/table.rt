@@ -1,7 +1,7 @@
 // A table of values by names.
 
-ghost use Rattle.std.specs.Prelude.{◌≡◌, ◌≤◌, ◌↔◌, ◌++◌, ℕ, List, [], map, unwrap_or};
-ghost use Rattle.std.specs.Prelude.{IfOk, IsTrue, OnOk, OnErr};
+ghost use Rattle.std.specs.Prelude.{◌≡◌, ◌≤◌, ◌↔◌, ◌+◌, ◌++◌, ℕ, List, [], length, map, unwrap_or};
+ghost use Rattle.std.specs.Prelude.{IfNone, IfOk, IfSome, IsTrue, OnOk, OnErr};
 ghost use Rattle.std.specs.Option.{option_copied};
 ghost use Rattle.std.specs.Ordering.{nat_cmp};
 ghost use Rattle.std.specs.Cmp.Lexicographic.{slice_cmp};
@@ -9,6 +9,7 @@ ghost use Rattle.std.specs.List.Sorted.{IsStrictlySortedBy};
 ghost use Rattle.std.specs.Map.{keys_of};
 ghost use Rattle.std.specs.BTreeMap.{IsOrdered};
 ghost use Rattle.tcl_vars.specs.Scopes.{find_in, put_in, take_out, with_elements};
+ghost use Rattle.tcl_vars.specs.Changed.{ChangedTable, by_bytes, by_sum, to_bytes, to_number};
 ghost use Rattle.tcl_vars.specs.Tables.{IsInOrder};
 
 use px_bytes::{M, Text, Texts};
@@ -119,7 +120,81 @@ impl<X: Drop> Table<Table<X>> {
     }
 }
 
+/// How many bytes a text had and has.
+#[derive(Clone, Copy)]
+pub(crate) struct Change {
+    pub(crate) before: usize,
+    pub(crate) after: usize,
+}
+
 impl Table<Text> {
+    /// Adds to the whole number that a name has, where the sum stands in the value itself: none
+    /// where it doesn't, and nothing changes then.
+    pub(crate) fn add_whole(&mut self, name: &[u8], more: i64) -> Option<Change>
+        ensures changed { let change = by_sum more in
+            IfSome result (λ c.
+            ChangedTable change 22 name.now self.old self.new c.before c.after) }
+        ensures unchanged { IfNone result (self.new ≡ self.old) }
+    {
+        let text = self.tree.get_mut(name)?;
+        let before = text.len();
+        if !text.add_whole(more) {
+            return None;
+        }
+        let after = text.len();
+        Some(Change { before, after })
+    }
+
+    /// Puts a whole number in place of the text of a name, by the same rules.
+    pub(crate) fn refill_whole(&mut self, name: &[u8], value: i64) -> Option<Change>
+        ensures changed { let change = to_number value in
+            IfSome result (λ c.
+            ChangedTable change 22 name.now self.old self.new c.before c.after) }
+        ensures unchanged { IfNone result (self.new ≡ self.old) }
+    {
+        let text = self.tree.get_mut(name)?;
+        let before = text.len();
+        if !text.refill_whole(value) {
+            return None;
+        }
+        let after = text.len();
+        Some(Change { before, after })
+    }
+
+    /// Puts bytes in place of the text of a name, by the same rules.
+    pub(crate) fn refill(&mut self, name: &[u8], bytes: &[u8]) -> Option<Change>
+        ensures changed { let change = to_bytes bytes.now in
+            IfSome result (λ c.
+            ChangedTable change 22 name.now self.old self.new c.before c.after) }
+        ensures unchanged { IfNone result (self.new ≡ self.old) }
+    {
+        let text = self.tree.get_mut(name)?;
+        let before = text.len();
+        if !text.refill(bytes) {
+            return None;
+        }
+        let after = text.len();
+        Some(Change { before, after })
+    }
+
+    /// Adds bytes behind the text that a name has, and `between` before them where it isn't empty.
+    /// None where it has no text or memory is refused, and nothing changes then.
+    pub(crate) fn extend(&mut self, name: &[u8], between: &[u8], more: &[u8]) -> Option<Change>
+        ensures changed { let change = by_bytes between.now more.now in
+            let most = (length between.now + length more.now) in
+            IfSome result (λ c.
+            ChangedTable change most name.now self.old self.new c.before c.after) }
+        ensures unchanged { IfNone result (self.new ≡ self.old) }
+    {
+        let text = self.tree.get_mut(name)?;
+        let before = text.len();
+        if !text.extend(between, more) {
+            return None;
+        }
+        let after = text.len();
+        Some(Change { before, after })
+    }
+
     /// Adds bytes behind the text of a name, which is empty where there is none.
     pub(crate) fn append(&mut self, alloc: Global, name: &[u8], more: &[u8]) -> M<()>
         ensures ok { let old = unwrap_or (find_in name.now self.old) [] in

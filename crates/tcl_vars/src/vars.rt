@@ -1,7 +1,8 @@
 // The variables of a script.
 
 ghost use Rattle.std.specs.Prelude.{◌≡◌, ◌+◌, ◌<◌, ◌≤◌, ℕ, List, ◌∷◌, length, min, reverse, sum_by};
-ghost use Rattle.std.specs.Prelude.{IfErr, IfOk, OnOk, OnErr};
+ghost use Rattle.std.specs.Prelude.{IfErr, IfOk, IsTrue, OnOk, OnErr, false, ◌↔◌};
+ghost use Rattle.std.specs.Bool.{OnFalse, OnTrue};
 ghost use Rattle.std.specs.Cmp.Lexicographic.{slice_cmp};
 ghost use Rattle.std.specs.List.Sorted.{IsStrictlySortedBy};
 ghost use Rattle.std.specs.Option.{option_copied};
@@ -11,6 +12,7 @@ ghost use Rattle.tcl_vars.specs.Scopes.{Scopes, no_scopes, is_static, value_at, 
 ghost use Rattle.tcl_vars.specs.Scopes.{is_set, without_value, in_proc, out_of_proc};
 ghost use Rattle.tcl_vars.specs.Scopes.{level_bytes, vars_bytes, vars_limit};
 ghost use Rattle.tcl_vars.specs.Appended.{appended};
+ghost use Rattle.tcl_vars.specs.Changed.{ChangedVars, by_bytes, by_sum, to_bytes, to_number};
 ghost use Rattle.tcl_vars.specs.Faults.{IfFault};
 ghost use Rattle.tcl_vars.specs.Indexes.{indexes_at};
 ghost use Rattle.tcl_vars.specs.Laws.{level_of};
@@ -24,6 +26,9 @@ use std::mem;
 
 /// The most bytes that all variables may have together.
 const LIMIT: usize = 1_048_576;
+
+/// As many bytes as a text has at most that stands in its value.
+const SHORT: usize = 22;
 
 /// The variables of a script: the static ones, and a level for the body and for each procedure
 /// call that hasn't ended.
@@ -135,6 +140,61 @@ impl Vars {
             self.innermost.append(alloc, name, index, more)?;
         }
         Ok(())
+    }
+
+    /// Adds to the whole number that a variable of the innermost level is, which takes no memory:
+    /// whether it was done. Where it wasn't nothing changes, and `set` tells why.
+    pub fn add_whole(&mut self, name: &[u8], more: i64) -> bool
+        ensures changed { let change = by_sum more in
+            OnTrue result (ChangedVars change name.now self.old self.new) }
+        ensures own { OnTrue result (is_static name.now ≡ false) }
+        ensures room { vars_bytes self.new ≤ vars_limit }
+        ensures unchanged { OnFalse result (self.new ≡ self.old) }
+    {
+        !is_static(name) && self.has_room(SHORT) && self.innermost.add_whole(name, more)
+    }
+
+    /// Gives a variable of the innermost level that is there a whole number, by the same rules.
+    pub fn refill_whole(&mut self, name: &[u8], value: i64) -> bool
+        ensures changed { let change = to_number value in
+            OnTrue result (ChangedVars change name.now self.old self.new) }
+        ensures own { OnTrue result (is_static name.now ≡ false) }
+        ensures room { vars_bytes self.new ≤ vars_limit }
+        ensures unchanged { OnFalse result (self.new ≡ self.old) }
+    {
+        !is_static(name) && self.has_room(SHORT) && self.innermost.refill_whole(name, value)
+    }
+
+    /// Gives a variable of the innermost level that is there short bytes, by the same rules.
+    pub fn refill(&mut self, name: &[u8], bytes: &[u8]) -> bool
+        ensures changed { let change = to_bytes bytes.now in
+            OnTrue result (ChangedVars change name.now self.old self.new) }
+        ensures own { OnTrue result (is_static name.now ≡ false) }
+        ensures room { vars_bytes self.new ≤ vars_limit }
+        ensures unchanged { OnFalse result (self.new ≡ self.old) }
+    {
+        !is_static(name) && self.has_room(SHORT) && self.innermost.refill(name, bytes)
+    }
+
+    /// Adds bytes behind a variable of the innermost level that is there, and `between` before them
+    /// where it isn't empty: whether it was done. Where it wasn't nothing changes.
+    pub fn extend(&mut self, name: &[u8], between: &[u8], more: &[u8]) -> bool
+        ensures changed { let change = by_bytes between.now more.now in
+            OnTrue result (ChangedVars change name.now self.old self.new) }
+        ensures own { OnTrue result (is_static name.now ≡ false) }
+        ensures room { vars_bytes self.new ≤ vars_limit }
+        ensures unchanged { OnFalse result (self.new ≡ self.old) }
+    {
+        !is_static(name)
+            && self.has_room(more.len().saturating_add(between.len()))
+            && self.innermost.extend(name, between, more)
+    }
+
+    // Whether so many bytes more may come.
+    fn has_room(&self, more: usize) -> bool
+        ensures { IsTrue result ↔ (vars_bytes self.now + more ≤ vars_limit) }
+    {
+        more <= LIMIT - self.bytes()
     }
 
     /// The indexes under which a name has values, in the order of their bytes.

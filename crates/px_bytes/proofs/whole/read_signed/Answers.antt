@@ -1,6 +1,6 @@
 use Rattle.std.proofs.Common.{◌∙◌}
 use Rattle.px_bytes.proofs.Wholes.{whole_is}
-use Rattle.px_bytes.proofs.whole.read_whole.Goals as goal
+use Rattle.px_bytes.proofs.whole.read_signed.Goals as goal
 
 pub returns-in_err-read_magnitude : goal.returns-in_err-read_magnitude
 returns-in_err-read_magnitude c =
