@@ -1,6 +1,6 @@
 -- The first pattern that is hit, and the first body.
-use Rattle.std.proofs.Common.{◌≡◌, refl, sym, ap, ◌∙◌, ℕ, suc, ◌+◌, ◌-◌, ◌<◌, ◌≤◌, List, [], ◌∷◌, length, drop, take, codes}
-use Rattle.std.proofs.Common.{Bool, true, false, Option, Some, None, arith, option_map, get_or}
+use Rattle.std.proofs.Common.{◌≡◌, refl, sym, ap, ◌∙◌, ℕ, suc, ◌+◌, ◌-◌, ◌≤◌, List, [], ◌∷◌, length, drop, take, codes}
+use Rattle.std.proofs.Common.{Bool, false, Option, Some, None, arith, option_map, get_or}
 use Rattle.std.proofs.lemmas.List.{take_all}
 use Rattle.std.specs.Str.{bytes_eq}
 use Rattle.rule_model.specs.Control.{first_hit, hits, is_glob}
@@ -14,8 +14,8 @@ pub hit_behind : (at : ℕ) (glob : Bool) (text p : List ℕ) (more : List (List
 hit_behind at glob text p more x is h = shifted at (first_hit glob text more) ∙ (rw is at h)
 
 -- an option that there isn't
-pub glob_none : (glob : Bool) (option : List ℕ) (options : List (List ℕ)) → bytes_eq option (codes "-exact") ≡ false → bytes_eq option (codes "-glob") ≡ false → bytes_eq option (codes "--") ≡ false
-    → is_glob glob (option ∷ options) ≡ None
+pub glob_none : (glob : Bool) (option : List ℕ) (options : List (List ℕ)) → bytes_eq option (codes "-exact") ≡ false → bytes_eq option (codes "-glob") ≡ false
+    → bytes_eq option (codes "--") ≡ false → is_glob glob (option ∷ options) ≡ None
 glob_none glob option options a b c = rw (a, b, c) refl
 
 -- the front of a slice and the rest behind it

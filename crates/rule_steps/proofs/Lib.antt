@@ -1,3 +1,15 @@
 pub mod Hits
 pub mod Prefixes
 pub mod Numbers
+pub mod ShortEvals
+pub mod ShortFronts
+pub mod CommandFronts
+pub mod ShortTurns
+pub mod ShortVerbs
+pub mod ShortParts
+pub mod WholeRows
+pub mod ShortWords
+pub mod ShortChoices
+pub mod Switches
+pub mod ShortChosen
+pub mod SwitchHits

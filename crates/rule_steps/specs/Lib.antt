@@ -7,3 +7,6 @@ pub mod Parts
 pub mod Calls
 pub mod Own
 pub mod Goes
+pub mod Short
+pub mod AtOnce
+pub mod ShortTurns
