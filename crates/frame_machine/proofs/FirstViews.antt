@@ -6,6 +6,7 @@ use Rattle.tcl_compile.specs.declared.node.Node.{Node, out-Node}
 use Rattle.tcl_compile.specs.declared.node.Node.TheOpen.{Node-F}
 use Rattle.tcl_compile.specs.declared.node.Verb.TheVariants as verb
 use Rattle.tcl_vars.specs.Scopes.{Level, Scopes}
+use Rattle.frame_machine.specs.AtOnce.{is_script, is_script_in}
 use Rattle.frame_machine.specs.FirstWords.{first_cost, first_cost_in, first_words, first_words_in, has_words, has_words_in, word_verb, word_verb_in}
 use Rattle.frame_machine.specs.Words.{words_cost, words_from}
 use Rattle.frame_machine.proofs.NodeViews.{all_trees, step_of, viewed}
@@ -59,6 +60,13 @@ has_by (Node-F.Choice vs last) = refl
 
 pub has_words_view : (n : Node) → has_words_in (out-Node n) ≡ has_words (node_view n)
 has_words_view n = has_by (out-Node n) ∙ ap has_words (sym (viewed n))
+
+script_by : (f : Node-F Node) → is_script_in f ≡ is_script (step_of f)
+script_by (Node-F.Script ns) = refl
+script_by other = refl
+
+pub is_script_view : (n : Node) → is_script_in (out-Node n) ≡ is_script (node_view n)
+is_script_view n = script_by (out-Node n) ∙ ap is_script (sym (viewed n))
 
 verb_by : (f : Node-F Node) → word_verb_in f ≡ word_verb (step_of f)
 verb_by (Node-F.Plain t) = refl

@@ -1,5 +1,6 @@
 -- What the moves of a loop come to, and what they owe.
-use Rattle.std.proofs.Common.{◌≡◌, refl, ap, ◌∙◌, sym, ℕ, suc, zero, ◌+◌, ◌-◌, List, [], ◌∷◌, ◌++◌, Bool, true, false, cond, Option, Some, None, Result, Ok, Err, arith, rules, add-zero, nat_eq, ◌||◌}
+use Rattle.std.proofs.Common.{◌≡◌, refl, ap, ◌∙◌, sym, ℕ, suc, zero, ◌+◌, ◌-◌, List, [], ◌∷◌, ◌++◌, Bool, true, false, cond}
+use Rattle.std.proofs.Common.{Option, Some, None, Result, Ok, Err, arith, rules, add-zero, nat_eq, ◌||◌}
 use Rattle.px_bytes.specs.FaultText.{budget_spent}
 use Rattle.px_bytes.specs.declared.fault.Reply.{Reply}
 use Rattle.px_bytes.specs.declared.fault.TclFault.{TclFault}
@@ -20,7 +21,7 @@ use Rattle.rule_steps.specs.Operators.{if_truth, truth_read}
 use Rattle.frame_machine.specs.Children.{child_at}
 use Rattle.frame_machine.specs.Frames.{again, body_in, inner_of, next_in, test_in}
 use Rattle.frame_machine.specs.Leafs.{leaf_code}
-use Rattle.frame_machine.specs.Loops.{Parts, above, turn_move, holds_move, test_told, test_by, test_move, next_told, next_move, turn_told, start_told, loop_move}
+use Rattle.frame_machine.specs.Loops.{Parts, above, turn_move, holds_move, test_told, test_by, test_move, next_told, next_move, start_told, loop_move}
 use Rattle.frame_machine.specs.Moves.{begins, goes_on, stands, stop, child_under, back_under}
 use Rattle.frame_machine.specs.Owed.{is_flat, mode_owed}
 use Rattle.frame_machine.specs.Quick.{quick, quick_or}
@@ -33,7 +34,8 @@ use Rattle.frame_machine.specs.declared.next.Next.{Next}
 use Rattle.frame_machine.proofs.InQuick.{quick_is, quick_free, quick_heavy, quick_ticks}
 use Rattle.frame_machine.proofs.Heard.{heard_true}
 use Rattle.frame_machine.proofs.LeafViews.{leaf_eval}
-use Rattle.frame_machine.proofs.InStills.{Bounded, back_bounded, back_owes, bounded_after, bounded_less, bounded_name, body_unheard, child_bounded, comes_as, comes_at, comes_paid, next_unheard, pass_bounded, stop_bounded, under, under_child, under_flat, value_unheard}
+use Rattle.frame_machine.proofs.InStills.{Bounded, back_bounded, back_owes, bounded_after, bounded_less, bounded_name, body_unheard, child_bounded, comes_as}
+use Rattle.frame_machine.proofs.InStills.{comes_at, comes_paid, next_unheard, pass_bounded, stop_bounded, under, under_child, under_flat, value_unheard}
 
 -- the parts of a loop, as its children
 abbrev pub parts_at : Tree → Parts
@@ -54,7 +56,7 @@ module _ {H : Type 0} where
       (next_in g (inner_of g r) t)
 
   -- a turn's body
-  turn_above : (g : Setting H) (r : Room) (t : Tree) (n : ℕ) (path : List ℕ) (st : State H) (b : Bool)
+  pub turn_above : (g : Setting H) (r : Room) (t : Tree) (n : ℕ) (path : List ℕ) (st : State H) (b : Bool)
       → is_flat (child_at t 3) ≡ b →
       under g r t (frame.Turn n) path st
       ≡ stands g r t (above (knows g st.vars) (child_at t 3) (frame.Turn n)) path st
@@ -118,7 +120,7 @@ module _ {H : Type 0} where
       (comes_at (child_under (frame.Test left)) (λ path host more cost acts. rw heard_true refl))
 
   -- the loop from its test on
-  test_is : {g : Setting H} {r : Room} {w : Bool} {t : Tree} {vars : Scopes} (left budget : ℕ) →
+  pub test_is : {g : Setting H} {r : Room} {w : Bool} {t : Tree} {vars : Scopes} (left budget : ℕ) →
       Comes g r w t (again g (inner_of g r) t left) vars budget
       (spent vars (test_move (knows g vars) (parts_at t) left budget))
   test_is {g = g} {r = r} {t = t} {vars = vars} left budget =
@@ -129,7 +131,7 @@ module _ {H : Type 0} where
       (test_cases left budget (quick k u).cost (quick k u).ticks (quick k u).value (quick_free k u))
 
   -- behind what comes after a turn
-  pub next_goes_is : {g : Setting H} {r : Room} {w : Bool} {t : Tree} {vars : Scopes} (left budget : ℕ)
+  next_goes_is : {g : Setting H} {r : Room} {w : Bool} {t : Tree} {vars : Scopes} (left budget : ℕ)
       (code : Code) →
       Comes g r w t (goes_on g r t (frame.Next left) code) vars budget
       (spent vars (next_told (knows g vars) (parts_at t) left budget code))
@@ -137,11 +139,11 @@ module _ {H : Type 0} where
   next_goes_is left budget other = comes_at _ (λ path host more cost acts. refl)
 
   -- what comes after a turn
-  abbrev next_here : Setting H → Room → Tree → ℕ → Meaning H
+  abbrev pub next_here : Setting H → Room → Tree → ℕ → Meaning H
   next_here g r t left path st =
       then_code (next_in g (inner_of g r) t path st) (after_next (again g (inner_of g r) t left path))
 
-  next_is : {g : Setting H} {r : Room} {w : Bool} {t : Tree} {vars : Scopes} (left budget : ℕ) (b : Bool)
+  pub next_is : {g : Setting H} {r : Room} {w : Bool} {t : Tree} {vars : Scopes} (left budget : ℕ) (b : Bool)
       → is_flat (child_at t 2) ≡ b →
       Comes g r w t (next_here g r t left) vars budget
       (spent vars (next_move (knows g vars) (parts_at t) left budget))
@@ -154,17 +156,6 @@ module _ {H : Type 0} where
       rw e (comes_at (child_under (frame.Next left)) (λ path host more cost acts. rw add-zero
       (sym (next_unheard (eval g (inner_of g r) (child_at t 2) (path ++ 2 ∷ [])
       (state vars host more budget cost acts)) (again g (inner_of g r) t left path)))))
-
-  -- behind the body
-  pub turn_goes_is : {g : Setting H} {r : Room} {w : Bool} {t : Tree} {vars : Scopes} (left budget : ℕ)
-      (code : Code) →
-      Comes g r w t (goes_on g r t (frame.Turn left) code) vars budget
-      (spent vars (turn_told (knows g vars) (parts_at t) left budget code))
-  turn_goes_is {t = t} left budget (Value v) = next_is left budget (is_flat (child_at t 2)) refl
-  turn_goes_is left budget (Raised f) = comes_at _ (λ path host more cost acts. refl)
-  turn_goes_is left budget (Return v) = comes_at _ (λ path host more cost acts. refl)
-  turn_goes_is left budget Break = comes_at _ (λ path host more cost acts. refl)
-  turn_goes_is {t = t} left budget Continue = next_is left budget (is_flat (child_at t 2)) refl
 
   -- behind what starts the loop
   pub start_goes_is : {g : Setting H} {r : Room} {w : Bool} {t : Tree} {vars : Scopes} (budget : ℕ)
@@ -243,7 +234,7 @@ test_by_owes : {procedures : List Procedure} {t : Tree} (k : Known) (left budget
 test_by_owes k left budget (Some code) e = bounded_less (back_owes code) (test_goes_owes k left budget code)
 test_by_owes k left budget None e = child_bounded (frame.Test left) refl (e refl)
 
-test_owes : {procedures : List Procedure} {t : Tree} (k : Known) (left budget : ℕ)
+pub test_owes : {procedures : List Procedure} {t : Tree} (k : Known) (left budget : ℕ)
     → Bounded procedures t 2 (test_move k (parts_at t) left budget).move
 test_owes {t = t} k left budget =
     let u = child_at t 1 in
@@ -251,7 +242,7 @@ test_owes {t = t} k left budget =
     (bounded_after (quick k u).cost (quick k u).ticks (omega (arith, quick_ticks k u))
     (test_by_owes k left budget (quick k u).value (quick_heavy k u)))
 
-pub next_goes_owes : {procedures : List Procedure} {t : Tree} (k : Known) (left budget : ℕ) (code : Code)
+next_goes_owes : {procedures : List Procedure} {t : Tree} (k : Known) (left budget : ℕ) (code : Code)
     → Bounded procedures t (mode_owed (mode.Back code)) (next_told k (parts_at t) left budget code).move
 next_goes_owes k left budget (Value v) = test_owes k left budget
 next_goes_owes k left budget (Raised f) = pass_bounded (Raised f)
@@ -259,20 +250,12 @@ next_goes_owes k left budget (Return v) = pass_bounded (Return v)
 next_goes_owes k left budget Break = stop_bounded (Value [])
 next_goes_owes k left budget Continue = pass_bounded Continue
 
-next_owes : {procedures : List Procedure} {t : Tree} (k : Known) (left budget : ℕ) (b : Bool)
+pub next_owes : {procedures : List Procedure} {t : Tree} (k : Known) (left budget : ℕ) (b : Bool)
     → is_flat (child_at t 2) ≡ b → Bounded procedures t 2 (next_move k (parts_at t) left budget).move
 next_owes {t = t} k left budget true e =
     rw e (bounded_less (back_owes (leaf_code k.statics k.vars (child_at t 2)))
     (next_goes_owes k left budget (leaf_code k.statics k.vars (child_at t 2))))
 next_owes k left budget false e = rw e (child_bounded (frame.Next left) refl e)
-
-pub turn_goes_owes : {procedures : List Procedure} {t : Tree} (k : Known) (left budget : ℕ) (code : Code)
-    → Bounded procedures t (mode_owed (mode.Back code)) (turn_told k (parts_at t) left budget code).move
-turn_goes_owes {t = t} k left budget (Value v) = next_owes k left budget (is_flat (child_at t 2)) refl
-turn_goes_owes k left budget (Raised f) = pass_bounded (Raised f)
-turn_goes_owes k left budget (Return v) = pass_bounded (Return v)
-turn_goes_owes k left budget Break = stop_bounded (Value [])
-turn_goes_owes {t = t} k left budget Continue = next_owes k left budget (is_flat (child_at t 2)) refl
 
 pub start_goes_owes : {procedures : List Procedure} {t : Tree} (k : Known) (budget : ℕ) (code : Code)
     → Bounded procedures t (mode_owed (mode.Back code)) (start_told k (parts_at t) budget code).move

@@ -1,5 +1,6 @@
 -- What expressions that have their end at once come to.
-use Rattle.std.proofs.Common.{◌≡◌, refl, ap, ◌∙◌, ℕ, zero, suc, ◌+◌, ◌≤◌, List, [], ◌∷◌, ◌++◌, length, Bool, true, false, cond, ◌&&◌, Option, Some, None, Result, Ok, Err, nat_le, arith, add-zero, add_assoc}
+use Rattle.std.proofs.Common.{◌≡◌, refl, ap, ◌∙◌, ℕ, zero, suc, ◌+◌, ◌≤◌, List, [], ◌∷◌, ◌++◌, length, Bool, true, false, ◌&&◌}
+use Rattle.std.proofs.Common.{Option, Some, None, Result, Ok, Err, nat_le, arith, add-zero, add_assoc}
 use Rattle.std.proofs.lemmas.Bool.Decides.{nat_tests}
 use Rattle.px_bytes.specs.declared.fault.TclFault.{TclFault}
 use Rattle.tcl_expr.specs.declared.expr.Joint.{Joint}
@@ -12,9 +13,8 @@ use Rattle.rule_model.specs.Outcome.{State, Outcome, Ends, Meaning, paid, then_v
 use Rattle.rule_model.specs.declared.code.Code.{Code}
 use Rattle.rule_model.specs.declared.code.Code.TheVariants.{Value, Raised, Return, Break, Continue}
 use Rattle.rule_model.specs.Setting.{Setting, Inner}
-use Rattle.rule_steps.specs.Operators.{joint_ticks}
 use Rattle.frame_machine.specs.Children.{child_at}
-use Rattle.frame_machine.specs.Counted.{Counted, given, counted_after}
+use Rattle.frame_machine.specs.Counted.{Counted, counted_after}
 use Rattle.frame_machine.specs.Leafs.{leaf_code}
 use Rattle.frame_machine.specs.Owed.{is_flat}
 use Rattle.frame_machine.specs.Quick.{all_flat, brief_code, brief_told, is_brief, quick, quick_or, quick_row, rowed_code}
@@ -23,7 +23,6 @@ use Rattle.frame_machine.specs.Rows.{joined_to, joins_to, listed, most_operators
 use Rattle.frame_machine.specs.declared.rows.Joined.{Joined}
 use Rattle.frame_machine.specs.declared.rows.Joined.TheVariants as joined
 use Rattle.frame_machine.specs.declared.rows.Rowed.{Rowed}
-use Rattle.frame_machine.specs.declared.rows.Rowed.TheVariants as rowed
 use Rattle.frame_machine.proofs.InRows.{joint_once, joints_listed, joints_on}
 use Rattle.frame_machine.proofs.LeafViews.{leaf_eval}
 
@@ -89,8 +88,8 @@ module _ {H : Type 0} where
         ∙ code_end go joint left path (paid 1 st) code
         ∙ rw (e, paid_both 1 c.cost st) refl
 
-    decided_end : (go : List ℕ → Meaning H) (at : ℕ) (joint : Joint) (t : Tree) (left path : List ℕ) (st : State H) (x : Result (Option (List ℕ)) TclFault) → is_flat t ≡ true
-        → decided x (λ s. operator go at joint t left path s) (paid 1 st)
+    decided_end : (go : List ℕ → Meaning H) (at : ℕ) (joint : Joint) (t : Tree) (left path : List ℕ) (st : State H) (x : Result (Option (List ℕ)) TclFault)
+        → is_flat t ≡ true → decided x (λ s. operator go at joint t left path s) (paid 1 st)
         ≡ joined_end go (counted_after 1 0 (unless_decided x (counted_after 1 0 (right_joined (known g.statics st.vars) at joint t left)))).value path
         (paid (counted_after 1 0 (unless_decided x (counted_after 1 0 (right_joined (known g.statics st.vars) at joint t left)))).cost st)
     decided_end go at joint t left path st (Ok None) e =
@@ -128,7 +127,8 @@ module _ {H : Type 0} where
         let m : length os ≤ n = omega (arith, l) in
         joint_end go (at + 1) o.0 o.1 left path st b.0
         ∙ on_end go (row_from k n (at + 1) os) path (paid c.cost st) c.value (λ v. row_ends n (at + 1) os v path (paid c.cost st) b.1 m)
-        ∙ ap (λ s. Ends (rowed_code (on_joined c.value (row_from k n (at + 1) os)).value) s) (paid_both c.cost (on_joined c.value (row_from k n (at + 1) os)).cost st)
+        ∙ ap (λ s. Ends (rowed_code (on_joined c.value (row_from k n (at + 1) os)).value) s)
+        (paid_both c.cost (on_joined c.value (row_from k n (at + 1) os)).cost st)
 
     told_ends : (us : Operands) (path : List ℕ) (st : State H) (code : Code) → all_flat (listed us) ≡ true → length (listed us) ≤ most_operators
         → then_value (Ends code st) (λ v t. operands (joints g i 1 us) v path t)

@@ -1,5 +1,6 @@
 -- What the moves of a script come to.
-use Rattle.std.proofs.Common.{◌≡◌, refl, ap, ◌∙◌, sym, ℕ, suc, ◌+◌, ◌-◌, ◌*◌, ◌<◌, ◌≤◌, List, [], ◌∷◌, ◌++◌, length, drop, get_or, Bool, true, false, cond, Option, nat_eq, nat_le, arith, add-zero, ◌&&◌}
+use Rattle.std.proofs.Common.{◌≡◌, refl, ap, ◌∙◌, sym, ℕ, suc, ◌+◌, ◌-◌, ◌*◌, ◌<◌, ◌≤◌, List, [], ◌∷◌, ◌++◌, length, drop}
+use Rattle.std.proofs.Common.{get_or, Bool, true, false, cond, Option, nat_eq, nat_le, arith, add-zero, ◌&&◌}
 use Rattle.std.proofs.lemmas.Bool.Decides.{nat_tests}
 use Rattle.std.proofs.lemmas.List.{drop_all, drop_more, length-map}
 use Rattle.px_bytes.specs.declared.fault.Reply.{Reply}
@@ -12,19 +13,17 @@ use Rattle.tcl_vars.specs.Scopes.{Scopes, Level}
 use Rattle.rule_model.specs.Children.{child, free}
 use Rattle.rule_model.specs.Control.{is_caught}
 use Rattle.rule_model.specs.Evaluator.{eval}
-use Rattle.rule_model.specs.Outcome.{Act, State, state, Outcome, Ends, then_value, heard}
+use Rattle.rule_model.specs.Outcome.{Act, state, Outcome, then_value, heard}
 use Rattle.rule_model.specs.Setting.{Setting, Inner}
 use Rattle.rule_model.specs.Words.{commands}
 use Rattle.rule_model.specs.declared.code.Code.{Code}
-use Rattle.rule_model.specs.declared.code.Code.TheVariants.{Value, Raised, Return, Break, Continue}
 use Rattle.frame_machine.specs.Children.{child_at, commands_of}
 use Rattle.frame_machine.specs.Frames.{apply, commands_in, inner_of}
 use Rattle.frame_machine.specs.Leafs.{leaf_code}
-use Rattle.frame_machine.specs.Moves.{Ready, due, goes_on, stands, stop}
+use Rattle.frame_machine.specs.Moves.{Ready, due, stands}
 use Rattle.frame_machine.specs.Owed.{is_flat, mode_owed}
-use Rattle.frame_machine.specs.Scripts.{child_next, script_from, script_goes}
-use Rattle.frame_machine.specs.Stills.{Comes, Spend, spends, spent}
-use Rattle.frame_machine.specs.declared.frame.Frame.{Frame}
+use Rattle.frame_machine.specs.Scripts.{child_next, script_from}
+use Rattle.frame_machine.specs.Stills.{Comes, Spend, spent}
 use Rattle.frame_machine.specs.declared.frame.Frame.TheVariants as frame
 use Rattle.frame_machine.specs.declared.frame.Mode.TheVariants as mode
 use Rattle.frame_machine.specs.declared.frame.Room.{Room}
@@ -51,14 +50,14 @@ module _ {H : Type 0} (g : Setting H) (r : Room) where
   commands_row (tree.script ts) = evals_each g i free 0 ts
   commands_row other = refl
 
-  commands_left : (t : Tree) (at : ℕ)
+  pub commands_left : (t : Tree) (at : ℕ)
       → drop at (commands_in g i t) ≡ each g i free at (drop at (commands_of t))
   commands_left t at = ap (λ l. drop at l) (commands_row t) ∙ drop_each g i free at (commands_of t)
 
-  none_left : (t : Tree) (at : ℕ) → length (commands_of t) ≤ at → drop at (commands_in g i t) ≡ []
+  pub none_left : (t : Tree) (at : ℕ) → length (commands_of t) ≤ at → drop at (commands_in g i t) ≡ []
   none_left t at h = commands_left t at ∙ ap (λ l. each g i free at l) (drop_all at (commands_of t) h)
 
-  some_left : (t : Tree) (at : ℕ) → at < length (commands_of t)
+  pub some_left : (t : Tree) (at : ℕ) → at < length (commands_of t)
       → drop at (commands_in g i t) ≡ child free at (child_at t at) (eval g i (child_at t at)) ∷ drop (at + 1)
       (commands_in g i t)
   some_left t at h =
@@ -137,36 +136,6 @@ module _ {H : Type 0} (g : Setting H) (r : Room) where
     same = λ p h more cost acts. from_by t at w budget (nat_le (length (commands_of t)) at) (nat_eq budget 0)
         refl refl last p vars h more cost acts;
   }
-
-  pub script_begins : (ts : Trees) (w : Bool) (vars : Scopes) (budget : ℕ)
-      → Comes g r w (tree.script ts) (eval g i (tree.script ts)) vars budget
-      (spent vars (script_from g.statics vars (tree.script ts) 0 [] w budget))
-  script_begins ts w vars budget =
-      record {
-        same = λ p h more cost acts. (script_comes (tree.script ts) 0 [] w vars budget).same p h more
-            cost acts;
-      }
-
-  stops : (t : Tree) (f : Frame) (c : Code) (w : Bool) (vars : Scopes) (budget : ℕ)
-      → ((p : List ℕ) (st : State H) → goes_on g r t f c p st ≡ Ends c st)
-      → Comes g r w t (goes_on g r t f c) vars budget (spent vars (spends budget (stop c)))
-  stops t f c w vars budget e = record
-      { same = λ p h more cost acts. rw (e p (state vars h more budget cost acts), add-zero) refl }
-
-  pub script_goes_on : (t : Tree) (at : ℕ) (v w : Bool) (c : Code) (vars : Scopes) (budget : ℕ)
-      → Comes g r w t (goes_on g r t (frame.Script at v) c) vars budget
-      (spent vars (script_goes g.statics vars t at w budget c))
-  script_goes_on t at v w (Value x) vars budget =
-      record {
-        same = λ p h more cost acts. (script_comes t (at + 1) x w vars budget).same p h more cost acts;
-      }
-  script_goes_on t at v w (Raised f) vars budget =
-      stops t (frame.Script at v) (Raised f) w vars budget (λ p st. refl)
-  script_goes_on t at v w (Return x) vars budget =
-      stops t (frame.Script at v) (Return x) w vars budget (λ p st. refl)
-  script_goes_on t at v w Break vars budget = stops t (frame.Script at v) Break w vars budget (λ p st. refl)
-  script_goes_on t at v w Continue vars budget =
-      stops t (frame.Script at v) Continue w vars budget (λ p st. refl)
 
 -- what a script owes, and that a child that begins has something to do
 two : (b : Bool) → cond b 2 0 ≤ 2

@@ -9,6 +9,7 @@ mod InCalls
 mod InCatches
 mod InCommands
 mod InEnds
+mod InFronts
 mod InKinds
 mod InLoops
 mod InMoves
@@ -24,6 +25,7 @@ mod InSwitches
 mod InTurns
 mod InWalks
 mod LeafViews
+mod LoopTurns
 mod NodePlaces
 mod NodeViews
 mod PartViews
@@ -32,7 +34,12 @@ mod PriceViews
 mod Rests
 mod RowSteps
 mod RunLaws
+mod ScriptMoves
+mod ShortCosts
+mod ShortParts
+mod SoundMoves
 mod TicksTold
+mod TurnsMade
 mod WholeViews
 mod WordGoes
 mod WordMeans

@@ -171,7 +171,8 @@ abbrev pub again : {H : Type 0} → Setting H → Inner H → Tree → ℕ → M
 again g i t n = turns n (test_in g i t) (body_in g i t 3) (next_in g i t)
 
 -- what a node comes to by the outcome of the child that its frame tells
-abbrev pub apply : {H : Type 0} → Setting H → Inner H → Tree → List ℕ → Frame → Outcome H → Outcome H
+abbrev pub apply : {H : Type 0} → Setting H → Inner H → Tree → List ℕ → Frame → Outcome H
+    → Outcome H
 apply g i t p (frame.Script at wanted) o =
     then_value o (λ v s. commands (drop (at + 1) (commands_in g i t)) v p s)
 apply g i t p (frame.Words word part done text) o =

@@ -1,3 +1,4 @@
+pub mod AtOnce
 pub mod Branches
 pub mod CallParts
 pub mod Calls

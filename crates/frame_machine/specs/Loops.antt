@@ -7,7 +7,7 @@ use Rattle.tcl_compile.specs.Tree.{Tree}
 use Rattle.rule_model.specs.Children.{alone}
 use Rattle.rule_model.specs.declared.code.Code.{Code}
 use Rattle.rule_model.specs.declared.code.Code.TheVariants.{Value, Raised}
-use Rattle.rule_steps.specs.Goes.{body_goes, next_goes}
+use Rattle.rule_steps.specs.Goes.{next_goes}
 use Rattle.rule_steps.specs.Operators.{truth_read}
 use Rattle.rule_steps.specs.declared.goes.Goes.{Goes}
 use Rattle.rule_steps.specs.declared.goes.Goes.TheVariants.{On, Over, Ends}
@@ -59,7 +59,7 @@ test_move k l left budget =
     spend_after (alone l.test) 0
     (spend_after q.cost q.ticks (test_by k l.body left budget q.value))
 
--- behind what comes after a turn, and behind the body
+-- behind what comes after a turn
 abbrev pub goes_by : Goes → Code → ℕ → Spend → Spend
 goes_by On code budget go = go
 goes_by Over code budget go = spends budget (stop (Value []))
@@ -73,10 +73,6 @@ abbrev pub next_move : Known → Parts → (left budget : ℕ) → Spend
 next_move k l left budget =
     if is_flat l.next then next_told k l left budget (leaf_code k.statics k.vars l.next)
     else spends budget (child_under (frame.Next left))
-
-abbrev pub turn_told : Known → Parts → (left budget : ℕ) → Code → Spend
-turn_told k l left budget code =
-    goes_by (body_goes code) code budget (next_move k l left budget)
 
 -- behind what starts the loop, and the whole loop
 abbrev pub start_told : Known → Parts → (budget : ℕ) → Code → Spend

@@ -57,9 +57,9 @@ now vars host budget paid = record { vars = vars; host = host; budget = budget; 
 abbrev pub state_at : {H : Type 0} → Now H → List Reply → ℕ → List Act → State H
 state_at n more cost acts = state n.vars n.host more n.budget (cost + n.paid) acts
 
--- A node's move: whatever replies come, and whatever was paid and done before, the node comes to the
--- same from where it stands then, with what the move paid and did. The effects among what it did were
--- made, and are those of one call of the host at most.
+-- A node's move: whatever replies come, and whatever was paid and done before, the node comes to
+-- the same from where it stands then, with what the move paid and did. The effects among what it
+-- did were made, and are those of one call of the host at most.
 pub record Moved {H : Type 0} (g : Setting H) (r : Room) (wanted : Bool) (t : Tree)
     (whole : Meaning H) (old new : Now H) (next : Next) (made : List Effect → Type 0) : Type 0 where
   pub acts : List Act

@@ -1,5 +1,5 @@
--- How many moves a machine owes for what it has begun: each move ticks once, and each operator, pure
--- command and host command in it once more.
+-- How many moves a machine owes for what it has begun: each move ticks once, and each operator,
+-- pure command and host command in it once more.
 use Rattle.std.specs.Prelude.{◌≡◌, ℕ, ◌+◌, List, [], ◌∷◌, Bool, true, false, sum_by, if◌then◌else◌}
 use Rattle.std.specs.Prelude.{⊤}
 use Rattle.tcl_compile.specs.Procedures.{Procedure}

@@ -18,8 +18,8 @@ use Rattle.frame_machine.specs.Stills.{Move, moves, move_after}
 use Rattle.frame_machine.specs.declared.frame.Frame.TheVariants as frame
 use Rattle.frame_machine.specs.declared.next.Next.{Next}
 
--- The innermost of so many operators gives this: one a move. Where it gives a fault, all of them are
--- paid for.
+-- The innermost of so many operators gives this: one a move. Where it gives a fault, all of them
+-- are paid for.
 abbrev pub applied_move : (left : ℕ) → Result (List ℕ) TclFault → Move
 applied_move left (Ok v) =
     record {

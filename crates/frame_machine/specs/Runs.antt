@@ -54,7 +54,8 @@ Linked g tree (Steps ticks) old new = Stepped g tree ticks old new
 Linked g tree (Replies reply) old new = Replied reply old new
 
 -- a run begins before the body's first command
-pub record Starts {H : Type 0} (budget : ℕ) (vars : Scopes) (host : H) (r : Reached H) : Type 0 where
+pub record Starts {H : Type 0} (budget : ℕ) (vars : Scopes) (host : H) (r : Reached H)
+    : Type 0 where
   pub frames : r.place.machine.frames.items ≡ []
   pub mode_is : r.place.machine.mode ≡ mode.Begin
   pub budget_is : r.place.machine.budget ≡ budget

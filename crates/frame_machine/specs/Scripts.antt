@@ -4,8 +4,7 @@ use Rattle.std.specs.Prelude.{if◌then◌else◌, Option}
 use Rattle.px_bytes.specs.FaultText.{budget_spent}
 use Rattle.tcl_compile.specs.Tree.{Tree}
 use Rattle.tcl_vars.specs.Scopes.{Level, Scopes}
-use Rattle.rule_model.specs.declared.code.Code.{Code}
-use Rattle.rule_model.specs.declared.code.Code.TheVariants.{Value, Raised, Return, Break, Continue}
+use Rattle.rule_model.specs.declared.code.Code.TheVariants.{Value, Raised}
 use Rattle.frame_machine.specs.Children.{child_at, commands_of}
 use Rattle.frame_machine.specs.Leafs.{leaf_code}
 use Rattle.frame_machine.specs.Moves.{back_under, child_under, stop}
@@ -31,12 +30,3 @@ script_from statics vars t at last wanted budget =
     else (if nat_eq budget 0 then spends budget (stop (Raised budget_spent))
     else spend_after 1 0 (spends (budget - 1)
     (child_next statics vars (child_at t at) (script_frame t at wanted))))
-
--- behind the command of this number
-abbrev pub script_goes : Option Level → Scopes → Tree → ℕ → Bool → ℕ → Code → Spend
-script_goes statics vars t at wanted budget (Value v) =
-    script_from statics vars t (at + 1) v wanted budget
-script_goes statics vars t at wanted budget (Raised f) = spends budget (stop (Raised f))
-script_goes statics vars t at wanted budget (Return v) = spends budget (stop (Return v))
-script_goes statics vars t at wanted budget Break = spends budget (stop Break)
-script_goes statics vars t at wanted budget Continue = spends budget (stop Continue)

@@ -40,7 +40,8 @@ pub record StepsTo {H : Type 0} (g : Setting H) (tree : Tree) (fs : List Frame) 
 pub record Stood {H : Type 0} (g : Setting H) (tree : Tree) (old new : Standing) (said : Turn)
     (before after : Now H) (made : List Effect → Type 0) : Type 0 where
   pub mode_before : Mode
-  pub steps : StepsTo g tree old.frames.items old.mode new.frames.items mode_before before after made
+  pub steps : StepsTo g tree old.frames.items old.mode new.frames.items mode_before before after
+      made
   pub goes : mode_before ≡ mode.Over → ⊥
   pub mode_is : new.mode ≡ told_mode new.frames.items mode_before
   pub told : said ≡ told_turn new.frames.items mode_before

@@ -10,13 +10,12 @@ use Rattle.frame_machine.specs.Calls.{called_told}
 use Rattle.frame_machine.specs.Catches.{catch_move, caught_in_told, caught_told}
 use Rattle.frame_machine.specs.Children.{child_at}
 use Rattle.frame_machine.specs.Frames.{operators_of}
-use Rattle.frame_machine.specs.Loops.{loop_move, next_told, start_told, test_told, turn_told}
+use Rattle.frame_machine.specs.Loops.{loop_move, start_told, test_told}
 use Rattle.frame_machine.specs.Moves.{stop}
 use Rattle.frame_machine.specs.NodeParts.{parts_of}
 use Rattle.frame_machine.specs.Prefixes.{expr_move, operand_told, prefixed_move, whole_told}
 use Rattle.frame_machine.specs.Reads.{Known, known}
 use Rattle.frame_machine.specs.Rows.{left_told, listed, right_told, row_move, row_of}
-use Rattle.frame_machine.specs.Scripts.{script_from, script_goes}
 use Rattle.frame_machine.specs.Stills.{Change, Move, Spend, spends, spent, written}
 use Rattle.frame_machine.specs.Turns.{each_told}
 use Rattle.frame_machine.specs.WordMoves.{pieces_begin, pieces_goes}
@@ -29,8 +28,6 @@ keeps budget m = record { move = m; budget = budget }
 
 -- how a node begins that evaluates no words first
 abbrev pub still_begin : Known → Tree → (wanted : Bool) → (budget : ℕ) → Spend
-still_begin k (tree.script ts) wanted budget =
-    script_from k.statics k.vars (tree.script ts) 0 [] wanted budget
 still_begin k (tree.word ts) wanted budget =
     keeps budget (pieces_begin k.statics k.vars (tree.word ts))
 still_begin k (tree.element name ts) wanted budget =
@@ -49,8 +46,6 @@ still_begin k t wanted budget = spends budget (stop (Value []))
 
 -- how it goes on at a frame that changes no variable
 abbrev pub reading_goes : Known → Tree → Frame → Code → (wanted : Bool) → (budget : ℕ) → Spend
-reading_goes k t (frame.Script at heard) code wanted budget =
-    script_goes k.statics k.vars t at wanted budget code
 reading_goes k t (frame.Pieces part text) code wanted budget =
     keeps budget (pieces_goes k.statics k.vars t part text code)
 reading_goes k t (frame.Operand left) code wanted budget =
@@ -64,10 +59,6 @@ reading_goes k t (frame.Condition at place) code wanted budget =
 reading_goes k t frame.Start code wanted budget = start_told k (parts_of t) budget code
 reading_goes k t (frame.Test left) code wanted budget =
     test_told k (child_at t 3) left budget code
-reading_goes k t (frame.Turn left) code wanted budget =
-    turn_told k (parts_of t) left budget code
-reading_goes k t (frame.Next left) code wanted budget =
-    next_told k (parts_of t) left budget code
 reading_goes k t frame.Caught code wanted budget = keeps budget (caught_told code)
 reading_goes k t frame.Whole code wanted budget = keeps budget (whole_told code)
 reading_goes k t (frame.Read expression room) code wanted budget =

@@ -118,8 +118,8 @@ abbrev pub on_result : {A X : Type 0} → Result A TclFault → (A → X) → (T
 on_result (Ok a) go other = go a
 on_result (Err f) go other = other f
 
--- What a move comes to: whatever is seen of the host, whatever replies come, and whatever was paid and
--- done before, the node comes to the same from where it stands then.
+-- What a move comes to: whatever is seen of the host, whatever replies come, and whatever was paid
+-- and done before, the node comes to the same from where it stands then.
 pub record Comes {H : Type 0} (g : Setting H) (r : Room) (wanted : Bool) (t : Tree)
     (whole : Meaning H) (vars : Scopes) (budget : ℕ) (c : Change) : Type 0 where
   pub same : (path : List ℕ) (host : H) (more : List Reply) (cost : ℕ) (acts : List Act)

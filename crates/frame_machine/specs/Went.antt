@@ -64,10 +64,10 @@ TurnIs turn.More m = IsRunning m.mode
 TurnIs (turn.Asks call) m = m.mode ≡ mode.Asked call
 TurnIs (turn.Done code) m = m.mode ≡ mode.Over
 
--- A step from one place to the next, with so many ticks: whatever replies come, and whatever was paid
--- and done before, the body comes to the same, with what the step paid and did. The effects among
--- what it did were made, and they are those of one call of the host at most. What it ticked and still
--- owes is what was owed before, and three for each unit of cost.
+-- A step from one place to the next, with so many ticks: whatever replies come, and whatever was
+-- paid and done before, the body comes to the same, with what the step paid and did. The effects
+-- among what it did were made, and they are those of one call of the host at most. What it ticked
+-- and still owes is what was owed before, and three for each unit of cost.
 pub record Went {H : Type 0} (g : Setting H) (tree : Tree) (old new : Place H) (said : Turn)
     (made : List Effect → Type 0) (ticks : ℕ) : Type 0 where
   pub spent : ℕ
@@ -85,7 +85,8 @@ pub record Went {H : Type 0} (g : Setting H) (tree : Tree) (old new : Place H) (
       → ticks + owed new.machine ≤ owed old.machine + 3 * spent
 
 -- a reply comes: the call's node goes on with it
-pub record Resumed {H : Type 0} (old new : Place H) (call : List (List ℕ)) (reply : Reply) : Type 0 where
+pub record Resumed {H : Type 0} (old new : Place H) (call : List (List ℕ)) (reply : Reply)
+    : Type 0 where
   pub asked : old.machine.mode ≡ mode.Asked call
   pub machine : new.machine ≡ record old.machine { mode = mode.Back (reply_code reply) }
   pub vars : new.vars ≡ old.vars

@@ -11,6 +11,7 @@ ghost use Rattle.frame_machine.specs.Leafs.{leaf_code};
 ghost use Rattle.frame_machine.specs.Moves.{Moved, Ready, begins, due, now, stop};
 ghost use Rattle.frame_machine.specs.Owed.{is_flat};
 
+use crate::children::is_script;
 use crate::context::Context;
 use crate::first_words::first_words;
 use crate::frame::Room;
@@ -18,8 +19,9 @@ use crate::gathered::go_gathered;
 use crate::host::Host;
 use crate::leafs::{is_leaf, leaf_code};
 use crate::next::Next;
+use crate::scripts::script_from;
 use crate::stills::begin_still;
-use px_bytes::{M, Steps};
+use px_bytes::{M, Steps, Text};
 use std::sync::ledger::Ledger;
 use tcl_compile::Node;
 use tcl_vars::Vars;
@@ -73,7 +75,7 @@ pub(crate) fn begin<H: Host, L: Ledger, K: Ledger>(
         → (steps.new ≡ steps.old) × (next ≡ stop (leaf_code level vars.old t))) }
     ensures grows { OnOk result (paid.old ≤ paid.new) }
     ensures ticks { OnOk result (steps.old ≤ steps.new) }
-    ensures few { steps.new ≤ steps.old + 5 }
+    ensures few { steps.new ≤ steps.old + 9 }
 {
     let (alloc, statics) = (context.alloc, context.statics);
     if is_leaf(node) {
@@ -86,6 +88,13 @@ pub(crate) fn begin<H: Host, L: Ledger, K: Ledger>(
             context, node, room, words, wanted, vars, host, budget, steps, paid,
         )?;
         return Ok(gone);
+    }
+    if is_script(node) {
+        let none = Text::empty(alloc);
+        let went = script_from(
+            alloc, statics, vars, node, 0, none, wanted, budget, steps, paid,
+        )?;
+        return Ok(went);
     }
     let began = begin_still(alloc, statics, vars, node, wanted, budget, steps, paid)?;
     Ok(began)

@@ -1,8 +1,10 @@
 // The moves of `if` and `?:`.
 
-ghost use Rattle.std.specs.Prelude.{IfOk, IfSome, OnOk, drop, length, option_map, slice_get, ◌+◌, ◌<◌, ◌≡◌, ◌≤◌};
+ghost use Rattle.std.specs.Prelude.{IfOk, IfSome, OnOk, drop, length, option_map};
+ghost use Rattle.std.specs.Prelude.{slice_get, ◌+◌, ◌<◌, ◌≡◌, ◌≤◌};
 ghost use Rattle.tcl_compile.specs.TreeView.{node_view};
-ghost use Rattle.frame_machine.specs.Branches.{asked_move, branches_move, condition_cost, condition_move};
+ghost use Rattle.frame_machine.specs.Branches.{asked_move, branches_move};
+ghost use Rattle.frame_machine.specs.Branches.{condition_cost, condition_move};
 ghost use Rattle.frame_machine.specs.Branches.{condition_told, holds_by, last_move, told_by};
 ghost use Rattle.frame_machine.specs.Branches.{value_move, within};
 ghost use Rattle.frame_machine.specs.ChoiceParts.{choices_view};
@@ -64,7 +66,8 @@ pub(crate) fn go_condition<L: Ledger, K: Ledger>(
         IfOk result (λ n. n ≡ m.next) }
     ensures cost { let m = condition_told (known_by reads.now) (choices_view choices.now) at code in
         OnOk result (paid.new ≡ paid.old + m.cost) }
-    ensures ticks { let m = condition_told (known_by reads.now) (choices_view choices.now) at code in
+    ensures ticks { let m =
+        condition_told (known_by reads.now) (choices_view choices.now) at code in
         OnOk result (steps.new ≡ steps.old + m.ticks) }
     ensures few { steps.new ≤ steps.old + 5 }
 {
@@ -152,13 +155,16 @@ fn ask<L: Ledger, K: Ledger>(
 ) -> M<Next>
     requires { at < length choices.now.values.now }
     ensures next { let c = choices_view choices.now in
-        let m = asked_move (known_by reads.now) c at (node_view pair.now.0) (node_view pair.now.1) in
+        let m =
+        asked_move (known_by reads.now) c at (node_view pair.now.0) (node_view pair.now.1) in
         IfOk result (λ n. n ≡ m.next) }
     ensures cost { let c = choices_view choices.now in
-        let m = asked_move (known_by reads.now) c at (node_view pair.now.0) (node_view pair.now.1) in
+        let m =
+        asked_move (known_by reads.now) c at (node_view pair.now.0) (node_view pair.now.1) in
         OnOk result (paid.new ≡ paid.old + m.cost) }
     ensures ticks { let c = choices_view choices.now in
-        let m = asked_move (known_by reads.now) c at (node_view pair.now.0) (node_view pair.now.1) in
+        let m =
+        asked_move (known_by reads.now) c at (node_view pair.now.0) (node_view pair.now.1) in
         OnOk result (steps.new ≡ steps.old + m.ticks) }
     ensures few { steps.new ≤ steps.old + 5 }
 {

@@ -3,7 +3,9 @@
 ghost use Rattle.std.specs.Prelude.{[], get_or, length, map, ◌+◌, ◌∷◌, ◌++◌, ◌≡◌};
 ghost use Rattle.tcl_compile.specs.TreeView.{node_view, nodes_view};
 ghost use Rattle.tcl_compile.specs.declared.node.Node.{out-Node};
-ghost use Rattle.frame_machine.specs.Children.{child_at, commands_of, parts_of, pieces_of, words_of};
+ghost use Rattle.frame_machine.specs.AtOnce.{is_script, is_script_in};
+ghost use Rattle.frame_machine.specs.Children.{child_at, commands_of, parts_of};
+ghost use Rattle.frame_machine.specs.Children.{pieces_of, words_of};
 ghost use Rattle.frame_machine.specs.Nodes.{both_nodes, children_in, commands_in, pieces_in};
 ghost use Rattle.frame_machine.specs.Nodes.{words_in};
 
@@ -119,7 +121,8 @@ pub(crate) fn child_at(node: &Node, place: usize) -> &Node
 #[tactic(auto, using(crate::proofs::NodeViews::part_view))]
 #[inline(always)]
 pub(crate) fn part_at(word: &Node, part: usize) -> &Node
-    ensures { node_view result.now ≡ get_or (parts_of (node_view word.now)) part (node_view word.now) }
+    ensures { let w = node_view word.now in
+        node_view result.now ≡ get_or (parts_of w) part w }
 {
     nth(parts(word), part, word)
 }
@@ -160,6 +163,22 @@ fn pieces_here(node: &Node) -> &[Node]
         Node::Word(parts) | Node::Element(_, parts) => parts,
         _ => &[],
     }
+}
+
+/// Whether a node is a script.
+#[tactic(auto, using(crate::proofs::FirstViews::is_script_view))]
+#[inline(always)]
+pub(crate) fn is_script(node: &Node) -> bool
+    ensures { result ≡ is_script (node_view node.now) }
+{
+    script_here(node)
+}
+
+#[inline(always)]
+fn script_here(node: &Node) -> bool
+    ensures { result ≡ is_script_in (out-Node node.now) }
+{
+    matches!(node, Node::Script(_))
 }
 
 /// The parts of a quoted operand or of an index.

@@ -55,7 +55,8 @@ fn begin_rows<K: Ledger>(
         let rows = rows_of (drop 1 words.now) in
         let old = tally vars.old budget.old paid.old 0 in
         let new = tally vars.new budget.new paid.new 0 in
-        IfOk result (λ next. Makes (EachEnds level place body rows vars.old budget.old) old next new) }
+        IfOk result (λ next.
+        Makes (EachEnds level place body rows vars.old budget.old) old next new) }
 {
     let lists = copied_behind(turns.alloc, words)?;
     match rows_of(turns.alloc, &lists) {

@@ -24,8 +24,8 @@ pub enum Frame {
         at: usize,
         wanted: bool,
     },
-    /// A node that evaluates words first, in the part of a word: the words before it, and the pieces
-    /// of this one so far.
+    /// A node that evaluates words first, in the part of a word: the words before it, and the
+    /// pieces of this one so far.
     Words {
         word: usize,
         part: usize,
@@ -76,8 +76,8 @@ pub enum Frame {
     Next {
         left: u32,
     },
-    /// A `foreach` in its body, the child of this number: the rows, the number of the next turn, and
-    /// how many turns are left.
+    /// A `foreach` in its body, the child of this number: the rows, the number of the next turn,
+    /// and how many turns are left.
     Each {
         place: usize,
         rows: Vec<Row>,

@@ -12,7 +12,10 @@ use crate::context::Context;
 use crate::frame::{Frame, Mode, Room};
 use crate::gathered::go_gathered;
 use crate::host::Host;
+use crate::loop_turns::{go_next, go_turn};
 use crate::next::Next;
+use crate::node_parts::loop_of;
+use crate::scripts::go_script;
 use crate::stills::go_still;
 use crate::words::word_behind;
 use px_bytes::{M, Steps};
@@ -50,7 +53,7 @@ pub(crate) fn go_on<H: Host, L: Ledger, K: Ledger>(
         ≤ steps.old + owed + 3 * paid.new) }
     ensures grows { OnOk result (paid.old ≤ paid.new) }
     ensures ticks { OnOk result (steps.old ≤ steps.new) }
-    ensures few { steps.new ≤ steps.old + 5 }
+    ensures few { steps.new ≤ steps.old + 9 }
 {
     let (alloc, statics) = (context.alloc, context.statics);
     match frame {
@@ -71,6 +74,26 @@ pub(crate) fn go_on<H: Host, L: Ledger, K: Ledger>(
             }
             code => Ok(Next::stop(code)),
         },
+        Frame::Script { at, .. } => {
+            let went = go_script(
+                alloc, statics, vars, node, at, wanted, code, budget, steps, paid,
+            )?;
+            Ok(went)
+        }
+        Frame::Turn { left } => {
+            let parts = loop_of(node);
+            let went = go_turn(
+                alloc, statics, vars, &parts, left, code, budget, steps, paid,
+            )?;
+            Ok(went)
+        }
+        Frame::Next { left } => {
+            let parts = loop_of(node);
+            let went = go_next(
+                alloc, statics, vars, &parts, left, code, budget, steps, paid,
+            )?;
+            Ok(went)
+        }
         frame => {
             let went = go_still(
                 alloc, statics, vars, node, frame, code, wanted, budget, steps, paid,

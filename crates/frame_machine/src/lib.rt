@@ -17,6 +17,7 @@ mod hear;
 mod host;
 mod laws;
 mod leafs;
+mod loop_turns;
 mod loops;
 mod machine;
 mod next;

@@ -4,7 +4,7 @@ ghost use Rattle.std.specs.Prelude.{IfOk, ◌≡◌, ◌+◌, ◌≤◌};
 ghost use Rattle.tcl_compile.specs.TreeView.{node_view};
 ghost use Rattle.frame_machine.specs.LoopParts.{parts_view};
 ghost use Rattle.frame_machine.specs.Loops.{above, loop_move, next_move, next_told, start_told};
-ghost use Rattle.frame_machine.specs.Loops.{test_move, test_told, turn_move, turn_told};
+ghost use Rattle.frame_machine.specs.Loops.{test_move, test_told, turn_move};
 ghost use Rattle.frame_machine.specs.Reads.{known_by};
 ghost use Rattle.frame_machine.specs.Stills.{Spends};
 
@@ -16,7 +16,7 @@ use crate::quick::quick;
 use crate::reads::Reads;
 use px_bytes::{M, Memory, Raise, Steps, TclFault, Text};
 use rule_model::Code;
-use rule_steps::{Goes, after_body, after_next, truth_of};
+use rule_steps::{Goes, after_next, truth_of};
 use std::sync::ledger::Ledger;
 use tcl_compile::Node;
 
@@ -85,9 +85,9 @@ pub(crate) fn go_start<L: Ledger, K: Ledger>(
     }
 }
 
-// A loop's test begins, with so many turns left.
+/// A loop's test begins, with so many turns left.
 #[inline(always)]
-fn test<L: Ledger, K: Ledger>(
+pub(crate) fn test<L: Ledger, K: Ledger>(
     reads: &Reads<'_>,
     parts: &Loop<'_>,
     left: u32,
@@ -117,7 +117,8 @@ pub(crate) fn go_test<L: Ledger, K: Ledger>(
     steps: &mut Steps<L>,
     paid: &mut Steps<K>,
 ) -> M<Next>
-    ensures did { let m = test_told (known_by reads.now) (node_view body.now) left budget.old code in
+    ensures did { let m =
+        test_told (known_by reads.now) (node_view body.now) left budget.old code in
         IfOk result (λ n. Spends m paid.old steps.old n budget.new paid.new steps.new) }
     ensures few { steps.new ≤ steps.old }
 {
@@ -142,7 +143,8 @@ fn turn<L: Ledger, K: Ledger>(
     steps: &mut Steps<L>,
     paid: &mut Steps<K>,
 ) -> M<Next>
-    ensures did { let m = turn_move (known_by reads.now) (node_view body.now) left budget.old holds in
+    ensures did { let m =
+        turn_move (known_by reads.now) (node_view body.now) left budget.old holds in
         IfOk result (λ n. Spends m paid.old steps.old n budget.new paid.new steps.new) }
     ensures few { steps.new ≤ steps.old }
 {
@@ -158,31 +160,8 @@ fn turn<L: Ledger, K: Ledger>(
     above(reads, body, Frame::Turn { left: left - 1 })
 }
 
-/// A loop goes on behind its body, with so many turns left.
-#[inline(always)]
-pub(crate) fn go_turn<L: Ledger, K: Ledger>(
-    reads: &Reads<'_>,
-    parts: &Loop<'_>,
-    left: u32,
-    code: Code,
-    budget: &mut u32,
-    steps: &mut Steps<L>,
-    paid: &mut Steps<K>,
-) -> M<Next>
-    ensures did { let m = turn_told (known_by reads.now) (parts_view parts.now) left budget.old code in
-        IfOk result (λ n. Spends m paid.old steps.old n budget.new paid.new steps.new) }
-    ensures few { steps.new ≤ steps.old + 5 }
-{
-    match after_body(&code) {
-        Goes::On => next(reads, parts, left, budget, steps, paid),
-        Goes::Over => Ok(Next::stop(Code::Value(Text::empty(reads.alloc)))),
-        Goes::Ends => Ok(Next::stop(code)),
-    }
-}
-
-// What comes after a turn begins; where it is empty, the test.
-#[inline(always)]
-fn next<L: Ledger, K: Ledger>(
+/// What comes after a turn begins; where it has its end at once, the test.
+pub(crate) fn next<L: Ledger, K: Ledger>(
     reads: &Reads<'_>,
     parts: &Loop<'_>,
     left: u32,
@@ -198,12 +177,11 @@ fn next<L: Ledger, K: Ledger>(
         return Ok(Next::child(Frame::Next { left }));
     }
     let code = leaf_code(reads.alloc, reads.statics, reads.vars, parts.next)?;
-    go_next(reads, parts, left, code, budget, steps, paid)
+    behind_next(reads, parts, left, code, budget, steps, paid)
 }
 
-/// A loop goes on behind what comes after a turn, with so many turns left.
-#[inline(always)]
-pub(crate) fn go_next<L: Ledger, K: Ledger>(
+// A loop goes on behind what comes after a turn and had its end at once.
+fn behind_next<L: Ledger, K: Ledger>(
     reads: &Reads<'_>,
     parts: &Loop<'_>,
     left: u32,
@@ -212,7 +190,8 @@ pub(crate) fn go_next<L: Ledger, K: Ledger>(
     steps: &mut Steps<L>,
     paid: &mut Steps<K>,
 ) -> M<Next>
-    ensures did { let m = next_told (known_by reads.now) (parts_view parts.now) left budget.old code in
+    ensures did { let m =
+        next_told (known_by reads.now) (parts_view parts.now) left budget.old code in
         IfOk result (λ n. Spends m paid.old steps.old n budget.new paid.new steps.new) }
     ensures few { steps.new ≤ steps.old + 5 }
 {

@@ -17,8 +17,8 @@ use std::sync::ledger::Ledger;
 use tcl_compile::Node;
 use tcl_expr::Joint;
 
-/// The code that an expression ends with, where it does so at once: what has nothing inside, and a row
-/// of few operators on such operands.
+/// The code that an expression ends with, where it does so at once: what has nothing inside, and a
+/// row of few operators on such operands.
 #[inline(always)]
 pub(crate) fn quick<L: Ledger, K: Ledger>(
     reads: &Reads<'_>,

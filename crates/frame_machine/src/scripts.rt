@@ -1,9 +1,14 @@
 // The moves of a script.
 
-ghost use Rattle.std.specs.Prelude.{IfOk, OnOk, length, option_map, ◌+◌, ◌≡◌};
+ghost use Rattle.std.specs.Prelude.{IfOk, List, OnOk, false, length, option_map};
+ghost use Rattle.std.specs.Prelude.{ℕ, ◌+◌, ◌≡◌, ◌≤◌};
 ghost use Rattle.tcl_compile.specs.TreeView.{node_view};
 ghost use Rattle.frame_machine.specs.Children.{commands_of};
-ghost use Rattle.frame_machine.specs.Scripts.{child_next, script_from, script_goes};
+ghost use Rattle.frame_machine.specs.Moves.{stop};
+ghost use Rattle.frame_machine.specs.Scripts.{child_next, script_from};
+ghost use Rattle.frame_machine.specs.AtOnce.{GoesFrom, is_value, unheard};
+ghost use Rattle.frame_machine.specs.Stills.{Leads, Makes, changes, tally};
+ghost use Rattle.rule_model.specs.declared.code.Code.TheVariants.{Value};
 
 use crate::children::{child_at, commands};
 use crate::frame::Frame;
@@ -11,6 +16,7 @@ use crate::leafs::{is_leaf, leaf_code};
 use crate::next::Next;
 use px_bytes::{M, Steps, TclFault, Text};
 use rule_model::Code;
+use rule_steps::commands_at_once;
 use std::alloc::Global;
 use std::sync::ledger::Ledger;
 use tcl_compile::Node;
@@ -44,9 +50,67 @@ fn count(node: &Node) -> usize
     commands(node).len()
 }
 
-/// A script from its command of this number on, behind the last value.
+/// As many commands as one move does at once.
+const MOST_COMMANDS: usize = 4;
+
+/// A script from its command of this number on, behind the last value. Commands that are done at
+/// once are done in this move, up to four of them; the last only where its value isn't heard.
+pub(crate) fn script_from<L: Ledger, K: Ledger>(
+    alloc: Global,
+    statics: Option<&Vars>,
+    vars: &mut Vars,
+    node: &Node,
+    at: usize,
+    last: Text,
+    wanted: bool,
+    budget: &mut u32,
+    steps: &mut Steps<L>,
+    paid: &mut Steps<K>,
+) -> M<Next>
+    ensures did { let level = option_map (λ v. v.now.statics) statics.entry in
+        let t = node_view node.now in
+        let a = tally vars.old budget.old paid.old steps.old in
+        let b = tally vars.new budget.new paid.new steps.new in
+        IfOk result (λ n. Makes (GoesFrom level t at last wanted vars.old budget.old) a n b) }
+    ensures few { steps.new ≤ steps.old + 4 }
+{
+    let count = count(node);
+    let most = at.saturating_add(MOST_COMMANDS);
+    let end = unheard(count, wanted).min(most);
+    let all = commands(node);
+    let reached = commands_at_once(statics, vars, all, at, end, budget, paid);
+    if reached <= at {
+        let next = command_at(alloc, statics, vars, node, at, last, wanted, budget, paid)?;
+        return Ok(next);
+    }
+    steps.add((reached - at) as u64);
+    if reached < most || reached == count {
+        let next = command_at(
+            alloc, statics, vars, node, reached, last, wanted, budget, paid,
+        )?;
+        return Ok(next);
+    }
+    let frame = Frame::Script {
+        at: reached - 1,
+        wanted: false,
+    };
+    Ok(Next::back(frame, Code::Value(last)))
+}
+
+// How many commands of a script have values that nothing hears.
+fn unheard(count: usize, wanted: bool) -> usize
+    ensures { result ≡ unheard count wanted }
+{
+    if wanted {
+        count.saturating_sub(1)
+    } else {
+        count
+    }
+}
+
+// The command of this number of a script, or its end.
 #[inline(always)]
-pub(crate) fn script_from<K: Ledger>(
+fn command_at<K: Ledger>(
     alloc: Global,
     statics: Option<&Vars>,
     vars: &Vars,
@@ -83,26 +147,31 @@ pub(crate) fn script_from<K: Ledger>(
 
 /// A script goes on behind its command of this number.
 #[inline(always)]
-pub(crate) fn go_script<K: Ledger>(
+pub(crate) fn go_script<L: Ledger, K: Ledger>(
     alloc: Global,
     statics: Option<&Vars>,
-    vars: &Vars,
+    vars: &mut Vars,
     node: &Node,
     at: usize,
     wanted: bool,
     code: Code,
     budget: &mut u32,
+    steps: &mut Steps<L>,
     paid: &mut Steps<K>,
 ) -> M<Next>
-    ensures next { let level = option_map (λ v. v.now.statics) statics.entry in
-        let s = script_goes level vars.now (node_view node.now) at wanted budget.old code in
-        IfOk result (λ n. n ≡ s.move.next) }
-    ensures budget { let level = option_map (λ v. v.now.statics) statics.entry in
-        let s = script_goes level vars.now (node_view node.now) at wanted budget.old code in
-        OnOk result (budget.new ≡ s.budget) }
-    ensures cost { let level = option_map (λ v. v.now.statics) statics.entry in
-        let s = script_goes level vars.now (node_view node.now) at wanted budget.old code in
-        OnOk result (paid.new ≡ paid.old + s.move.cost) }
+    ensures goes { let level = option_map (λ v. v.now.statics) statics.entry in
+        let t = node_view node.now in
+        let a = tally vars.old budget.old paid.old steps.old in
+        let b = tally vars.new budget.new paid.new steps.new in
+        (v : List ℕ) → code ≡ Value v
+        → IfOk result (λ n. Makes (GoesFrom level t (at + 1) v wanted vars.old budget.old) a n b) }
+    ensures stops { let level = option_map (λ v. v.now.statics) statics.entry in
+        let t = node_view node.now in
+        let a = tally vars.old budget.old paid.old steps.old in
+        let b = tally vars.new budget.new paid.new steps.new in
+        is_value code ≡ false → IfOk result (λ n. Leads (changes budget.old vars.old (stop code)) a
+        n b) }
+    ensures few { steps.new ≤ steps.old + 4 }
 {
     match code {
         Code::Value(value) => {
@@ -118,6 +187,7 @@ pub(crate) fn go_script<K: Ledger>(
                 value,
                 wanted,
                 budget,
+                steps,
                 paid,
             )
         }

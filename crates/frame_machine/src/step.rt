@@ -1,6 +1,7 @@
 // One step of a body.
 
-ghost use Rattle.std.specs.Prelude.{IfOk, List, OnOk, option_map, ◌+◌, ◌-◌, ◌*◌, ◌++◌, ◌<◌, ◌≡◌, ◌≤◌};
+ghost use Rattle.std.specs.Prelude.{IfOk, List, OnOk, option_map, ◌+◌, ◌-◌};
+ghost use Rattle.std.specs.Prelude.{◌*◌, ◌++◌, ◌<◌, ◌≡◌, ◌≤◌};
 ghost use Rattle.tcl_compile.specs.Procedures.{procs_view};
 ghost use Rattle.tcl_compile.specs.TreeView.{node_view};
 ghost use Rattle.rule_model.specs.Host.{Effect};
@@ -88,8 +89,8 @@ impl Machine {
         mem::forget(mem::replace(&mut self.at.mode, mode));
     }
 
-    /// One move, with what it costs. The node above the frames that stay is found from a place on the
-    /// way to it.
+    /// One move, with what it costs. The node above the frames that stay is found from a place on
+    /// the way to it.
     #[inline(always)]
     fn step_with<H: Host, L: Ledger, K: Ledger>(
         &mut self,
@@ -121,7 +122,7 @@ impl Machine {
             OnOk result (Heavy procedures t self.old.at.frames.items self.old.at.mode
             → steps.new + owed self.new.at + 3 * paid.old ≤ most) }
         ensures ticks { OnOk result (steps.old < steps.new) }
-        ensures few { steps.new ≤ steps.old + 6 }
+        ensures few { steps.new ≤ steps.old + 10 }
         ensures grown { let fs = staying self.old.at.mode self.old.at.frames.items in
             OnOk result (Grown fs self.new.at.frames.items) }
     {
@@ -183,7 +184,7 @@ impl Machine {
             let ticks = steps.new - steps.old in
             IfOk result (λ turn. Went g t old new turn made ticks) }
         ensures ticks { OnOk result (steps.old < steps.new) }
-        ensures few { steps.new ≤ steps.old + 6 }
+        ensures few { steps.new ≤ steps.old + 10 }
         ensures grown { let fs = staying self.old.at.mode self.old.at.frames.items in
             OnOk result (Grown fs self.new.at.frames.items) }
     {

@@ -10,13 +10,12 @@ use crate::calls::go_called;
 use crate::catches::{begin_catch, go_caught, go_caught_in};
 use crate::children::child_at;
 use crate::frame::Frame;
-use crate::loops::{begin_loop, go_next, go_start, go_test, go_turn};
+use crate::loops::{begin_loop, go_start, go_test};
 use crate::next::Next;
 use crate::node_parts::{choices_of, joints_of, loop_of, operators_of};
 use crate::prefixes::{begin_expr, begin_prefixed, go_operand, go_whole};
 use crate::reads::Reads;
 use crate::rows::{begin_row, go_left, go_right};
-use crate::scripts::{go_script, script_from};
 use crate::turns::{Count, Turns, go_each};
 use crate::word_moves::{begin_pieces, go_pieces};
 use px_bytes::{M, Steps, Text};
@@ -58,10 +57,6 @@ pub(crate) fn begin_still<L: Ledger, K: Ledger>(
         vars,
     };
     match node {
-        Node::Script(_) => {
-            let text = Text::empty(alloc);
-            script_from(alloc, statics, vars, node, 0, text, wanted, budget, paid)
-        }
         Node::Word(_) | Node::Element(_, _) => begin_pieces(alloc, statics, vars, node, paid),
         Node::Expr(expression) => begin_expr(&reads, expression, steps, paid),
         Node::If(_, _) | Node::Choice(_, _) => {
@@ -71,10 +66,10 @@ pub(crate) fn begin_still<L: Ledger, K: Ledger>(
         Node::Catch(body) => begin_catch(&reads, body, paid),
         Node::Prefixed(ops, operand) => begin_prefixed(&reads, ops, operand, steps, paid),
         Node::Row(first, _) => begin_row(&reads, first, joints_of(node), steps, paid),
-        Node::Plain(_) | Node::Variable(_) | Node::Command(_, _) | Node::NextBody => {
+        Node::Plain(_) | Node::Variable(_) | Node::Command(_, _) | Node::Script(_) => {
             Ok(Next::stop(Code::Value(Text::empty(alloc))))
         }
-        Node::Foreach { .. } | Node::Switch { .. } | Node::CatchIn { .. } => {
+        Node::Foreach { .. } | Node::Switch { .. } | Node::CatchIn { .. } | Node::NextBody => {
             Ok(Next::stop(Code::Value(Text::empty(alloc))))
         }
     }
@@ -152,13 +147,17 @@ fn go_reading<L: Ledger, K: Ledger>(
     steps: &mut Steps<L>,
     paid: &mut Steps<K>,
 ) -> M<Next>
-    ensures next { let s = reading_goes (known_by reads.now) (node_view node.now) frame code wanted budget.old in
+    ensures next { let s =
+        reading_goes (known_by reads.now) (node_view node.now) frame code wanted budget.old in
         IfOk result (λ n. n ≡ s.move.next) }
-    ensures budget { let s = reading_goes (known_by reads.now) (node_view node.now) frame code wanted budget.old in
+    ensures budget { let s =
+        reading_goes (known_by reads.now) (node_view node.now) frame code wanted budget.old in
         OnOk result (budget.new ≡ s.budget) }
-    ensures cost { let s = reading_goes (known_by reads.now) (node_view node.now) frame code wanted budget.old in
+    ensures cost { let s =
+        reading_goes (known_by reads.now) (node_view node.now) frame code wanted budget.old in
         OnOk result (paid.new ≡ paid.old + s.move.cost) }
-    ensures ticks { let s = reading_goes (known_by reads.now) (node_view node.now) frame code wanted budget.old in
+    ensures ticks { let s =
+        reading_goes (known_by reads.now) (node_view node.now) frame code wanted budget.old in
         OnOk result (steps.new ≡ steps.old + s.move.ticks) }
     ensures few { steps.new ≤ steps.old + 5 }
 {
@@ -168,9 +167,6 @@ fn go_reading<L: Ledger, K: Ledger>(
         vars,
     } = *reads;
     match frame {
-        Frame::Script { at, .. } => {
-            go_script(alloc, statics, vars, node, at, wanted, code, budget, paid)
-        }
         Frame::Pieces { part, text } => {
             go_pieces(alloc, statics, vars, node, part, text, code, paid)
         }
@@ -188,8 +184,6 @@ fn go_reading<L: Ledger, K: Ledger>(
         Frame::Test { left } => {
             go_test(reads, child_at(node, 3), left, code, budget, steps, paid)
         }
-        Frame::Turn { left } => go_turn(reads, &loop_of(node), left, code, budget, steps, paid),
-        Frame::Next { left } => go_next(reads, &loop_of(node), left, code, budget, steps, paid),
         Frame::Caught => go_caught(alloc, code),
         Frame::Whole | Frame::Read { .. } => go_whole(alloc, code),
         _ => Ok(Next::stop(code)),

@@ -1,6 +1,7 @@
 // The words of a command that are evaluated.
 
-ghost use Rattle.std.specs.Prelude.{IfOk, [], length, not, nat_lt, sum_by, true, ◌∷◌, ◌++◌, ◌≡◌, ◌≤◌};
+ghost use Rattle.std.specs.Prelude.{IfOk, [], length, not, nat_lt, sum_by};
+ghost use Rattle.std.specs.Prelude.{true, ◌∷◌, ◌++◌, ◌≡◌, ◌≤◌};
 ghost use Rattle.px_bytes.specs.Limit.{text_limit};
 
 use px_bytes::{M, TEXT_LIMIT, Text, Texts};

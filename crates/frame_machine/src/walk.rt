@@ -13,8 +13,8 @@ use std::alloc::Global;
 use tcl_compile::{Node, Procs};
 
 /// The nodes on which a body stands, from its root on, up to the first that runs an expression that
-/// was read when it ran. It is made once and follows a machine, so that a step finds its node without
-/// a way from the root.
+/// was read when it ran. It is made once and follows a machine, so that a step finds its node
+/// without a way from the root.
 #[derive(Drop)]
 pub struct Walk<'a> {
     pub(crate) below: Vec<Place<'a>>,
