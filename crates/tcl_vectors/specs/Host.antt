@@ -1,7 +1,7 @@
 -- A host without commands of its own.
 use Rattle.std.specs.Prelude.{ℕ, List, [], ◌∷◌}
 use Rattle.px_bytes.specs.FaultText.{no_command}
-use Rattle.rule_model.specs.Host.{HostStep, Faults, Asks}
+use Rattle.rule_model.specs.Host.{HostStep, Faults}
 
 -- the first word, which is empty where there is none
 abbrev pub name_of : List (List ℕ) → List ℕ
@@ -10,7 +10,3 @@ name_of (name ∷ words) = name
 
 abbrev pub no_commands : {E H : Type 0} → E → H → List (List ℕ) → HostStep H
 no_commands env host words = Faults (no_command (name_of words)) host []
-
--- a host whose commands are all shared calls
-abbrev pub asks_always : {E H : Type 0} → E → H → List (List ℕ) → HostStep H
-asks_always env host words = Asks words host

@@ -14,8 +14,6 @@ mod operators;
 mod question;
 mod rules;
 mod script;
-#[cfg(test)]
-mod tests;
 mod variables;
 mod words;
 mod write;

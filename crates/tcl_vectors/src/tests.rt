@@ -1,4 +1,0 @@
-// What no question reaches.
-
-mod bodies;
-mod lengths;
