@@ -43,8 +43,8 @@ impl Lingering {
         self.held.is_empty()
     }
 
-    /// Keeps the stream of a link from this moment on, where there is room. The system reports it by
-    /// the link's number still, each time that something comes anew.
+    /// Keeps the stream of a link from this moment on, where there is room. The system reports it
+    /// by the link's number still, each time that something comes anew.
     pub(crate) fn keep(&mut self, number: u32, stream: TcpStream, reported: bool, now: u64) {
         if self.held.len() >= MOST || stream.shutdown(Shutdown::Write).is_err() {
             return;

@@ -24,7 +24,8 @@ pub(crate) struct Link {
     both: bool,
     // the end was read, or the link failed
     over: bool,
-    // Nagle's algorithm is on: what is written while small pieces aren't acknowledged yet would wait
+    // Nagle's algorithm is on: what is written while small pieces aren't acknowledged yet would
+    // wait
     delays: bool,
     // something was written
     wrote: bool,

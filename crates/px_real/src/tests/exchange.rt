@@ -1,5 +1,6 @@
 use super::side::Tried;
 use px_outside::{Net, ReadAnswer, WriteAnswer};
+use std::process::Abort;
 use std::test::Fail;
 
 /// How many bytes go each way: more than the system holds, so that writes are short.
@@ -60,20 +61,32 @@ fn exchanges_bytes_both_ways(rt: HostRuntime) -> Result<(), Fail> {
     for place in 0..LENGTH {
         bytes.push((place % 251) as u8)?;
     }
-    let mut room = [0u8; 16_000];
     let (mut there, mut back) = (unsent(near, far), unsent(far, near));
+    exchange(&rt, &mut tried, &mut there, &mut back, &bytes)?;
+    assert_eq!(rt; there.came, LENGTH);
+    assert_eq!(rt; back.came, LENGTH);
+    assert!(rt; there.short && back.short, "no write was short");
+    Ok(())
+}
+
+// Sends the same bytes both ways until they have come.
+fn exchange(
+    rt: &impl Abort,
+    tried: &mut Tried,
+    there: &mut Way,
+    back: &mut Way,
+    bytes: &[u8],
+) -> Result<(), Fail> {
+    let mut room = [0u8; 16_000];
     for _ in 0..2_000 {
-        send(&mut tried, &mut there, &bytes);
-        send(&mut tried, &mut back, &bytes);
-        assert!(rt; hear(&mut tried, &mut there, &bytes, &mut room));
-        assert!(rt; hear(&mut tried, &mut back, &bytes, &mut room));
+        send(tried, there, bytes);
+        send(tried, back, bytes);
+        assert!(*rt; hear(tried, there, bytes, &mut room));
+        assert!(*rt; hear(tried, back, bytes, &mut room));
         if there.came == LENGTH && back.came == LENGTH {
             break;
         }
         tried.wait()?;
     }
-    assert_eq!(rt; there.came, LENGTH);
-    assert_eq!(rt; back.came, LENGTH);
-    assert!(rt; there.short && back.short, "no write was short");
     Ok(())
 }
