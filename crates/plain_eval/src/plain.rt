@@ -58,7 +58,7 @@ pub type Replies = Seq<Reply>;
 const INNER_LIMIT: usize = 100;
 
 /// The most trees inside one another that the stack has room for.
-const LEVELS: usize = 40_000;
+const LEVELS: usize = 11_000;
 
 /// What a tree comes to, from its beginning, on these replies. `statics` are the static variables
 /// where they are only read; with `None` they are those of `vars`. After want of memory `vars` and
