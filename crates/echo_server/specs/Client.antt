@@ -1,5 +1,6 @@
 -- What a client of the echo's own sends, and what its links came to.
-use Rattle.std.specs.Prelude.{◌≡◌, ℕ, ◌+◌, ◌-◌, ◌^◌, ◌%◌, ◌<◌, List, [], ◌∷◌, ◌++◌, length, false, min, Ok, Some, slice_get}
+use Rattle.std.specs.Prelude.{◌≡◌, ℕ, ◌+◌, ◌-◌, ◌^◌, ◌%◌, ◌<◌, List, [], ◌∷◌, ◌++◌, length, false}
+use Rattle.std.specs.Prelude.{min, Ok, Some, slice_get}
 use Rattle.px_outside.specs.Net.{Call, Connect}
 use Rattle.px_bytes.specs.declared.addr.Addr.{Addr}
 use Rattle.echo_server.specs.declared.own.Own.{Own}

@@ -1,5 +1,6 @@
 -- What an echo owes each link: what was read of it and not taken by it yet.
-use Rattle.std.specs.Prelude.{◌≡◌, ℕ, ◌+◌, ◌-◌, ◌^◌, List, [], ◌∷◌, ◌++◌, drop, min, Ok, option_map, unwrap_or, nat_eq, if◌then◌else◌}
+use Rattle.std.specs.Prelude.{◌≡◌, ℕ, ◌+◌, ◌-◌, ◌^◌, List, [], ◌∷◌, ◌++◌, drop, min, Ok, option_map}
+use Rattle.std.specs.Prelude.{unwrap_or, nat_eq, if◌then◌else◌}
 use Rattle.std.specs.HashMap.{get}
 use Rattle.px_outside.specs.Net.{Call, Accept, Read, Write, Close, Chain}
 use Rattle.px_outside.specs.declared.answers.Accepted.TheVariants as accepted
@@ -54,8 +55,8 @@ closed_by (call ∷ calls) n = closed_by calls (closed_after call n)
 abbrev pub owed_in : Echo → ℕ → List ℕ
 owed_in e link = unwrap_or (option_map (λ v. v.items) (get nat_eq e.rests link)) []
 
--- These calls were made on the net. Each write was of all that was owed to its link then, and what is
--- kept for a link in the end is what is owed to it; accepts and closes are counted.
+-- These calls were made on the net. Each write was of all that was owed to its link then, and what
+-- is kept for a link in the end is what is owed to it; accepts and closes are counted.
 pub record Gives {S : Type 0} (did : S → Call → S → Type 0) (old new : Echo) (net net' : S)
     : Type 0 where
   pub calls : List Call

@@ -1,6 +1,7 @@
 // A link gets back what comes on it.
 
-ghost use Rattle.std.specs.Prelude.{◌≡◌, ◌≤◌, ℕ, [], None, drop, take, true, false, IfOk, IfSome, OnOk, vec_len};
+ghost use Rattle.std.specs.Prelude.{◌≡◌, ◌≤◌, ℕ, [], None, drop, take, true, false, IfOk, IfSome};
+ghost use Rattle.std.specs.Prelude.{OnOk, vec_len};
 ghost use Rattle.px_outside.specs.Net.{Close, Write};
 ghost use Rattle.echo_server.specs.Owed.{Gives, one_up, owed_in, with_owed};
 
@@ -65,7 +66,8 @@ impl Echo {
         true
     }
 
-    // Keeps what was not taken of the bytes in the room, where nothing is kept yet. Whether any were not.
+    // Keeps what was not taken of the bytes in the room, where nothing is kept yet. Whether any
+    // were not.
     fn keep(&mut self, link: u32, from: usize, to: usize) -> M<bool>
         requires nothing_owed { owed_in self.old link ≡ [] }
         requires order { from ≤ to }
@@ -102,7 +104,8 @@ impl Echo {
     // Writes what is kept, if anything is.
     fn write_kept<N: Net>(&self, net: &mut N, link: u32) -> Option<WriteAnswer>
         ensures none { result ≡ None → (owed_in self.now link ≡ []) × (net.new ≡ net.old) }
-        ensures written { IfSome result (λ answer. N.did net.old (Write link (owed_in self.now link) answer) net.new) }
+        ensures written { IfSome result
+            (λ answer. N.did net.old (Write link (owed_in self.now link) answer) net.new) }
     {
         match self.rests.get(&link) {
             Some(rest) if !rest.is_empty() => Some(net.write(link, rest)),

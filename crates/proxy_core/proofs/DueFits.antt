@@ -1,9 +1,10 @@
 -- The client's end is open from its accept on, until it is closed; and notes that are due fit where the ends stand.
-use Rattle.std.proofs.Common.{◌≡◌, ◌⊎◌, inl, inr, refl, sym, ap, ◌∙◌, ℕ, List, [], ◌∷◌, ◌++◌, Bool, true, false, ◌&&◌, nat_eq, if◌then◌else◌}
+use Rattle.std.proofs.Common.{◌≡◌, ◌⊎◌, inl, inr, refl, sym, ap, ◌∙◌, ℕ, List, [], ◌∷◌, ◌++◌, Bool, true, false, ◌&&◌, not, nat_eq, if◌then◌else◌}
 use Rattle.std.specs.Prelude.{is_some}
-use Rattle.std.proofs.lemmas.Bool.{and_parts}
+use Rattle.std.proofs.lemmas.Bool.{and_from, and_parts}
 use Rattle.px_bytes.specs.declared.addr.Side.{Side}
 use Rattle.px_bytes.specs.declared.addr.Side.TheVariants.{Client, Server}
+use Rattle.connection_model.specs.declared.edges.Edge.{Edge}
 use Rattle.connection_model.specs.declared.edges.Edges.{Edges}
 use Rattle.connection_model.specs.declared.edges.EdgeState.{EdgeState}
 use Rattle.connection_model.specs.declared.edges.EdgeState.TheVariants as state
@@ -107,6 +108,12 @@ fit_closing c e d = fit_joined (close_notes c true true e) (note.Ended c d ∷ [
 abbrev pub HalvesThere : TakenCounts → TraceState → Edges → Type 0
 HalvesThere took at e = (side : Side) → half_close_due at took side ≡ true → is_used (edge_of side e).state ≡ true
 
+-- what is to be half closed is there, and wasn't told
+half_fits : (due : Bool) (was now : Edge) → (due ≡ true → is_used was.state ≡ true) → now ≡ was → (due && not was.half) ≡ true → (is_used now.state && not now.half) ≡ true
+half_fits due was now there same b =
+    let parts = and_parts due (not was.half) b in
+    ap (λ y. is_used y.state && not y.half) same ∙ and_from (is_used was.state) (not was.half) (there parts.0) parts.1
+
 fit_resting : (g : Setup) (took : TakenCounts) (at : TraceState) (c : ℕ) (e : Edges) (d : ℕ) → HalvesThere took at e → Fit (resting g took at c e d) e
 fit_resting g took at c e d k =
     let one = half_close took at c e Client in
@@ -115,12 +122,13 @@ fit_resting g took at c e d k =
     let x = edges_noted one e in
     let x_is : x ≡ both (halved (is_due took at e Client) e.client) e.server = half_client (is_due took at e Client) c e in
     let y_is : edges_noted two x ≡ both x.client (halved (is_due took at e Server) x.server) = half_server (is_due took at e Server) c x in
+    let x_whole : x.server ≡ e.server = ap (λ z. z.server) x_is in
     let x_server : x.server.state ≡ e.server.state = ap (λ z. z.server.state) x_is in
     let x_client : x.client.state ≡ e.client.state = ap (λ z. z.client.state) x_is ∙ half_state (is_due took at e Client) e.client in
     let y_server : (edges_noted two x).server.state ≡ e.server.state = ap (λ z. z.server.state) y_is ∙ half_state (is_due took at e Server) x.server ∙ x_server in
     let y_client : (edges_noted two x).client.state ≡ e.client.state = ap (λ z. z.client.state) y_is ∙ x_client in
-    fit_joined one (two ++ last) e (fit_if (is_due took at e Client) (note.HalfClose c Client) e (λ b. k Client (and_parts (half_close_due at took Client) _ b).0))
-    (fit_joined two last x (fit_if (is_due took at e Server) (note.HalfClose c Server) x (λ b. ap is_used x_server ∙ k Server (and_parts (half_close_due at took Server) _ b).0))
+    fit_joined one (two ++ last) e (fit_if (is_due took at e Client) (note.HalfClose c Client) e (half_fits (half_close_due at took Client) e.client e.client (k Client) refl))
+    (fit_joined two last x (fit_if (is_due took at e Server) (note.HalfClose c Server) x (half_fits (half_close_due at took Server) e.server x.server (k Server) x_whole))
     (fit_settling (is_over (next_item g at)) c e (edges_noted two x) (took_all at took Server) (took_all at took Client) d y_server y_client))
 
 pub fit_behind : (t : ConnTurn) (g : Setup) (took : TakenCounts) (at : TraceState) (c : ℕ) (e : Edges) (d : ℕ) → HalvesThere took at e → Fit (told_behind t g took at c e d) e

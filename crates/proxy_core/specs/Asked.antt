@@ -51,8 +51,8 @@ abbrev pub left_of : Option ℕ → List ℕ → List ℕ
 left_of None bytes = []
 left_of (Some n) bytes = drop n bytes
 
--- The bytes that are pending to a side: those that were sent to it and not taken. To the server's, of
--- its present connection.
+-- The bytes that are pending to a side: those that were sent to it and not taken. To the server's,
+-- of its present connection.
 abbrev pub queue_at : Heard → List Item → Side → List ℕ
 queue_at h place Client = left_of (taken h).client (client_output place)
 queue_at h place Server =

@@ -15,9 +15,9 @@ use Rattle.proxy_core.specs.declared.config.Config.{Config}
 abbrev pub lying : Side → TraceState → ℕ
 lying side at = length (unread_at (arriving side at)) - counted_held side at
 
--- Of a side no more than 65,536 bytes lie unread, and fewer than 2,400,000 are pending to it: 65,535
--- at a gate, and behind it at most 1,114,112 of the bodies of one event (`TCP::respond`), 1,048,576
--- that they release, or those of one pass.
+-- Of a side no more than 65,536 bytes lie unread, and fewer than 2,400,000 are pending to it:
+-- 65,535 at a gate, and behind it at most 1,114,112 of the bodies of one event (`TCP::respond`),
+-- 1,048,576 that they release, or those of one pass.
 pub record BytesBounded (C : Config) (past : Past) (s : State) (c : ℕ) (side : Side) : Type 0 where
   pub unread_is_bounded : lying side (stand_of C (heard c past) (s.places c)) ≤ unread_limit
   pub pending_is_bounded : pending past s c side < pending_limit

@@ -61,13 +61,19 @@ pub record Accepts (old new : Core) (number : ℕ) (vs : List ℕ) (from : Addr)
   pub conn : Option Conn
   pub begins : BeginsAt old.statics.statics old.places old.config number place from conn group
   pub live : new.live.items ≡ old.live.items
-      ++ record { number = number; vs = place; from = from; conn = conn; edges = accepted_edges } ∷ []
+      ++ record {
+        number = number;
+        vs = place;
+        from = from;
+        conn = conn;
+        edges = accepted_edges;
+      } ∷ []
   pub ring : new.live.ring ≡ old.live.ring ++ number ∷ []
   pub queue : new.queue.items ≡ old.queue.items
   pub store : new.store ≡ old.store
 
--- The connection at a place goes on, and waits on for a reply or is ready; one that waited and doesn't
--- any more leaves the queue of calls. Or it is over, and gone from the ring too.
+-- The connection at a place goes on, and waits on for a reply or is ready; one that waited and
+-- doesn't any more leaves the queue of calls. Or it is over, and gone from the ring too.
 pub record Stays (old new : Core) (at : ℕ) (before after : Live) : Type 0 where
   pub live : new.live.items ≡ slice_set old.live.items at after
   pub ring : new.live.ring ≡ woken (asks_in after.conn) after.number old.live.ring
@@ -100,10 +106,10 @@ pub record ComesOf (old new : Core) (number : ℕ) (input : Input) (group : List
   pub goes_on : over ≡ false → Stays old new at before after
   pub ends : over ≡ true → Goes old new at before
 
--- The front of the ring runs, and leaves the ring, or goes to its back where there is more to do. It
--- goes on with its new state, or is over. It stops in the middle only behind so many steps or notes, and
--- counts 2,000 steps at most. Where it stops at a call that goes to the back of the calls, which are fewer
--- than connections may be.
+-- The front of the ring runs, and leaves the ring, or goes to its back where there is more to do.
+-- It goes on with its new state, or is over. It stops in the middle only behind so many steps or
+-- notes, and counts 2,000 steps at most. Where it stops at a call that goes to the back of the
+-- calls, which are fewer than connections may be.
 pub record RunsFront (old new : Core) (number : ℕ) (rest : List ℕ) (group : List Note)
     (steps : ℕ) : Type 0 where
   pub keeps : KeepsConfig old new

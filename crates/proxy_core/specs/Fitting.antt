@@ -1,5 +1,5 @@
 -- The notes of an event fit where the ends of their connection stand.
-use Rattle.std.specs.Prelude.{◌≡◌, ℕ, List, [], ◌∷◌, Bool, true, None}
+use Rattle.std.specs.Prelude.{◌≡◌, ℕ, List, [], ◌∷◌, Bool, true, ◌&&◌, not, None}
 use Rattle.connection_model.specs.declared.edges.Edges.{Edges}
 use Rattle.connection_model.specs.declared.note.Note.{Note}
 use Rattle.connection_model.specs.declared.note.Note.TheVariants as note
@@ -13,10 +13,11 @@ use Rattle.proxy_core.specs.Scheduler.{State}
 use Rattle.proxy_core.specs.Servers.{is_free, is_used}
 use Rattle.proxy_core.specs.declared.config.Config.{Config}
 
--- A server is asked for where there is none. A link that sends no more or is closed is there.
+-- A server is asked for where there is none. A link that sends no more or is closed is there, and
+-- that it sends no more wasn't told before.
 abbrev pub fits : Note → Edges → Bool
 fits (note.Connect c to) e = is_free e.server.state
-fits (note.HalfClose c side) e = is_used (edge_of side e).state
+fits (note.HalfClose c side) e = is_used (edge_of side e).state && not (edge_of side e).half
 fits (note.CloseServer c) e = is_used e.server.state
 fits (note.CloseClient c) e = is_used e.client.state
 fits other e = true

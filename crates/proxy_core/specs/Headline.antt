@@ -21,7 +21,8 @@ use Rattle.connection_model.specs.Trace.{next_item, trace, GivesNoMore}
 use Rattle.proxy_core.specs.History.{IsHistory, called_in, entries_in}
 use Rattle.proxy_core.specs.Moves.{Leads}
 use Rattle.proxy_core.specs.Past.{Past, heard}
-use Rattle.proxy_core.specs.Scheduler.{State, Seen, last_took, seen, untaken_of, untaken_all, pending}
+use Rattle.proxy_core.specs.Scheduler.{State, Seen, last_took, seen, untaken_of, untaken_all}
+use Rattle.proxy_core.specs.Scheduler.{pending}
 use Rattle.proxy_core.specs.Servers.{last_reset, licenses, took_of}
 use Rattle.proxy_core.specs.Shown.{shows, causes_told, causes_behind}
 use Rattle.proxy_core.specs.Setup.{setup_of, begins_at, stand_of}
@@ -33,8 +34,8 @@ abbrev pub first_items : Config → Heard → ℕ → List Item
 first_items C h n = trace n (setup_of C h) (begins_at C h)
 
 -- The items that a connection passed are the first of its trace, and of each longer front of it.
--- What its client took is a front of what they send to it, and of what each longer front sends; so is
--- what each server connection took.
+-- What its client took is a front of what they send to it, and of what each longer front sends; so
+-- is what each server connection took.
 pub record SentIsPrefix (C : Config) (h : Heard) (place : List Item) : Type 0 where
   pub passed : place ≡ first_items C h (length place)
   pub longer : (n : ℕ)
@@ -48,8 +49,8 @@ pub record SentIsPrefix (C : Config) (h : Heard) (place : List Item) : Type 0 wh
       → take (took_of h.connects k) (server_output k (first_items C h (length place + n)))
       ≡ take (took_of h.connects k) (server_output k place)
 
--- its trace is no longer, and its client and its present server connection took all that was sent to
--- them
+-- its trace is no longer, and its client and its present server connection took all that was sent
+-- to them
 pub record IsWhole (C : Config) (h : Heard) (place : List Item) : Type 0 where
   pub no_more : (n : ℕ) → first_items C h (length place + n) ≡ place
   pub took_all : h.client.took ≡ length (client_output place)
@@ -65,17 +66,18 @@ GaveDeliverable C h place =
 abbrev pub NoCutIsDue : Config → Heard → List Item → Type 0
 NoCutIsDue C h place =
     (reason : CutReason) → licenses h reason ≡ true
-    → cut_is_taken (setup_of C h) (record { reason = reason; took = taken h }) (stand_of C h place) ≡ false
+    → cut_is_taken (setup_of C h) (record { reason = reason; took = taken h })
+    (stand_of C h place) ≡ false
 
 -- nothing is ready, and no shared call waits
 pub record IsSettled (s : State) : Type 0 where
   pub none_ready : s.ring ≡ []
   pub none_asks : s.queue ≡ []
 
--- Where it is settled, each live connection found memory, gave all that was deliverable, and no
--- cut is due; where besides its client took all, it is whole, and if it has finished and nothing is
--- pending it isn't live any more. An ended one gave its whole trace, unless it found no memory; where
--- nothing was dropped it is whole.
+-- Where it is settled, each live connection found memory, gave all that was deliverable, and no cut
+-- is due; where besides its client took all, it is whole, and if it has finished and nothing is
+-- pending it isn't live any more. An ended one gave its whole trace, unless it found no memory;
+-- where nothing was dropped it is whole.
 pub record SettledIsComplete (C : Config) (h : Heard) (s : State) (live : Bool)
     (place : List Item) : Type 0 where
   pub settled_found_memory : IsSettled s → live ≡ true → h.failed ≡ false
@@ -93,19 +95,20 @@ pub record SettledIsComplete (C : Config) (h : Heard) (s : State) (live : Bool)
   pub ended_clean_sent_all : live ≡ false → h.failed ≡ false → untaken_all h place ≡ 0
       → IsWhole C h place
 
--- What is told of the ends of a connection: nothing of it is closed before it has finished, and an end that
--- is closed took all, unless it found no memory. It isn't over while it is live; one that isn't has told that
--- it is over, once and last, with what was sent to its sides and not taken counted as dropped, and both its
--- ends are closed. Where no side of it was reset and it found memory, nothing is dropped.
+-- What is told of the ends of a connection: nothing of it is closed before it has finished, and an
+-- end that is closed took all, unless it found no memory. It isn't over while it is live; one that
+-- isn't has told that it is over, once and last, with what was sent to its sides and not taken
+-- counted as dropped, and both its ends are closed. Where no side of it was reset and it found
+-- memory, nothing is dropped.
 pub record ClosesRightly (c : ℕ) (z : Seen) : Type 0 where
   pub told : EndsTold c z
   pub dropped : z.live ≡ false → z.heard.failed ≡ false → z.heard.client.reset ≡ false
       → last_reset z.heard.connects ≡ false → untaken_all z.heard z.place ≡ 0
 
--- The notes of a connection that show an item are those of the items that it passed. It finishes for its
--- trace's reasons and for want of memory behind them, where it found none: its trace finishes once at most,
--- never for want of memory, and has finished where it ended; a second Finish is for want of memory, and
--- there is no third. A cut is only among them where it was allowed.
+-- The notes of a connection that show an item are those of the items that it passed. It finishes
+-- for its trace's reasons and for want of memory behind them, where it found none: its trace
+-- finishes once at most, never for want of memory, and has finished where it ended; a second Finish
+-- is for want of memory, and there is no third. A cut is only among them where it was allowed.
 pub record FinishCauses (C : Config) (c : ℕ) (h : Heard) (live : Bool)
     (place : List Item) : Type 0 where
   pub shown : filter shows h.notes ≡ notes_of c place
@@ -117,9 +120,9 @@ pub record FinishCauses (C : Config) (c : ℕ) (h : Heard) (live : Bool)
   pub ended_has_finished : live ≡ false → h.failed ≡ false → length (reasons_in place) ≡ 1
   pub cut_is_allowed : (cut : Cut) → h.cut ≡ Some cut → licenses h cut.reason ≡ true
 
--- The calls of the items that a connection passed are those of its entries in the history, each once
--- and in their order, and its recorded answers are their replies. Behind them is one call at most that has
--- no entry: it waits for its Turn, unless the connection found no memory.
+-- The calls of the items that a connection passed are those of its entries in the history, each
+-- once and in their order, and its recorded answers are their replies. Behind them is one call at
+-- most that has no entry: it waits for its Turn, unless the connection found no memory.
 pub record EntriesAreCalls (h : Heard) (asked : List (List (List ℕ))) (place : List Item)
     : Type 0 where
   pub unanswered : List (List (List ℕ))
@@ -128,8 +131,8 @@ pub record EntriesAreCalls (h : Heard) (asked : List (List (List ℕ))) (place :
   pub unanswered_is_last : length unanswered ≤ 1
   pub unanswered_is_open : h.failed ≡ false → unanswered ≡ asked
 
--- The counts of a live connection: taken and pending are what was sent to a side, to the server's of its
--- present connection; once a side was reset nothing is pending to it.
+-- The counts of a live connection: taken and pending are what was sent to a side, to the server's
+-- of its present connection; once a side was reset nothing is pending to it.
 pub record OpenCounts (past : Past) (s : State) (c : ℕ) : Type 0 where
   pub sent : (heard c past).client.reset ≡ false
       → (heard c past).client.took + pending past s c Client ≡ length (client_output (s.places c))
@@ -148,9 +151,9 @@ pub record ConnectionPromise (C : Config) (past : Past) (s : State) (c : ℕ)
   pub entries_are_calls : EntriesAreCalls z.heard z.asked z.place
   pub open_line_counts : OpenCounts past s c
 
--- what the program's past and state promise: a list of scheduler states leads to this one, the shared
--- answers are one history of a sequential store, and each accepted connection's bytes and notes are
--- those of the evaluator
+-- what the program's past and state promise: a list of scheduler states leads to this one, the
+-- shared answers are one history of a sequential store, and each accepted connection's bytes and
+-- notes are those of the evaluator
 pub record OutputMatchesEvaluator (C : Config) (past : Past) (s : State) : Type 0 where
   pub replay_has_scheduler_run : Leads C past s
   pub one_history : IsHistory C past

@@ -1,5 +1,5 @@
--- The history of the shared calls: entry by entry, each with its moment and reply, and the store that
--- it leaves.
+-- The history of the shared calls: entry by entry, each with its moment and reply, and the store
+-- that it leaves.
 use Rattle.std.specs.Prelude.{◌≡◌, ℕ, List, [], ◌∷◌, ◌++◌, map}
 use Rattle.std.specs.List.{flat_map}
 use Rattle.px_bytes.specs.declared.fault.Reply.{Reply}
@@ -52,8 +52,8 @@ store_after Turns moment group store = turned moment group store
 store_after (Marks pool member up) moment group store = marked pool member up store
 store_after other moment group store = store
 
--- the store behind a past: its entries were answered and its members marked, in this order, from the
--- pools of the configuration on
+-- the store behind a past: its entries were answered and its members marked, in this order, from
+-- the pools of the configuration on
 abbrev pub store_of : Config → Past → StoreState
 store_of C [] = new_store C.pools []
 store_of C (x ∷ past) =
@@ -61,7 +61,8 @@ store_of C (x ∷ past) =
 
 -- ---- one history
 
--- it was answered at the moment of the last Tick, by the store behind all entries and marks before it
+-- it was answered at the moment of the last Tick, by the store behind all entries and marks before
+-- it
 pub record IsAnswer (C : Config) (past : Past) (e : Entry) : Type 0 where
   pub moment : e.moment ≡ (shared past).moment
   pub reply_is : e.reply ≡ (reply (store_of C past) e.moment e.call).reply

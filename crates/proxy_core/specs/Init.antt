@@ -1,8 +1,8 @@
 -- What the rules' RULE_INIT leave: the static variables, and the lines that they log (iRules,
 -- RULE_INIT: "triggered when the system loads the iRule"; static: variables that every connection
--- reads). The bodies run rule by rule, those of a rule in their order; each begins without any other
--- variable, and its other variables end with it. A fault that a body leaves is logged, and what it set
--- stays.
+-- reads). The bodies run rule by rule, those of a rule in their order; each begins without any
+-- other variable, and its other variables end with it. A fault that a body leaves is logged, and
+-- what it set stays.
 use Rattle.std.specs.Prelude.{ℕ, zero, suc, List, [], ◌∷◌, ◌++◌, flat_map, length, map, false}
 use Rattle.std.specs.Prelude.{Option, Some, None}
 use Rattle.px_bytes.specs.Host.{Effect, HostStep, Gives, Faults, Asks, Logged, Sent}

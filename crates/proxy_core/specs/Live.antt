@@ -15,7 +15,8 @@ use Rattle.connection_model.specs.Phases.{Orderly}
 use Rattle.connection_model.specs.Queries.{unread_limit}
 use Rattle.connection_model.specs.Setup as model
 use Rattle.connection_model.specs.State.{TraceState}
-use Rattle.conn.specs.Calls.{Replies, answered_in, connected_ends, ended_ends, heard_ends, reset_ends}
+use Rattle.conn.specs.Calls.{Replies, answered_in, connected_ends, ended_ends, heard_ends}
+use Rattle.conn.specs.Calls.{reset_ends}
 use Rattle.conn.specs.Calls.{reset_in, took_ends, took_more, unless_finished, wanted_in}
 use Rattle.conn.specs.Ends.{queued_in}
 use Rattle.conn.specs.Holds.{Around, Holds}
@@ -160,9 +161,9 @@ LiveComes input number (Some old) (Some new) group over =
     ConnComes input number old new group over ⊎ ConnLacks input number old new group over
 LiveComes input number old new group over = ⊥
 
--- A connection for which no memory was found ends with its Run, and what is queued on it is dropped.
--- Another one gives the items of its trace from wherever that stands. What is told of its ends is in its
--- notes.
+-- A connection for which no memory was found ends with its Run, and what is queued on it is
+-- dropped. Another one gives the items of its trace from wherever that stands. What is told of its
+-- ends is in its notes.
 pub record ConnRuns (s : Setup) (number : ℕ) (old new : Conn) (group : List Note) (t : ConnTurn)
     : Type 0 where
   pub runs : Runs s number old new group t

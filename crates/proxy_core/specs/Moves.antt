@@ -79,7 +79,8 @@ abbrev pub MovesCome :
     Config → Input → (before now : Heard) → ℕ → List Note → State → State → Type 0
 MovesCome C input before now c group old new =
     MatchBool before.failed (MovesFailed c group old new)
-    (MovesOn C now c (edges_met input before.edges) group old new ⊎ MovesLacks input c group old new)
+    (MovesOn C now c (edges_met input before.edges) group old new
+    ⊎ MovesLacks input c group old new)
 
 -- the front passed items
 abbrev pub ran : ℕ → List ℕ → List Asked → List Item → State → State
@@ -90,8 +91,8 @@ ran c ring queue more old = record {
 }
 
 -- The front gives items of its trace, until no more may be given or in slices: where it stops in
--- the middle it goes to the back of the ready queue, and where it stops at a shared call that goes to the
--- back of the calls.
+-- the middle it goes to the back of the ready queue, and where it stops at a shared call that goes
+-- to the back of the calls.
 pub record RunsOn (C : Config) (h : Heard) (c : ℕ) (rest : List ℕ) (group : List Note)
     (old new : State) : Type 0 where
   pub more : List Item
@@ -102,7 +103,8 @@ pub record RunsOn (C : Config) (h : Heard) (c : ℕ) (rest : List ℕ) (group : 
       (untaken_all h (old.places c ++ more))
   pub state : new ≡ ran c (ring_behind turn c rest) (queue_behind turn c old.queue) more old
 
--- The front gives items, no call among them, finds no memory, and ends: what was sent and not taken is dropped.
+-- The front gives items, no call among them, finds no memory, and ends: what was sent and not taken
+-- is dropped.
 pub record RunsOut (C : Config) (h : Heard) (c : ℕ) (rest : List ℕ) (group : List Note)
     (old new : State) : Type 0 where
   pub more : List Item
@@ -128,12 +130,13 @@ abbrev pub MovesRing : Config → Past → List ℕ → List Note → State → 
 MovesRing C past [] group old new = Rests group old new
 MovesRing C past (c ∷ rest) group old new = MovesFront C (heard c past) c rest group old new
 
--- the notes of an answered call: its entry; where the reply finds no memory, the Finish behind it; and
--- where the store finds none, the Finish alone
+-- the notes of an answered call: its entry; where the reply finds no memory, the Finish behind it;
+-- and where the store finds none, the Finish alone
 abbrev pub TurnNotes : Asked → (moment : ℕ) → Reply → List Note → Type 0
 TurnNotes a moment r group =
     (group ≡ entry_note a moment r ∷ [])
-    ⊎ ((group ≡ entry_note a moment r ∷ Finish a.conn Memory ∷ []) ⊎ (group ≡ Finish a.conn Memory ∷ []))
+    ⊎ ((group ≡ entry_note a moment r ∷ Finish a.conn Memory ∷ [])
+    ⊎ (group ≡ Finish a.conn Memory ∷ []))
 
 -- the call that waits for the longest time is answered, and its connection gets ready
 pub record MovesTurn (store : StoreState) (moment : ℕ) (a : Asked) (rest : List Asked)

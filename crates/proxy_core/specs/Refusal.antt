@@ -26,7 +26,8 @@ use Rattle.proxy_core.specs.declared.live.Live.{Live}
 use Rattle.proxy_core.specs.declared.event.BadEvent.{BadEvent}
 use Rattle.proxy_core.specs.declared.event.BadEvent.TheVariants.{NoConn, AfterEnd, NotConnecting}
 use Rattle.proxy_core.specs.declared.event.BadEvent.TheVariants.{MomentBack, TooMuch, TookTooMuch}
-use Rattle.proxy_core.specs.declared.event.BadEvent.TheVariants.{Full, NoMember, TwiceConn, NoVirtual}
+use Rattle.proxy_core.specs.declared.event.BadEvent.TheVariants.{Full, NoMember, TwiceConn}
+use Rattle.proxy_core.specs.declared.event.BadEvent.TheVariants.{NoVirtual}
 
 -- how a live connection stands: its ends, how many bytes of its sides may come, and how many are
 -- pending to them
@@ -38,8 +39,8 @@ pub record Standing : Type 0 where
   pub to_server : ℕ
 
 -- what an event is judged by: the greatest number that was accepted, the present moment, how many
--- connections are live, how the one that it names stands, if it is live, and whether the member that it
--- marks is there
+-- connections are live, how the one that it names stands, if it is live, and whether the member
+-- that it marks is there
 pub record Known : Type 0 where
   pub last : ℕ
   pub moment : ℕ

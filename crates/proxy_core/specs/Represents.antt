@@ -41,8 +41,8 @@ pub record Continues (C : Config) (z : Seen) (conn : Conn) : Type 0 where
   pub holds : Holds (setup_of C z.heard) (around z.heard) (stand_of C z.heard z.place) conn
   pub queues : HoldsQueues z.heard z.place conn.ends
 
--- It found no memory for bytes that came, or for a reply: nothing of it runs any more, and its queues
--- are kept until its Run.
+-- It found no memory for bytes that came, or for a reply: nothing of it runs any more, and its
+-- queues are kept until its Run.
 pub record Lacks (C : Config) (z : Seen) (conn : Conn) : Type 0 where
   pub failed : z.heard.failed ≡ true
   pub finished : z.heard.finished ≡ true
@@ -60,8 +60,8 @@ abbrev pub ConnectionContinues : Config → Seen → Option Conn → Type 0
 ConnectionContinues C z None = NeverBegan z
 ConnectionContinues C z (Some conn) = Continues C z conn ⊎ Lacks C z conn
 
--- a live connection goes on, its rules are those of its virtual server, its ends stand where what was
--- heard put them, and it waits for a reply where a call of it waits
+-- a live connection goes on, its rules are those of its virtual server, its ends stand where what
+-- was heard put them, and it waits for a reply where a call of it waits
 pub record AgreesLive (C : Config) (z : Seen) (l : Live) : Type 0 where
   pub live : z.live ≡ true
   pub continues : ConnectionContinues C z l.conn

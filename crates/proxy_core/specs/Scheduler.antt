@@ -1,6 +1,7 @@
--- Where the scheduler stands: which connections are ready to run, which shared calls wait, and how far
--- each connection came in its trace; and all of it that concerns one connection.
-use Rattle.std.specs.Prelude.{ℕ, ◌+◌, ◌-◌, length, List, [], ◌∷◌, Bool, Option, Some, None, nat_eq, if◌then◌else◌}
+-- Where the scheduler stands: which connections are ready to run, which shared calls wait, and how
+-- far each connection came in its trace; and all of it that concerns one connection.
+use Rattle.std.specs.Prelude.{ℕ, ◌+◌, ◌-◌, length, List, [], ◌∷◌, Bool, Option, Some, None, nat_eq}
+use Rattle.std.specs.Prelude.{if◌then◌else◌}
 use Rattle.std.specs.List.{filter}
 use Rattle.px_bytes.specs.declared.addr.Side.{Side}
 use Rattle.connection_model.specs.declared.note.Note.{Note}
@@ -12,8 +13,8 @@ use Rattle.proxy_core.specs.Past.{Past, heard, shared, shared_after}
 use Rattle.proxy_core.specs.Ready.{is_in}
 use Rattle.proxy_core.specs.declared.call.Asked.{Asked}
 
--- The ready queue and the queue of shared calls, the next in front, and the place of each connection:
--- the items of its trace that it passed.
+-- The ready queue and the queue of shared calls, the next in front, and the place of each
+-- connection: the items of its trace that it passed.
 pub record State : Type 0 where
   pub ring : List ℕ
   pub queue : List Asked
@@ -66,8 +67,8 @@ last_took [] = 0
 last_took (None ∷ more) = last_took more
 last_took (Some s ∷ more) = if has_made more then last_took more else s.took
 
--- what a side was told to have taken is missing of what was sent to it, also behind its reset; to the
--- server's, of its present connection
+-- what a side was told to have taken is missing of what was sent to it, also behind its reset; to
+-- the server's, of its present connection
 abbrev pub untaken_all : Heard → List Item → ℕ
 untaken_all h place =
     (length (client_output place) - h.client.took)

@@ -72,8 +72,8 @@ abbrev pub awaits : Phase → Bool
 awaits (Answering to) = true
 awaits other = false
 
--- Where the end is that was asked for, by the answers that the trace didn't take: while there is none,
--- where it took the connection, and where it didn't.
+-- Where the end is that was asked for, by the answers that the trace didn't take: while there is
+-- none, where it took the connection, and where it didn't.
 abbrev pub AskedAt : List (Option Stream) → EdgeState → Type 0
 AskedAt [] edge = edge ≡ Connecting
 AskedAt (Some s ∷ more) edge = edge ≡ Open
@@ -84,8 +84,8 @@ abbrev pub LinkedAt : Bool → EdgeState → Type 0
 LinkedAt true edge = edge ≡ Open
 LinkedAt false edge = is_free edge ≡ true
 
--- An answer waits only where the trace awaits it, and one at most. While a connection hasn't finished
--- its server's end stands where the trace and that answer say.
+-- An answer waits only where the trace awaits it, and one at most. While a connection hasn't
+-- finished its server's end stands where the trace and that answer say.
 pub record Linked (finished : Bool) (at : TraceState) (server : EdgeState) : Type 0 where
   pub waits : MatchBool (awaits at.phase) (length at.answers.connects ≤ 1)
       (at.answers.connects ≡ [])

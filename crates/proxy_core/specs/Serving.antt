@@ -19,7 +19,8 @@ pub record Serves (C : Config) (level : Level) (vs : ℕ) (g : Setup) : Type 0 w
   pub groups : g.groups ≡ C.groups
   pub handlers : (e : EventName) → g.handlers e ≡ handlers_in C (slice_get C.virtuals vs) e
 
--- it is what the code's connections of that virtual server run on, where the bodies of all stand there
+-- it is what the code's connections of that virtual server run on, where the bodies of all stand
+-- there
 pub record IsSetup (C : Config) (level : Level) (all : List (List (List Place))) (vs : ℕ)
     (s : code.Setup) : Type 0 where
   pub name : s.name.now ≡ name_at C vs

@@ -55,8 +55,8 @@ handlers_in C v e = map (λ b. b.handler) (bodies_of C.rules (numbers_in v) e)
 abbrev pub virtual_named : Config → List ℕ → Option Virtual
 virtual_named C name = option_and_then (λ place. slice_get C.virtuals place) (virtual_place C name)
 
--- what the rules' RULE_INIT leave in the static variables, and the notes of the lines that they log,
--- which are about no connection
+-- what the rules' RULE_INIT leave in the static variables, and the notes of the lines that they
+-- log, which are about no connection
 abbrev pub statics_of : Config → Level
 statics_of C = (init C).vars.statics
 

@@ -45,8 +45,8 @@ abbrev pub is_closed : EdgeState → Bool
 is_closed state.Closed = true
 is_closed other = false
 
--- What is told of its ends, by whether it is live: it isn't over while it is, and nothing of it is closed
--- before it has finished; an end that is closed took all, unless it found no memory.
+-- What is told of its ends, by whether it is live: it isn't over while it is, and nothing of it is
+-- closed before it has finished; an end that is closed took all, unless it found no memory.
 pub record EndsTold (c : ℕ) (z : Seen) : Type 0 where
   pub while_live : z.live ≡ true → list_any ends_it z.heard.notes ≡ false
   pub over : z.live ≡ false → EndsClosed c (untaken_all z.heard z.place) z.heard
@@ -68,9 +68,10 @@ pub record Rested (g : Setup) (took : TakenCounts) (at : TraceState) (e : Edges)
   pub not_over : is_drained g took at ≡ false
   pub told : (c dropped : ℕ) → resting g took at c e dropped ≡ []
 
--- By whether it found no memory, whether it is live, its entries in the ready queue and its calls that
--- wait: it ended, its trace over and all of it taken, or its sides reset; or it rests; or it waits for the
--- reply to its one call; or it is ready, once. One that found no memory is ready until it ends.
+-- By whether it found no memory, whether it is live, its entries in the ready queue and its calls
+-- that wait: it ended, its trace over and all of it taken, or its sides reset; or it rests; or it
+-- waits for the reply to its one call; or it is ready, once. One that found no memory is ready
+-- until it ends.
 abbrev pub Spot : (failed live : Bool) → (ready : List ℕ) → (asked : List (List (List ℕ)))
     → Setup → TakenCounts → TraceState → Edges → Type 0
 Spot false false [] [] g took at e = is_drained g took at ≡ true
@@ -80,8 +81,8 @@ Spot failed true (n ∷ []) [] g took at e = Unit {0}
 Spot true false [] [] g took at e = Unit {0}
 Spot failed live ready asked g took at e = ⊥
 
--- The calls of these items are those of its entries in the history, in their order, and then the one
--- that has no entry, if there is one: it waits, or found no memory.
+-- The calls of these items are those of its entries in the history, in their order, and then the
+-- one that has no entry, if there is one: it waits, or found no memory.
 pub record CallsTold (failed : Bool) (asked : List (List (List ℕ))) (place : List Item)
     (notes : List Note) : Type 0 where
   pub unanswered : List (List (List ℕ))
@@ -89,8 +90,9 @@ pub record CallsTold (failed : Bool) (asked : List (List (List ℕ))) (place : L
   pub few : length unanswered ≤ 1
   pub open_now : failed ≡ false → unanswered ≡ asked
 
--- A connection that was accepted, by the state where it stands. While nothing failed an end is closed
--- where its trace is over alone; its server's end stands where the trace says; a cut was allowed.
+-- A connection that was accepted, by the state where it stands. While nothing failed an end is
+-- closed where its trace is over alone; its server's end stands where the trace says; a cut was
+-- allowed.
 pub record ServedAt (g : Setup) (c : ℕ) (z : Seen) (at : TraceState) : Type 0 where
   pub stands : Unfolds g (start_of g z.heard) z.place at
   pub met : Met no_bytes (taken z.heard) z.place

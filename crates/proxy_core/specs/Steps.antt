@@ -24,8 +24,8 @@ abbrev pub KeepsStanding : Core → Core → Happened → Type 0
 KeepsStanding old new x =
     (C : Config) (past : Past) (s : State) → Represents C past s old → StandsAfter C past s x new
 
--- an event that was accepted: its notes, what it changed by how many steps, and what the core stands
--- for
+-- an event that was accepted: its notes, what it changed by how many steps, and what the core
+-- stands for
 pub record Steps (old new : Core) (event : Event) (before after : List Note) (steps : ℕ)
     : Type 0 where
   pub group : List Note

@@ -1,6 +1,7 @@
 // A client connects.
 
-ghost use Rattle.std.specs.Prelude.{◌≡◌, ◌≤◌, ◌+◌, ◌++◌, Some, None, OnOk, OnErr, IfErr, List, length};
+ghost use Rattle.std.specs.Prelude.{◌≡◌, ◌≤◌, ◌+◌, ◌++◌, Some, None, OnOk, OnErr, IfErr, List};
+ghost use Rattle.std.specs.Prelude.{length};
 ghost use Rattle.std.specs.List.{position_from};
 ghost use Rattle.std.specs.Str.{bytes_eq};
 ghost use Rattle.connection_model.specs.Heard.{Accepts as Accepted};
@@ -20,8 +21,8 @@ use px_bytes::Addr;
 use std::alloc::Global;
 
 impl Core {
-    /// Accepts a connection, which gets the number and goes to the back of the ring. Where it finds no
-    /// memory it has finished with that cause.
+    /// Accepts a connection, which gets the number and goes to the back of the ring. Where it finds
+    /// no memory it has finished with that cause.
     pub(crate) fn accept(
         &mut self,
         number: u32,

@@ -1,6 +1,7 @@
 // Shared calls that wait for their Turn.
 
-ghost use Rattle.std.specs.Prelude.{◌≡◌, ◌<◌, ◌≤◌, ◌↔◌, [], ◌∷◌, ◌++◌, IsTrue, IfOk, IfSome, IfNone, length};
+ghost use Rattle.std.specs.Prelude.{◌≡◌, ◌<◌, ◌≤◌, ◌↔◌, [], ◌∷◌, ◌++◌, IsTrue, IfOk, IfSome};
+ghost use Rattle.std.specs.Prelude.{IfNone, length};
 ghost use Rattle.proxy_core.specs.Calls.{kept_calls};
 
 use crate::call::Asked;
@@ -9,8 +10,8 @@ use std::alloc::Global;
 use std::collections::VecDeque;
 use std::marker::Model;
 
-/// Shared calls in the order in which they were made. It has room for as many as it was made for, so
-/// that no later call takes memory.
+/// Shared calls in the order in which they were made. It has room for as many as it was made for,
+/// so that no later call takes memory.
 #[derive(Drop)]
 pub struct CallQueue {
     calls: VecDeque<Asked>,
@@ -65,8 +66,8 @@ impl CallQueue {
         }
     }
 
-    /// The calls of a connection that waited and doesn't any more are forgotten: then it goes through the
-    /// queue.
+    /// The calls of a connection that waited and doesn't any more are forgotten: then it goes
+    /// through the queue.
     pub fn forget(&mut self, conn: u32, waited: bool, waits: bool)
         ensures items { self.new.items ≡ kept_calls waited waits conn self.old.items }
         ensures room { self.new.room ≡ self.old.room }

@@ -1,6 +1,7 @@
 // Something comes of a connection.
 
-ghost use Rattle.std.specs.Prelude.{◌≡◌, ◌≤◌, ◌+◌, ◌++◌, Some, None, OnOk, OnErr, IfErr, List, length};
+ghost use Rattle.std.specs.Prelude.{◌≡◌, ◌≤◌, ◌+◌, ◌++◌, Some, None, OnOk, OnErr, IfErr, List};
+ghost use Rattle.std.specs.Prelude.{length};
 ghost use Rattle.connection_model.specs.Heard.{Comes};
 ghost use Rattle.connection_model.specs.declared.note.Note.{Note};
 ghost use Rattle.proxy_core.specs.Changes.{ComesOf};
@@ -23,7 +24,8 @@ impl Core {
         notes: &mut Notes,
     ) -> Result<(), BadEvent>
         requires { 68 ≤ notes.old.spare }
-        ensures accepted { OnOk result (refusal_of self.old (Comes number (input_of input.entry)) ≡ None) }
+        ensures accepted { OnOk result
+            (refusal_of self.old (Comes number (input_of input.entry)) ≡ None) }
         ensures refused { IfErr result
             (λ why. refusal_of self.old (Comes number (input_of input.entry)) ≡ Some why) }
         ensures comes { OnOk result

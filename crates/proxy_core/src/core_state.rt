@@ -16,8 +16,8 @@ use shared_store::{Store, VirtualTimes};
 use std::alloc::Global;
 use tcl_vars::Vars;
 
-/// The live connections, those of them that are ready to run, the shared calls that wait, and the store that
-/// answers them.
+/// The live connections, those of them that are ready to run, the shared calls that wait, and the
+/// store that answers them.
 #[derive(Drop)]
 pub struct Core {
     pub(crate) alloc: Global,

@@ -4,7 +4,8 @@ ghost use Rattle.std.specs.Prelude.{◌≡◌, ◌++◌, IfOk, OnOk, map};
 ghost use Rattle.connection_model.specs.declared.note.Note.TheVariants as noted;
 ghost use Rattle.conn.specs.Setups.{handler_of};
 ghost use Rattle.irule_net.specs.Effects.{effect_of};
-ghost use Rattle.proxy_core.specs.Init.{all_ran, fault_lines, init, init_bodies, init_host, line_of};
+ghost use Rattle.proxy_core.specs.Init.{all_ran, fault_lines, init, init_bodies, init_host};
+ghost use Rattle.proxy_core.specs.Init.{line_of};
 ghost use Rattle.proxy_core.specs.Init.{lines_in, nothing_left, ran};
 ghost use Rattle.proxy_core.specs.InitPlaces.{place_ran, places_ran, plain_lines};
 

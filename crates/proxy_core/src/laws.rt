@@ -7,15 +7,15 @@ ghost use Rattle.proxy_core.specs.Laws.{BodiesRunInOrder, StaticsStay};
 ghost use Rattle.proxy_core.specs.OneServer.{OneServerIsMade};
 ghost use Rattle.proxy_core.specs.Others.{OnlyItsOwnChanges};
 
-/// For every configuration and every past that leads to a state of the scheduler: the bytes that each
-/// client took are a front of what the evaluator gives, all of it when nothing is ready and nothing
-/// pending; the notes are those of its items; and a connection ends for its named cause.
+/// For every configuration and every past that leads to a state of the scheduler: the bytes that
+/// each client took are a front of what the evaluator gives, all of it when nothing is ready and
+/// nothing pending; the notes are those of its items; and a connection ends for its named cause.
 pub fn output_matches_evaluator()
     ensures { EveryPastMatches }
 {}
 
-/// The bodies of rules run at an event each once, by their priorities, and those of one priority in the
-/// order of the rules and of their places.
+/// The bodies of rules run at an event each once, by their priorities, and those of one priority in
+/// the order of the rules and of their places.
 pub fn bodies_run_in_order()
     ensures { BodiesRunInOrder }
 {}
@@ -25,26 +25,27 @@ pub fn statics_stay()
     ensures { StaticsStay }
 {}
 
-/// An event changes what may be asked of its own connection alone, a Run of the one at the ring's front:
-/// of all others the ends, what is wanted and what is pending stay.
+/// An event changes what may be asked of its own connection alone, a Run of the one at the ring's
+/// front: of all others the ends, what is wanted and what is pending stay.
 pub fn only_changed()
     ensures { OnlyItsOwnChanges }
 {}
 
-/// Behind every past, each note of an event fits where the notes before it put the ends of its connection:
-/// a server is asked for where there is none, and what is half closed or closed is there.
+/// Behind every past, each note of an event fits where the notes before it put the ends of its
+/// connection: a server is asked for where there is none, what is half closed or closed is there,
+/// and no end is half closed a second time.
 pub fn notes_fit_edges()
     ensures { NotesFitEdges }
 {}
 
-/// Behind every past, at most one server connection of a connection was made; what it took is within what
-/// was sent to it, and to one that wasn't heard of nothing was sent.
+/// Behind every past, at most one server connection of a connection was made; what it took is
+/// within what was sent to it, and to one that wasn't heard of nothing was sent.
 pub fn one_server_is_made()
     ensures { OneServerIsMade }
 {}
 
-/// Behind every past, of each side of a connection no more than 65,536 bytes lie unread, and fewer than
-/// 2,400,000 are pending to it.
+/// Behind every past, of each side of a connection no more than 65,536 bytes lie unread, and fewer
+/// than 2,400,000 are pending to it.
 pub fn bytes_are_bounded()
     ensures { BytesAreBounded }
 {}

@@ -1,6 +1,7 @@
 // The place of a live connection.
 
-ghost use Rattle.std.specs.Prelude.{◌≡◌, ◌≤◌, ◌+◌, ◌-◌, ◌++◌, ℕ, List, Bool, true, false, Some, length};
+ghost use Rattle.std.specs.Prelude.{◌≡◌, ◌≤◌, ◌+◌, ◌-◌, ◌++◌, ℕ, List, Bool, true, false, Some};
+ghost use Rattle.std.specs.Prelude.{length};
 ghost use Rattle.std.specs.Prelude.{OnOk, OnErr};
 ghost use Rattle.connection_model.specs.declared.note.Note.{Note};
 ghost use Rattle.connection_model.specs.Edges.{edges_noted};
@@ -10,7 +11,8 @@ ghost use Rattle.conn.specs.Runs.{IsWhole};
 ghost use Rattle.conn.specs.RunsItems.{ends};
 ghost use Rattle.conn.specs.Settling.{closing};
 ghost use Rattle.proxy_core.specs.Refusal.{input_refusal};
-ghost use Rattle.proxy_core.specs.Live.{ConnHears, ConnMay, KeepsPlace, LiveComes, LiveRuns, MayCome};
+ghost use Rattle.proxy_core.specs.Live.{ConnHears, ConnMay, KeepsPlace, LiveComes, LiveRuns};
+ghost use Rattle.proxy_core.specs.Live.{MayCome};
 ghost use Rattle.proxy_core.specs.Live.{SamePlace, edges_in};
 ghost use Rattle.proxy_core.specs.Live.{LiveAnswers, LiveFails, LiveReplies, LiveTakes, asks_in};
 ghost use Rattle.proxy_core.specs.Live.{input_of, pending_in, takes_memory, wanted_of};
@@ -29,8 +31,8 @@ use std::sync::ledger::Ledger;
 const UNREAD_LIMIT: usize = 65_536;
 
 /// A connection without its Ended note, with the place of its virtual server in the configuration.
-/// Where no memory was found for it, there is no connection behind the number, and the next Run ends
-/// it; its ends stand here then.
+/// Where no memory was found for it, there is no connection behind the number, and the next Run
+/// ends it; its ends stand here then.
 #[derive(Drop)]
 pub struct Live {
     pub number: u32,
@@ -148,15 +150,17 @@ impl Live {
         }
     }
 
-    /// This comes of it. Says whether the connection is over, and gives the notes that are due then.
-    /// Where bytes find no memory, it has finished with that cause.
+    /// This comes of it. Says whether the connection is over, and gives the notes that are due
+    /// then. Where bytes find no memory, it has finished with that cause.
     pub fn comes(&mut self, input: Incoming<'_>, notes: &mut Notes) -> bool
         requires may { MayCome (input_of input) self.old }
         requires spare { 3 ≤ notes.old.spare }
         ensures place { KeepsPlace self.old self.new }
         ensures comes { (group : List Note) × (notes.new.items ≡ notes.old.items ++ group)
-            × LiveComes (input_of input.entry) self.old.number self.old.conn self.new.conn group result
-            × (edges_in self.new ≡ edges_noted group (edges_met (input_of input.entry) (edges_in self.old))) }
+            × LiveComes (input_of input.entry) self.old.number self.old.conn self.new.conn group
+            result
+            × (edges_in self.new
+            ≡ edges_noted group (edges_met (input_of input.entry) (edges_in self.old))) }
         ensures few_notes { length notes.new.items ≤ length notes.old.items + 68 }
     {
         match &mut self.conn {
@@ -168,8 +172,8 @@ impl Live {
         }
     }
 
-    /// The store answers its call at this moment, and the reply comes to it. Where one of them finds no
-    /// memory, it has finished with that cause.
+    /// The store answers its call at this moment, and the reply comes to it. Where one of them
+    /// finds no memory, it has finished with that cause.
     pub fn answer(
         &mut self,
         alloc: Global,
@@ -262,7 +266,8 @@ impl Live {
         requires { 68 ≤ notes.old.spare }
         ensures same { KeepsPlace self.old self.new }
         ensures runs { (group : List Note) × (notes.new.items ≡ notes.old.items ++ group)
-            × LiveRuns setup.now self.old.number self.old.edges self.old.conn self.new.conn group result
+            × LiveRuns setup.now self.old.number self.old.edges self.old.conn self.new.conn group
+            result
             × (ends result ≡ false → edges_in self.new ≡ edges_noted group (edges_in self.old)) }
         ensures slice { let given = length notes.new.items - length notes.old.items in
             IsWhole result (steps.new - steps.old) given }
@@ -309,7 +314,8 @@ fn tell(conn: &mut Conn, input: Incoming<'_>, number: u32, notes: &mut Notes) ->
     requires spare { 3 ≤ notes.old.spare }
     ensures comes { (group : List Note) × (notes.new.items ≡ notes.old.items ++ group)
         × LiveComes (input_of input.entry) number (Some conn.old) (Some conn.new) group result
-        × (conn.new.ends.edges ≡ edges_noted group (edges_met (input_of input.entry) conn.old.ends.edges)) }
+        × (conn.new.ends.edges
+        ≡ edges_noted group (edges_met (input_of input.entry) conn.old.ends.edges)) }
     ensures few_notes { length notes.new.items ≤ length notes.old.items + 68 }
 {
     match hear(conn, &input) {

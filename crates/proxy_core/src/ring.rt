@@ -20,8 +20,8 @@ pub fn find(live: &Table<Live>, number: u32) -> Option<usize>
     live.place(number)
 }
 
-/// Puts a connection behind its Run: its number at the back of the ring where it stopped in the middle,
-/// its call behind all others where it stopped at one. Says whether it is over.
+/// Puts a connection behind its Run: its number at the back of the ring where it stopped in the
+/// middle, its call behind all others where it stopped at one. Says whether it is over.
 pub fn put_behind(
     live: &mut Table<Live>,
     queue: &mut CallQueue,

@@ -12,8 +12,9 @@ use px_bytes::Steps;
 use std::sync::ledger::Ledger;
 
 impl Core {
-    /// Takes the front of the ring and runs its connection, which goes to the back where there is more
-    /// to do, and whose call waits behind all others where it made one. On an empty ring nothing happens.
+    /// Takes the front of the ring and runs its connection, which goes to the back where there is
+    /// more to do, and whose call waits behind all others where it made one. On an empty ring
+    /// nothing happens.
     pub(crate) fn run<L: Ledger>(&mut self, steps: &mut Steps<L>, notes: &mut Notes)
         requires { 68 ≤ notes.old.spare }
         ensures runs { (group : List Note) × (notes.new.items ≡ notes.old.items ++ group)

@@ -39,8 +39,8 @@ fn server_places(alloc: Global, rules: &[Rule], numbers: &[usize]) -> M<EventPla
     Ok(made)
 }
 
-/// Those of an event, of the rules of these numbers: by their priority, and those of one priority in
-/// the order of the rules and of their places.
+/// Those of an event, of the rules of these numbers: by their priority, and those of one priority
+/// in the order of the rules and of their places.
 pub fn places_of(alloc: Global, rules: &[Rule], numbers: &[usize], event: EventName) -> M<Places>
     ensures { IfOk result (λ places. places ≡ places_of rules.now numbers.now event) }
 {

@@ -10,7 +10,8 @@ use conn::{Places, Setup};
 use px_bytes::Seq;
 use tcl_vars::Vars;
 
-/// What the connections of the virtual server at a place run on, where the bodies of all stand there.
+/// What the connections of the virtual server at a place run on, where the bodies of all stand
+/// there.
 pub fn setup_at<'a>(
     config: &'a Config,
     statics: &'a Vars,

@@ -1,6 +1,7 @@
 // One event.
 
-ghost use Rattle.std.specs.Prelude.{◌≡◌, ◌≤◌, ◌+◌, ◌-◌, ◌++◌, Some, None, OnOk, OnErr, IfErr, List, length};
+ghost use Rattle.std.specs.Prelude.{◌≡◌, ◌≤◌, ◌+◌, ◌-◌, ◌++◌, Some, None, OnOk, OnErr, IfErr, List};
+ghost use Rattle.std.specs.Prelude.{length};
 ghost use Rattle.connection_model.specs.declared.note.Note.{Note};
 ghost use Rattle.proxy_core.specs.Changes.{Changes};
 ghost use Rattle.proxy_core.specs.Refusal.{refusal};
@@ -14,8 +15,8 @@ use px_bytes::Side;
 use std::sync::ledger::Ledger;
 
 impl Core {
-    /// Takes an event and adds its notes. A refused event changes nothing, gives no note and counts no
-    /// step. An accepted one gives 68 notes and counts 2,000 steps at most.
+    /// Takes an event and adds its notes. A refused event changes nothing, gives no note and counts
+    /// no step. An accepted one gives 68 notes and counts 2,000 steps at most.
     pub fn step<L: Ledger>(
         &mut self,
         event: Event,

@@ -1,5 +1,6 @@
 -- The words of `serve`: which they are, as the command that reads them says, and what they say.
-use Rattle.std.specs.Prelude.{◌≡◌, ℕ, ◌<◌, ◌≤◌, ◌-◌, ◌^◌, Bool, true, false, not, ◌||◌, List, [], ◌∷◌, Option, Some, None}
+use Rattle.std.specs.Prelude.{◌≡◌, ℕ, ◌<◌, ◌≤◌, ◌-◌, ◌^◌, Bool, true, false, not, ◌||◌, List, []}
+use Rattle.std.specs.Prelude.{◌∷◌, Option, Some, None}
 use Rattle.std.specs.Prelude.{All, IsUtf8, codes, option_map}
 use Rattle.std.specs.Fmt.{decimal}
 use Rattle.std.specs.List.{list_all}
@@ -24,7 +25,8 @@ abbrev pub serve_app : App
 serve_app =
     with_rule (with_rule (with_rule (with_rule
     (on_top (λ s. record s { disable_help_flag = true }) (new_app (codes "serve")))
-    config_rule) (option_rule (codes "conns"))) (option_rule (codes "turns"))) (option_rule (codes "record"))
+    config_rule) (option_rule (codes "conns"))) (option_rule (codes "turns")))
+    (option_rule (codes "record"))
 
 -- the words are the command's
 abbrev pub AreServeWords : List Text → Type 0
@@ -69,7 +71,8 @@ is_empty (byte ∷ word) = false
 -- neither empty nor `-` or `--`, and no option with nothing behind its `=`
 abbrev pub is_plain : Text → Bool
 is_plain word = not (is_empty word || (bytes_eq word (codes "-") || (bytes_eq word (codes "--")
-    || (bytes_eq word (codes "--conns=") || (bytes_eq word (codes "--turns=") || bytes_eq word (codes "--record="))))))
+    || (bytes_eq word (codes "--conns=") || (bytes_eq word (codes "--turns=")
+    || bytes_eq word (codes "--record="))))))
 
 -- ---- what they say
 

@@ -9,7 +9,8 @@ use px_bytes::read_decimal;
 pub fn count_of(given: Option<&str>, most: u64) -> Option<u64>
     ensures some { IfSome result (λ n. IsCount (option_map (λ t. t.now) given.entry) most n) }
     ensures within { IfSome result (λ n. n ≤ most) }
-    ensures none { IfNone result ((n : ℕ) → ¬ (IsCount (option_map (λ t. t.now) given.entry) most n)) }
+    ensures none { IfNone result
+        ((n : ℕ) → ¬ (IsCount (option_map (λ t. t.now) given.entry) most n)) }
 {
     let Some(text) = given else {
         return Some(most);

@@ -35,9 +35,11 @@ fn serve_command<'a>(alloc: Global) -> Result<Command<'a>, AllocError>
 
 /// Reads words, the first of which stands for the command.
 pub fn read_words<'a>(alloc: Global, words: &'a [&'a str]) -> Result<Given<'a>, UsageFault>
-    ensures usage { result ≡ Err UsageFault.Usage → ¬ (AreServeWords (map (λ w. w.now) words.entry.now)) }
+    ensures usage { result ≡ Err UsageFault.Usage
+        → ¬ (AreServeWords (map (λ w. w.now) words.entry.now)) }
     ensures words { OnOk result (AreServeWords (map (λ w. w.now) words.entry.now)) }
-    ensures fields { IfOk result (λ g. fields_view g ≡ fields_of (map (λ w. w.now) words.entry.now)) }
+    ensures fields { IfOk result
+        (λ g. fields_view g ≡ fields_of (map (λ w. w.now) words.entry.now)) }
 {
     let Ok(command) = serve_command(alloc) else {
         return Err(UsageFault::Memory);

@@ -46,8 +46,8 @@ impl From<Memory> for UsageFault {
     }
 }
 
-/// What the words say: `serve CONFIG [--conns N] [--turns N] [--record FILE]`, the options in any place,
-/// each once at most, also with `=`. A count begins at 1, without needless zeros.
+/// What the words say: `serve CONFIG [--conns N] [--turns N] [--record FILE]`, the options in any
+/// place, each once at most, also with `=`. A count begins at 1, without needless zeros.
 pub fn serve_of(alloc: Global, words: &Texts) -> Result<Serve, UsageFault>
     ensures serve { IfOk result (λ s. IsServe words.now s) }
     ensures usage { result ≡ Err UsageFault.Usage → (s : Serve) → ¬ (IsServe words.now s) }
@@ -68,7 +68,8 @@ pub fn serve_of(alloc: Global, words: &Texts) -> Result<Serve, UsageFault>
 
 fn said(alloc: Global, given: &Given<'_>) -> Result<Serve, UsageFault>
     ensures says { IfOk result (λ s. Says (fields_view given.now) s) }
-    ensures usage { result ≡ Err UsageFault.Usage → (s : Serve) → ¬ (Says (fields_view given.now) s) }
+    ensures usage { result ≡ Err UsageFault.Usage
+        → (s : Serve) → ¬ (Says (fields_view given.now) s) }
 {
     let Some(config) = given.config else {
         return Err(UsageFault::Usage);
