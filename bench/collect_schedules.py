@@ -1,7 +1,7 @@
 #!/usr/bin/env python3
 """Schedules of rules that collect bytes, beside a model of them written from the text of what such a rule does.
 
-    bench/collect_schedules.py PROGRAM [SEED [COUNT]]      PROGRAM is a built crates/proxy/out/proxy
+    bench/collect_schedules.py PROGRAM [SEED [COUNT]]      PROGRAM is a built crates/ciravogu/out/ciravogu
     bench/collect_schedules.py --write FOLDER [SEED [COUNT]]
 
 COUNT schedules (2,000) of one connection, each with a rule of its own: its bodies collect, release, replace and answer in

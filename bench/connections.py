@@ -1,7 +1,7 @@
 #!/usr/bin/env python3
 """How the work of an event grows with the number of live connections.
 
-    bench/connections.py PROXY          PROXY is a built crates/proxy/out/proxy; valgrind is needed
+    bench/connections.py PROXY          PROXY is a built crates/ciravogu/out/ciravogu; valgrind is needed
 
 Replays of 2,048 and of 4,096 connections: all are accepted, each runs, each client takes one byte, then each takes
 the rest, by which its connection ends, the oldest first. Each stage is a replay of its own, and its events are what it

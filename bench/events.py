@@ -1,7 +1,7 @@
 #!/usr/bin/env python3
 """Schedules whose events are taken or refused, beside a model of 120 lines written from the table of refusals.
 
-    bench/events.py PROGRAM              PROGRAM is a built crates/proxy/out/proxy
+    bench/events.py PROGRAM              PROGRAM is a built crates/ciravogu/out/ciravogu
 
 One schedule for each reason to refuse an event, for each order in which two of them can meet, and for what a client's
 bytes, end, reset and took-counts change where no server is chosen. Prints the schedules whose reports differ.

@@ -23,7 +23,7 @@ import sys
 import tempfile
 
 TOP = pathlib.Path(__file__).resolve().parent.parent
-PROGRAM = pathlib.Path(sys.argv[1] if len(sys.argv) > 1 else TOP / "crates/proxy/out/proxy").resolve()
+PROGRAM = pathlib.Path(sys.argv[1] if len(sys.argv) > 1 else TOP / "crates/ciravogu/out/ciravogu").resolve()
 TWO_RULES = """version = 1
 budget = 1000
 

@@ -3,7 +3,7 @@
 
     bench/relay.py PROGRAM [--megabytes 1000] [--connections 1000] [--rounds 3]
 
-PROGRAM is crates/proxy/out/proxy; nginx (its module for streams) and haproxy are installed from Debian's packages
+PROGRAM is crates/ciravogu/out/ciravogu; nginx (its module for streams) and haproxy are installed from Debian's packages
 where they aren't there. Each has one process and one thread. In each round and for each of them: half of the megabytes
 goes each way over one connection, and both ends compare the sums of what came; each end sees the end of the other
 while it still sends; so many short connections are made, each of which reads 200 bytes to the end. Prints the middle

@@ -1,7 +1,7 @@
 #!/usr/bin/env python3
 """Schedules of a relay, beside a model of it written from the text of what a TCP proxy does.
 
-    bench/relay_schedules.py PROGRAM [SEED [COUNT]]      PROGRAM is a built crates/proxy/out/proxy
+    bench/relay_schedules.py PROGRAM [SEED [COUNT]]      PROGRAM is a built crates/ciravogu/out/ciravogu
 
 COUNT schedules (5,000) of one connection between a client and a server of a pool, with fragments of both sides at the
 edges (65,535, 65,536 and 65,537 bytes unread or pending, and one byte), took-counts, ends, resets, refused connects and

@@ -3,7 +3,7 @@
 
     bench/relay_soak.py PROGRAM [--minutes 1] [--clients 8]
 
-PROGRAM is crates/proxy/out/proxy. A pool has two servers and an address where nobody listens; a rule selects again where
+PROGRAM is crates/ciravogu/out/ciravogu. A pool has two servers and an address where nobody listens; a rule selects again where
 a server refuses, and tells each server its client's port. Clients send up to 300,000 bytes, and end, reset or close;
 servers read to the end or a part, answer up to 300,000 bytes, and end, reset or close. Then the program is ended and its
 journal is replayed: what a client or a server got must be a front of what the replay gives it, and all of it where

@@ -1,7 +1,7 @@
 #!/usr/bin/env python3
 """How much processor time bodies take through `replay`, beside the evaluators by themselves, tclsh and jimsh.
 
-    bench/replay.py PROXY VECTORS ..     PROXY is a built crates/proxy/out/proxy, each VECTORS a built program
+    bench/replay.py PROXY VECTORS ..     PROXY is a built crates/ciravogu/out/ciravogu, each VECTORS a built program
                                          that answers the question `body`: tcl_vectors (the plain evaluator) or
                                          machine_vectors (by steps)
 

@@ -3,7 +3,7 @@
 
     bench/serve.py PROGRAM [--clients 64] [--seconds 9] [--record FILE] [--idle N]
 
-PROGRAM is crates/proxy/out/proxy. So many clients connect again and again, each reads its answer to the end and
+PROGRAM is crates/ciravogu/out/ciravogu. So many clients connect again and again, each reads its answer to the end and
 compares it. Prints answers a second, wrong ones, processor milliseconds of the program for 1,000 answers, and its
 resident memory. --idle N keeps N more connections open that a rule holds none of: they connect and never read.
 """

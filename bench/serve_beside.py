@@ -3,7 +3,7 @@
 
     bench/serve_beside.py PROGRAM [--clients 64] [--seconds 3] [--rounds 3]
 
-PROGRAM is crates/proxy/out/proxy; nginx (its module for streams) and haproxy are installed from Debian's packages
+PROGRAM is crates/ciravogu/out/ciravogu; nginx (its module for streams) and haproxy are installed from Debian's packages
 where they aren't there. Each client connects, reads to the end and connects again, on 127.0.0.1. Each server has one
 process and one thread: nginx answers by `return`, haproxy by a service in Lua, the program by `TCP::respond`. Prints
 the middle round of each: answers a second, and processor milliseconds for 1,000 answers.

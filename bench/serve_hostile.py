@@ -3,7 +3,7 @@
 
     bench/serve_hostile.py PROGRAM [--clients 1000] [--seconds 20]
 
-PROGRAM is crates/proxy/out/proxy. Four runs, each with a program of its own:
+PROGRAM is crates/ciravogu/out/ciravogu. Four runs, each with a program of its own:
 
   never   so many clients connect, are sent 100,000 bytes each, and read none of them
   slow    so many clients read nothing, and send a byte a second

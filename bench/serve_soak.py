@@ -3,7 +3,7 @@
 
     bench/serve_soak.py PROGRAM [--minutes 20] [--clients 8] [--pause 0.02]
 
-PROGRAM is crates/proxy/out/proxy. Runs of one minute each: clients connect one behind another, with a pause between;
+PROGRAM is crates/ciravogu/out/ciravogu. Runs of one minute each: clients connect one behind another, with a pause between;
 some read all, some a part and reset, some nothing. Then the program is ended, its journal is replayed, and each client
 must have got a front of the bytes that the replay gives it, those that read to the end all of them. Prints a line a run.
 """

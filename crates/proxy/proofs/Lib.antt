@@ -20,4 +20,6 @@ pub mod ScheduleStops
 pub mod Finishing
 pub mod WholeReading
 pub mod Completing
+pub mod NoteLines
+pub mod JournalRead
 pub mod Serving

@@ -1,6 +1,6 @@
--- A schedule all of whose lines spell events has no faulty line.
+-- A schedule all of whose lines spell events has no faulty line, and is read in one way.
 use Rattle.std.proofs.Common.{◌≡◌, inl, inr, refl, sym, ap, subst, ◌∙◌, ℕ, List, [], ◌∷◌, ◌++◌}
-use Rattle.std.proofs.Common.{reverse, true, false, nat_eq, append_assoc, arith}
+use Rattle.std.proofs.Common.{reverse, true, false, nat_eq, append_assoc, append-nil, arith}
 use Rattle.std.proofs.lemmas.Bool.Decides.{nat_tests}
 use Rattle.std.proofs.lemmas.List.{reverse-append, reverse-reverse}
 use Rattle.proxy_core.specs.declared.event.Event.{Event}
@@ -124,13 +124,39 @@ later_lines : (a b : List (List ℕ)) → AllLines (a ++ b) → AllLines b
 later_lines [] b h = h
 later_lines (l ∷ a) b h = later_lines a b h.1
 
+-- lines that are a text are those of its front, and more that are the rest but for what no LF ends
+record Behind (a b : List (List ℕ)) (last rest : List ℕ) : Type 0 where
+  more : List (List ℕ)
+  lines : a ≡ reverse more ++ b
+  rest_is : rest ≡ forward more ++ last
+  all_lines : AllLines more
+
+front_lines : (a b : List (List ℕ)) (last rest : List ℕ) → AllLines a → AllLines b → IsLine last → lines_text a ++ last ≡ lines_text b ++ rest → Behind a b last rest
+front_lines a b last rest p q i e =
+    let forwards : forward (reverse a) ++ last ≡ forward (reverse b) ++ rest = ap (λ t. t ++ last) (sym (turned a)) ∙ e ∙ ap (λ t. t ++ rest) (turned b) in
+    let k = longer (reverse a) (reverse b) last rest (all_turned a p) (all_turned b q) i forwards in
+    record {
+      more = k.more;
+      lines = sym (reverse-reverse a) ∙ ap reverse k.whole ∙ reverse-append (reverse b) k.more ∙ ap (λ x. reverse k.more ++ x) (reverse-reverse b);
+      rest_is = k.rest_is;
+      all_lines = later_lines (reverse b) k.more (subst AllLines k.whole (all_turned a p));
+    }
+
 -- a schedule whose lines spell events, behind which a line may be skipped, has no faulty line behind any front of it
 pub whole_has_no_fault : (schedule whole last text rest : List ℕ) (m n : ℕ) (events before : List Event) (kind : LineKind) → Reads whole m events → schedule ≡ whole ++ last → IsEnd last → schedule ≡ text ++ rest → Reads text n before → Faulty rest kind → ⊥
 whole_has_no_fault schedule whole last text rest m n events before kind r all end is f fault =
-    let of_whole = r.text_is ∙ turned r.lines in
-    let of_text = f.text_is ∙ turned f.lines in
-    let forwards : forward (reverse r.lines) ++ last ≡ forward (reverse f.lines) ++ rest = ap (λ t. t ++ last) (sym of_whole) ∙ sym all ∙ is ∙ ap (λ t. t ++ rest) of_text in
-    let k = longer (reverse r.lines) (reverse f.lines) last rest (all_turned r.lines r.all_lines) (all_turned f.lines f.all_lines) end.0 forwards in
-    let lines : r.lines ≡ reverse k.more ++ f.lines = sym (reverse-reverse r.lines) ∙ ap reverse k.whole ∙ reverse-append (reverse f.lines) k.more ∙ ap (λ x. reverse k.more ++ x) (reverse-reverse f.lines) in
-    let more : AllLines k.more = later_lines (reverse f.lines) k.more (subst AllLines k.whole (all_turned r.lines r.all_lines)) in
-    faulty_false k.more f.lines events last rest kind fault k.rest_is more end (subst (λ x. Spell x events) lines r.spell)
+    let parts : lines_text r.lines ++ last ≡ lines_text f.lines ++ rest = ap (λ t. t ++ last) (sym r.text_is) ∙ sym all ∙ is ∙ ap (λ t. t ++ rest) f.text_is in
+    let k = front_lines r.lines f.lines last rest r.all_lines f.all_lines end.0 parts in
+    faulty_false k.more f.lines events last rest kind fault k.rest_is k.all_lines end (subst (λ x. Spell x events) k.lines r.spell)
+
+none_more : (more lines : List (List ℕ)) (rest : List ℕ) (before events : List Event) → rest ≡ forward more ++ [] → IsLine rest → Spell lines before → Spell (reverse more ++ lines) events → before ≡ events
+unfolding forward
+none_more [] lines rest before events e is s t = same_events lines before events s t
+none_more (m ∷ more) lines rest before events e is s t = absurd (lf_in m (forward more ++ []) (subst IsLine (e ∙ append_assoc m (10 ∷ forward more) []) is))
+
+-- a schedule is read as the same events up to an end without LF
+pub read_once : (schedule text rest : List ℕ) (m n : ℕ) (events before : List Event) → Reads schedule m events → schedule ≡ text ++ rest → IsLine rest → Reads text n before → before ≡ events
+read_once schedule text rest m n events before r is end f =
+    let parts : lines_text r.lines ++ [] ≡ lines_text f.lines ++ rest = append-nil (lines_text r.lines) ∙ sym r.text_is ∙ is ∙ ap (λ t. t ++ rest) f.text_is in
+    let k = front_lines r.lines f.lines [] rest r.all_lines f.all_lines tt parts in
+    none_more k.more f.lines rest before events k.rest_is end f.spell (subst (λ x. Spell x events) k.lines r.spell)

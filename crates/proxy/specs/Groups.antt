@@ -1,5 +1,6 @@
 -- The data groups and pools that rules name, as a configuration has them.
-use Rattle.std.specs.Prelude.{List, [], ◌∷◌, length, map, Bool, ◌&&◌, nat_le, is_none, Option, Some, None, option_map}
+use Rattle.std.specs.Prelude.{List, [], ◌∷◌, length, map, Bool, ◌&&◌, nat_le, is_none, Option, Some}
+use Rattle.std.specs.Prelude.{None, option_map}
 use Rattle.std.specs.Prelude.{if◌then◌else◌}
 use Rattle.std.specs.List.{list_all}
 use Rattle.config.specs.declared.config.NamedGroup as loaded

@@ -16,3 +16,4 @@ pub mod Complete
 pub mod Offline
 pub mod Schedule
 pub mod Serving
+pub mod Journal

@@ -59,7 +59,8 @@ pub record GivesNone (line : List ℕ) (kind : LineKind) : Type 0 where
   pub found_memory : kind ≡ Memory → ⊥
   pub fails : LineFails line kind
 
--- what is wrong with a last line that has no LF and isn't skipped: that it is too long, or just that
+-- what is wrong with a last line that has no LF and isn't skipped: that it is too long, or just
+-- that
 abbrev pub unended_kind : List ℕ → LineKind
 unended_kind line = if nat_lt longest_line (length line) then LongLine else NoNewline
 

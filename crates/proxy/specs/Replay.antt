@@ -35,8 +35,8 @@ accepted (x ∷ past) = with_accepted (kind_of x.event) (accepted past)
 abbrev pub taken_bytes : Past → State → ℕ → List ℕ
 taken_bytes past s c = take (heard c past).client.took (client_output (s.places c))
 
--- The bytes that the server connection of this number took, the first being 1: so many as it took, of
--- those that were sent to it. To one that was made behind the finish nothing was sent.
+-- The bytes that the server connection of this number took, the first being 1: so many as it took,
+-- of those that were sent to it. To one that was made behind the finish nothing was sent.
 abbrev pub server_bytes : Past → State → ℕ → (number : ℕ) → List ℕ
 server_bytes past s c k = take (took_of (heard c past).connects k) (server_output k (s.places c))
 

@@ -9,7 +9,8 @@ use Rattle.journal_text.specs.declared.line_kind.LineKind.TheVariants.{Memory}
 use Rattle.proxy_core.specs.declared.event.BadEvent.{BadEvent}
 use Rattle.proxy_core.specs.declared.event.BadEvent.TheVariants.{NoConn, AfterEnd, NotConnecting}
 use Rattle.proxy_core.specs.declared.event.BadEvent.TheVariants.{MomentBack, TooMuch, TookTooMuch}
-use Rattle.proxy_core.specs.declared.event.BadEvent.TheVariants.{Full, NoMember, TwiceConn, NoVirtual}
+use Rattle.proxy_core.specs.declared.event.BadEvent.TheVariants.{Full, NoMember, TwiceConn}
+use Rattle.proxy_core.specs.declared.event.BadEvent.TheVariants.{NoVirtual}
 
 -- the number of a refusal
 abbrev pub refusal_number : BadEvent → ℕ

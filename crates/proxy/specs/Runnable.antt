@@ -1,7 +1,8 @@
 -- Which of the configurations that load can be run today, and what the core runs for them: virtual
 -- servers without HTTP and persistence, and rules that name no command of the host but those that a
 -- connection has today, and have 65,536 procedures at most.
-use Rattle.std.specs.Prelude.{◌≡◌, ℕ, List, [], ◌∷◌, map, flat_map, Bool, true, false, not, ◌&&◌, Option}
+use Rattle.std.specs.Prelude.{◌≡◌, ℕ, List, [], ◌∷◌, map, flat_map, Bool, true, false, not, ◌&&◌}
+use Rattle.std.specs.Prelude.{Option}
 use Rattle.std.specs.Prelude.{Some, None, option_map, is_none, slice_get, unwrap_or, if◌then◌else◌}
 use Rattle.std.specs.List.{list_all, position_from}
 use Rattle.std.specs.Str.{bytes_eq}

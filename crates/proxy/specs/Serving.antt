@@ -46,8 +46,8 @@ end_of (Err fault.Write) = is.WriteFault
 end_of (Err fault.Memory) = is.Memory
 end_of (Err fault.Net) = is.NetFault
 
--- the net, the clock, what was written of the journal where its sink tells it, and how often files, the net
--- and the journal failed
+-- the net, the clock, what was written of the journal where its sink tells it, and how often files,
+-- the net and the journal failed
 pub record Outside (S T : Type 0) : Type 0 where
   pub net : S
   pub clock : T
@@ -62,8 +62,8 @@ pub record Untouched {S T : Type 0} (old new : Outside S T) : Type 0 where
   pub clock : new.clock ≡ old.clock
   pub written : new.written ≡ old.written
 
--- The configuration loads, the core runs it, and it was served to this end: the headline for exactly the
--- events that net and clock gave, and the journal of these events.
+-- The configuration loads, the core runs it, and it was served to this end: the headline for
+-- exactly the events that net and clock gave, and the journal of these events.
 pub record ServesFile {S T : Type 0} (did : S → Call → S → Type 0) (gave : S → ℕ → Type 0)
     (ticked : T → ℕ → T → Type 0) (told : List ℕ → Option (List ℕ))
     (s : Serve) (old new : Outside S T) (end : ServeEnd) : Type 0 where
@@ -74,9 +74,9 @@ pub record ServesFile {S T : Type 0} (did : S → Call → S → Type 0) (gave :
   pub serves : ServesConfig did gave ticked K s.conns s.turns old.net new.net old.clock new.clock
       old.written new.written end
 
--- The configuration loads, the core runs it, and it met a fault: the headline for exactly the events that
--- were given, those of the turn of the fault among them, and of the journal a front, which is all of it
--- where the net failed.
+-- The configuration loads, the core runs it, and it met a fault: the headline for exactly the
+-- events that were given, those of the turn of the fault among them, and of the journal a front,
+-- which is all of it where the net failed.
 pub record StopsFile {S T : Type 0} (did : S → Call → S → Type 0) (gave : S → ℕ → Type 0)
     (ticked : T → ℕ → T → Type 0) (told : List ℕ → Option (List ℕ))
     (s : Serve) (old new : Outside S T) (why : ServeFault) : Type 0 where
@@ -88,9 +88,11 @@ pub record StopsFile {S T : Type 0} (did : S → Call → S → Type 0) (gave : 
       old.written new.written
 
 -- by its end
-abbrev pub ServesTo : {S T : Type 0} → (S → Call → S → Type 0) → (S → ℕ → Type 0) → (T → ℕ → T → Type 0)
+abbrev pub ServesTo : {S T : Type 0} → (S → Call → S → Type 0) → (S → ℕ → Type 0)
+    → (T → ℕ → T → Type 0)
     → (List ℕ → Option (List ℕ)) → Serve → Outside S T → Outside S T → Outcome → Type 0
-ServesTo did gave ticked told s old new is.Conns = ServesFile did gave ticked told s old new ending.Conns
+ServesTo did gave ticked told s old new is.Conns =
+    ServesFile did gave ticked told s old new ending.Conns
 ServesTo did gave ticked told s old new is.Usage = ⊥
 ServesTo did gave ticked told s old new is.Config =
     ((text : List ℕ) × IsRefusal told old.reads new.reads s.config text) × Untouched old new
@@ -102,16 +104,19 @@ ServesTo did gave ticked told s old new is.Memory =
     StopsFile did gave ticked told s old new fault.Memory ⊎ Untouched old new
 ServesTo did gave ticked told s old new is.NetFault =
     StopsFile did gave ticked told s old new fault.Net × Rose old.net_faults new.net_faults
-ServesTo did gave ticked told s old new is.Turns = ServesFile did gave ticked told s old new ending.Turns
+ServesTo did gave ticked told s old new is.Turns =
+    ServesFile did gave ticked told s old new ending.Turns
 
 -- the words are `serve`'s, and it ends so
-abbrev pub OfServe : {S T : Type 0} → (S → Call → S → Type 0) → (S → ℕ → Type 0) → (T → ℕ → T → Type 0)
+abbrev pub OfServe : {S T : Type 0} → (S → Call → S → Type 0) → (S → ℕ → Type 0)
+    → (T → ℕ → T → Type 0)
     → (List ℕ → Option (List ℕ)) → List (List ℕ) → Outside S T → Outside S T → Outcome → Type 0
 OfServe did gave ticked told words old new end =
     (s : Serve) × IsServe words s × ServesTo did gave ticked told s old new end
 
 -- The promise for these words, by the end: `told` is what the files hold, where they tell it.
-abbrev pub OfWords : {S T : Type 0} → (S → Call → S → Type 0) → (S → ℕ → Type 0) → (T → ℕ → T → Type 0)
+abbrev pub OfWords : {S T : Type 0} → (S → Call → S → Type 0) → (S → ℕ → Type 0)
+    → (T → ℕ → T → Type 0)
     → (List ℕ → Option (List ℕ)) → List (List ℕ) → Outside S T → Outside S T → Outcome → Type 0
 OfWords did gave ticked told words old new is.Usage =
     ((s : Serve) → IsServe words s → ⊥) × ((new.reads ≡ old.reads) × Untouched old new)

@@ -18,8 +18,8 @@ abbrev pub more_of : ℕ → Side → Option (List ℕ) → Took
 more_of conn side None = Nothing
 more_of conn side (Some bytes) = More conn side bytes
 
--- what an event brings, by the core before it: an accept a connection, an answer a server connection
--- of one, a took-count the first bytes that were pending
+-- what an event brings, by the core before it: an accept a connection, an answer a server
+-- connection of one, a took-count the first bytes that were pending
 abbrev pub took_of : Core → Event → Took
 took_of core (event.Accept conn vs from) = Begins conn
 took_of core (event.Connected conn) = Connects conn

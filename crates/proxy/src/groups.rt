@@ -21,8 +21,8 @@ pub struct Made {
     pub pools: Pools,
 }
 
-/// The data groups and pools of a configuration, if each key is of its group's kind and the members of
-/// each pool may be.
+/// The data groups and pools of a configuration, if each key is of its group's kind and the members
+/// of each pool may be.
 pub fn core_groups(alloc: Global, settings: &Settings) -> M<Option<Made>>
     ensures { IfOk result (λ groups. groups ≡ made_groups settings.now) }
 {

@@ -1,7 +1,8 @@
 // The lines of a report besides those of notes.
 
 ghost use Rattle.std.specs.Prelude.{◌≡◌, IfOk, string_bytes};
-ghost use Rattle.proxy.specs.Report.{kind_number, refusal_number, client_text, server_text, open_text, end_text};
+ghost use Rattle.proxy.specs.Report.{kind_number, refusal_number, client_text, server_text};
+ghost use Rattle.proxy.specs.Report.{open_text, end_text};
 ghost use Rattle.proxy.specs.Report.{text_fault, event_fault, config_fault, ok_text, usage_fault};
 
 use journal_text::LineKind;
@@ -19,7 +20,8 @@ pub fn client_line(alloc: Global, conn: u32, bytes: &[u8]) -> M<Text>
     Ok(line)
 }
 
-/// The bytes that a server connection took, in hexadecimal. `number` counts those of one client from 1.
+/// The bytes that a server connection took, in hexadecimal. `number` counts those of one client
+/// from 1.
 pub fn server_line(alloc: Global, conn: u32, number: usize, bytes: &[u8]) -> M<Text>
     ensures { IfOk result (λ line. line ≡ server_text conn number bytes.now) }
 {

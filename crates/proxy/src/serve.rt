@@ -1,10 +1,11 @@
 // The command that serves.
 
 ghost use Rattle.std.specs.Prelude.{◌≡◌};
-ghost use Rattle.proxy.specs.Serving.{OfWords, ServeCompletes, ServesTo, end_of, refused_end, status_of};
+ghost use Rattle.proxy.specs.Serving.{OfWords, ServeCompletes, ServesTo, end_of, refused_end};
+ghost use Rattle.proxy.specs.Serving.{status_of};
 
 use crate::end::Status;
-use crate::offline::is_read_fault;
+use crate::offline_commands::is_read_fault;
 use crate::outcome::Outcome;
 use crate::runnable::core_config;
 use config::{ConfigFault, read_config};

@@ -1,7 +1,6 @@
 // `serve` over the real files, sockets and clock.
 
-use crate::end::Status;
-use crate::serve::serve_command;
+use proxy::{Status, serve_command};
 use px_bytes::{Text, Texts};
 use px_real::{FileSink, MioNet, NoSink, RealClock, RealFiles};
 use std::io;

@@ -1,4 +1,4 @@
-use Rattle.proxy.proofs.offline.tell.Goals as goal
+use Rattle.proxy.proofs.offline_commands.tell.Goals as goal
 
 pub returns : goal.returns
 returns g c = record { said = c.say.result; says = c.say.ensures; ends = c.unless.ensures }

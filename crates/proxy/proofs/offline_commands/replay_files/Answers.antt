@@ -5,7 +5,7 @@ use Rattle.proxy.specs.Offline.{Runs}
 use Rattle.proxy.proofs.ConfigAnswers.{loads}
 use Rattle.proxy.proofs.Ends.{not_built, replay_refused, replayed, unread}
 use Rattle.proxy.proofs.Finishing.{rose_earlier}
-use Rattle.proxy.proofs.offline.replay_files.Goals as goal
+use Rattle.proxy.proofs.offline_commands.replay_files.Goals as goal
 
 pub returns-in-Err : goal.returns-in-Err
 returns-in-Err g c =

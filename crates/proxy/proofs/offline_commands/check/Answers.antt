@@ -1,5 +1,5 @@
 use Rattle.proxy.proofs.Ends.{check_refused, checked}
-use Rattle.proxy.proofs.offline.check.Goals as goal
+use Rattle.proxy.proofs.offline_commands.check.Goals as goal
 
 pub returns-in-Ok : goal.returns-in-Ok
 returns-in-Ok g c =

@@ -1,7 +1,6 @@
 // A net, a clock, files and a journal in memory, that are served.
 
-use crate::end::Status;
-use crate::serve::serve_command;
+use proxy::{Status, serve_command};
 use px_bytes::{Addr, M, Pairs, Text, Texts};
 use px_outside::{
     ConnectAnswer, Counts, MemClock, MemFiles, MemLink, MemNet, MemRead, MemReads, MemScript,

@@ -1,34 +1,12 @@
 //! Ciravogu: a full proxy for TCP and plain HTTP/1.1, scripted by iRules.
 #![tactic(auto)]
 
-mod command;
-mod end;
-mod finish;
-mod groups;
-mod lines;
-#[cfg(test)]
-mod mem_serving;
-mod offline;
-mod outcome;
-#[cfg(test)]
-mod relay_tests;
-mod replay;
-mod report;
-mod run_schedule;
-mod runnable;
-mod schedule;
-mod serve;
 mod serve_real;
-#[cfg(test)]
-mod serve_tests;
-mod server_bytes;
-mod taken;
 #[cfg(test)]
 mod tests;
 
-use crate::end::Status;
-use crate::offline::offline;
 use crate::serve_real::serve_real;
+use proxy::{Status, offline};
 use px_bytes::{Text, Texts};
 use px_real::{RealFiles, StdoutSink};
 use serve_words::{UsageFault, serve_of};

@@ -1,8 +1,7 @@
 // Serving over a net, a clock, files and a journal in memory.
 
-use crate::end::Status;
-use crate::mem_serving::{Fails, NONE, client, files, serve, words_of};
-use crate::offline::offline;
+use super::mem_serving::{Fails, NONE, client, files, serve, words_of};
+use proxy::{Status, offline};
 use px_bytes::M;
 use px_outside::{Counts, MemLink, MemSink, MemWrite};
 use std::alloc::Global;

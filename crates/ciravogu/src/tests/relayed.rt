@@ -1,8 +1,7 @@
 // A client and a server in memory, between which bytes are passed on.
 
-use crate::end::Status;
-use crate::mem_serving::{NONE, client, files, serve, words_of};
-use crate::offline::offline;
+use super::mem_serving::{NONE, client, files, serve, words_of};
+use proxy::{Status, offline};
 use px_bytes::{Addr, M, Text};
 use px_outside::{
     ConnectAnswer, Counts, MemLink, MemRead, MemReads, MemScript, MemSink, MemWrites,

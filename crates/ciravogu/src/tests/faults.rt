@@ -1,7 +1,6 @@
-// What a user sees where a file can't be read or the output can't be written.
+// Where a file can't be read or the output can't be written.
 
-use crate::end::Status;
-use crate::offline::offline;
+use proxy::{Status, offline};
 use px_bytes::{M, Pairs, Text, Texts};
 use px_outside::{Counts, MemFiles, MemSink};
 use std::alloc::Global;

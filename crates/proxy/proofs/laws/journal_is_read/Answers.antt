@@ -1,0 +1,5 @@
+use Rattle.proxy.proofs.JournalRead as journal
+use Rattle.proxy.proofs.laws.journal_is_read.Goals as goal
+
+pub returns : goal.returns
+returns c = journal.journal_is_read

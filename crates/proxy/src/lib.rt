@@ -1,0 +1,25 @@
+//! The commands of Ciravogu, a full proxy for TCP and plain HTTP/1.1, scripted by iRules: over any
+//! files, sinks, net and clock.
+#![tactic(auto)]
+
+mod command;
+mod end;
+mod finish;
+mod groups;
+mod laws;
+mod lines;
+mod offline_commands;
+mod outcome;
+mod replay;
+mod report;
+mod run_schedule;
+mod runnable;
+mod schedule;
+mod serve;
+mod server_bytes;
+mod taken;
+
+pub use end::Status;
+pub use laws::{journal_has_no_fault, journal_is_read, journal_replays};
+pub use offline_commands::offline;
+pub use serve::serve_command;
