@@ -46,33 +46,49 @@ fn counted_replay<K: Sink, L: Ledger>(
     match replay.lines(alloc, schedule, &mut steps, out) {
         Ok(()) => {
             let last = end_line(alloc, replay.events);
-            End::Done.unless(finish(&replay, alloc, last, out))
+            End::Done.unless(finish(replay, alloc, last, out))
         }
         Err(Stop::Text { line, kind }) => {
             let last = text_fault_line(alloc, line, kind);
-            End::Schedule.unless(finish(&replay, alloc, last, out))
+            End::Schedule.unless(finish(replay, alloc, last, out))
         }
         Err(Stop::Event { line, why }) => {
             let last = event_fault_line(alloc, line, why);
-            End::Schedule.unless(finish(&replay, alloc, last, out))
+            End::Schedule.unless(finish(replay, alloc, last, out))
         }
-        Err(Stop::WriteFault) => End::WriteFault,
-        Err(Stop::Memory) => End::Memory,
+        Err(Stop::WriteFault) => {
+            drop(replay);
+            End::WriteFault
+        }
+        Err(Stop::Memory) => {
+            drop(replay);
+            End::Memory
+        }
     }
 }
 
 // Writes the end of the report.
-fn finish<K: Sink>(replay: &Replay, alloc: Global, last: M<Text>, out: &mut K) -> Result<(), End>
-    ensures finished { Finished replay.now last (K.written out.old) (K.written out.new)
+fn finish<K: Sink>(replay: Replay, alloc: Global, last: M<Text>, out: &mut K) -> Result<(), End>
+    ensures finished { Finished replay last (K.written out.old) (K.written out.new)
         (K.faults out.old) (K.faults out.new) result }
     ensures faults_never_fall { K.faults out.old ≤ K.faults out.new }
 {
     let Ok(last) = last else {
+        drop(replay);
         return Err(End::Memory);
     };
     match replay.finish(alloc, &last, out) {
-        Ok(()) => Ok(()),
-        Err(Stop::WriteFault) => Err(End::WriteFault),
-        Err(_) => Err(End::Memory),
+        Ok(()) => {
+            drop(replay);
+            Ok(())
+        }
+        Err(Stop::WriteFault) => {
+            drop(replay);
+            Err(End::WriteFault)
+        }
+        Err(_) => {
+            drop(replay);
+            Err(End::Memory)
+        }
     }
 }

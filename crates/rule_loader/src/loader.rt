@@ -82,10 +82,8 @@ impl Loader {
         let event = self.told.event(when.event);
         let priority = self.told.priority(when.priority);
         let body = self.told.body(alloc, when.body, event)?;
-        let Some(event) = event else {
-            return Ok(());
-        };
-        let Some(priority) = priority else {
+        let (Some(event), Some(priority)) = (event, priority) else {
+            drop(body);
             return Ok(());
         };
         self.bodies.push(event, Handler { priority, body })

@@ -35,9 +35,16 @@ pub fn serve_config<N: Net, T: Clock, K: Sink>(
     ensures journal_faults_never_fall { K.faults journal.old ≤ K.faults journal.new }
 {
     let (core, notes) = Core::new(alloc, config)?;
-    write_start(alloc, notes.as_slice(), journal)?;
+    let wrote = write_start(alloc, notes.as_slice(), journal);
+    drop(notes);
+    if let Err(fault) = wrote {
+        drop(core);
+        return Err(fault);
+    }
     let mut server = Server::new(alloc, Served { core }, net, conns)?;
-    serve(&mut server, net, clock, journal, turns)
+    let ended = serve(&mut server, net, clock, journal, turns);
+    drop(server);
+    ended
 }
 
 // Writes the notes of the start.

@@ -8,3 +8,4 @@ pub mod Named
 pub mod OpenedTurns
 pub mod TreeViews
 pub mod Turns
+pub mod Zipped

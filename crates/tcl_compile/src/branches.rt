@@ -12,6 +12,7 @@ use crate::findings::Findings;
 use crate::if_form::{Arm, Branches, if_form};
 use crate::node::Node;
 use crate::notes::nothing;
+use crate::zip::zip;
 use px_bytes::M;
 use std::alloc::Global;
 use tcl_words::Word;
@@ -33,8 +34,8 @@ impl Findings {
         let mut values = Vec::new(alloc);
         for arm in arms {
             let condition = self.condition(alloc, base, arm.condition, levels)?;
-            let body = self.body(alloc, base, arm.body, levels)?;
-            values.push((condition, body))?;
+            let value = zip(condition, self.body(alloc, base, arm.body, levels))?;
+            values.push(value)?;
         }
         Ok(values)
     }

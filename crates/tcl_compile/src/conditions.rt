@@ -11,6 +11,7 @@ ghost use Rattle.tcl_compile.specs.TreeView.{node_view, nodes_view, operands_vie
 use crate::findings::Findings;
 use crate::node::Node;
 use crate::opened::{Opened, scanned};
+use crate::zip::zip;
 use px_bytes::{M, Memory};
 use std::alloc::Global;
 use tcl_expr::{Expr, Joint};
@@ -102,7 +103,8 @@ impl Findings {
                     levels,
                     nesting - 1,
                 )?;
-                let (rest, end) = self.operands(alloc, base, text, rest, mid, levels, nesting - 1)?;
+                let rest = self.operands(alloc, base, text, rest, mid, levels, nesting - 1);
+                let (first, (rest, end)) = zip(first, rest)?;
                 Ok((Node::Row(Box::new(alloc, first)?, rest), end))
             }
             Expr::Choice(cases, last) => {
@@ -179,7 +181,8 @@ impl Findings {
             let (condition, mid) = self.expression(
                 alloc, base, text, condition, opened, levels, nesting,
             )?;
-            let (value, end) = self.expression(alloc, base, text, expr, mid, levels, nesting)?;
+            let value = self.expression(alloc, base, text, expr, mid, levels, nesting);
+            let (condition, (value, end)) = zip(condition, value)?;
             values.push((condition, value))?;
             opened = end;
         }

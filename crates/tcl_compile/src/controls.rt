@@ -12,19 +12,27 @@ use crate::forms::{catch_form, foreach_form};
 use crate::node::{Node, Verb};
 use crate::notes::nothing;
 use crate::texts::is_substituted;
+use crate::zip::zip;
 use px_bytes::M;
 use std::alloc::Global;
 use tcl_words::Word;
+
+/// Both in boxes.
+fn boxed(alloc: Global, first: Node, second: Node) -> M<(Box<Node>, Box<Node>)>
+    ensures { IfOk result (λ p. (p.0.value ≡ first) × (p.1.value ≡ second)) }
+{
+    let (second, first) = zip(second, Box::new(alloc, first))?;
+    let (first, second) = zip(first, Box::new(alloc, second))?;
+    Ok((first, second))
+}
 
 /// A loop of these.
 fn loop_of(alloc: Global, start: Node, test: Node, next: Node, body: Node) -> M<Node>
     ensures { IfOk result (λ v. node_view v
         ≡ loop (node_view start) (node_view test) (node_view next) (node_view body)) }
 {
-    let start = Box::new(alloc, start)?;
-    let test = Box::new(alloc, test)?;
-    let next = Box::new(alloc, next)?;
-    let body = Box::new(alloc, body)?;
+    let ((next, body), (start, test)) = zip((next, body), boxed(alloc, start, test))?;
+    let ((start, test), (next, body)) = zip((start, test), boxed(alloc, next, body))?;
     Ok(Node::Loop {
         start,
         test,
@@ -37,8 +45,7 @@ fn loop_of(alloc: Global, start: Node, test: Node, next: Node, body: Node) -> M<
 fn caught_in(alloc: Global, body: Node, name: Node) -> M<Node>
     ensures { IfOk result (λ v. node_view v ≡ catch_in (node_view body) (node_view name)) }
 {
-    let body = Box::new(alloc, body)?;
-    let name = Box::new(alloc, name)?;
+    let (body, name) = boxed(alloc, body, name)?;
     Ok(Node::CatchIn { body, name })
 }
 
@@ -84,7 +91,7 @@ impl Findings {
             return Ok(self.wrong_number(alloc, base, at));
         };
         let test = self.condition(alloc, base, test, levels)?;
-        let body = self.body(alloc, base, body, levels)?;
+        let (test, body) = zip(test, self.body(alloc, base, body, levels))?;
         loop_of(alloc, nothing(alloc), test, nothing(alloc), body)
     }
 
@@ -106,9 +113,9 @@ impl Findings {
             return Ok(self.wrong_number(alloc, base, at));
         };
         let start = self.body(alloc, base, start, levels)?;
-        let test = self.condition(alloc, base, test, levels)?;
-        let next = self.body(alloc, base, next, levels)?;
-        let body = self.body(alloc, base, body, levels)?;
+        let (start, test) = zip(start, self.condition(alloc, base, test, levels))?;
+        let ends = zip((start, test), self.body(alloc, base, next, levels))?;
+        let (((start, test), next), body) = zip(ends, self.body(alloc, base, body, levels))?;
         loop_of(alloc, start, test, next, body)
     }
 
@@ -155,7 +162,7 @@ impl Findings {
         let body = self.body(alloc, base, body, levels)?;
         match name {
             Some(name) => {
-                let name = self.word(alloc, base, name, levels)?;
+                let (body, name) = zip(body, self.word(alloc, base, name, levels))?;
                 caught_in(alloc, body, name)
             }
             None => Ok(Node::Catch(Box::new(alloc, body)?)),

@@ -26,6 +26,7 @@ mod switches;
 mod texts;
 mod whole_result;
 mod words;
+mod zip;
 
 pub use binding::bound_values;
 pub use compile_fault::{CompileFault, Flaw};

@@ -15,6 +15,7 @@ use crate::forms::{first_two, switch_form};
 use crate::node::Node;
 use crate::places::place_in;
 use crate::texts::is_text;
+use crate::zip::zip;
 use px_bytes::M;
 use std::alloc::Global;
 use tcl_words::Word;
@@ -59,8 +60,9 @@ impl Findings {
         let mut left = words;
         while let Some((pattern, body, behind)) = first_two(left) {
             let pattern = self.word(alloc, base, pattern, levels)?;
-            let body = self.case_word(alloc, base, behind.is_empty(), body, levels)?;
-            patterns.push(pattern)?;
+            let body = self.case_word(alloc, base, behind.is_empty(), body, levels);
+            let (pattern, body) = zip(pattern, body)?;
+            let (body, ()) = zip(body, patterns.push(pattern))?;
             bodies.push(body)?;
             left = behind;
         }
@@ -110,8 +112,9 @@ impl Findings {
         let mut left = items;
         while let Some((pattern, body, behind)) = first_two(left) {
             let pattern = Node::Plain(pattern.text.copy()?);
-            let body = self.case_item(alloc, place, behind.is_empty(), body, levels)?;
-            patterns.push(pattern)?;
+            let body = self.case_item(alloc, place, behind.is_empty(), body, levels);
+            let (pattern, body) = zip(pattern, body)?;
+            let (body, ()) = zip(body, patterns.push(pattern))?;
             bodies.push(body)?;
             left = behind;
         }

@@ -1,5 +1,5 @@
 use Rattle.std.proofs.lemmas.Result.{IfOk-weaker, IfErr-weaker}
-use Rattle.std.proofs.Common.{◌≤◌, List, ℕ, Option, inl, inr, length, refl, ap, sym, ◌∙◌, subst, arith}
+use Rattle.std.proofs.Common.{◌≡◌, ◌≤◌, List, ℕ, Option, inl, inr, length, refl, ap, sym, ◌∙◌, subst, arith}
 use Rattle.std.proofs.lemmas.List.{take_all}
 use Rattle.px_outside.specs.Outside.{told_more}
 use Rattle.connection_model.specs.declared.note.Note.{Note}
@@ -14,15 +14,26 @@ use Rattle.served_core.proofs.Promising.{fails_later, kept}
 use Rattle.serve_loop.proofs.Ending.{told_nothing}
 use Rattle.serve_loop.proofs.Exits.{at_fault}
 use Rattle.proxy_core.specs.Setup.{init_notes}
+use Rattle.std.specs.Prelude.{Result, Ok, Err, OnOk, OnErr, IfErr}
 use Rattle.served_core.proofs.serves.serve_config.Goals as goal
+
+-- what holds where a call went well, and where it didn't
+on_ok : {T E : Type 0} (P : Type 0) {r : Result T E} {x : T} → OnOk r P → r ≡ Ok x → P
+on_ok P told is = subst (λ r. OnOk r P) is told
+
+on_err : {T E : Type 0} (P : Type 0) {r : Result T E} {e : E} → OnErr r P → r ≡ Err e → P
+on_err P told is = subst (λ r. OnErr r P) is told
+
+err_is : {T E : Type 0} (P : E → Type 0) {r : Result T E} {e : E} → IfErr r P → r ≡ Err e → P e
+err_is P told is = subst (λ r. IfErr r P) is told
 
 pub returns-clause-serves : goal.returns-clause-serves
 returns-clause-serves g c =
     let before = g.K.Sink.written c.args.journal.now in
-    let after = g.K.Sink.written c.serve.new.journal in
+    let after = g.K.Sink.written c.serve-ended.new.journal in
     let notes = c.as_slice.ensures ∙ c.in_ok-core.ensures.notes in
-    let written = c.in_ok-write_start.ensures.written ∙ ap (λ (l : List Note). told_more before (note_lines l)) notes in
-    IfOk-weaker c.serve.result _ _ (λ end it.
+    let written = on_ok _ c.write_start-wrote.ensures.written c.in_default.is ∙ ap (λ (l : List Note). told_more before (note_lines l)) notes in
+    IfOk-weaker c.serve-ended.result _ _ (λ end it.
     let start : Starts g.N.Net.did c.args.config c.args.conns c.args.net.now = record {
       core = c.in_ok-core.core;
       stands = c.in_ok-core.ensures.stands;
@@ -32,19 +43,19 @@ returns-clause-serves g c =
     } in
     let served = subst (λ (w : Option (List ℕ)). Served served_face g.N.Net.did g.N.Net.gave g.T.Clock.gave c.args.turns
     (running c.in_ok-server.server c.new-2.new.net c.args.clock.now w)
-    (running c.serve.new.server c.serve.new.net c.serve.new.clock after) end) written it in
+    (running c.serve-ended.new.server c.serve-ended.new.net c.serve-ended.new.clock after) end) written it in
     record {
       start = start;
-      last = c.serve.new.server;
+      last = c.serve-ended.new.server;
       served = served;
       events = kept start c.args.clock.now before _ served.walked;
-    }) c.serve.ensures.served
+    }) c.serve-ended.ensures.served
 
 pub returns-clause-fails : goal.returns-clause-fails
 returns-clause-fails g c =
-    fails_later (g.N.Net.faults c.args.net.now) (g.N.Net.faults c.new-2.new.net) (g.N.Net.faults c.serve.new.net)
-    (g.K.Sink.faults c.args.journal.now) (g.K.Sink.faults c.write_start.new.journal) (g.K.Sink.faults c.serve.new.journal) c.serve.result
-    c.new-2.ensures.faults_never_fall c.write_start.ensures.faults_never_fall c.serve.ensures.fails
+    fails_later (g.N.Net.faults c.args.net.now) (g.N.Net.faults c.new-2.new.net) (g.N.Net.faults c.serve-ended.new.net)
+    (g.K.Sink.faults c.args.journal.now) (g.K.Sink.faults c.write_start-wrote.new.journal) (g.K.Sink.faults c.serve-ended.new.journal) c.serve-ended.result
+    c.new-2.ensures.faults_never_fall c.write_start-wrote.ensures.faults_never_fall c.serve-ended.ensures.fails
 
 pub returns-in_err-core-clause-stopped : goal.returns-in_err-core-clause-stopped
 returns-in_err-core-clause-stopped g c =
@@ -55,18 +66,19 @@ returns-in_err-core-clause-stopped g c =
       listens = inl refl;
     }))
 
-pub returns-in_err-write_start-clause-stopped : goal.returns-in_err-write_start-clause-stopped
-returns-in_err-write_start-clause-stopped g c =
-    let why = c.in_err-write_start.field-0.0 in
+pub returns-in-Err-clause-stopped : goal.returns-in-Err-clause-stopped
+returns-in-Err-clause-stopped g c =
+    let why = c.in-Err.fault in
     let before = g.K.Sink.written c.args.journal.now in
-    let after = g.K.Sink.written c.write_start.new.journal in
+    let after = g.K.Sink.written c.write_start-wrote.new.journal in
     let notes = c.as_slice.ensures ∙ c.in_ok-core.ensures.notes in
-    at_fault _ c.from_residual-in_err-write_start.result why c.from_residual-in_err-write_start.ensures.1 (inl (record {
+    let fails = err_is _ c.write_start-wrote.ensures.fails c.in-Err.is in
+    inl (record {
       no_moment = refl;
-      wrote = subst (λ (l : List Note). WroteSome (note_lines l) before after) notes c.in_err-write_start.ensures.some;
-      all_written = never_net (g.K.Sink.faults c.args.journal.now) (g.K.Sink.faults c.write_start.new.journal) why c.in_err-write_start.ensures.fails;
+      wrote = subst (λ (l : List Note). WroteSome (note_lines l) before after) notes (on_err _ c.write_start-wrote.ensures.some c.in-Err.is);
+      all_written = never_net (g.K.Sink.faults c.args.journal.now) (g.K.Sink.faults c.write_start-wrote.new.journal) why fails;
       listens = inl refl;
-    }))
+    })
 
 pub returns-in_err-server-clause-stopped : goal.returns-in_err-server-clause-stopped
 returns-in_err-server-clause-stopped g c =
@@ -74,7 +86,7 @@ returns-in_err-server-clause-stopped g c =
     let why = c.in_err-server.field-0.0 in
     let before = g.K.Sink.written c.args.journal.now in
     let notes = c.as_slice.ensures ∙ c.in_ok-core.ensures.notes in
-    let written = c.in_ok-write_start.ensures.written ∙ ap (λ (l : List Note). told_more before (note_lines l)) notes in
+    let written = on_ok _ c.write_start-wrote.ensures.written c.in_default.is ∙ ap (λ (l : List Note). told_more before (note_lines l)) notes in
     let whole : length text ≤ length text = omega arith in
     at_fault _ c.from_residual-in_err-server.result why c.from_residual-in_err-server.ensures.1 (inl (record {
       no_moment = refl;
@@ -86,10 +98,10 @@ returns-in_err-server-clause-stopped g c =
 pub returns-clause-stopped : goal.returns-clause-stopped
 returns-clause-stopped g c =
     let before = g.K.Sink.written c.args.journal.now in
-    let after = g.K.Sink.written c.serve.new.journal in
+    let after = g.K.Sink.written c.serve-ended.new.journal in
     let notes = c.as_slice.ensures ∙ c.in_ok-core.ensures.notes in
-    let written = c.in_ok-write_start.ensures.written ∙ ap (λ (l : List Note). told_more before (note_lines l)) notes in
-    IfErr-weaker c.serve.result _ _ (λ why it.
+    let written = on_ok _ c.write_start-wrote.ensures.written c.in_default.is ∙ ap (λ (l : List Note). told_more before (note_lines l)) notes in
+    IfErr-weaker c.serve-ended.result _ _ (λ why it.
     let start : Starts g.N.Net.did c.args.config c.args.conns c.args.net.now = record {
       core = c.in_ok-core.core;
       stands = c.in_ok-core.ensures.stands;
@@ -99,11 +111,11 @@ returns-clause-stopped g c =
     } in
     let stopped = subst (λ (w : Option (List ℕ)). Stopped served_face g.N.Net.did g.N.Net.gave g.T.Clock.gave c.args.turns
     (running c.in_ok-server.server c.new-2.new.net c.args.clock.now w)
-    (running c.serve.new.server c.serve.new.net c.serve.new.clock after) why) written it in
+    (running c.serve-ended.new.server c.serve-ended.new.net c.serve-ended.new.clock after) why) written it in
     inr (record {
       start = start;
-      last = c.serve.new.server;
+      last = c.serve-ended.new.server;
       stopped = stopped;
       events = kept start c.args.clock.now before stopped.mid stopped.walked;
       all_events = kept_some start c.args.clock.now before _ stopped.all;
-    })) c.serve.ensures.stopped
+    })) c.serve-ended.ensures.stopped

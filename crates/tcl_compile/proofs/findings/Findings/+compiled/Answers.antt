@@ -23,7 +23,6 @@ use Rattle.tcl_compile.specs.Tree.{plain, loop, row, choice, operands_of, values
 use Rattle.tcl_compile.specs.TreeView.{node_view, nodes_view, operands_view, values_view}
 use Rattle.tcl_compile.specs.Words.{part_at, parts_at, word_at, word_place}
 use Rattle.tcl_compile.specs.declared.compile_fault.Flaw.TheVariants.{Expr, Arity}
-use Rattle.tcl_compile.specs.declared.node.Node.{Plain}
 use Rattle.tcl_compile.specs.declared.shapes.Shape.TheVariants as shape
 use Rattle.tcl_compile.proofs.ControlTurns.{three_items, five_items, while_made, for_made}
 use Rattle.tcl_compile.proofs.ExpressionTurns.{view-Parts, operands_turn, values_turn}
@@ -33,6 +32,7 @@ use Rattle.tcl_compile.proofs.Levels.{command_shaped, word_plain, bracket_part, 
 use Rattle.tcl_compile.proofs.TreeViews.{view-Plain, view-Word, view-Row, view-Choice}
 use Rattle.tcl_compile.proofs.Turns.{gathered_none, gathered_turn, nodes_push, values_push, arm_of}
 use Rattle.tcl_compile.proofs.Turns.{cases_then, cases_turn, cases_end, end_seen, end_told}
+use Rattle.tcl_compile.proofs.Zipped.{ok_is, pushed, kept, kept_beside}
 use Rattle.tcl_compile.proofs.findings.Findings.+compiled.Goals as goal
 
 pub body-returns-then-levels-eq0 : goal.body-returns-then-levels-eq0
@@ -146,11 +146,12 @@ arms-loop-arm-preserved t c =
     let base = c.args.base in
     let inner = level c.args.levels in
     let a = c.arm-item.result in
-    let now = ap (λ r. arm_of r (inner.body base (word_view a.body.now) r.1)) c.in_ok-condition.ensures
-    ∙ ap (arm_of (node_view c.in_ok-condition.condition, c.condition.new.self)) c.in_ok-body.ensures in
+    let v = c.in_ok-value.value in
+    let now = ap (λ r. arm_of r (inner.body base (word_view a.body.now) r.1)) (kept c.in_ok-condition.ensures c.in_ok-value.ensures.0)
+    ∙ ap (arm_of (node_view v.0, c.condition.new.self)) (ok_is _ c.body.ensures c.in_ok-value.ensures.1) in
     gathered_turn (arm_at inner base) arm_view c.args.arms.now l.arm-index a (omega arith) c.arm-item.is
-    c.args.self.now l.self c.body.new.self (values_view l.values.items) (node_view c.in_ok-condition.condition, node_view c.in_ok-body.body) l.invariant now
-    ∙ ap (λ x. (x, c.body.new.self)) (values_push l.values.items c.push.new.self.items c.in_ok-condition.condition c.in_ok-body.body c.in_ok-push.ensures.items)
+    c.args.self.now l.self c.body.new.self (values_view l.values.items) (node_view v.0, node_view v.1) l.invariant now
+    ∙ ap (λ x. (x, c.body.new.self)) (values_push l.values.items c.push.new.self.items v.0 v.1 c.in_ok-push.ensures.items)
 
 pub text-returns : goal.text-returns
 text-returns t c =
@@ -212,15 +213,15 @@ expression-returns-in_ok-new-in-Row t c =
     let inner = level c.args.levels in
     let base = c.args.base in
     let text = c.args.text.now in
-    let first = c.in_ok-first-in-Row.first in
     let mid = c.in_ok-first-in-Row.mid in
-    let rest = c.in_ok-rest-in-Row.rest in
+    let both = c.in_ok-first-in-Row-2 in
+    let rest = both.rest in
     ap (λ e. expression_at inner base text e o s) (ap expr_view c.in-Row.is ∙ read.view-Row c.in-Row.first c.in-Row.rest)
     ∙ ap (λ r. row_of r.0.0 (operands_at inner base text (more_view c.in-Row.rest.items) r.0.1 r.1))
-    (ap (λ e. expression_at inner base text (expr_view e) o s) (sym c.deref-in-Row.ensures) ∙ c.in_ok-first-in-Row.ensures)
-    ∙ ap (row_of (node_view first)) (ap (λ xs. operands_at inner base text (more_view xs) mid c.expression-in-Row.new.self) (sym c.deref-in-Row-2.ensures.value)
-    ∙ c.in_ok-rest-in-Row.ensures)
-    ∙ ap (λ x. ((x, c.in_ok-rest-in-Row.end), c.operands.new.self)) (sym (view-Row c.in_ok-new-in-Row.field-0 rest
+    (ap (λ e. expression_at inner base text (expr_view e) o s) (sym c.deref-in-Row.ensures) ∙ kept_beside c.in_ok-first-in-Row.ensures both.ensures.0)
+    ∙ ap (row_of (node_view both.first)) (ap (λ xs. operands_at inner base text (more_view xs) mid c.expression-in-Row.new.self) (sym c.deref-in-Row-2.ensures.value)
+    ∙ ok_is _ c.operands-rest.ensures both.ensures.1)
+    ∙ ap (λ x. ((x, both.end), c.operands-rest.new.self)) (sym (view-Row c.in_ok-new-in-Row.field-0 rest
     ∙ ap (λ n. row (node_view n) (operands_of (operands_view rest.items))) c.in_ok-new-in-Row.ensures.ok))
 
 pub expression-returns-in_ok-new-in-Choice : goal.expression-returns-in_ok-new-in-Choice
@@ -251,10 +252,11 @@ operands-loop-joint-preserved t c =
 pub values-loop-condition-preserved : goal.values-loop-condition-preserved
 values-loop-condition-preserved t c =
     let l = c.loop-condition in
+    let both = c.in_ok-condition-2 in
     values_turn (level c.args.levels) c.args.base c.args.text.now c.args.cases.now l.condition-index c.loop-condition-item.result (omega arith) c.loop-condition-item.is
-    c.args.start l.opened c.in_ok-condition.mid c.in_ok-value.end c.args.self.now l.self c.expression.new.self c.expression-in-loop-condition.new.self
-    l.values.items c.push.new.self.items c.in_ok-condition.condition c.in_ok-value.value
-    l.invariant c.in_ok-condition.ensures c.in_ok-value.ensures c.in_ok-push.ensures.items
+    c.args.start l.opened c.in_ok-condition.mid both.end c.args.self.now l.self c.expression.new.self c.expression-value.new.self
+    l.values.items c.push.new.self.items both.condition both.value
+    l.invariant (kept_beside c.in_ok-condition.ensures both.ensures.0) (ok_is _ c.expression-value.ensures both.ensures.1) c.in_ok-push.ensures.items
 
 pub under-returns-then-openers-levels : goal.under-returns-then-openers-levels
 under-returns-then-openers-levels t c =
@@ -391,11 +393,12 @@ while_loop-returns t c =
     let ws = c.args.words.now in
     let test = c.test-item.result in
     let body = c.body-item.result in
-    let b = node_view c.in_ok-body.body in
+    let both = c.in_ok-test-2 in
+    let b = node_view both.body in
     let same = ap (λ l. while_at inner c.args.base c.args.at (map word_view l) c.args.self.now) (three_items ws test body (omega arith) c.test-item.is c.body-item.is)
-    ∙ while_made inner c.args.base c.args.at (word_view (get_or ws 0 test)) (word_view test) (word_view body) (node_view c.in_ok-test.test) b
-    c.args.self.now c.condition.new.self c.body.new.self c.in_ok-test.ensures c.in_ok-body.ensures
-    ∙ ap₂ (λ x y. (loop x (node_view c.in_ok-test.test) y b, c.body.new.self)) (sym c.nothing.ensures) (sym c.nothing-2.ensures) in
+    ∙ while_made inner c.args.base c.args.at (word_view (get_or ws 0 test)) (word_view test) (word_view body) (node_view both.test) b
+    c.args.self.now c.condition.new.self c.body.new.self (kept c.in_ok-test.ensures both.ensures.0) (ok_is _ c.body.ensures both.ensures.1)
+    ∙ ap₂ (λ x y. (loop x (node_view both.test) y b, c.body.new.self)) (sym c.nothing.ensures) (sym c.nothing-2.ensures) in
     IfOk-weaker c.loop_of.result _ _ (λ v is. same ∙ ap (λ n. (n, c.body.new.self)) (sym is)) c.loop_of.ensures
 
 pub for_loop-returns : goal.for_loop-returns
@@ -403,12 +406,18 @@ for_loop-returns t c =
     let inner = level c.args.levels in
     let ws = c.args.words.now in
     let start = c.start-item.result in
+    let two = c.in_ok-start-2 in
+    let ends = c.in_ok-ends in
+    let all = c.in_ok-start-3 in
     let same = ap (λ l. for_at inner c.args.base c.args.at (map word_view l) c.args.self.now) (five_items ws start c.test-item.result c.next-item.result c.body-item.result (omega arith)
     c.start-item.is c.test-item.is c.next-item.is c.body-item.is)
     ∙ for_made inner c.args.base c.args.at (word_view (get_or ws 0 start)) (word_view start) (word_view c.test-item.result) (word_view c.next-item.result) (word_view c.body-item.result)
-    (node_view c.in_ok-start.start) (node_view c.in_ok-test.test) (node_view c.in_ok-next.next) (node_view c.in_ok-body.body)
+    (node_view all.start) (node_view all.test) (node_view all.next) (node_view all.body)
     c.args.self.now c.body.new.self c.condition.new.self c.body-2.new.self c.body-3.new.self
-    c.in_ok-start.ensures c.in_ok-test.ensures c.in_ok-next.ensures c.in_ok-body.ensures in
+    (kept c.in_ok-start.ensures (ap (λ x. x.0.0) all.ensures.0 ∙ ap (λ x. x.0) ends.ensures.0 ∙ two.ensures.0))
+    (kept (ok_is _ c.condition.ensures two.ensures.1) (ap (λ x. x.0.1) all.ensures.0 ∙ ap (λ x. x.1) ends.ensures.0))
+    (kept (ok_is _ c.body-2.ensures ends.ensures.1) (ap (λ x. x.1) all.ensures.0))
+    (ok_is _ c.body-3.ensures all.ensures.1) in
     IfOk-weaker c.loop_of.result _ _ (λ v is. same ∙ ap (λ n. (n, c.body-3.new.self)) (sym is)) c.loop_of.ensures
 
 pub case_words-loop-pattern-preserved : goal.case_words-loop-pattern-preserved
@@ -419,16 +428,17 @@ case_words-loop-pattern-preserved t c =
     let a = c.in-Some.pattern.now in
     let b = c.in-Some.body.now in
     let behind = c.in-Some.behind.now in
+    let both = c.in_ok-pattern-2 in
     let done : Cases = (nodes_view l.patterns.items, nodes_view l.bodies.items) in
     let all = in_turn pattern body (map word_view c.args.words.now) c.args.self.now in
-    cases_turn pattern body all done (word_view a) (word_view b) (map word_view behind) (node_view c.in_ok-pattern.pattern) (node_view c.in_ok-body.body)
-    l.self c.word.new.self c.case_word.new.self
+    cases_turn pattern body all done (word_view a) (word_view b) (map word_view behind) (node_view both.pattern) (node_view both.body)
+    l.self c.word.new.self c.case_word-body.new.self
     (l.invariant ∙ ap (λ ws. cases_then done (in_turn pattern body (map word_view ws) l.self)) c.in-Some.ensures)
-    c.in_ok-pattern.ensures
-    (ap (λ e. body e (word_view b) c.word.new.self) (end_seen word_view behind c.is_empty.result c.is_empty.ensures) ∙ c.in_ok-body.ensures)
-    ∙ ap₂ (λ x y. cases_then (x, y) (in_turn pattern body (map word_view behind) c.case_word.new.self))
-    (nodes_push l.patterns.items c.push.new.self.items c.in_ok-pattern.pattern c.in_ok-push.ensures.items)
-    (nodes_push l.bodies.items c.push-in-Some.new.self.items c.in_ok-body.body c.in_ok-push-2.ensures.items)
+    (kept c.in_ok-pattern.ensures both.ensures.0)
+    (ap (λ e. body e (word_view b) c.word.new.self) (end_seen word_view behind c.is_empty.result c.is_empty.ensures) ∙ ok_is _ c.case_word-body.ensures both.ensures.1)
+    ∙ ap₂ (λ x y. cases_then (x, y) (in_turn pattern body (map word_view behind) c.case_word-body.new.self))
+    (nodes_push l.patterns.items c.push.new.self.items both.pattern (pushed (l.patterns.items ++ both.pattern ∷ []) l.patterns.items c.push.ensures.items c.in_ok-body.ensures.1))
+    (nodes_push l.bodies.items c.push-in-Some.new.self.items both.body (c.in_ok-push.ensures.items ∙ ap (λ n. l.bodies.items ++ n ∷ []) c.in_ok-body.ensures.0))
 
 pub case_words-returns : goal.case_words-returns
 case_words-returns t c =
@@ -445,16 +455,18 @@ listed-loop-pattern-preserved t c =
     let a = c.in-Some.pattern.now in
     let b = c.in-Some.body.now in
     let behind = c.in-Some.behind.now in
+    let both = c.in_ok-pattern in
     let done : Cases = (nodes_view l.patterns.items, nodes_view l.bodies.items) in
     let all = listed (level c.args.levels) c.args.place c.args.items.now c.args.self.now in
-    cases_turn pattern_item body all done a b behind (plain a.text) (node_view c.in_ok-body.body)
-    l.self l.self c.case_item.new.self
+    cases_turn pattern_item body all done a b behind (plain a.text) (node_view both.body)
+    l.self l.self c.case_item-body.new.self
     (l.invariant ∙ ap (λ xs. cases_then done (in_turn pattern_item body xs l.self)) c.in-Some.ensures)
     refl
-    (ap (λ e. body e b l.self) (end_told behind c.is_empty.result c.is_empty.ensures) ∙ c.in_ok-body.ensures)
-    ∙ ap₂ (λ x y. cases_then (x, y) (in_turn pattern_item body behind c.case_item.new.self))
-    (ap (λ x. nodes_view l.patterns.items ++ x ∷ []) (ap plain (sym c.in_ok-copy.ensures) ∙ sym (view-Plain c.in_ok-copy.field-0)) ∙ nodes_push l.patterns.items c.push.new.self.items (Plain c.in_ok-copy.field-0) c.in_ok-push.ensures.items)
-    (nodes_push l.bodies.items c.push-in-Some.new.self.items c.in_ok-body.body c.in_ok-push-2.ensures.items)
+    (ap (λ e. body e b l.self) (end_told behind c.is_empty.result c.is_empty.ensures) ∙ ok_is _ c.case_item-body.ensures both.ensures.1)
+    ∙ ap₂ (λ x y. cases_then (x, y) (in_turn pattern_item body behind c.case_item-body.new.self))
+    (ap (λ x. nodes_view l.patterns.items ++ x ∷ []) (ap plain (sym c.in_ok-copy.ensures) ∙ sym (view-Plain c.in_ok-copy.field-0) ∙ ap node_view (sym both.ensures.0))
+    ∙ nodes_push l.patterns.items c.push.new.self.items both.pattern (pushed (l.patterns.items ++ both.pattern ∷ []) l.patterns.items c.push.ensures.items c.in_ok-body.ensures.1))
+    (nodes_push l.bodies.items c.push-in-Some.new.self.items both.body (c.in_ok-push.ensures.items ∙ ap (λ n. l.bodies.items ++ n ∷ []) c.in_ok-body.ensures.0))
 
 pub listed-returns : goal.listed-returns
 listed-returns t c =
