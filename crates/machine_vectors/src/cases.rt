@@ -1,14 +1,15 @@
 // Questions, and their answers.
 
 use crate::body::Body;
+use crate::outcome::push_hex;
 use crate::plain::plain;
-use crate::read::{read_replies, read_text};
-use crate::stepped::stepped;
+use crate::read::{read_into, read_replies};
+use crate::stepped::{Given, stepped};
 use crate::suspended::run_suspended;
 use conn::Handler;
 use event_order::EventName;
 use plain_eval::Replies;
-use px_bytes::{M, Memory, Reply, Text, print_hex};
+use px_bytes::{M, Memory, Reply, Text};
 use rule_loader::{LoadFault, Rule, load_rule};
 use std::alloc::Global;
 
@@ -23,40 +24,78 @@ const LONG_BUDGET: u32 = 4_000_000_000;
 /// The most calls of a body that get a reply.
 const MOST_REPLIES: u32 = 200;
 
-/// A rule's body with no shared call, and the same body where all commands of the host are shared and get the
-/// empty reply.
-pub fn case(alloc: Global, rule: &str) -> M<Option<Text>> {
-    let Some(text) = read_text(alloc, rule)? else {
-        return Ok(None);
-    };
+/// What is asked of a rule's first body, or of a script.
+#[derive(Clone, Copy)]
+pub enum Question<'a> {
+    /// With no shared call, and where all commands of the host are shared and get the empty reply.
+    Case,
+    /// On these replies: the calls that get one, with their paths, and its end.
+    Replies(&'a [&'a str]),
+    /// On these replies as a connection keeps it: the calls, its end, and what it sent.
+    Connection(&'a [&'a str]),
+    /// The value of a script, or what it returns, by steps with a budget that is hardly spent.
+    Script,
+}
+
+/// Adds the answer to a question about the rule that a word writes: whether it can be asked.
+pub fn answer(alloc: Global, question: Question<'_>, word: &str, out: &mut Text) -> M<bool> {
+    let mut text = Text::empty(alloc);
+    let answered = read_and_answer(alloc, question, word, &mut text, out);
+    drop(text);
+    answered
+}
+
+fn read_and_answer(
+    alloc: Global,
+    question: Question<'_>,
+    word: &str,
+    text: &mut Text,
+    out: &mut Text,
+) -> M<bool> {
+    if let Question::Script = question {
+        text.push(b"when CLIENT_ACCEPTED {\n")?;
+    }
+    if !read_into(alloc, word, text)? {
+        return Ok(false);
+    }
+    if let Question::Script = question {
+        text.push(b"\n}")?;
+    }
+    load_and_answer(alloc, question, text, out)
+}
+
+fn load_and_answer(alloc: Global, question: Question<'_>, text: &Text, out: &mut Text) -> M<bool> {
     match load_rule(alloc, b"r", text.as_bytes()) {
-        Ok(rule) => case_answer(alloc, &rule, &text),
-        Err(LoadFault::Fault(_)) => Ok(Some(Text::new(alloc, b"refused")?)),
+        Ok(rule) => {
+            let answered = rule_answer(alloc, question, &rule, text, out);
+            drop(rule);
+            answered
+        }
+        Err(LoadFault::Fault(_)) => {
+            out.push(b"refused")?;
+            Ok(true)
+        }
         Err(LoadFault::Memory) => Err(Memory),
     }
 }
 
-fn case_answer(alloc: Global, rule: &Rule, text: &Text) -> M<Option<Text>> {
+fn rule_answer(
+    alloc: Global,
+    question: Question<'_>,
+    rule: &Rule,
+    text: &Text,
+    out: &mut Text,
+) -> M<bool> {
     let (Some(own), Some(shared)) = (body_of(rule, text, false), body_of(rule, text, true)) else {
-        return Ok(None);
+        return Ok(false);
     };
-    let run = stepped(alloc, shared, &[], MOST_REPLIES, 7)?;
-    let is_same = are_same(alloc, own, 0)?
-        && are_same(alloc, shared, 0)?
-        && are_same(alloc, shared, 1)?
-        && are_same(alloc, shared, run.asked)?;
-    let plained = plain(alloc, own, &Replies::new(alloc))?;
-    let mut out = print_hex(alloc, plained.uncaught.as_bytes())?;
-    out.push(b" ")?;
-    out.push(print_hex(alloc, plained.sent.as_bytes())?.as_bytes())?;
-    out.push(b" ")?;
-    out.push(print_hex(alloc, run.last_words.as_bytes())?.as_bytes())?;
-    out.push(judged(is_same))?;
-    Ok(Some(out))
-}
-
-fn judged(is_same: bool) -> &'static [u8] {
-    if is_same { b" same" } else { b" differs" }
+    match question {
+        Question::Case => case(alloc, own, shared, out)?,
+        Question::Replies(words) => return replies(alloc, own, words, out),
+        Question::Connection(words) => return connection(alloc, rule, own, words, out),
+        Question::Script => script(alloc, own, out)?,
+    }
+    Ok(true)
 }
 
 // The first body that runs when a client was accepted.
@@ -71,103 +110,124 @@ fn body_of<'a>(rule: &'a Rule, text: &'a Text, all_shared: bool) -> Option<Body<
     })
 }
 
+fn case(alloc: Global, own: Body<'_>, shared: Body<'_>, out: &mut Text) -> M<()> {
+    let all = Given {
+        replies: &[],
+        empty: MOST_REPLIES,
+    };
+    let run = stepped(alloc, shared, all, 7)?;
+    let (asked, pushed) = (run.asked, push_plain(alloc, own, &run.last_words, out));
+    drop(run);
+    pushed?;
+    let is_same = are_same(alloc, own, 0)?
+        && are_same(alloc, shared, 0)?
+        && are_same(alloc, shared, 1)?
+        && are_same(alloc, shared, asked)?;
+    out.push(judged(is_same))
+}
+
+// What a body leaves uncaught and sends, on no replies, and these last words.
+fn push_plain(alloc: Global, body: Body<'_>, last_words: &Text, out: &mut Text) -> M<()> {
+    let none = Replies::new(alloc);
+    let plained = plain(alloc, body, &none);
+    drop(none);
+    let plained = plained?;
+    let pushed = plained.push(alloc, out);
+    drop(plained);
+    pushed?;
+    push_hex(alloc, out, b" ", last_words)
+}
+
+fn judged(is_same: bool) -> &'static [u8] {
+    if is_same { b" same" } else { b" differs" }
+}
+
 // Whether a body comes to the same by steps as by the plain evaluator, on so many empty replies.
 fn are_same(alloc: Global, body: Body<'_>, count: u32) -> M<bool> {
     let mut replies = Replies::new(alloc);
     for _ in 0..count {
         replies.push(Reply::Ok(Text::empty(alloc)))?;
     }
-    is_same(alloc, body, &replies)
+    let same = is_same(alloc, body, &replies);
+    drop(replies);
+    same
 }
 
 fn is_same(alloc: Global, body: Body<'_>, replies: &Replies) -> M<bool> {
     let plained = plain(alloc, body, replies)?;
+    let same = is_same_in_slices(alloc, body, replies.as_slice(), &plained.outcome);
+    drop(plained);
+    same
+}
+
+fn is_same_in_slices(alloc: Global, body: Body<'_>, replies: &[Reply], outcome: &Text) -> M<bool> {
     for slice in SLICES {
-        let run = stepped(alloc, body, replies.as_slice(), 0, slice)?;
-        if run.outcome.as_bytes() != plained.outcome.as_bytes() {
+        let run = stepped(alloc, body, Given { replies, empty: 0 }, slice)?;
+        let is_same = run.outcome.as_bytes() == outcome.as_bytes();
+        drop(run);
+        if !is_same {
             return Ok(false);
         }
     }
     Ok(true)
 }
 
-/// A rule's body on these replies: the calls that get one, with their paths, and its end.
-pub fn replies(alloc: Global, rule: &str, words: &[&str]) -> M<Option<Text>> {
-    let Some(text) = read_text(alloc, rule)? else {
-        return Ok(None);
-    };
+fn replies(alloc: Global, body: Body<'_>, words: &[&str], out: &mut Text) -> M<bool> {
     let Some(replies) = read_replies(alloc, words)? else {
-        return Ok(None);
+        return Ok(false);
     };
-    match load_rule(alloc, b"r", text.as_bytes()) {
-        Ok(rule) => replies_answer(alloc, &rule, &text, &replies),
-        Err(LoadFault::Fault(_)) => Ok(Some(Text::new(alloc, b"refused")?)),
-        Err(LoadFault::Memory) => Err(Memory),
-    }
+    let pushed = push_replies(alloc, body, &replies, out);
+    drop(replies);
+    pushed?;
+    Ok(true)
 }
 
-fn replies_answer(alloc: Global, rule: &Rule, text: &Text, replies: &Replies) -> M<Option<Text>> {
-    let Some(body) = body_of(rule, text, false) else {
-        return Ok(None);
+fn push_replies(alloc: Global, body: Body<'_>, replies: &Replies, out: &mut Text) -> M<()> {
+    let given = Given {
+        replies: replies.as_slice(),
+        empty: 0,
     };
-    let run = stepped(alloc, body, replies.as_slice(), 0, 1)?;
-    let mut out = run.calls;
-    out.push(run.end.as_bytes())?;
-    out.push(judged(is_same(alloc, body, replies)?))?;
-    Ok(Some(out))
+    let run = stepped(alloc, body, given, 1)?;
+    let calls = out.push(run.calls.as_bytes());
+    let end = out.push(run.end.as_bytes());
+    drop(run);
+    calls?;
+    end?;
+    out.push(judged(is_same(alloc, body, replies)?))
 }
 
-/// A rule's body on these replies as a connection keeps it: the calls, its end, and what it sent.
-pub fn connection(alloc: Global, rule: &str, words: &[&str]) -> M<Option<Text>> {
-    let Some(text) = read_text(alloc, rule)? else {
-        return Ok(None);
-    };
-    let Some(replies) = read_replies(alloc, words)? else {
-        return Ok(None);
-    };
-    match load_rule(alloc, b"r", text.as_bytes()) {
-        Ok(rule) => connection_answer(alloc, &rule, &replies),
-        Err(LoadFault::Fault(_)) => Ok(Some(Text::new(alloc, b"refused")?)),
-        Err(LoadFault::Memory) => Err(Memory),
-    }
-}
-
-fn connection_answer(alloc: Global, rule: &Rule, replies: &Replies) -> M<Option<Text>> {
-    let handlers = rule.handlers(EventName::ClientAccepted);
-    let Some(first) = handlers.get(0) else {
-        return Ok(None);
-    };
+fn connection(
+    alloc: Global,
+    rule: &Rule,
+    body: Body<'_>,
+    words: &[&str],
+    out: &mut Text,
+) -> M<bool> {
     let handler = Handler {
         name: &rule.name,
-        procs: &rule.procs,
-        body: &first.body,
+        procs: body.procs,
+        body: body.tree,
     };
-    Ok(Some(run_suspended(alloc, handler, BUDGET, replies.as_slice())?))
+    let Some(replies) = read_replies(alloc, words)? else {
+        return Ok(false);
+    };
+    let ran = run_suspended(alloc, handler, BUDGET, replies.as_slice(), out);
+    drop(replies);
+    ran?;
+    Ok(true)
 }
 
-/// The value of a script, or what it returns, by steps with a budget that is hardly spent.
-pub fn body(alloc: Global, script: &str) -> M<Option<Text>> {
-    let Some(script) = read_text(alloc, script)? else {
-        return Ok(None);
-    };
-    let mut text = Text::new(alloc, b"when CLIENT_ACCEPTED {\n")?;
-    text.push(script.as_bytes())?;
-    text.push(b"\n}")?;
-    match load_rule(alloc, b"r", text.as_bytes()) {
-        Ok(rule) => body_answer(alloc, &rule),
-        Err(LoadFault::Fault(_)) => Ok(Some(Text::new(alloc, b"refused")?)),
-        Err(LoadFault::Memory) => Err(Memory),
-    }
-}
-
-fn body_answer(alloc: Global, rule: &Rule) -> M<Option<Text>> {
-    let text = Text::empty(alloc);
-    let Some(body) = body_of(rule, &text, false) else {
-        return Ok(None);
-    };
+fn script(alloc: Global, body: Body<'_>, out: &mut Text) -> M<()> {
     let body = Body {
         budget: LONG_BUDGET,
         ..body
     };
-    Ok(Some(stepped(alloc, body, &[], 0, LONG_BUDGET)?.end))
+    let none = Given {
+        replies: &[],
+        empty: 0,
+    };
+    let run = stepped(alloc, body, none, LONG_BUDGET)?;
+    let pushed = out.push(run.end.as_bytes());
+    drop(run);
+    pushed
 }

@@ -12,6 +12,7 @@ mod run;
 mod stepped;
 mod suspended;
 
+use cases::Question;
 use px_bytes::{M, Text};
 use std::alloc::Global;
 use std::io::{self, BufRead, BufReader, BufWriter, ErrorKind, Write};
@@ -32,19 +33,37 @@ fn main(rt: HostRuntime) -> io::Result<()> {
 
 // The answer to a line, which is `unknown` where the line asks nothing known.
 fn answer_line(alloc: Global, line: &str) -> M<Text> {
-    let words: Vec<&str> = line.split(' ').collect(alloc)?;
-    match answer(alloc, &words)? {
-        Some(answer) => Ok(answer),
-        None => Text::new(alloc, b"unknown"),
+    let mut out = Text::empty(alloc);
+    match push_answer(alloc, line, &mut out) {
+        Ok(()) => Ok(out),
+        Err(memory) => {
+            drop(out);
+            Err(memory)
+        }
     }
 }
 
-fn answer(alloc: Global, words: &[&str]) -> M<Option<Text>> {
+fn push_answer(alloc: Global, line: &str, out: &mut Text) -> M<()> {
+    let words: Vec<&str> = line.split(' ').collect(alloc)?;
+    let answered = answer(alloc, &words, out);
+    drop(words);
+    if answered? {
+        Ok(())
+    } else {
+        out.push(b"unknown")
+    }
+}
+
+fn answer(alloc: Global, words: &[&str], out: &mut Text) -> M<bool> {
     match words {
-        ["case", rule] => cases::case(alloc, rule),
-        ["replies", rule, replies @ ..] => cases::replies(alloc, rule, replies),
-        ["connection", rule, replies @ ..] => cases::connection(alloc, rule, replies),
-        ["body", script] => cases::body(alloc, script),
-        _ => Ok(None),
+        ["case", rule] => cases::answer(alloc, Question::Case, rule, out),
+        ["replies", rule, replies @ ..] => {
+            cases::answer(alloc, Question::Replies(replies), rule, out)
+        }
+        ["connection", rule, replies @ ..] => {
+            cases::answer(alloc, Question::Connection(replies), rule, out)
+        }
+        ["body", script] => cases::answer(alloc, Question::Script, script, out),
+        _ => Ok(false),
     }
 }

@@ -1,62 +1,114 @@
-// What a body came to, as a text.
+// What a body came to, added to a text.
 
 use crate::body::Body;
 use crate::echo::Echo;
-use px_bytes::{M, Text, Texts, print_hex};
+use plain_eval::PlainCode;
+use px_bytes::{M, TclFault, Text, Texts, print_hex};
 use rule_model::Code;
 use std::alloc::Global;
 use tcl_vars::Vars;
 
-/// How a body ends: with a value, a fault by its number and text, or another code.
-pub fn ended(alloc: Global, code: &Code) -> M<Text> {
+/// How a body ends, by either evaluator.
+#[derive(Clone, Copy)]
+pub enum End<'a> {
+    Value(&'a Text),
+    Return(&'a Text),
+    Raised(&'a TclFault),
+    Break,
+    Continue,
+}
+
+/// The end that a code is.
+pub fn end_of(code: &Code) -> End<'_> {
     match code {
-        Code::Value(value) => named(alloc, "ends", value),
-        Code::Return(value) => named(alloc, "returns", value),
-        Code::Raised(fault) => {
-            let kind = fault.kind as u8;
-            let mut out = Text::from_vec(format!(in alloc; "fault {kind} ")?.into_bytes());
-            out.push(print_hex(alloc, fault.text.as_bytes())?.as_bytes())?;
-            Ok(out)
-        }
-        Code::Break => Text::new(alloc, b"break"),
-        Code::Continue => Text::new(alloc, b"continue"),
+        Code::Value(value) => End::Value(value),
+        Code::Return(value) => End::Return(value),
+        Code::Raised(fault) => End::Raised(fault),
+        Code::Break => End::Break,
+        Code::Continue => End::Continue,
     }
 }
 
-fn named(alloc: Global, name: &str, value: &Text) -> M<Text> {
-    let mut out = Text::new(alloc, name.as_bytes())?;
-    out.push(b" ")?;
-    out.push(print_hex(alloc, value.as_bytes())?.as_bytes())?;
-    Ok(out)
+/// The end that a code of the plain evaluator is.
+pub fn plain_end(code: &PlainCode) -> End<'_> {
+    match code {
+        PlainCode::Ends(value) => End::Value(value),
+        PlainCode::Return(value) => End::Return(value),
+        PlainCode::Raised(fault) => End::Raised(fault),
+        PlainCode::Break => End::Break,
+        PlainCode::Continue => End::Continue,
+    }
+}
+
+/// How a body ends: with a value, a fault by its number and text, or another code.
+pub fn push_end(alloc: Global, out: &mut Text, end: End<'_>) -> M<()> {
+    match end {
+        End::Value(value) => push_hex(alloc, out, b"ends ", value),
+        End::Return(value) => push_hex(alloc, out, b"returns ", value),
+        End::Raised(fault) => {
+            push_number(alloc, out, b"fault ", fault.kind as u64)?;
+            push_hex(alloc, out, b" ", &fault.text)
+        }
+        End::Break => out.push(b"break"),
+        End::Continue => out.push(b"continue"),
+    }
+}
+
+/// The bytes of a text in hexadecimal, behind these.
+pub fn push_hex(alloc: Global, out: &mut Text, front: &[u8], text: &Text) -> M<()> {
+    out.push(front)?;
+    let digits = print_hex(alloc, text.as_bytes())?;
+    let pushed = out.push(digits.as_bytes());
+    drop(digits);
+    pushed
+}
+
+/// A number in decimal, behind these bytes.
+pub fn push_number(alloc: Global, out: &mut Text, front: &[u8], number: u64) -> M<()> {
+    out.push(front)?;
+    let digits = format!(in alloc; "{number}")?;
+    let pushed = out.push(digits.as_bytes());
+    drop(digits);
+    pushed
 }
 
 /// The shared call for which a body waits.
-pub fn asks(alloc: Global, call: &Texts) -> M<Text> {
-    let mut out = Text::new(alloc, b"asks")?;
+pub fn push_asks(alloc: Global, out: &mut Text, call: &Texts) -> M<()> {
+    out.push(b"asks")?;
     for word in call.as_slice() {
-        out.push(b" ")?;
-        out.push(print_hex(alloc, word.as_bytes())?.as_bytes())?;
+        push_hex(alloc, out, b" ", word)?;
     }
-    Ok(out)
+    Ok(())
 }
 
-/// The same with what was sent, and with the variables that the words of the rule name.
-pub fn whole(alloc: Global, body: Body<'_>, end: Text, host: &Echo, vars: &Vars) -> M<Text> {
-    let mut out = end;
-    out.push(b" sent ")?;
-    out.push(print_hex(alloc, host.sent().as_bytes())?.as_bytes())?;
-    out.push(format!(in alloc; " bytes {}", vars.bytes())?.as_bytes())?;
+/// What was sent, and the variables that the words of the rule name, behind how the body ended.
+pub fn push_whole(
+    alloc: Global,
+    out: &mut Text,
+    body: Body<'_>,
+    host: &Echo,
+    vars: &Vars,
+) -> M<()> {
+    push_hex(alloc, out, b" sent ", host.sent())?;
+    push_number(alloc, out, b" bytes ", vars.bytes() as u64)?;
     for name in body.text.split(|byte| !byte.is_ascii_alphanumeric()) {
-        push_variable(alloc, &mut out, name, vars)?;
+        push_variable(out, name, vars)?;
     }
-    Ok(out)
+    Ok(())
 }
 
-fn push_variable(alloc: Global, out: &mut Text, name: &[u8], vars: &Vars) -> M<()> {
+fn push_variable(out: &mut Text, name: &[u8], vars: &Vars) -> M<()> {
     if let Some(value) = vars.get(name, None) {
         push_value(out, name, value)?;
     }
-    for index in vars.indexes(name)?.as_slice() {
+    let indexes = vars.indexes(name)?;
+    let pushed = push_elements(out, name, indexes.as_slice(), vars);
+    drop(indexes);
+    pushed
+}
+
+fn push_elements(out: &mut Text, name: &[u8], indexes: &[Text], vars: &Vars) -> M<()> {
+    for index in indexes {
         if let Some(value) = vars.get(name, Some(index.as_bytes())) {
             push_value(out, index.as_bytes(), value)?;
         }

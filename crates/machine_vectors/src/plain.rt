@@ -2,61 +2,103 @@
 
 use crate::body::Body;
 use crate::echo::Echo;
-use crate::outcome::{asks, ended, whole};
-use plain_eval::{Plain, PlainCode, Replies, eval_plain};
+use crate::outcome::{End, plain_end, push_asks, push_end, push_hex, push_whole};
+use plain_eval::{Plain, Replies, eval_plain};
 use px_bytes::{M, TclFault, Text};
-use rule_model::Code;
 use std::alloc::Global;
 use tcl_vars::Vars;
 
 /// What a body came to: the fault that it leaves uncaught, what it sent, and the whole outcome.
 #[derive(Drop)]
 pub struct Plained {
-    pub uncaught: Text,
-    pub sent: Text,
+    uncaught: Text,
+    sent: Text,
     pub outcome: Text,
+}
+
+impl Plained {
+    fn new(alloc: Global) -> Plained {
+        Plained {
+            uncaught: Text::empty(alloc),
+            sent: Text::empty(alloc),
+            outcome: Text::empty(alloc),
+        }
+    }
+
+    // Runs a body on these replies, and tells what it came to.
+    fn run(
+        &mut self,
+        alloc: Global,
+        body: Body<'_>,
+        replies: &Replies,
+        vars: &mut Vars,
+        host: &mut Echo,
+    ) -> M<()> {
+        let (tree, procs, all) = (body.tree, body.procs, body.all_shared);
+        let plain = eval_plain(
+            alloc,
+            tree,
+            procs,
+            None,
+            vars,
+            host,
+            &all,
+            replies,
+            body.budget,
+        )?;
+        let told = self.tell(alloc, &plain);
+        drop(plain);
+        told?;
+        self.sent.push(host.sent().as_bytes())?;
+        push_whole(alloc, &mut self.outcome, body, host, vars)
+    }
+
+    fn tell(&mut self, alloc: Global, plain: &Plain) -> M<()> {
+        match plain {
+            Plain::Done { code, used: _ } => {
+                push_uncaught(alloc, &mut self.uncaught, plain_end(code))?;
+                push_end(alloc, &mut self.outcome, plain_end(code))
+            }
+            Plain::Waits { call } => push_asks(alloc, &mut self.outcome, call),
+        }
+    }
+
+    /// Adds the uncaught fault and what was sent.
+    pub fn push(&self, alloc: Global, out: &mut Text) -> M<()> {
+        push_hex(alloc, out, b"", &self.uncaught)?;
+        push_hex(alloc, out, b" ", &self.sent)
+    }
 }
 
 /// What a body comes to on these replies.
 pub fn plain(alloc: Global, body: Body<'_>, replies: &Replies) -> M<Plained> {
     let mut vars = Vars::new(alloc);
     let mut host = Echo::new(alloc);
-    let (tree, procs, all) = (body.tree, body.procs, body.all_shared);
-    let budget = body.budget;
-    let plain = eval_plain(
-        alloc, tree, procs, None, &mut vars, &mut host, &all, replies, budget,
-    )?;
-    let mut uncaught = Text::empty(alloc);
-    let end = match plain {
-        Plain::Done { code, used: _ } => {
-            let code = code_of(code);
-            uncaught = uncaught_text(alloc, &code)?;
-            ended(alloc, &code)?
+    let mut plained = Plained::new(alloc);
+    let ran = plained.run(alloc, body, replies, &mut vars, &mut host);
+    drop(vars);
+    drop(host);
+    match ran {
+        Ok(()) => Ok(plained),
+        Err(memory) => {
+            drop(plained);
+            Err(memory)
         }
-        Plain::Waits { call } => asks(alloc, &call)?,
-    };
-    Ok(Plained {
-        uncaught,
-        sent: host.sent().copy()?,
-        outcome: whole(alloc, body, end, &host, &vars)?,
-    })
-}
-
-fn uncaught_text(alloc: Global, code: &Code) -> M<Text> {
-    match code {
-        Code::Raised(fault) => fault.text.copy(),
-        Code::Break => Ok(TclFault::outside_loop(alloc, b"break")?.text),
-        Code::Continue => Ok(TclFault::outside_loop(alloc, b"continue")?.text),
-        Code::Value(_) | Code::Return(_) => Ok(Text::empty(alloc)),
     }
 }
 
-fn code_of(code: PlainCode) -> Code {
-    match code {
-        PlainCode::Ends(value) => Code::Value(value),
-        PlainCode::Raised(fault) => Code::Raised(fault),
-        PlainCode::Return(value) => Code::Return(value),
-        PlainCode::Break => Code::Break,
-        PlainCode::Continue => Code::Continue,
+fn push_uncaught(alloc: Global, out: &mut Text, end: End<'_>) -> M<()> {
+    match end {
+        End::Raised(fault) => out.push(fault.text.as_bytes()),
+        End::Break => push_fault(out, TclFault::outside_loop(alloc, b"break")),
+        End::Continue => push_fault(out, TclFault::outside_loop(alloc, b"continue")),
+        End::Value(_) | End::Return(_) => Ok(()),
     }
+}
+
+fn push_fault(out: &mut Text, fault: M<TclFault>) -> M<()> {
+    let fault = fault?;
+    let pushed = out.push(fault.text.as_bytes());
+    drop(fault);
+    pushed
 }

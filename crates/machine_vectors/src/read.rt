@@ -9,41 +9,60 @@ use std::alloc::Global;
 /// byte and behind `*` how often it stands; `-` for no bytes.
 pub fn read_text(alloc: Global, word: &str) -> M<Option<Text>> {
     let mut text = Text::empty(alloc);
+    match read_into(alloc, word, &mut text) {
+        Ok(true) => Ok(Some(text)),
+        Ok(false) => {
+            drop(text);
+            Ok(None)
+        }
+        Err(memory) => {
+            drop(text);
+            Err(memory)
+        }
+    }
+}
+
+/// Adds the text that a word writes: whether it writes one.
+pub fn read_into(alloc: Global, word: &str, text: &mut Text) -> M<bool> {
     if word == "-" {
-        return Ok(Some(text));
+        return Ok(true);
     }
     for part in word.split('+') {
-        let Some(bytes) = read_part(alloc, part)? else {
-            return Ok(None);
-        };
-        text.push(bytes.as_bytes())?;
+        if !read_part(alloc, part, text)? {
+            return Ok(false);
+        }
     }
-    Ok(Some(text))
+    Ok(true)
 }
 
-fn read_part(alloc: Global, part: &str) -> M<Option<Text>> {
+fn read_part(alloc: Global, part: &str, text: &mut Text) -> M<bool> {
     let Some((digits, count)) = part.split_once('*') else {
-        return read_digits(alloc, part);
+        return push_times(alloc, part, 1, text);
     };
-    let Some(count) = read_decimal(count.as_bytes(), 2_000_000) else {
-        return Ok(None);
-    };
-    let Some(once) = read_digits(alloc, digits)? else {
-        return Ok(None);
-    };
-    let mut text = Text::empty(alloc);
-    for _ in 0..count {
-        text.push(once.as_bytes())?;
+    match read_decimal(count.as_bytes(), 2_000_000) {
+        Some(count) => push_times(alloc, digits, count, text),
+        None => Ok(false),
     }
-    Ok(Some(text))
 }
 
-fn read_digits(alloc: Global, word: &str) -> M<Option<Text>> {
-    match hex::decode(alloc, word) {
-        Ok(bytes) => Ok(Some(Text::from_vec(bytes))),
+fn push_times(alloc: Global, digits: &str, count: u64, text: &mut Text) -> M<bool> {
+    match hex::decode(alloc, digits) {
+        Ok(bytes) => {
+            let pushed = push_all(text, &bytes, count);
+            drop(bytes);
+            pushed?;
+            Ok(true)
+        }
         Err(FromHexError::OutOfMemory) => Err(Memory),
-        Err(_) => Ok(None),
+        Err(_) => Ok(false),
     }
+}
+
+fn push_all(text: &mut Text, bytes: &[u8], count: u64) -> M<()> {
+    for _ in 0..count {
+        text.push(bytes)?;
+    }
+    Ok(())
 }
 
 /// The replies that words write.
@@ -58,20 +77,28 @@ pub fn read_replies(alloc: Global, words: &[&str]) -> M<Option<Replies>> {
     Ok(Some(replies))
 }
 
-/// The reply that a word writes: `ok:TEXT`, or `full:TEXT`, a fault of a full table.
+// The reply that a word writes: `ok:TEXT`, or `full:TEXT`, a fault of a full table.
 fn read_reply(alloc: Global, word: &str) -> M<Option<Reply>> {
-    let Some((kind, text)) = word.split_once(':') else {
-        return Ok(None);
-    };
-    let Some(text) = read_text(alloc, text)? else {
-        return Ok(None);
-    };
-    Ok(match kind {
-        "ok" => Some(Reply::Ok(text)),
-        "full" => Some(Reply::Fault(TclFault {
+    match word.split_once(':') {
+        Some(("ok", text)) => ok_reply(read_text(alloc, text)),
+        Some(("full", text)) => full_reply(read_text(alloc, text)),
+        _ => Ok(None),
+    }
+}
+
+fn ok_reply(text: M<Option<Text>>) -> M<Option<Reply>> {
+    match text? {
+        Some(text) => Ok(Some(Reply::Ok(text))),
+        None => Ok(None),
+    }
+}
+
+fn full_reply(text: M<Option<Text>>) -> M<Option<Reply>> {
+    match text? {
+        Some(text) => Ok(Some(Reply::Fault(TclFault {
             kind: FaultKind::TableFull,
             text,
-        })),
-        _ => None,
-    })
+        }))),
+        None => Ok(None),
+    }
 }

@@ -1,6 +1,6 @@
 // What a run by steps tells.
 
-use crate::outcome::asks;
+use crate::outcome::{push_asks, push_number};
 use px_bytes::{M, Text, Texts};
 use std::alloc::Global;
 
@@ -29,17 +29,16 @@ impl Run {
     /// A call that gets a reply.
     pub fn note(&mut self, alloc: Global, path: &[usize], call: &Texts) -> M<()> {
         self.asked = self.asked.saturating_add(1);
-        self.calls.push(asks(alloc, call)?.as_bytes())?;
-        let mut mark = " at ";
+        push_asks(alloc, &mut self.calls, call)?;
+        let mut mark = b" at ".as_slice();
         for number in path {
-            self.calls
-                .push(format!(in alloc; "{mark}{number}")?.as_bytes())?;
-            mark = ".";
+            push_number(alloc, &mut self.calls, mark, *number as u64)?;
+            mark = b".";
         }
         self.calls.push(b"; ")?;
-        if let Some(word) = call.as_slice().last() {
-            self.last_words.push(word.as_bytes())?;
+        match call.as_slice().last() {
+            Some(word) => self.last_words.push(word.as_bytes()),
+            None => Ok(()),
         }
-        Ok(())
     }
 }

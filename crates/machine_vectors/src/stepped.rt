@@ -1,11 +1,11 @@
 // Bodies by steps.
 
-ghost use Rattle.std.specs.Prelude.{IfOk, OnOk, ◌<◌, ◌≡◌};
-ghost use Rattle.frame_machine.specs.Went.{IsRunning, TurnIs};
+ghost use Rattle.std.specs.Prelude.{IfOk, IfSome, ◌<◌, ◌≡◌};
+ghost use Rattle.frame_machine.specs.Went.{IsAsked, IsRunning, TurnIs};
 
 use crate::body::Body;
 use crate::echo::Echo;
-use crate::outcome::{asks, ended, whole};
+use crate::outcome::{end_of, push_asks, push_end, push_whole};
 use crate::run::Run;
 use frame_machine::{Machine, Turn};
 use px_bytes::{M, Reply, Steps, Text, Texts};
@@ -79,67 +79,151 @@ impl<'a> Runner<'a> {
         self.is_few = self.is_few && ticked > 0 && ticked <= 10;
     }
 
+    // Goes on slice by slice while replies are left, and notes what each came to.
+    fn run<L: Ledger>(
+        &mut self,
+        alloc: Global,
+        replies: Given<'_>,
+        slice: u32,
+        run: &mut Run,
+        steps: &mut Steps<L>,
+    ) -> M<()>
+        requires { IsRunning self.old.machine.at.mode }
+    {
+        let mut left = replies;
+        for _ in 0..MOST {
+            let turn = self.slice(alloc, slice, steps)?;
+            match self.tell(alloc, turn, left, run, steps.count())? {
+                Some(more) => left = more,
+                None => return Ok(()),
+            }
+        }
+        run.outcome.push(b"unfinished")
+    }
+
+    // What a slice came to, and the replies that are left; none where the body goes no further.
+    fn tell<'r>(
+        &mut self,
+        alloc: Global,
+        turn: Turn,
+        left: Given<'r>,
+        run: &mut Run,
+        counted: u64,
+    ) -> M<Option<Given<'r>>>
+        requires { TurnIs turn self.old.machine.at }
+        ensures { IfOk result (λ r. IfSome r (λ _. IsRunning self.new.machine.at.mode)) }
+    {
+        match turn {
+            Turn::More => Ok(Some(left)),
+            Turn::Done(code) => {
+                let pushed = push_end(alloc, &mut run.end, end_of(&code));
+                drop(code);
+                pushed?;
+                self.end(alloc, run, counted)?;
+                Ok(None)
+            }
+            Turn::Asks(call) => {
+                let told = self.answer(alloc, &call, left, run, counted);
+                drop(call);
+                told
+            }
+        }
+    }
+
+    // A call gets the next reply, or an empty one; where none is left it is the body's end.
+    fn answer<'r>(
+        &mut self,
+        alloc: Global,
+        call: &Texts,
+        left: Given<'r>,
+        run: &mut Run,
+        counted: u64,
+    ) -> M<Option<Given<'r>>>
+        requires { IsAsked self.old.machine.at.mode }
+        ensures { IfOk result (λ r. IfSome r (λ _. IsRunning self.new.machine.at.mode)) }
+    {
+        if let Some((reply, more)) = left.replies.split_first() {
+            self.note(alloc, call, run)?;
+            self.machine.resume(reply)?;
+            return Ok(Some(Given {
+                replies: more,
+                ..left
+            }));
+        }
+        if run.asked < left.empty {
+            self.note(alloc, call, run)?;
+            self.resume_empty(alloc)?;
+            return Ok(Some(left));
+        }
+        push_asks(alloc, &mut run.end, call)?;
+        self.end(alloc, run, counted)?;
+        Ok(None)
+    }
+
+    fn resume_empty(&mut self, alloc: Global) -> M<()>
+        requires { IsAsked self.old.machine.at.mode }
+        ensures { IfOk result (λ _. IsRunning self.new.machine.at.mode) }
+    {
+        let empty = Reply::Ok(Text::empty(alloc));
+        let resumed = self.machine.resume(&empty);
+        drop(empty);
+        resumed
+    }
+
     // Notes a call that is asked, with its path.
     fn note(&self, alloc: Global, call: &Texts, run: &mut Run) -> M<()> {
         let mut path = vec![in alloc; 0; self.machine.depth()]?;
         self.machine.stopped_at(&mut path);
-        run.note(alloc, &path, call)
+        let noted = run.note(alloc, &path, call);
+        drop(path);
+        noted
     }
 
-    // What the body came to, where the ticks that steps told are those that were counted.
-    fn outcome(&self, alloc: Global, end: Text, counted: u64) -> M<Text> {
+    // Notes what the body came to, where the ticks that steps told are those that were counted.
+    fn end(&self, alloc: Global, run: &mut Run, counted: u64) -> M<()> {
         if !self.is_few || self.ticks != counted {
-            return Text::new(alloc, b"miscounted");
+            return run.outcome.push(b"miscounted");
         }
-        whole(alloc, self.body, end, &self.host, &self.vars)
+        run.outcome.push(run.end.as_bytes())?;
+        push_whole(alloc, &mut run.outcome, self.body, &self.host, &self.vars)
     }
 }
 
+/// The replies that are left, and how many calls may have one, behind which each gets the empty one.
+#[derive(Clone, Copy)]
+pub struct Given<'r> {
+    pub replies: &'r [Reply],
+    pub empty: u32,
+}
+
 /// What a body comes to on these replies, and on so many empty ones behind them, in slices.
-pub fn stepped(alloc: Global, body: Body<'_>, replies: &[Reply], empty: u32, slice: u32) -> M<Run> {
-    run_counted::<Brand>(alloc, body, replies, empty, slice, Blank::new(1))
+pub fn stepped(alloc: Global, body: Body<'_>, replies: Given<'_>, slice: u32) -> M<Run> {
+    let mut runner = Runner::new(alloc, body);
+    let mut run = Run::new(alloc);
+    let ran = run_counted::<Brand>(alloc, &mut runner, replies, slice, &mut run, Blank::new(1));
+    drop(runner);
+    match ran {
+        Ok(()) => Ok(run),
+        Err(memory) => {
+            drop(run);
+            Err(memory)
+        }
+    }
 }
 
 fn run_counted<L: Ledger>(
     alloc: Global,
-    body: Body<'_>,
-    replies: &[Reply],
-    empty: u32,
+    runner: &mut Runner<'_>,
+    replies: Given<'_>,
     slice: u32,
+    run: &mut Run,
     blank: Blank,
-) -> M<Run>
+) -> M<()>
     requires name { blank.name ≡ L.name }
     requires parts { blank.parts ≡ L.parts }
     requires some { 0 < blank.parts }
+    requires running { IsRunning runner.old.machine.at.mode }
 {
     let mut steps = Steps::<L>::new(blank);
-    let mut runner = Runner::new(alloc, body);
-    let mut run = Run::new(alloc);
-    let mut left = replies;
-    for _ in 0..MOST {
-        match runner.slice(alloc, slice, &mut steps)? {
-            Turn::More => {}
-            Turn::Done(code) => {
-                run.end = ended(alloc, &code)?;
-                run.outcome = runner.outcome(alloc, run.end.copy()?, steps.count())?;
-                return Ok(run);
-            }
-            Turn::Asks(call) => {
-                if let Some((reply, more)) = left.split_first() {
-                    runner.note(alloc, &call, &mut run)?;
-                    runner.machine.resume(reply)?;
-                    left = more;
-                } else if run.asked < empty {
-                    runner.note(alloc, &call, &mut run)?;
-                    runner.machine.resume(&Reply::Ok(Text::empty(alloc)))?;
-                } else {
-                    run.end = asks(alloc, &call)?;
-                    run.outcome = runner.outcome(alloc, run.end.copy()?, steps.count())?;
-                    return Ok(run);
-                }
-            }
-        }
-    }
-    run.outcome = Text::new(alloc, b"unfinished")?;
-    Ok(run)
+    runner.run(alloc, replies, slice, run, &mut steps)
 }

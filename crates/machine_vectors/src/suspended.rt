@@ -3,10 +3,10 @@
 ghost use Rattle.std.specs.Prelude.{◌<◌, ◌≡◌};
 
 use crate::echo::Echo;
-use crate::outcome::{asks, ended};
+use crate::outcome::{end_of, push_asks, push_end, push_hex};
 use conn::{Body, Handler};
 use frame_machine::Turn;
-use px_bytes::{M, Reply, Steps, Text, print_hex};
+use px_bytes::{M, Reply, Steps, Text};
 use std::alloc::Global;
 use std::marker::Brand;
 use std::sync::ledger::{Blank, Ledger};
@@ -65,7 +65,7 @@ impl<'a> Suspended<'a> {
             .step(alloc, handler, statics, vars, host, &false, steps, spent)
     }
 
-    // Goes on slice by slice while replies are left, and writes what each came to.
+    // Goes on slice by slice while replies are left, and writes what each came to, and what was sent.
     fn run<L: Ledger>(
         &mut self,
         alloc: Global,
@@ -78,7 +78,7 @@ impl<'a> Suspended<'a> {
             let turn = self.slice(alloc, steps)?;
             match self.tell(alloc, turn, left, out)? {
                 Some(more) => left = more,
-                None => return Ok(()),
+                None => return push_hex(alloc, out, b" sent ", self.host.sent()),
             }
         }
         out.push(b"unfinished")
@@ -95,11 +95,15 @@ impl<'a> Suspended<'a> {
         match turn {
             Turn::More => Ok(Some(left)),
             Turn::Asks(call) => {
-                out.push(asks(alloc, &call)?.as_bytes())?;
+                let pushed = push_asks(alloc, out, &call);
+                drop(call);
+                pushed?;
                 self.answer(left, out)
             }
             Turn::Done(code) => {
-                out.push(ended(alloc, &code)?.as_bytes())?;
+                let pushed = push_end(alloc, out, end_of(&code));
+                drop(code);
+                pushed?;
                 Ok(None)
             }
         }
@@ -121,32 +125,25 @@ pub fn run_suspended(
     handler: Handler<'_>,
     budget: u32,
     replies: &[Reply],
-) -> M<Text> {
-    let body = Suspended::new(alloc, handler, budget);
-    run_counted::<Brand>(alloc, body, replies, Blank::new(1))
+    out: &mut Text,
+) -> M<()> {
+    let mut body = Suspended::new(alloc, handler, budget);
+    let ran = run_counted::<Brand>(alloc, &mut body, replies, out, Blank::new(1));
+    drop(body);
+    ran
 }
 
 fn run_counted<L: Ledger>(
     alloc: Global,
-    body: Suspended<'_>,
+    body: &mut Suspended<'_>,
     replies: &[Reply],
+    out: &mut Text,
     blank: Blank,
-) -> M<Text>
+) -> M<()>
     requires name { blank.name ≡ L.name }
     requires parts { blank.parts ≡ L.parts }
     requires some { 0 < blank.parts }
 {
     let mut steps = Steps::<L>::new(blank);
-    let mut body = body;
-    let mut out = Text::empty(alloc);
-    body.run(alloc, replies, &mut out, &mut steps)?;
-    told(alloc, out, &body.host)
-}
-
-// The same with what was sent.
-fn told(alloc: Global, out: Text, host: &Echo) -> M<Text> {
-    let mut out = out;
-    out.push(b" sent ")?;
-    out.push(print_hex(alloc, host.sent().as_bytes())?.as_bytes())?;
-    Ok(out)
+    body.run(alloc, replies, out, &mut steps)
 }
