@@ -1,32 +1,32 @@
 // Calls asked many times, so that their time can be told from outside.
 
-use crate::read::read_text;
-use crate::write::decimal;
+use crate::question::Question;
 use http_frames::{BodyState, Unit, go_on, next_unit};
 use http_heads::{read_request, write_request};
 use httparse::Status;
 use httparse::spans::{EMPTY_HEADER_SPAN, parse_request};
-use px_bytes::{M, Text, read_decimal};
 use std::alloc::Global;
 
 /// The most times that a call is asked.
 const MOST: u64 = 1_000_000;
 
 /// What so many calls answer together.
-pub fn answer(alloc: Global, words: &[&str]) -> M<Option<Text>> {
-    let [count, call, bytes] = words else {
-        return Ok(None);
-    };
-    let (Some(count), Some(bytes)) = (
-        read_decimal(count.as_bytes(), MOST),
-        read_text(alloc, bytes)?,
-    ) else {
-        return Ok(None);
-    };
-    let Some(sum) = sum_of(alloc, count, call, bytes.as_bytes()) else {
-        return Ok(None);
-    };
-    Ok(Some(decimal(alloc, sum as u64)?))
+pub fn answer(question: &mut Question<'_>) {
+    let count = question.number(MOST);
+    let call = question.word();
+    let bytes = question.text();
+    let count = if question.is_known() { count } else { 0 };
+    say_sum(
+        question,
+        sum_of(question.alloc, count, call, bytes.as_bytes()),
+    );
+}
+
+fn say_sum(question: &mut Question<'_>, sum: Option<usize>) {
+    match sum {
+        Some(sum) => question.say_number(sum as u64),
+        None => question.unknown(),
+    }
 }
 
 fn sum_of(alloc: Global, count: u64, call: &str, bytes: &[u8]) -> Option<usize> {

@@ -1,147 +1,117 @@
 // The calls of data_groups.
 
-use crate::read::read_text;
-use crate::write::{hexadecimal, number_or_none, plain};
-use data_groups::{ClassOp, Group, GroupFault, GroupKind, GroupRows, lookup, match_first, search};
-use px_bytes::{M, Memory, Text, read_decimal};
-use std::alloc::Global;
+use crate::question::Question;
+use data_groups::{ClassOp, Group, GroupFault, GroupKind, lookup, match_first, search};
+use px_bytes::Text;
 
 /// The most times that `many` asks.
 const MOST_TIMES: u64 = 10_000_000;
 
-pub fn answer(alloc: Global, call: &str, words: &[&str]) -> M<Option<Text>> {
-    match (call, words) {
-        ("group", [kind, rows @ ..]) => group_answer(alloc, kind, rows),
-        ("match", [kind, op, item, rows @ ..]) => row_answer(alloc, kind, op, item, rows, true),
-        ("search", [kind, op, item, rows @ ..]) => row_answer(alloc, kind, op, item, rows, false),
-        ("many", [count, kind, op, item, rows @ ..]) => {
-            many_answer(alloc, count, kind, op, item, rows)
+pub fn answer(question: &mut Question<'_>, call: &str) {
+    match call {
+        "group" => group_answer(question),
+        "many" => {
+            let count = question.number(MOST_TIMES);
+            item_answer(question, call, count);
         }
-        ("lookup", [kind, item, rows @ ..]) => lookup_answer(alloc, kind, item, rows),
-        _ => Ok(None),
+        "match" | "search" | "lookup" => item_answer(question, call, 1),
+        _ => question.unknown(),
     }
 }
 
-fn group_answer(alloc: Global, kind: &str, rows: &[&str]) -> M<Option<Text>> {
-    let (Some(kind), Some(rows)) = (read_kind(kind), read_rows(alloc, rows)?) else {
-        return Ok(None);
-    };
-    match Group::new(alloc, kind, rows) {
-        Ok(_) => plain(alloc, "ok"),
+fn group_answer(question: &mut Question<'_>) {
+    let kind = kind(question);
+    let group = Group::new(question.alloc, kind, question.pairs());
+    say_group(question, &group);
+}
+
+fn say_group(question: &mut Question<'_>, group: &Result<Group, GroupFault>) {
+    match group {
+        Ok(_) => question.say("ok"),
         Err(GroupFault::BadKey(at)) => {
-            let text = format!(in alloc; "bad_key {at}")?;
-            Ok(Some(Text::from_vec(text.into_bytes())))
+            question.say("bad_key");
+            question.say_number(*at as u64);
         }
-        Err(GroupFault::Memory) => Err(Memory),
+        Err(GroupFault::Memory) => question.refuse(),
     }
 }
 
-fn row_answer(
-    alloc: Global,
-    kind: &str,
-    op: &str,
-    item: &str,
-    rows: &[&str],
-    item_first: bool,
-) -> M<Option<Text>> {
-    let Some(op) = read_op(op) else {
-        return Ok(None);
+// The answer about an item, which `many` asks so many times.
+fn item_answer(question: &mut Question<'_>, call: &str, count: u64) {
+    let kind = kind(question);
+    let op = match call {
+        "lookup" => ClassOp::Equals,
+        _ => op(question),
     };
-    let Some(item) = read_text(alloc, item)? else {
-        return Ok(None);
-    };
-    let Some(group) = read_group(alloc, kind, rows)? else {
-        return Ok(None);
-    };
-    let at = if item_first {
-        match_first(&group, op, item.as_bytes())
-    } else {
-        search(&group, op, item.as_bytes())
-    };
-    number_or_none(alloc, at.map(|at| at as u64))
+    let item = question.text();
+    let group = Group::new(question.alloc, kind, question.pairs());
+    let count = if question.is_known() { count } else { 1 };
+    say_item(question, call, &group, op, item.as_bytes(), count);
+}
+
+fn say_item(
+    question: &mut Question<'_>,
+    call: &str,
+    group: &Result<Group, GroupFault>,
+    op: ClassOp,
+    item: &[u8],
+    count: u64,
+) {
+    match group {
+        Ok(group) => match call {
+            "lookup" => say_value(question, lookup(group, item)),
+            "search" => say_row(question, search(group, op, item)),
+            _ => say_match(question, group, op, item, count),
+        },
+        Err(GroupFault::BadKey(_)) => question.unknown(),
+        Err(GroupFault::Memory) => question.refuse(),
+    }
 }
 
 // The answer of `match`, asked so many times, once at least.
-fn many_answer(
-    alloc: Global,
-    count: &str,
-    kind: &str,
-    op: &str,
-    item: &str,
-    rows: &[&str],
-) -> M<Option<Text>> {
-    let (Some(count), Some(op)) = (read_decimal(count.as_bytes(), MOST_TIMES), read_op(op)) else {
-        return Ok(None);
-    };
-    let Some(item) = read_text(alloc, item)? else {
-        return Ok(None);
-    };
-    let Some(group) = read_group(alloc, kind, rows)? else {
-        return Ok(None);
-    };
-    let mut at = match_first(&group, op, item.as_bytes());
+fn say_match(question: &mut Question<'_>, group: &Group, op: ClassOp, item: &[u8], count: u64) {
+    let mut at = match_first(group, op, item);
     for _ in 1..count {
-        at = match_first(&group, op, item.as_bytes());
+        at = match_first(group, op, item);
     }
-    number_or_none(alloc, at.map(|at| at as u64))
+    say_row(question, at);
 }
 
-fn lookup_answer(alloc: Global, kind: &str, item: &str, rows: &[&str]) -> M<Option<Text>> {
-    let Some(item) = read_text(alloc, item)? else {
-        return Ok(None);
-    };
-    let Some(group) = read_group(alloc, kind, rows)? else {
-        return Ok(None);
-    };
-    match lookup(&group, item.as_bytes()) {
-        Some(value) => hexadecimal(alloc, value),
-        None => plain(alloc, "none"),
+fn say_row(question: &mut Question<'_>, at: Option<usize>) {
+    match at {
+        Some(at) => question.say_number(at as u64),
+        None => question.say("none"),
     }
 }
 
-fn read_group(alloc: Global, kind: &str, rows: &[&str]) -> M<Option<Group>> {
-    let (Some(kind), Some(rows)) = (read_kind(kind), read_rows(alloc, rows)?) else {
-        return Ok(None);
-    };
-    match Group::new(alloc, kind, rows) {
-        Ok(group) => Ok(Some(group)),
-        Err(GroupFault::BadKey(_)) => Ok(None),
-        Err(GroupFault::Memory) => Err(Memory),
+fn say_value(question: &mut Question<'_>, value: Option<&Text>) {
+    match value {
+        Some(value) => question.say_bytes(value.as_bytes()),
+        None => question.say("none"),
     }
 }
 
-fn read_rows(alloc: Global, words: &[&str]) -> M<Option<GroupRows>> {
-    let mut rows = GroupRows::new(alloc);
-    for pair in words.chunks(2) {
-        let [key, value] = pair else {
-            return Ok(None);
-        };
-        let Some(key) = read_text(alloc, key)? else {
-            return Ok(None);
-        };
-        let Some(value) = read_text(alloc, value)? else {
-            return Ok(None);
-        };
-        rows.push((key, value))?;
-    }
-    Ok(Some(rows))
-}
-
-fn read_kind(word: &str) -> Option<GroupKind> {
-    match word {
-        "string" => Some(GroupKind::String),
-        "ip" => Some(GroupKind::Ip),
-        "integer" => Some(GroupKind::Integer),
-        _ => None,
+fn kind(question: &mut Question<'_>) -> GroupKind {
+    match question.word() {
+        "string" => GroupKind::String,
+        "ip" => GroupKind::Ip,
+        "integer" => GroupKind::Integer,
+        _ => {
+            question.unknown();
+            GroupKind::String
+        }
     }
 }
 
-fn read_op(word: &str) -> Option<ClassOp> {
-    match word {
-        "equals" => Some(ClassOp::Equals),
-        "starts_with" => Some(ClassOp::StartsWith),
-        "ends_with" => Some(ClassOp::EndsWith),
-        "contains" => Some(ClassOp::Contains),
-        _ => None,
+fn op(question: &mut Question<'_>) -> ClassOp {
+    match question.word() {
+        "equals" => ClassOp::Equals,
+        "starts_with" => ClassOp::StartsWith,
+        "ends_with" => ClassOp::EndsWith,
+        "contains" => ClassOp::Contains,
+        _ => {
+            question.unknown();
+            ClassOp::Equals
+        }
     }
 }

@@ -2,72 +2,91 @@
 //! of the lines.
 #![tactic(auto)]
 
+mod bodies;
+mod cookies;
 mod costs;
 mod fields;
 mod groups;
 mod heads;
 mod pool_calls;
-mod pool_words;
-mod read;
+mod question;
 mod record_calls;
 mod store;
 mod table_calls;
 mod units;
 mod write;
 
-use px_bytes::{M, Text};
+use question::Question;
 use std::alloc::Global;
 use std::io::{self, BufRead, BufReader, BufWriter, ErrorKind, Write};
 
 fn main(rt: HostRuntime) -> io::Result<()> {
     let alloc = rt.alloc();
     let mut out = BufWriter::new(alloc, io::writer(&rt))?;
-    for line in BufReader::new(alloc, rt.reader())?.lines(alloc) {
-        let line = line?;
-        let Ok(answer) = answer_line(alloc, &line) else {
-            return Err(io::Error::from(ErrorKind::OutOfMemory));
-        };
-        out.write_all(answer.as_bytes())?;
-        out.write_all(b"\n")?;
-    }
+    answer_lines(alloc, BufReader::new(alloc, rt.reader())?, &mut out)?;
     out.flush()
 }
 
-// The answer to a line, which is `unknown` where the line asks nothing known.
-fn answer_line(alloc: Global, line: &str) -> M<Text> {
+fn answer_lines<R: BufRead + Drop, W: Write>(
+    alloc: Global,
+    lines: R,
+    out: &mut W,
+) -> io::Result<()> {
+    for line in lines.lines(alloc) {
+        answer_line(alloc, &line?, out)?;
+    }
+    Ok(())
+}
+
+// Writes the answer to a line.
+fn answer_line<W: Write>(alloc: Global, line: &str, out: &mut W) -> io::Result<()> {
     let words: Vec<&str> = line.split(' ').collect(alloc)?;
-    match answer(alloc, &words)? {
-        Some(answer) => Ok(answer),
-        None => Text::new(alloc, b"unknown"),
+    let mut question = Question::new(alloc, &words);
+    answer(&mut question);
+    write_answer(&question, out)
+}
+
+fn write_answer<W: Write>(question: &Question<'_>, out: &mut W) -> io::Result<()> {
+    let Ok(answer) = question.answer() else {
+        return Err(io::Error::from(ErrorKind::OutOfMemory));
+    };
+    out.write_all(answer)?;
+    out.write_all(b"\n")
+}
+
+fn answer(question: &mut Question<'_>) {
+    match question.word() {
+        "pool" => pool_calls::answer(question),
+        "store" => store::answer(question),
+        "table" => table_calls::answer(question),
+        "check_words" => table_calls::check_answer(question),
+        "records" => record_calls::answer(question),
+        "cost" => costs::answer(question),
+        call => http_answer(question, call),
     }
 }
 
-fn answer(alloc: Global, words: &[&str]) -> M<Option<Text>> {
-    match words {
-        ["pool", question @ ..] => pool_calls::answer(alloc, question),
-        ["store", question @ ..] => store::answer(alloc, question),
-        ["table", question @ ..] => table_calls::answer(alloc, question),
-        ["check_words", question @ ..] => table_calls::check_answer(alloc, question),
-        ["records", question @ ..] => record_calls::answer(alloc, question),
-        ["cost", question @ ..] => costs::answer(alloc, question),
-        ["fields", question @ ..] => fields::answer(alloc, question),
-        ["cookies", question @ ..] => fields::cookies_answer(alloc, question),
-        ["print_bigip", question @ ..] => fields::print_answer(alloc, question),
-        ["read_bigip", question @ ..] => fields::read_answer(alloc, question),
-        [
-            call @ ("request"
-            | "response"
-            | "write_request"
-            | "write_response"
-            | "passed_request"
-            | "passed_response"),
-            question @ ..,
-        ] => heads::answer(alloc, call, question),
-        [
-            call @ ("next_unit" | "units" | "request_body" | "response_body"),
-            question @ ..,
-        ] => units::answer(alloc, call, question),
-        [call, question @ ..] => groups::answer(alloc, call, question),
-        [] => Ok(None),
+// The calls on messages.
+fn http_answer(question: &mut Question<'_>, call: &str) {
+    match call {
+        "fields" => fields::answer(question),
+        "cookies" => cookies::answer(question),
+        "print_bigip" => cookies::print_answer(question),
+        "read_bigip" => cookies::read_answer(question),
+        "next_unit" => units::next_answer(question),
+        "units" => units::answer(question),
+        _ => head_answer(question, call),
+    }
+}
+
+// The calls on heads.
+fn head_answer(question: &mut Question<'_>, call: &str) {
+    match call {
+        "request" | "write_request" | "request_body" => heads::request(question, call),
+        "response" | "write_response" => heads::response(question, call),
+        "response_body" => bodies::response(question),
+        "passed_request" => heads::pass_request(question),
+        "passed_response" => heads::pass_response(question),
+        _ => groups::answer(question, call),
     }
 }

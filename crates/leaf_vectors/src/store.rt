@@ -1,9 +1,9 @@
 // The calls of a store, one after another.
 
-use crate::pool_words::read_pool;
-use crate::read::{address, read_text};
-use crate::write::{hexadecimal, plain, spaced, truth};
-use px_bytes::{M, Reply, Text, Texts, read_decimal};
+use crate::pool_calls::pool;
+use crate::question::Question;
+use pools::Pool;
+use px_bytes::{M, Memory, Reply, Text};
 use shared_store::{NamedPool, Pools, Store, VirtualTime, VirtualTimes};
 use std::alloc::Global;
 
@@ -18,83 +18,72 @@ const TIMEOUT: u32 = 180;
 /// A store with the pool `p` of the words before `/`, and behind it its calls, with `;` between. A call
 /// is its words as texts; `up` or `down` and an address, which mark a member; or `at` and a moment, at
 /// which the further calls come.
-pub fn answer(alloc: Global, words: &[&str]) -> M<Option<Text>> {
-    let Some(slash) = words.iter().position(|word| *word == "/") else {
-        return Ok(None);
-    };
-    let Some(mut store) = read_store(alloc, &words[..slash])? else {
-        return Ok(None);
-    };
-    calls(alloc, &mut store, &words[slash + 1..])
+pub fn answer(question: &mut Question<'_>) {
+    if let Some(pool) = pool(question) {
+        match store(question.alloc, pool) {
+            Ok(mut store) => calls(question, &mut store),
+            Err(Memory) => question.refuse(),
+        }
+    }
 }
 
-fn read_store(alloc: Global, words: &[&str]) -> M<Option<Store>> {
-    let Some(pool) = read_pool(alloc, words)? else {
-        return Ok(None);
-    };
+fn store(alloc: Global, pool: Pool) -> M<Store> {
     let mut pools = Pools::new(alloc);
-    pools.push(NamedPool {
-        name: Text::new(alloc, POOL)?,
-        pool,
-    })?;
+    let name = Text::new(alloc, POOL)?;
+    pools.push(NamedPool { name, pool })?;
+    Ok(Store::new(alloc, pools, virtuals(alloc)?))
+}
+
+fn virtuals(alloc: Global) -> M<VirtualTimes> {
     let mut virtuals = VirtualTimes::new(alloc);
     virtuals.push(VirtualTime {
         name: Text::new(alloc, SERVER)?,
         by_source: true,
         timeout: TIMEOUT,
     })?;
-    Ok(Some(Store::new(alloc, pools, virtuals)))
+    Ok(virtuals)
 }
 
-// The answers of the calls, one blank between; `at` has none.
-fn calls(alloc: Global, store: &mut Store, words: &[&str]) -> M<Option<Text>> {
-    let mut out = Text::empty(alloc);
-    let mut moment = 0;
-    for call in words.split(|word| *word == ";") {
-        if let Some(later) = moment_of(call) {
-            moment = later;
-            continue;
+// The answers of the calls; `at` has none.
+fn calls(question: &mut Question<'_>, store: &mut Store) {
+    let mut moment = call(question, store, 0);
+    for _ in 0..question.left() {
+        if question.takes(";") {
+            moment = call(question, store, moment);
         }
-        let Some(answer) = call_answer(alloc, store, call, moment)? else {
-            return Ok(None);
-        };
-        spaced(&mut out, &answer)?;
-    }
-    Ok(Some(out))
-}
-
-fn moment_of(call: &[&str]) -> Option<u64> {
-    match call {
-        ["at", moment] => read_decimal(moment.as_bytes(), 1 << 53),
-        _ => None,
     }
 }
 
-fn call_answer(alloc: Global, store: &mut Store, words: &[&str], moment: u64) -> M<Option<Text>> {
-    match words {
-        ["up", member] => mark_answer(alloc, store, member, true),
-        ["down", member] => mark_answer(alloc, store, member, false),
-        _ => reply_answer(alloc, store, words, moment),
+// The answer of a call, and the moment at which the next one comes.
+fn call(question: &mut Question<'_>, store: &mut Store, moment: u64) -> u64 {
+    if question.takes("at") {
+        return question.number(1 << 53);
     }
+    if question.takes("up") {
+        mark(question, store, true);
+    } else if question.takes("down") {
+        mark(question, store, false);
+    } else {
+        reply(question, store, moment);
+    }
+    moment
 }
 
-fn mark_answer(alloc: Global, store: &mut Store, member: &str, up: bool) -> M<Option<Text>> {
-    match address(member) {
-        Some(member) => truth(alloc, store.mark(POOL, member, up)),
-        None => Ok(None),
-    }
+fn mark(question: &mut Question<'_>, store: &mut Store, up: bool) {
+    let member = question.address();
+    question.say_truth(store.mark(POOL, member, up));
 }
 
-fn reply_answer(alloc: Global, store: &mut Store, words: &[&str], moment: u64) -> M<Option<Text>> {
-    let mut call = Texts::new(alloc);
-    for word in words {
-        let Some(text) = read_text(alloc, word)? else {
-            return Ok(None);
-        };
-        call.push(text)?;
-    }
-    match store.answer(alloc, &call, moment)? {
-        Reply::Ok(text) => hexadecimal(alloc, &text),
-        Reply::Fault(_) => plain(alloc, "fault"),
+fn reply(question: &mut Question<'_>, store: &mut Store, moment: u64) {
+    let call = question.texts(question.before(";"));
+    let reply = store.answer(question.alloc, &call, moment);
+    say_reply(question, &reply);
+}
+
+fn say_reply(question: &mut Question<'_>, reply: &M<Reply>) {
+    match reply {
+        Ok(Reply::Ok(text)) => question.say_bytes(text.as_bytes()),
+        Ok(Reply::Fault(_)) => question.say("fault"),
+        Err(Memory) => question.refuse(),
     }
 }

@@ -1,84 +1,166 @@
 // Answers as they stand in a line.
 
-use px_bytes::{M, Reply, TclFault, Text, print_hex};
-use std::alloc::Global;
+use crate::question::Question;
+use px_bytes::{Addr, M, Memory, Raise, Reply, TclFault, Text, Texts, print_addr, print_hex};
 
 /// The most bytes of a text that an answer writes out.
 const WRITTEN: usize = 600;
 
-/// These bytes as they are.
-pub fn plain(alloc: Global, text: &str) -> M<Option<Text>> {
-    Ok(Some(Text::new(alloc, text.as_bytes())?))
-}
-
-/// A number in decimal, or `none`.
-pub fn number_or_none(alloc: Global, number: Option<u64>) -> M<Option<Text>> {
-    match number {
-        Some(number) => Ok(Some(decimal(alloc, number)?)),
-        None => plain(alloc, "none"),
-    }
-}
-
-/// A number in decimal.
-pub fn decimal(alloc: Global, number: u64) -> M<Text> {
-    Ok(Text::from_vec(format!(in alloc; "{number}")?.into_bytes()))
-}
-
-/// `true` or `false`.
-pub fn truth(alloc: Global, holds: bool) -> M<Option<Text>> {
-    plain(alloc, if holds { "true" } else { "false" })
-}
-
-/// A text in hexadecimal, or its length behind `#` where it is long.
-pub fn hexadecimal(alloc: Global, text: &Text) -> M<Option<Text>> {
-    if text.len() <= WRITTEN {
-        return Ok(Some(print_hex(alloc, text.as_bytes())?));
-    }
-    let length = format!(in alloc; "#{}", text.len())?;
-    Ok(Some(Text::from_vec(length.into_bytes())))
-}
-
-/// Bytes in hexadecimal, `-` for none, or their number behind `#` where there are many.
-pub fn word(alloc: Global, bytes: &[u8]) -> M<Text> {
-    if bytes.is_empty() {
-        return Text::new(alloc, b"-");
-    }
-    if bytes.len() <= WRITTEN {
-        return print_hex(alloc, bytes);
-    }
-    let length = format!(in alloc; "#{}", bytes.len())?;
-    Ok(Text::from_vec(length.into_bytes()))
-}
-
-/// A further answer behind others, with one blank between.
-pub fn spaced(out: &mut Text, answer: &Text) -> M<()> {
-    if out.len() > 0 {
-        out.push(b" ")?;
-    }
-    out.push(answer.as_bytes())
-}
-
-/// `ok=` and a text, or `fault=`, the number of its kind and its text.
-pub fn reply_of(alloc: Global, reply: &Reply) -> M<Text> {
-    match reply {
-        Reply::Ok(text) => joined(alloc, "ok=", text),
-        Reply::Fault(fault) => {
-            let kind = format!(in alloc; "fault={},", fault.kind as u32)?;
-            joined(alloc, &kind, &fault.text)
+impl Question<'_> {
+    // A blank, where anything is answered.
+    fn blank(&mut self) {
+        if self.is_answered() {
+            self.put(b" ");
         }
     }
-}
 
-/// `fault`, the number of its kind and its text.
-pub fn fault_of(alloc: Global, fault: &TclFault) -> M<Text> {
-    let kind = format!(in alloc; "fault {} ", fault.kind as u32)?;
-    joined(alloc, &kind, &fault.text)
-}
-
-fn joined(alloc: Global, front: &str, text: &Text) -> M<Text> {
-    let mut out = Text::new(alloc, front.as_bytes())?;
-    if let Some(text) = hexadecimal(alloc, text)? {
-        out.push(text.as_bytes())?;
+    /// A further word of the answer.
+    pub fn say(&mut self, word: &str) {
+        self.blank();
+        self.put(word.as_bytes());
     }
-    Ok(out)
+
+    /// A number in decimal.
+    pub fn say_number(&mut self, number: u64) {
+        self.blank();
+        self.put_number(number);
+    }
+
+    /// A number in decimal, or `none`.
+    pub fn say_place(&mut self, place: Option<u64>) {
+        match place {
+            Some(place) => self.say_number(place),
+            None => self.say("none"),
+        }
+    }
+
+    /// An address and a port, or `none`.
+    pub fn say_address(&mut self, addr: Option<Addr>) {
+        match addr {
+            Some(addr) => {
+                self.blank();
+                self.put_made(print_addr(self.alloc, addr));
+            }
+            None => self.say("none"),
+        }
+    }
+
+    /// `true` or `false`.
+    pub fn say_truth(&mut self, holds: bool) {
+        self.say(if holds { "true" } else { "false" });
+    }
+
+    /// Bytes in hexadecimal, where there are any.
+    pub fn say_bytes(&mut self, bytes: &[u8]) {
+        self.blank();
+        self.put_bytes(bytes);
+    }
+
+    /// Bytes in hexadecimal, or `-`.
+    pub fn say_text(&mut self, bytes: &[u8]) {
+        if bytes.is_empty() {
+            self.say("-");
+        } else {
+            self.say_bytes(bytes);
+        }
+    }
+
+    /// A text that was made, unless memory was refused.
+    pub fn say_made(&mut self, text: M<Text>) {
+        match text {
+            Ok(text) => self.say_text(text.as_bytes()),
+            Err(Memory) => self.refuse(),
+        }
+    }
+
+    /// `ok` and a text that was made.
+    pub fn say_written(&mut self, text: M<Text>) {
+        self.say("ok");
+        self.say_made(text);
+    }
+
+    /// Texts that were made, or none where memory was refused.
+    pub fn made_texts(&mut self, texts: M<Texts>) -> Texts {
+        match texts {
+            Ok(texts) => texts,
+            Err(Memory) => {
+                self.refuse();
+                Texts::new(self.alloc)
+            }
+        }
+    }
+
+    /// The number of texts, and each.
+    pub fn say_texts(&mut self, texts: &[Text]) {
+        self.say_number(texts.len() as u64);
+        for text in texts {
+            self.say_text(text.as_bytes());
+        }
+    }
+
+    /// The number of pairs, and both texts of each.
+    pub fn say_pairs(&mut self, pairs: &[(Text, Text)]) {
+        self.say_number(pairs.len() as u64);
+        for pair in pairs {
+            self.say_text(pair.0.as_bytes());
+            self.say_text(pair.1.as_bytes());
+        }
+    }
+
+    /// `fault`, the number of its kind and its text.
+    pub fn say_fault(&mut self, fault: &TclFault) {
+        self.say("fault");
+        self.say_number(fault.kind as u64);
+        self.say_bytes(fault.text.as_bytes());
+    }
+
+    /// `ok`, or the fault.
+    pub fn say_done(&mut self, done: &Result<(), Raise>) {
+        match done {
+            Ok(()) => self.say("ok"),
+            Err(Raise::Fault(fault)) => self.say_fault(fault),
+            Err(Raise::Memory) => self.refuse(),
+        }
+    }
+
+    /// `ok=` and a text, or `fault=`, the number of its kind and its text.
+    pub fn say_reply(&mut self, reply: &M<Reply>) {
+        match reply {
+            Ok(Reply::Ok(text)) => {
+                self.say("ok=");
+                self.put_bytes(text.as_bytes());
+            }
+            Ok(Reply::Fault(fault)) => {
+                self.say("fault=");
+                self.put_number(fault.kind as u64);
+                self.put(b",");
+                self.put_bytes(fault.text.as_bytes());
+            }
+            Err(Memory) => self.refuse(),
+        }
+    }
+
+    fn put_bytes(&mut self, bytes: &[u8]) {
+        if bytes.len() <= WRITTEN {
+            self.put_made(print_hex(self.alloc, bytes));
+        } else {
+            self.put(b"#");
+            self.put_number(bytes.len() as u64);
+        }
+    }
+
+    fn put_made(&mut self, text: M<Text>) {
+        match text {
+            Ok(text) => self.put(text.as_bytes()),
+            Err(Memory) => self.refuse(),
+        }
+    }
+
+    /// A number in decimal, behind what stands.
+    pub fn put_number(&mut self, number: u64) {
+        match format!(in self.alloc; "{number}") {
+            Ok(digits) => self.put(digits.as_bytes()),
+            Err(_) => self.refuse(),
+        }
+    }
 }

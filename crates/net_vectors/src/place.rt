@@ -1,9 +1,9 @@
 // The data groups and pools of each question.
 
+use crate::answer::Answer;
 use data_groups::{Group, GroupFault, GroupKind};
 use irule_net::{Groups, NamedGroup, PoolMembers};
-use px_bytes::{Addr, M, Memory, Pairs, Seq, Text};
-use std::alloc::Global;
+use px_bytes::{Addr, Pairs, Seq};
 
 // Of each data group the name, the kind, and its keys with their values.
 const TEXTS: [(&str, &str); 6] = [
@@ -25,54 +25,56 @@ const NETWORKS: [(&str, &str); 4] = [
 const NUMBERS: [(&str, &str); 3] = [("010", "eight"), ("-5", "minus five"), ("0x10", "sixteen")];
 
 /// The groups `texts`, `networks`, `numbers` and `none`, and the pools `p` and `q`.
-pub fn groups(alloc: Global) -> M<Groups> {
-    let mut groups = Groups {
-        classes: Seq::new(alloc),
-        pools: Seq::new(alloc),
-    };
-    groups
-        .classes
-        .push(group(alloc, "texts", GroupKind::String, &TEXTS)?)?;
-    groups
-        .classes
-        .push(group(alloc, "networks", GroupKind::Ip, &NETWORKS)?)?;
-    groups
-        .classes
-        .push(group(alloc, "numbers", GroupKind::Integer, &NUMBERS)?)?;
-    groups
-        .classes
-        .push(group(alloc, "none", GroupKind::String, &[])?)?;
-    groups.pools.push(pool(alloc, "p", &[(1, 80), (2, 8080)])?)?;
-    groups.pools.push(pool(alloc, "q", &[(3, 80)])?)?;
-    Ok(groups)
+pub fn groups(answer: &mut Answer) -> Groups {
+    let mut classes = Seq::new(answer.alloc);
+    add_class(answer, &mut classes, "texts", GroupKind::String, &TEXTS);
+    add_class(answer, &mut classes, "networks", GroupKind::Ip, &NETWORKS);
+    add_class(
+        answer,
+        &mut classes,
+        "numbers",
+        GroupKind::Integer,
+        &NUMBERS,
+    );
+    add_class(answer, &mut classes, "none", GroupKind::String, &[]);
+    let mut pools = Seq::new(answer.alloc);
+    add_pool(answer, &mut pools, "p", &[(1, 80), (2, 8080)]);
+    add_pool(answer, &mut pools, "q", &[(3, 80)]);
+    Groups { classes, pools }
 }
 
-fn group(alloc: Global, name: &str, kind: GroupKind, rows: &[(&str, &str)]) -> M<NamedGroup> {
-    let mut pairs = Pairs::new(alloc);
+fn add_class(
+    answer: &mut Answer,
+    classes: &mut Seq<NamedGroup>,
+    name: &str,
+    kind: GroupKind,
+    rows: &[(&str, &str)],
+) {
+    match Group::new(answer.alloc, kind, pairs(answer, rows)) {
+        Ok(group) => {
+            let name = answer.text(name);
+            answer.note(classes.push(NamedGroup { name, group }));
+        }
+        Err(GroupFault::Memory | GroupFault::BadKey(_)) => answer.refuse(),
+    }
+}
+
+fn pairs(answer: &mut Answer, rows: &[(&str, &str)]) -> Pairs {
+    let mut pairs = Pairs::new(answer.alloc);
     for (key, value) in rows {
-        let key = Text::new(alloc, key.as_bytes())?;
-        let value = Text::new(alloc, value.as_bytes())?;
-        pairs.push((key, value))?;
+        let pair = (answer.text(key), answer.text(value));
+        answer.note(pairs.push(pair));
     }
-    let name = Text::new(alloc, name.as_bytes())?;
-    match Group::new(alloc, kind, pairs) {
-        Ok(group) => Ok(NamedGroup { name, group }),
-        Err(GroupFault::Memory | GroupFault::BadKey(_)) => Err(Memory),
-    }
+    pairs
 }
 
 // Members by the last number of their address, and their port.
-fn pool(alloc: Global, name: &str, members: &[(u32, u16)]) -> M<PoolMembers> {
-    let mut addrs = Seq::new(alloc);
-    for (last, port) in members {
-        addrs.push(Addr {
-            ip: 0x0a00_0000 | (*last & 0xff),
-            port: *port,
-        })?;
+fn add_pool(answer: &mut Answer, pools: &mut Seq<PoolMembers>, name: &str, numbers: &[(u32, u16)]) {
+    let mut members = Seq::new(answer.alloc);
+    for (last, port) in numbers {
+        let ip = 0x0a00_0000 | (*last & 0xff);
+        answer.note(members.push(Addr { ip, port: *port }));
     }
-    let name = Text::new(alloc, name.as_bytes())?;
-    Ok(PoolMembers {
-        name,
-        members: addrs,
-    })
+    let name = answer.text(name);
+    answer.note(pools.push(PoolMembers { name, members }));
 }

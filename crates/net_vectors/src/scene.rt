@@ -1,13 +1,13 @@
 // A connection in an event, on which calls are made.
 
+use crate::answer::Answer;
 use crate::directive::directed;
 use crate::place::groups;
-use crate::words::read_word;
-use crate::write::{answered, effects};
-use event_order::{EventName, read_event};
+use crate::show::{say_effects, say_outcome};
+use crate::words::read_words;
+use event_order::EventName;
 use irule_net::{Effects, Groups, NetState, net_command};
-use px_bytes::{Addr, M, Text, Texts};
-use std::alloc::Global;
+use px_bytes::Addr;
 
 /// The client's address: 10.0.0.9, port 4000.
 const CLIENT: Addr = Addr {
@@ -27,67 +27,44 @@ pub struct Scene {
 impl Scene {
     /// A connection that was just accepted, in an event: at a virtual server with the pool `p`, and
     /// with HTTP where the kind is `http`; or at one without a pool.
-    pub fn new(alloc: Global, event: &str, kind: &str) -> M<Option<Scene>> {
-        let Some(event) = read_event(event.as_bytes()) else {
-            return Ok(None);
-        };
-        let pool: &[u8] = if kind == "bare" { b"" } else { b"p" };
-        let pool = Text::new(alloc, pool)?;
-        Ok(Some(Scene {
+    pub fn new(answer: &mut Answer, event: EventName, kind: &str) -> Scene {
+        let pool = answer.text(if kind == "bare" { "" } else { "p" });
+        Scene {
             event,
-            state: NetState::new(alloc, CLIENT, 80, pool, kind == "http"),
-            groups: groups(alloc)?,
-            made: Effects::new(alloc),
-        }))
+            state: NetState::new(answer.alloc, CLIENT, 80, pool, kind == "http"),
+            groups: groups(answer),
+            made: Effects::new(answer.alloc),
+        }
     }
 
     /// The answers to calls, which have `;` between.
-    pub fn answers(mut self, alloc: Global, words: &[&str]) -> M<Option<Text>> {
-        let mut out = Text::empty(alloc);
-        let mut call = Texts::new(alloc);
-        for word in words {
-            if *word == ";" {
-                self.add_answer(alloc, &call, &mut out)?;
-                call.clear();
-            } else {
-                call.push(read_word(alloc, word)?)?;
-            }
+    pub fn answer_calls(&mut self, answer: &mut Answer, words: &[&str]) {
+        for call in words.split(|word| *word == ";") {
+            self.answer_call(answer, call);
         }
-        self.add_answer(alloc, &call, &mut out)?;
-        Ok(Some(out))
-    }
-
-    // Adds the answer to one call.
-    fn add_answer(&mut self, alloc: Global, call: &Texts, out: &mut Text) -> M<()> {
-        let answer = self.answer(alloc, call)?;
-        if out.len() > 0 && answer.len() > 0 {
-            out.push(b" ; ")?;
-        }
-        out.push(answer.as_bytes())
     }
 
     // A call that begins with `!` is none of a rule, but changes or shows the state.
-    fn answer(&mut self, alloc: Global, call: &Texts) -> M<Text> {
-        match call.as_slice() {
-            [first, words @ ..] if first.as_bytes() == b"!".as_slice() => {
-                directed(alloc, self, words)
-            }
-            _ => self.command(alloc, call),
+    fn answer_call(&mut self, answer: &mut Answer, call: &[&str]) {
+        match call {
+            ["!", name, words @ ..] => directed(self, answer, name, words),
+            _ => self.command(answer, call),
         }
     }
 
-    fn command(&mut self, alloc: Global, call: &Texts) -> M<Text> {
+    fn command(&mut self, answer: &mut Answer, call: &[&str]) {
+        let call = read_words(answer, call);
         self.made.clear();
-        let answer = net_command(
-            alloc,
+        let outcome = net_command(
+            answer.alloc,
             &mut self.state,
             &self.groups,
             self.event,
-            call,
+            &call,
             &mut self.made,
         );
-        let mut text = answered(alloc, &answer)?;
-        text.push(effects(alloc, self.made.as_slice())?.as_bytes())?;
-        Ok(text)
+        answer.begin_call();
+        say_outcome(answer, &outcome);
+        say_effects(answer, self.made.as_slice());
     }
 }
