@@ -34,18 +34,27 @@ fn run(rt: &HostRuntime) -> io::Result<Status> {
         Err(error) if error.kind() == ErrorKind::InvalidData => Texts::new(alloc),
         Err(error) => return Err(error),
     };
-    match serve_of(alloc, &words) {
-        Ok(serve) => serve_real(rt, &words, serve.journal),
-        Err(UsageFault::Usage) => run_offline(rt, &words),
+    let status = run_words(rt, &words);
+    drop(words);
+    status
+}
+
+fn run_words(rt: &HostRuntime, words: &Texts) -> io::Result<Status> {
+    match serve_of(rt.alloc(), words) {
+        Ok(serve) => Ok(serve_real(rt, words, serve.journal)),
+        Err(UsageFault::Usage) => Ok(run_offline(rt, words)),
         Err(UsageFault::Memory) => Err(io::Error::from(ErrorKind::OutOfMemory)),
     }
 }
 
 // Runs a command that waits for nobody; words that are none say so.
-fn run_offline(rt: &HostRuntime, words: &Texts) -> io::Result<Status> {
-    let mut files = RealFiles::new(rt.clone()?);
-    let mut out = StdoutSink::new(rt.clone()?);
-    Ok(offline(rt.alloc(), words, &mut files, &mut out))
+fn run_offline(rt: &HostRuntime, words: &Texts) -> Status {
+    let mut files = RealFiles::new(*rt);
+    let mut out = StdoutSink::new(*rt);
+    let status = offline(rt.alloc(), words, &mut files, &mut out);
+    drop(files);
+    drop(out);
+    status
 }
 
 // The words of the command line, but the program's own name.

@@ -2,8 +2,8 @@
 
 use proxy::{Status, serve_command};
 use px_bytes::{Text, Texts};
+use px_outside::Sink;
 use px_real::{FileSink, MioNet, NoSink, RealClock, RealFiles};
-use std::io;
 
 /// The status where the file of the journal can't be made.
 const NO_JOURNAL: u8 = 6;
@@ -12,21 +12,53 @@ const NO_JOURNAL: u8 = 6;
 const NO_MEMORY: u8 = 7;
 
 /// Makes the real objects, and serves what the words say, with a journal of this name.
-pub fn serve_real(rt: &HostRuntime, words: &Texts, journal: Option<Text>) -> io::Result<Status> {
-    let alloc = rt.alloc();
-    let mut files = RealFiles::new(rt.clone()?);
-    let mut clock = RealClock::new(rt.clone()?);
-    let beside = clock.beside(rt.clone()?);
-    let Ok(mut net) = MioNet::new(alloc, rt.clone()?, beside) else {
-        return Ok(Status(NO_MEMORY));
-    };
-    match journal {
-        None => Ok(serve_command(alloc, words, &mut files, &mut net, &mut clock, &mut NoSink)),
-        Some(name) => {
-            let Ok(mut journal) = FileSink::create(rt, name.as_bytes()) else {
-                return Ok(Status(NO_JOURNAL));
-            };
-            Ok(serve_command(alloc, words, &mut files, &mut net, &mut clock, &mut journal))
+pub fn serve_real(rt: &HostRuntime, words: &Texts, journal: Option<Text>) -> Status {
+    let clock = RealClock::new(*rt);
+    let beside = clock.beside(*rt);
+    match MioNet::new(rt.alloc(), *rt, beside) {
+        Ok(net) => {
+            let mut outside = Outside { net, clock };
+            let status = outside.serve_named(rt, words, journal);
+            drop(outside);
+            status
         }
+        Err(_) => {
+            drop(clock);
+            drop(journal);
+            Status(NO_MEMORY)
+        }
+    }
+}
+
+/// The sockets and the clock.
+#[derive(Drop)]
+struct Outside {
+    net: MioNet<HostRuntime>,
+    clock: RealClock<HostRuntime>,
+}
+
+impl Outside {
+    fn serve_named(&mut self, rt: &HostRuntime, words: &Texts, journal: Option<Text>) -> Status {
+        let Some(name) = journal else {
+            return self.serve(rt, words, &mut NoSink);
+        };
+        let made = FileSink::create(rt, name.as_bytes());
+        drop(name);
+        match made {
+            Ok(mut journal) => {
+                let status = self.serve(rt, words, &mut journal);
+                drop(journal);
+                status
+            }
+            Err(_) => Status(NO_JOURNAL),
+        }
+    }
+
+    fn serve<K: Sink>(&mut self, rt: &HostRuntime, words: &Texts, journal: &mut K) -> Status {
+        let mut files = RealFiles::new(*rt);
+        let (net, clock) = (&mut self.net, &mut self.clock);
+        let status = serve_command(rt.alloc(), words, &mut files, net, clock, journal);
+        drop(files);
+        status
     }
 }

@@ -2,9 +2,10 @@
 
 mod adapters;
 mod descriptors;
-mod ends;
 mod exchange;
-mod lingers;
 mod many;
-mod refused;
 mod side;
+mod steps;
+
+/// Nothing, or in words what did not go as it should.
+type Went = Result<(), &'static str>;

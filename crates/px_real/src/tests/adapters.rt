@@ -1,48 +1,69 @@
+use super::Went;
 use super::side::free_port;
 use crate::{FileSink, NoSink, RealFiles, StdoutSink};
 use px_outside::{Failed, Files, Sink, write_all};
-use std::test::Fail;
+use std::fs::remove_file;
+
+type HostFiles = RealFiles<HostRuntime>;
 
 #[test]
-fn files_keep_what_sinks_write(rt: HostRuntime) -> Result<(), Fail> {
-    let port = free_port(&rt)?;
-    let name = format!(in rt.alloc(); "/tmp/px_real_{port}")?;
-    let mut files = RealFiles::new(rt.clone()?);
-    assert!(rt; write_lines(&rt, name.as_bytes())?, "a sink keeps nothing");
-    assert!(rt; holds_lines(&rt, name.as_bytes(), &mut files)?);
-    // one that is there is emptied first
-    drop(FileSink::create(&rt, name.as_bytes())?);
-    assert_eq!(rt; files.read(rt.alloc(), name.as_bytes())?.len(), 0);
-    std::fs::remove_file(&rt, name.as_str())?;
-    let gone = files.read(rt.alloc(), name.as_bytes()).err();
-    assert_eq!(rt; gone, Some(Failed::Failed));
+fn files_keep_what_sinks_write(rt: HostRuntime) -> Went {
+    let port = free_port(&rt).unwrap_or(0);
+    match format!(in rt.alloc(); "/tmp/px_real_{port}") {
+        Ok(name) => file_keeps(&rt, name.as_str(), &mut RealFiles::new(rt)),
+        Err(_) => Err("there is no memory for a name"),
+    }
+}
+
+fn file_keeps(rt: &HostRuntime, name: &str, files: &mut HostFiles) -> Went {
+    let path = name.as_bytes();
+    if !writes_lines(rt, path) || !holds(rt, files, path, b"some lines\nand more\n") {
+        return Err("a file does not keep its lines");
+    }
+    if FileSink::create(rt, path).is_err() || !holds(rt, files, path, b"") {
+        return Err("a file that is there is not emptied");
+    }
+    if remove_file(rt, name).is_err() || !is_gone(rt, files, path) {
+        return Err("a removed file can be read");
+    }
     Ok(())
 }
 
-// Whether the sink keeps what it is given.
-fn write_lines(rt: &HostRuntime, name: &[u8]) -> Result<bool, Fail> {
-    let mut sink = FileSink::create(rt, name)?;
-    write_all(&mut sink, b"some lines\n")?;
-    write_all(&mut sink, b"and more\n")?;
-    Ok(sink.keeps())
+// Whether the sink takes the lines, and says that it keeps them.
+fn writes_lines(rt: &HostRuntime, name: &[u8]) -> bool {
+    match FileSink::create(rt, name) {
+        Ok(mut sink) => {
+            let first = write_all(&mut sink, b"some lines\n");
+            let second = write_all(&mut sink, b"and more\n");
+            first.is_ok() && second.is_ok() && sink.keeps()
+        }
+        Err(_) => false,
+    }
 }
 
-fn holds_lines(
-    rt: &HostRuntime,
-    name: &[u8],
-    files: &mut RealFiles<HostRuntime>,
-) -> Result<bool, Fail> {
-    let text = files.read(rt.alloc(), name)?;
-    Ok(text.as_bytes() == b"some lines\nand more\n".as_slice())
+fn holds(rt: &HostRuntime, files: &mut HostFiles, name: &[u8], bytes: &[u8]) -> bool {
+    match files.read(rt.alloc(), name) {
+        Ok(text) => text.as_bytes() == bytes,
+        Err(_) => false,
+    }
+}
+
+fn is_gone(rt: &HostRuntime, files: &mut HostFiles, name: &[u8]) -> bool {
+    match files.read(rt.alloc(), name) {
+        Ok(_) => false,
+        Err(error) => error == Failed::Failed,
+    }
 }
 
 #[test]
-fn standard_output_keeps_and_no_sink_does_not(rt: HostRuntime) -> Result<(), Fail> {
-    let mut out = StdoutSink::new(rt.clone()?);
-    assert!(rt; out.keeps());
-    write_all(&mut out, b"on standard output\n")?;
-    let mut none = NoSink;
-    assert!(rt; !none.keeps());
-    assert_eq!(rt; none.write(b"gone"), Ok(4));
+fn standard_output_keeps_and_no_sink_does_not(rt: HostRuntime) -> Went {
+    let mut out = StdoutSink::new(rt);
+    let written = write_all(&mut out, b"on standard output\n");
+    if written.is_err() || !out.keeps() {
+        return Err("standard output does not keep what it is given");
+    }
+    if NoSink.keeps() || NoSink.write(b"gone") != Ok(4) {
+        return Err("no sink does not take all, or keeps it");
+    }
     Ok(())
 }

@@ -1,0 +1,74 @@
+// The texts that the rows speak of.
+
+/// A virtual server whose rule answers each client "hi 7".
+const HI: &[u8] = b"version = 1
+
+[[virtual]]
+name = \"v\"
+listen = \"127.0.0.1:9000\"
+rules = [\"r\"]
+
+[[rule]]
+name = \"r\"
+text = \"when CLIENT_ACCEPTED { set x 7; TCP::respond \\\"hi $x\\\" }\"
+";
+
+/// A client that is answered, as a schedule.
+const SCHEDULE: &[u8] = b"accept 1 v 10.0.0.9 4000
+run
+client-took 1 4
+";
+
+/// What the replay of a client writes that is answered "hi 7", but for its last line.
+pub(super) const ANSWERED: &[u8] = b"> finish 1 unselected
+> close-client 1
+> ended 1 0
+> client 1 68692037
+> end ";
+
+/// What the replay of the schedule writes.
+pub(super) const REPORT: &[u8] = b"> finish 1 unselected
+> close-client 1
+> ended 1 0
+> client 1 68692037
+> end 3
+";
+
+/// A virtual server of HTTP, whose rule stands in a file.
+const OF_FILES: &[u8] = b"version = 1
+
+[[virtual]]
+name = \"v\"
+listen = \"127.0.0.1:9000\"
+http = true
+rules = [\"r\"]
+
+[[rule]]
+name = \"r\"
+file = \"r.tcl\"
+";
+
+const RULE: &[u8] = b"when CLIENT_ACCEPTED { TCP::respond hello }";
+
+/// A virtual server whose default pool has one member.
+const POOL: &[u8] = b"version = 1
+
+[[virtual]]
+name = \"v\"
+listen = \"127.0.0.1:9000\"
+pool = \"p\"
+
+[[pool]]
+name = \"p\"
+members = [{ addr = \"10.0.0.1:80\" }]
+";
+
+/// The files by their names.
+pub(super) static FILES: [(&str, &[u8]); 6] = [
+    ("hi.toml", HI),
+    ("hi.txt", SCHEDULE),
+    ("files.toml", OF_FILES),
+    ("r.tcl", RULE),
+    ("pool.toml", POOL),
+    ("bad.toml", b"x"),
+];
