@@ -26,14 +26,6 @@ impl Question<'_> {
         self.put_number(number);
     }
 
-    /// A number in decimal, or `none`.
-    pub fn say_place(&mut self, place: Option<u64>) {
-        match place {
-            Some(place) => self.say_number(place),
-            None => self.say("none"),
-        }
-    }
-
     /// An address and a port, or `none`.
     pub fn say_address(&mut self, addr: Option<Addr>) {
         match addr {
