@@ -42,7 +42,7 @@ impl Core {
         }
         let waited = self.live[at].is_asking();
         if self.live[at].comes(input, notes) {
-            let _ = self.live.remove(at);
+            drop(self.live.remove(at));
         } else {
             let waits = self.live[at].is_asking();
             self.queue.forget(number, waited, waits);

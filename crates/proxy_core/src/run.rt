@@ -29,7 +29,7 @@ impl Core {
         let number = self.live[at].number;
         let turn = self.live[at].run(self.alloc, &setup, steps, notes);
         if put_behind(&mut self.live, &mut self.queue, at, number, turn) {
-            let _ = self.live.remove(at);
+            drop(self.live.remove(at));
         }
     }
 }
