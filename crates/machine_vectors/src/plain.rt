@@ -31,6 +31,7 @@ impl Plained {
         alloc: Global,
         body: Body<'_>,
         replies: &Replies,
+        statics: &Vars,
         vars: &mut Vars,
         host: &mut Echo,
     ) -> M<()> {
@@ -39,7 +40,7 @@ impl Plained {
             alloc,
             tree,
             procs,
-            None,
+            Some(statics),
             vars,
             host,
             &all,
@@ -72,10 +73,12 @@ impl Plained {
 
 /// What a body comes to on these replies.
 pub fn plain(alloc: Global, body: Body<'_>, replies: &Replies) -> M<Plained> {
+    let statics = Vars::new(alloc);
     let mut vars = Vars::new(alloc);
     let mut host = Echo::new(alloc);
     let mut plained = Plained::new(alloc);
-    let ran = plained.run(alloc, body, replies, &mut vars, &mut host);
+    let ran = plained.run(alloc, body, replies, &statics, &mut vars, &mut host);
+    drop(statics);
     drop(vars);
     drop(host);
     match ran {

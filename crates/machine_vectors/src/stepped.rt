@@ -17,12 +17,13 @@ use tcl_vars::Vars;
 /// More steps than a body of that budget can have.
 const MOST: u32 = 4_000_000;
 
-/// A body that runs by steps: the machine, the variables, the host, the ticks that its steps told, and whether
-/// each told one to ten.
+/// A body that runs by steps: the machine, the static variables, which are only read, the others, the host, the
+/// ticks that its steps told, and whether each told one to ten.
 #[derive(Drop)]
 struct Runner<'a> {
     body: Body<'a>,
     machine: Machine,
+    statics: Vars,
     vars: Vars,
     host: Echo,
     ticks: u64,
@@ -36,6 +37,7 @@ impl<'a> Runner<'a> {
         Runner {
             body,
             machine: Machine::start(alloc, body.budget),
+            statics: Vars::new(alloc),
             vars: Vars::new(alloc),
             host: Echo::new(alloc),
             ticks: 0,
@@ -62,10 +64,10 @@ impl<'a> Runner<'a> {
         ensures { IfOk result (λ turn. TurnIs turn self.new.machine.at) }
     {
         let (tree, procs, all) = (self.body.tree, self.body.procs, self.body.all_shared);
-        let (vars, host) = (&mut self.vars, &mut self.host);
+        let (statics, vars, host) = (Some(&self.statics), &mut self.vars, &mut self.host);
         let turn = self
             .machine
-            .step(alloc, tree, procs, None, vars, host, &all, steps)?;
+            .step(alloc, tree, procs, statics, vars, host, &all, steps)?;
         self.count();
         Ok(turn)
     }
