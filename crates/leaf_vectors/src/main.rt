@@ -1,5 +1,5 @@
-//! Answers questions about data groups, pools, tables and the store, one a line. `README.md` has the form
-//! of the lines.
+//! Answers questions about data groups, pools, tables, the store, messages and network commands, one a
+//! line. `README.md` has the form of the lines.
 #![tactic(auto)]
 
 mod bodies;
@@ -8,6 +8,7 @@ mod costs;
 mod fields;
 mod groups;
 mod heads;
+mod network;
 mod pool_calls;
 mod question;
 mod record_calls;
@@ -62,6 +63,7 @@ fn answer(question: &mut Question<'_>) {
         "check_words" => table_calls::check_answer(question),
         "records" => record_calls::answer(question),
         "cost" => costs::answer(question),
+        "network" => network::answer(question),
         call => http_answer(question, call),
     }
 }

@@ -84,6 +84,13 @@ impl<'a> Question<'a> {
         self.known && self.at < self.words.len()
     }
 
+    /// The words that are left, which are read with it.
+    pub fn rest(&mut self) -> &'a [&'a str] {
+        let rest = self.words.get(self.at..).unwrap_or(&[]);
+        self.at = self.words.len();
+        rest
+    }
+
     /// How many words are left before this one.
     pub fn before(&self, last: &str) -> usize {
         let mut count = 0usize;
@@ -183,6 +190,17 @@ impl<'a> Question<'a> {
         }
     }
 
+    /// The bytes of a word as they are.
+    pub fn literal(&mut self, word: &str) -> Text {
+        match Text::new(self.alloc, word.as_bytes()) {
+            Ok(text) => text,
+            Err(Memory) => {
+                self.refused = true;
+                Text::empty(self.alloc)
+            }
+        }
+    }
+
     /// So many texts.
     pub fn texts(&mut self, count: usize) -> Texts {
         let mut texts = Texts::new(self.alloc);
@@ -204,7 +222,8 @@ impl<'a> Question<'a> {
     }
 }
 
-fn add_times(text: &mut Text, bytes: &[u8], count: u64) -> M<()> {
+/// Adds bytes so many times.
+pub fn add_times(text: &mut Text, bytes: &[u8], count: u64) -> M<()> {
     for _ in 0..count {
         text.push(bytes)?;
     }

@@ -141,7 +141,8 @@ impl Question<'_> {
         }
     }
 
-    fn put_made(&mut self, text: M<Text>) {
+    /// A text that was made, behind what stands, unless memory was refused.
+    pub fn put_made(&mut self, text: M<Text>) {
         match text {
             Ok(text) => self.put(text.as_bytes()),
             Err(Memory) => self.refuse(),

@@ -1,10 +1,10 @@
 // A connection in an event, on which calls are made.
 
-use crate::answer::Answer;
-use crate::directive::directed;
-use crate::place::groups;
-use crate::show::{say_effects, say_outcome};
-use crate::words::read_words;
+use crate::network::directive::directed;
+use crate::network::place::groups;
+use crate::network::show::{begin_call, say_effects, say_outcome};
+use crate::network::words::read_words;
+use crate::question::Question;
 use event_order::EventName;
 use irule_net::{Effects, Groups, NetState, net_command};
 use px_bytes::Addr;
@@ -27,44 +27,44 @@ pub struct Scene {
 impl Scene {
     /// A connection that was just accepted, in an event: at a virtual server with the pool `p`, and
     /// with HTTP where the kind is `http`; or at one without a pool.
-    pub fn new(answer: &mut Answer, event: EventName, kind: &str) -> Scene {
-        let pool = answer.text(if kind == "bare" { "" } else { "p" });
+    pub fn new(question: &mut Question<'_>, event: EventName, kind: &str) -> Scene {
+        let pool = question.literal(if kind == "bare" { "" } else { "p" });
         Scene {
             event,
-            state: NetState::new(answer.alloc, CLIENT, 80, pool, kind == "http"),
-            groups: groups(answer),
-            made: Effects::new(answer.alloc),
+            state: NetState::new(question.alloc, CLIENT, 80, pool, kind == "http"),
+            groups: groups(question),
+            made: Effects::new(question.alloc),
         }
     }
 
     /// The answers to calls, which have `;` between.
-    pub fn answer_calls(&mut self, answer: &mut Answer, words: &[&str]) {
+    pub fn answer_calls(&mut self, question: &mut Question<'_>, words: &[&str]) {
         for call in words.split(|word| *word == ";") {
-            self.answer_call(answer, call);
+            self.answer_call(question, call);
         }
     }
 
     // A call that begins with `!` is none of a rule, but changes or shows the state.
-    fn answer_call(&mut self, answer: &mut Answer, call: &[&str]) {
+    fn answer_call(&mut self, question: &mut Question<'_>, call: &[&str]) {
         match call {
-            ["!", name, words @ ..] => directed(self, answer, name, words),
-            _ => self.command(answer, call),
+            ["!", name, words @ ..] => directed(self, question, name, words),
+            _ => self.command(question, call),
         }
     }
 
-    fn command(&mut self, answer: &mut Answer, call: &[&str]) {
-        let call = read_words(answer, call);
+    fn command(&mut self, question: &mut Question<'_>, call: &[&str]) {
+        let call = read_words(question, call);
         self.made.clear();
         let outcome = net_command(
-            answer.alloc,
+            question.alloc,
             &mut self.state,
             &self.groups,
             self.event,
             &call,
             &mut self.made,
         );
-        answer.begin_call();
-        say_outcome(answer, &outcome);
-        say_effects(answer, self.made.as_slice());
+        begin_call(question);
+        say_outcome(question, &outcome);
+        say_effects(question, self.made.as_slice());
     }
 }
