@@ -12,13 +12,14 @@ use tcl_commands::pure;
 
 pub fn answer(alloc: Global, question: &Question) -> M<Option<Text>> {
     match question.call {
-        "pure" => pure_answer(alloc, &question.texts),
+        "pure" => value_text(alloc, pure_value(alloc, &question.texts)),
         _ => Ok(None),
     }
 }
 
-fn pure_answer(alloc: Global, words: &Texts) -> M<Option<Text>> {
-    value_text(alloc, called::<Brand>(alloc, words, Blank::new(1)))
+/// The value of a pure command.
+pub fn pure_value(alloc: Global, words: &Texts) -> Result<Text, Raise> {
+    called::<Brand>(alloc, words, Blank::new(1))
 }
 
 fn called<L: Ledger>(alloc: Global, words: &Texts, blank: Blank) -> Result<Text, Raise>

@@ -4,9 +4,9 @@ use crate::question::Question;
 use crate::words::fault_name;
 use px_bytes::{M, Memory, Text};
 use std::alloc::Global;
-use tcl_compile::{CompileFault, Flaw, compile};
+use tcl_compile::{CompileFault, Flaw, Node, compile};
 use tcl_expr::Misread;
-use tcl_words::{ParseFault, parse};
+use tcl_words::{ParseFault, Script, parse};
 
 pub fn answer(alloc: Global, question: &Question) -> M<Option<Text>> {
     match (question.call, question.texts.as_slice()) {
@@ -15,16 +15,26 @@ pub fn answer(alloc: Global, question: &Question) -> M<Option<Text>> {
     }
 }
 
-// The text is read first, as a rule's body is.
 fn compile_answer(alloc: Global, text: &[u8]) -> M<Text> {
-    let script = match parse(alloc, text) {
-        Ok(script) => script,
-        Err(ParseFault::Fault(fault)) => return flaw_text(alloc, Flaw::Parse(fault)),
-        Err(ParseFault::Memory) => return Err(Memory),
-    };
-    match compile(alloc, &script) {
+    match compiled(alloc, text)? {
         Ok(_) => Text::new(alloc, b"ok"),
-        Err(CompileFault::Flaw(flaw)) => flaw_text(alloc, flaw),
+        Err(flaw) => Ok(flaw),
+    }
+}
+
+/// The tree of a text, which is read first, as a rule's body is; or the answer where it has none.
+pub fn compiled(alloc: Global, text: &[u8]) -> M<Result<Node, Text>> {
+    match parse(alloc, text) {
+        Ok(script) => compiled_script(alloc, &script),
+        Err(ParseFault::Fault(fault)) => Ok(Err(flaw_text(alloc, Flaw::Parse(fault))?)),
+        Err(ParseFault::Memory) => Err(Memory),
+    }
+}
+
+fn compiled_script(alloc: Global, script: &Script) -> M<Result<Node, Text>> {
+    match compile(alloc, script) {
+        Ok(node) => Ok(Ok(node)),
+        Err(CompileFault::Flaw(flaw)) => Ok(Err(flaw_text(alloc, flaw)?)),
         Err(CompileFault::Memory) => Err(Memory),
     }
 }

@@ -9,6 +9,7 @@ mod evaluated;
 mod expressions;
 mod host;
 mod lists;
+mod long_values;
 mod numbers;
 mod operators;
 mod question;
@@ -42,6 +43,9 @@ fn main(rt: HostRuntime) -> io::Result<()> {
 
 fn answer_line(alloc: Global, line: &str) -> M<Text> {
     if let Some(answer) = rules::answer(alloc, line)? {
+        return Ok(answer);
+    }
+    if let Some(answer) = long_values::answer(alloc, line)? {
         return Ok(answer);
     }
     let Some(question) = read_question(alloc, line)? else {

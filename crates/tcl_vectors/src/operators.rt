@@ -108,7 +108,7 @@ pub fn value_text(alloc: Global, value: Result<Text, Raise>) -> M<Option<Text>> 
     }
 }
 
-fn fault_text(alloc: Global, fault: &TclFault) -> M<Text> {
+pub fn fault_text(alloc: Global, fault: &TclFault) -> M<Text> {
     let kind = fault.kind as u8;
     let mut out = Text::from_vec(format!(in alloc; "fault {kind} ")?.into_bytes());
     out.push(print_hex(alloc, fault.text.as_bytes())?.as_bytes())?;

@@ -45,16 +45,16 @@ pub fn answer(alloc: Global, line: &str) -> M<Option<Text>> {
     }
 }
 
-// The text that a word writes: parts with `+` between, each two hexadecimal digits a byte, or one
-// byte and behind `*` how often it stands; `-` for no bytes.
-fn read_text(alloc: Global, word: &str) -> M<Option<Text>> {
+/// The text that a word writes: parts with `+` between, each two hexadecimal digits a byte, or one
+/// byte and behind `*` how often it stands; `-` for no bytes.
+pub fn read_text(alloc: Global, word: &str) -> M<Option<Text>> {
     let mut text = Text::empty(alloc);
     if word == "-" {
         return Ok(Some(text));
     }
     for part in word.split('+') {
         let (digits, count) = match part.split_once('*') {
-            Some((digits, count)) => (digits, read_decimal(count.as_bytes(), 2_000_000)),
+            Some((digits, count)) => (digits, read_decimal(count.as_bytes(), 4_000_000)),
             None => (part, Some(1)),
         };
         let (Some(bytes), Some(count)) = (read_digits(alloc, digits)?, count) else {
