@@ -1,7 +1,7 @@
 #!/usr/bin/env python3
 """Random chunked bodies beside the procedure of RFC 9112, 7.1.3, whole and cut into fragments.
 
-    bench/chunks.py PROGRAM [SEED [COUNT]]      PROGRAM is a built crates/leaf_vectors/out/leaf_vectors
+    bench/chunks.py PROGRAM [SEED [COUNT]]      PROGRAM is a built crates/ask_leaves/out/ask_leaves
 
 COUNT bodies with extensions and trailers are decoded by the procedure of the RFC and by `units`: the same
 content and the same number of bytes. Then bodies of which most have a fault are asked whole and in random

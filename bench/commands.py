@@ -1,5 +1,5 @@
 #!/usr/bin/env python3
-"""Times commands, expressions and a growing variable on inputs that double, through `tcl_vectors`,
+"""Times commands, expressions and a growing variable on inputs that double, through `ask_language`,
 which `rt run` builds.
 
 Linear work doubles with its input. Run it from the top of the repository.
@@ -9,7 +9,7 @@ import subprocess
 import sys
 import time
 
-PROGRAM = "crates/tcl_vectors/out/tcl_vectors"
+PROGRAM = "crates/ask_language/out/ask_language"
 SIZES = [1 << 16, 1 << 17, 1 << 18, 1 << 19]
 
 

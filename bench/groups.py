@@ -1,5 +1,5 @@
 #!/usr/bin/env python3
-"""Times look-ups in data groups of 65,536 rows and fewer, through `leaf_vectors`, which `rt run` builds.
+"""Times look-ups in data groups of 65,536 rows and fewer, through `ask_leaves`, which `rt run` builds.
 
 By `equals` a look-up goes down a tree, by `ends_with` it goes through all rows. Run it from the top of
 the repository.
@@ -8,7 +8,7 @@ the repository.
 import subprocess
 import time
 
-PROGRAM = "crates/leaf_vectors/out/leaf_vectors"
+PROGRAM = "crates/ask_leaves/out/ask_leaves"
 SIZES = [16, 256, 4096, 65536]
 
 

@@ -2,7 +2,7 @@
 """Heads beside the toolchain's own reader of requests, and what heads and bodies cost.
 
     bench/heads.py [SEED [COUNT]]
-    bench/heads.py times PROGRAM         PROGRAM is a built crates/leaf_vectors/out/leaf_vectors
+    bench/heads.py times PROGRAM         PROGRAM is a built crates/ask_leaves/out/ask_leaves
 
 The first writes a small program into a temporary folder, beside copies of the crates that it stands on, and runs
 it by `rt try`, which proves nothing. COUNT random requests, most of them well formed, are read by
@@ -238,7 +238,7 @@ def compare(folder, seed, count):
 
 
 def times(program):
-    """Times by the questions `cost` of leaf_vectors: what so many calls take more than one."""
+    """Times by the questions `cost` of ask_leaves: what so many calls take more than one."""
     head = b"GET /index.html?q=1 HTTP/1.1\r\nHost: www.example.com\r\n"
     head += b"".join(b"X-Field-%02d: some value of a field\r\n" % k for k in range(FIELDS - 1)) + b"\r\n"
     rows = [("httparse alone", "parse", head, FIELDS, 100000), ("a head read", "read", head, FIELDS, 100000),

@@ -1,7 +1,7 @@
 #!/usr/bin/env python3
 """How long bodies take beside tclsh and jimsh, and that they grow linearly.
 
-    bench/language.py PROGRAM [BEFORE]   PROGRAM is a built crates/tcl_vectors/out/tcl_vectors
+    bench/language.py PROGRAM [BEFORE]   PROGRAM is a built crates/ask_language/out/ask_language
 
 Each line is one body, run by `eval_plain` with a raised budget (the question `body`), by tclsh and by
 jimsh in a procedure, where they are installed. Times are the least of five runs less the time of an

@@ -1,7 +1,7 @@
 #!/usr/bin/env python3
 """How much processor time bodies take by steps beside tclsh and jimsh, and what they allocate.
 
-    bench/machine.py PROGRAM             PROGRAM is a built crates/machine_vectors/out/machine_vectors
+    bench/machine.py PROGRAM             PROGRAM is a built crates/ask_machine/out/ask_machine
 
 The bodies are those of bench/language.py, run by the question `body` and by tclsh and jimsh in a procedure,
 where they are installed. Times are processor time, the least of five runs that take turns, less that of an

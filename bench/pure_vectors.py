@@ -1,5 +1,5 @@
 #!/usr/bin/env python3
-"""Asks tclsh 8.6 the `pure` questions of crates/tcl_vectors, and prints the answers that differ
+"""Asks tclsh 8.6 the `pure` questions of crates/ask_language, and prints the answers that differ
 where docs/DIFFERENCES.md names no reason.
 
     bench/pure_vectors.py
@@ -15,7 +15,7 @@ import re
 import subprocess
 import sys
 
-VECTORS = pathlib.Path(__file__).parent.parent / "crates/tcl_vectors"
+VECTORS = pathlib.Path(__file__).parent.parent / "crates/ask_language"
 TCL = "string concat join lindex list llength lrange lsearch lsort split format".split()
 JUDGE = r"""
 set words [lmap digits $argv {binary decode hex [string trimleft $digits -]}]

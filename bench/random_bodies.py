@@ -3,7 +3,7 @@
 
     bench/random_bodies.py PROGRAM [SEED [COUNT]]
 
-PROGRAM is a built crates/tcl_vectors/out/tcl_vectors. A body nests control commands, words, brackets
+PROGRAM is a built crates/ask_language/out/ask_language. A body nests control commands, words, brackets
 and expressions; most of its commands are caught, and the codes go into its result, with all its
 variables. Texts of faults aren't compared, and what docs/DIFFERENCES.md names isn't made.
 """

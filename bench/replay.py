@@ -2,8 +2,8 @@
 """How much processor time bodies take through `replay`, beside the evaluators by themselves, tclsh and jimsh.
 
     bench/replay.py PROXY VECTORS ..     PROXY is a built crates/ciravogu/out/ciravogu, each VECTORS a built program
-                                         that answers the question `body`: tcl_vectors (the plain evaluator) or
-                                         machine_vectors (by steps)
+                                         that answers the question `body`: ask_language (the plain evaluator) or
+                                         ask_machine (by steps)
 
 The bodies are those of bench/language.py at half of their size, since a body of a configuration may spend
 1,000,000 units at most. In a replay each answers its client, which takes the bytes; all answers are compared. Times

@@ -3,7 +3,7 @@
 
     bench/table.py PROGRAM [SEED [COUNT]]
 
-PROGRAM is a built crates/leaf_vectors/out/leaf_vectors. COUNT sequences of calls, at moments about the
+PROGRAM is a built crates/ask_leaves/out/ask_leaves. COUNT sequences of calls, at moments about the
 deadlines of their rows, are answered by the program and by the model below, a dictionary; those that
 differ are printed. Then a table of 65,536 rows: what a `lookup` and an `incr` take more than in an empty
 one.

@@ -1,5 +1,5 @@
 #!/usr/bin/env python3
-"""Times `parse` and `compile` on texts that double up to 1 MiB, through `tcl_vectors`, which `rt run`
+"""Times `parse` and `compile` on texts that double up to 1 MiB, through `ask_language`, which `rt run`
 builds.
 
 A linear reader's times double with the text. Run it from the top of the repository.
@@ -9,7 +9,7 @@ import subprocess
 import sys
 import time
 
-PROGRAM = "crates/tcl_vectors/out/tcl_vectors"
+PROGRAM = "crates/ask_language/out/ask_language"
 SIZES = [1 << 17, 1 << 18, 1 << 19, 1 << 20]
 
 

@@ -5,7 +5,7 @@ use pools::{Members, Method};
 use px_bytes::{Addr, Seq, Text, Texts};
 
 /// How a client's member is found again: it isn't, by the client's address, or by a cookie.
-#[derive(Clone, Copy, Debug, PartialEq, Eq)]
+#[derive(Clone, Copy, PartialEq, Eq)]
 pub enum Persist {
     None,
     SourceAddr,

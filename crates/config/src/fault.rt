@@ -6,7 +6,7 @@ ghost use Rattle.config.specs.Faults.{number_of};
 use px_bytes::{Memory, Text};
 
 /// What is wrong with a configuration.
-#[derive(Clone, Copy, Debug, PartialEq, Eq)]
+#[derive(Clone, Copy, PartialEq, Eq)]
 pub enum FaultKind {
     /// A file can't be read.
     ReadFault,
@@ -45,7 +45,7 @@ impl FaultKind {
 }
 
 /// What is wrong, and the text of its place.
-#[derive(Drop, Debug)]
+#[derive(Drop)]
 pub struct Fault {
     pub kind: FaultKind,
     /// As `virtual[0].rules[1]`; the name of the file where it can't be read or is no TOML; and for
@@ -54,7 +54,7 @@ pub struct Fault {
 }
 
 /// Why no configuration was given: what is wrong with it, or out of memory.
-#[derive(Drop, Debug)]
+#[derive(Drop)]
 pub enum ConfigFault {
     Fault(Fault),
     Memory,

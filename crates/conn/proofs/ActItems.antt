@@ -6,10 +6,10 @@ use Rattle.rule_model.specs.Host.{Effect}
 use Rattle.rule_model.specs.Outcome.{Act, Did}
 use Rattle.rule_model.specs.Outcome as act
 use Rattle.event_order.specs.declared.event.EventName.{EventName}
-use Rattle.connection_model.specs.Item.{Item, Ran, calls_in, client_output, server_output, notes_of, choices_in}
-use Rattle.connection_model.specs.declared.note.Note.TheVariants as note
-use Rattle.connection_model.specs.Gates.{Counts, TakenCounts, Met, sent_after, sent_from}
-use Rattle.connection_model.specs.Bodies.{act_item}
+use Rattle.conn_trace.specs.Item.{Item, Ran, calls_in, client_output, server_output, notes_of, choices_in}
+use Rattle.conn_trace.specs.declared.note.Note.TheVariants as note
+use Rattle.conn_trace.specs.Gates.{Counts, TakenCounts, Met, sent_after, sent_from}
+use Rattle.conn_trace.specs.Bodies.{act_item}
 use Rattle.frame_machine.specs.Went.{effects_in}
 use Rattle.conn.specs.Hosts.{SendsToFirst, client_bytes, server_bytes, logs_of}
 use Rattle.conn.proofs.Joining.{TakesNone, TakesNoCut}

@@ -4,14 +4,14 @@ use Rattle.px_bytes.specs.declared.addr.Side.{Side}
 use Rattle.px_bytes.specs.declared.addr.Side.TheVariants.{Client, Server}
 use Rattle.px_bytes.specs.declared.fault.Reply.{Reply}
 use Rattle.event_order.specs.declared.event.EventName.{EventName}
-use Rattle.connection_model.specs.Edges.{edge_ends, is_connecting}
-use Rattle.connection_model.specs.declared.edges.Edges.{Edges}
-use Rattle.connection_model.specs.Further.{Coming, nothing_further, nothing_comes, longer_by, longer_stream, longer_server, left_for, on_last, first_cut, longer}
-use Rattle.connection_model.specs.Heard.{taken_by}
-use Rattle.connection_model.specs.Item.{Choice}
-use Rattle.connection_model.specs.Setup.{Handler, Setup}
-use Rattle.connection_model.specs.State.{Cut, ServerSide, Stream, There, TraceState}
-use Rattle.connection_model.proofs.Streams.{nothing_stream, nothing_server, nothing_on_last}
+use Rattle.conn_trace.specs.Edges.{edge_ends, is_connecting}
+use Rattle.conn_trace.specs.declared.edges.Edges.{Edges}
+use Rattle.conn_trace.specs.Further.{Coming, nothing_further, nothing_comes, longer_by, longer_stream, longer_server, left_for, on_last, first_cut, longer}
+use Rattle.conn_trace.specs.Heard.{taken_by}
+use Rattle.conn_trace.specs.Item.{Choice}
+use Rattle.conn_trace.specs.Setup.{Handler, Setup}
+use Rattle.conn_trace.specs.State.{Cut, ServerSide, Stream, There, TraceState}
+use Rattle.conn_trace.proofs.Streams.{nothing_stream, nothing_server, nothing_on_last}
 use Rattle.conn.specs.Calls.{Hears, Resets, coming_of, ended_ends, heard_ends, none_at_last, reset_end, reset_ends, reset_in, unless_finished}
 use Rattle.conn.specs.Ends.{arrived, connects_by, fresh_end, has_stream, heard_by, heard_end, hears_at, is_up, server_by, servers_by}
 use Rattle.conn.specs.Events.{event_of}

@@ -5,11 +5,11 @@ use Rattle.event_order.specs.declared.event.EventName.TheVariants.{ClientAccepte
 use Rattle.tcl_vars.specs.Scopes.{no_scopes}
 use Rattle.irule_net.specs.State.{new_state}
 use Rattle.irule_net.specs.declared.state.NetState.{NetState}
-use Rattle.connection_model.specs.Gates.{no_bytes}
-use Rattle.connection_model.specs.Host.{HostState, first_host}
-use Rattle.connection_model.specs.Places.{at as put, enter}
-use Rattle.connection_model.specs.Setup.{Setup}
-use Rattle.connection_model.specs.State.{Absent, Draining, NoServer, TraceState, no_stream, no_answers}
+use Rattle.conn_trace.specs.Gates.{no_bytes}
+use Rattle.conn_trace.specs.Host.{HostState, first_host}
+use Rattle.conn_trace.specs.Places.{at as put, enter}
+use Rattle.conn_trace.specs.Setup.{Setup}
+use Rattle.conn_trace.specs.State.{Absent, Draining, NoServer, TraceState, no_stream, no_answers}
 use Rattle.conn.specs.Calls.{Begins}
 use Rattle.conn.specs.Ends.{fresh_ends}
 use Rattle.conn.specs.Holds.{Holds, HoldsEnds, fresh}

@@ -10,15 +10,15 @@ use Rattle.rule_model.specs.Outcome as act
 use Rattle.rule_model.specs.Laws.{state_after}
 use Rattle.rule_model.specs.declared.code.Code.{Code}
 use Rattle.event_order.specs.declared.event.EventName.{EventName}
-use Rattle.connection_model.specs.Item.{Ran}
-use Rattle.connection_model.specs.Gates.{Counts, sent_after, sent_from}
-use Rattle.connection_model.specs.Setup.{Handler, Setup}
-use Rattle.connection_model.specs.Host.{HostState}
-use Rattle.connection_model.specs.State.{TraceState, Does}
-use Rattle.connection_model.specs.Bodies.{run_body, act_item, act_next, ended_next}
-use Rattle.connection_model.specs.Trace.{counted, next_item, Unfolds}
-use Rattle.connection_model.proofs.BodyItems.{running, ended}
-use Rattle.connection_model.proofs.Longer.{plain_next}
+use Rattle.conn_trace.specs.Item.{Ran}
+use Rattle.conn_trace.specs.Gates.{Counts, sent_after, sent_from}
+use Rattle.conn_trace.specs.Setup.{Handler, Setup}
+use Rattle.conn_trace.specs.Host.{HostState}
+use Rattle.conn_trace.specs.State.{TraceState, Does}
+use Rattle.conn_trace.specs.Bodies.{run_body, act_item, act_next, ended_next}
+use Rattle.conn_trace.specs.Trace.{counted, next_item, Unfolds}
+use Rattle.conn_trace.proofs.BodyItems.{running, ended}
+use Rattle.conn_trace.proofs.Longer.{plain_next}
 
 there : (done rest : List Act) (a : Act) → slice_get (done ++ a ∷ rest) (length done) ≡ Some a
 there [] rest a = refl

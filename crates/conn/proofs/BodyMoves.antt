@@ -15,17 +15,17 @@ use Rattle.rule_model.specs.Outcome as act
 use Rattle.rule_model.specs.Setting as given
 use Rattle.rule_model.specs.declared.code.Code.{Code}
 use Rattle.event_order.specs.declared.event.EventName.{EventName}
-use Rattle.connection_model.specs.Bodies.{run_body, act_item}
-use Rattle.connection_model.specs.Gates.{Counts, sent_from}
-use Rattle.connection_model.specs.Host.{HostState, body_setting, commands}
-use Rattle.connection_model.specs.Item.{Ran}
-use Rattle.connection_model.specs.Places.{Place, at as put, after_body, next_body, place as place_at}
-use Rattle.connection_model.specs.Setup.{Handler, Setup, uncaught_line}
-use Rattle.connection_model.specs.State.{Failing, InEvent, TraceState, link_of, with_replies}
-use Rattle.connection_model.specs.Trace.{next_item, Unfolds}
-use Rattle.connection_model.proofs.BodyItems.{running, ended, body_waits}
-use Rattle.connection_model.proofs.Unfolding.{unfolds_on, unfolds_one}
-use Rattle.connection_model.specs.declared.note.Note.{Note}
+use Rattle.conn_trace.specs.Bodies.{run_body, act_item}
+use Rattle.conn_trace.specs.Gates.{Counts, sent_from}
+use Rattle.conn_trace.specs.Host.{HostState, body_setting, commands}
+use Rattle.conn_trace.specs.Item.{Ran}
+use Rattle.conn_trace.specs.Places.{Place, at as put, after_body, next_body, place as place_at}
+use Rattle.conn_trace.specs.Setup.{Handler, Setup, uncaught_line}
+use Rattle.conn_trace.specs.State.{Failing, InEvent, TraceState, link_of, with_replies}
+use Rattle.conn_trace.specs.Trace.{next_item, Unfolds}
+use Rattle.conn_trace.proofs.BodyItems.{running, ended, body_waits}
+use Rattle.conn_trace.proofs.Unfolding.{unfolds_on, unfolds_one}
+use Rattle.conn_trace.specs.declared.note.Note.{Note}
 use Rattle.frame_machine.specs.Frames.{comes_to, path_of}
 use Rattle.frame_machine.specs.Given.{setting}
 use Rattle.frame_machine.specs.Went.{Went, place, comes_by, effects_in, TurnIs}

@@ -12,7 +12,7 @@ use Rattle.irule_net.specs.Checks.{command_of}
 use Rattle.irule_net.specs.Commands.{net_step}
 use Rattle.irule_net.specs.declared.groups.Groups.{Groups}
 use Rattle.irule_net.specs.declared.state.NetState.{NetState}
-use Rattle.connection_model.specs.Host.{HostState, commands, first_word, host_step, names_one}
+use Rattle.conn_trace.specs.Host.{HostState, commands, first_word, host_step, names_one}
 use Rattle.conn.specs.Hosts.{seen_net}
 
 -- what was made stands behind what was made before

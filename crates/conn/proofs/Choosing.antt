@@ -4,13 +4,13 @@ use Rattle.px_bytes.specs.Address.{ip_text}
 use Rattle.px_bytes.specs.declared.addr.Addr.{Addr}
 use Rattle.irule_net.specs.declared.state.Target.{Target}
 use Rattle.irule_net.specs.declared.state.Target.TheVariants.{Default, PoolOf, MemberOf, NodeAt}
-use Rattle.connection_model.specs.Host.{HostState}
-use Rattle.connection_model.specs.Item.{Called, Resumed}
-use Rattle.connection_model.specs.Places.{at as put, enter}
-use Rattle.connection_model.specs.Selected.{any_member, select_call}
-use Rattle.connection_model.specs.Setup.{Setup}
-use Rattle.connection_model.specs.State.{Choosing, ForReply, Selecting, TraceState, Does, Waits, with_replies}
-use Rattle.connection_model.specs.Trace.{next_item}
+use Rattle.conn_trace.specs.Host.{HostState}
+use Rattle.conn_trace.specs.Item.{Called, Resumed}
+use Rattle.conn_trace.specs.Places.{at as put, enter}
+use Rattle.conn_trace.specs.Selected.{any_member, select_call}
+use Rattle.conn_trace.specs.Setup.{Setup}
+use Rattle.conn_trace.specs.State.{Choosing, ForReply, Selecting, TraceState, Does, Waits, with_replies}
+use Rattle.conn_trace.specs.Trace.{next_item}
 use Rattle.conn.specs.Changes.{Enters}
 use Rattle.conn.specs.Choosing.{AsksFor, Chooses, ChoosesBy, TakesChosen, asked_call, default_plan, plan_by, wanted_of}
 use Rattle.conn.specs.Ends.{is_sought, is_up, link_by}

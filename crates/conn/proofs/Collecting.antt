@@ -4,15 +4,15 @@ use Rattle.std.proofs.lemmas.Bool.{or_right}
 use Rattle.px_bytes.specs.declared.addr.Side.TheVariants.{Client}
 use Rattle.irule_net.specs.declared.state.Asks.{Asks}
 use Rattle.irule_net.specs.declared.state.Asks.TheVariants.{NotAsked, Stated}
-use Rattle.connection_model.specs.Gates.{TakenCounts}
-use Rattle.connection_model.specs.Item.{Choice, Fires}
-use Rattle.connection_model.specs.Relay.{behind_fires, collect_act, meets, ready, Firing, Resting}
-use Rattle.connection_model.specs.Setup.{Setup}
-use Rattle.connection_model.specs.State.{Collecting, TraceState, Waits, Over, ForRelay, Nothing, IsMet, Ready, link_of, with_choices}
-use Rattle.connection_model.specs.Trace.{GivesNoMore, collect_next, collecting_next, counted, fired_next, next_item}
-use Rattle.connection_model.specs.declared.note.CutReason.{CutReason}
-use Rattle.connection_model.specs.declared.note.Note.{Note}
-use Rattle.connection_model.specs.declared.note.Note.TheVariants as note
+use Rattle.conn_trace.specs.Gates.{TakenCounts}
+use Rattle.conn_trace.specs.Item.{Choice, Fires}
+use Rattle.conn_trace.specs.Relay.{behind_fires, collect_act, meets, ready, Firing, Resting}
+use Rattle.conn_trace.specs.Setup.{Setup}
+use Rattle.conn_trace.specs.State.{Collecting, TraceState, Waits, Over, ForRelay, Nothing, IsMet, Ready, link_of, with_choices}
+use Rattle.conn_trace.specs.Trace.{GivesNoMore, collect_next, collecting_next, counted, fired_next, next_item}
+use Rattle.conn_trace.specs.declared.note.CutReason.{CutReason}
+use Rattle.conn_trace.specs.declared.note.Note.{Note}
+use Rattle.conn_trace.specs.declared.note.Note.TheVariants as note
 use Rattle.conn.specs.Acts.{Collects, CollectsBy, cut_of}
 use Rattle.conn.specs.Ends.{is_sought, is_up}
 use Rattle.conn.specs.Holds.{Around, Holds, Stands}

@@ -1,9 +1,9 @@
 -- Whether the server took the connection is the next of each state that the connection may stand for.
 use Rattle.std.proofs.Common.{◌≡◌, refl, sym, ap, subst, ◌∙◌, ◌+◌, [], ◌∷◌, ◌++◌, length, Bool, true, false, true≢false, ◌&&◌, not, Some, None, arith}
-use Rattle.connection_model.specs.Edges.{answered_edge, is_connecting}
-use Rattle.connection_model.specs.Further.{nothing_comes, longer_server, left_for, on_last, longer}
-use Rattle.connection_model.specs.State.{TraceState}
-use Rattle.connection_model.proofs.Streams.{nothing_stream, nothing_server, nothing_on_last}
+use Rattle.conn_trace.specs.Edges.{answered_edge, is_connecting}
+use Rattle.conn_trace.specs.Further.{nothing_comes, longer_server, left_for, on_last, longer}
+use Rattle.conn_trace.specs.State.{TraceState}
+use Rattle.conn_trace.proofs.Streams.{nothing_stream, nothing_server, nothing_on_last}
 use Rattle.conn.specs.Calls.{Connects, answer_of, answered_by, answered_in, connect_answer, connected_ends, link_answered, unless_finished}
 use Rattle.conn.specs.Ends.{connects_by, fresh_end, has_stream, is_sought, is_up, number_by, server_by, servers_by}
 use Rattle.conn.specs.Holds.{Around, Holds, HoldsEnds}

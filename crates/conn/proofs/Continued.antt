@@ -3,19 +3,19 @@ use Rattle.std.proofs.Common.{◌≡◌, refl, subst, ℕ, zero, suc, ◌+◌, L
 use Rattle.std.specs.Prelude.{slice_get}
 use Rattle.px_bytes.specs.declared.addr.Side.{Side}
 use Rattle.px_bytes.specs.declared.addr.Side.TheVariants.{Client, Server}
-use Rattle.connection_model.specs.Further.{longer}
-use Rattle.connection_model.specs.Gates.{Counts, taken_of, Met}
-use Rattle.connection_model.specs.HeardLaws.{taken_by_items}
-use Rattle.connection_model.specs.Item.{Item}
-use Rattle.connection_model.specs.Laws.{AtLeast, TakesMore}
-use Rattle.connection_model.specs.Setup.{Setup}
-use Rattle.connection_model.specs.State.{TraceState}
-use Rattle.connection_model.specs.declared.note.Note.{Note}
-use Rattle.connection_model.proofs.Furthering.{further_keeps, replies_keep}
-use Rattle.connection_model.proofs.Given.{sent_counted}
-use Rattle.connection_model.proofs.Querying.{met_joins}
-use Rattle.connection_model.proofs.Taking.{met_more}
-use Rattle.connection_model.proofs.Unfolding.{unfolds_on}
+use Rattle.conn_trace.specs.Further.{longer}
+use Rattle.conn_trace.specs.Gates.{Counts, taken_of, Met}
+use Rattle.conn_trace.specs.HeardLaws.{taken_by_items}
+use Rattle.conn_trace.specs.Item.{Item}
+use Rattle.conn_trace.specs.Laws.{AtLeast, TakesMore}
+use Rattle.conn_trace.specs.Setup.{Setup}
+use Rattle.conn_trace.specs.State.{TraceState}
+use Rattle.conn_trace.specs.declared.note.Note.{Note}
+use Rattle.conn_trace.proofs.Furthering.{further_keeps, replies_keep}
+use Rattle.conn_trace.proofs.Given.{sent_counted}
+use Rattle.conn_trace.proofs.Querying.{met_joins}
+use Rattle.conn_trace.proofs.Taking.{met_more}
+use Rattle.conn_trace.proofs.Unfolding.{unfolds_on}
 use Rattle.conn.specs.Calls.{more_at_last, took_more, Takes}
 use Rattle.conn.specs.Continues.{Continues, CallsContinue}
 use Rattle.conn.specs.Holds.{Around}

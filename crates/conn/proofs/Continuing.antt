@@ -11,19 +11,19 @@ use Rattle.event_order.specs.declared.event.EventName.{EventName}
 use Rattle.rule_model.specs.Laws.{state_after}
 use Rattle.rule_model.specs.Outcome.{Act, Called, Outcome, Ends, Waits as Stops, reply_code}
 use Rattle.rule_model.specs.Setting as given
-use Rattle.connection_model.specs.Bodies.{run_body, act_item, act_next, ended_next}
-use Rattle.connection_model.specs.Further.{Further, longer, CutMeets}
-use Rattle.connection_model.specs.Gates.{Counts, TakenCounts, Met, sent_from}
-use Rattle.connection_model.specs.Host.{HostState, body_setting}
-use Rattle.connection_model.specs.Item.{Item, Choice}
-use Rattle.connection_model.specs.Setup.{Handler, Setup}
-use Rattle.connection_model.specs.State.{Running, Phase, InEvent, Selecting, ServerSide, Stream, Cut, TraceState, ForReply, Next, Does, Waits, Over}
-use Rattle.connection_model.specs.Trace.{counted, cut_next, next_item, phase_next, selected_next, selecting_next, Unfolds, trace_from, trace, start}
-use Rattle.connection_model.proofs.BodyItems.{running, acts_unfold}
-use Rattle.connection_model.proofs.Furthering.{further_keeps}
-use Rattle.connection_model.proofs.Given.{cut_keeps}
-use Rattle.connection_model.proofs.Taking.{met_more}
-use Rattle.connection_model.proofs.Unfolding.{trace_unfolds}
+use Rattle.conn_trace.specs.Bodies.{run_body, act_item, act_next, ended_next}
+use Rattle.conn_trace.specs.Further.{Further, longer, CutMeets}
+use Rattle.conn_trace.specs.Gates.{Counts, TakenCounts, Met, sent_from}
+use Rattle.conn_trace.specs.Host.{HostState, body_setting}
+use Rattle.conn_trace.specs.Item.{Item, Choice}
+use Rattle.conn_trace.specs.Setup.{Handler, Setup}
+use Rattle.conn_trace.specs.State.{Running, Phase, InEvent, Selecting, ServerSide, Stream, Cut, TraceState, ForReply, Next, Does, Waits, Over}
+use Rattle.conn_trace.specs.Trace.{counted, cut_next, next_item, phase_next, selected_next, selecting_next, Unfolds, trace_from, trace, start}
+use Rattle.conn_trace.proofs.BodyItems.{running, acts_unfold}
+use Rattle.conn_trace.proofs.Furthering.{further_keeps}
+use Rattle.conn_trace.proofs.Given.{cut_keeps}
+use Rattle.conn_trace.proofs.Taking.{met_more}
+use Rattle.conn_trace.proofs.Unfolding.{trace_unfolds}
 use Rattle.frame_machine.specs.Frames.{comes_to, path_of}
 use Rattle.frame_machine.specs.declared.frame.Mode.TheVariants as mode
 use Rattle.frame_machine.specs.declared.frame.Standing.{Standing}

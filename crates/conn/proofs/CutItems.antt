@@ -1,18 +1,18 @@
 -- How a connection finishes, and a cut at a rest, by the fields of a trace's state.
 use Rattle.std.proofs.Common.{◌≡◌, ap, ◌∙◌, ⊎_elim, [], true, false, Some, None}
-use Rattle.connection_model.specs.declared.note.CutReason.{CutReason}
-use Rattle.connection_model.specs.Further.{choosing, longer}
-use Rattle.connection_model.specs.Gates.{TakenCounts}
-use Rattle.connection_model.specs.Item.{CutBy, Finished, Reason}
-use Rattle.connection_model.specs.Laws.{takes_cut}
-use Rattle.connection_model.specs.Host.{HostState}
-use Rattle.connection_model.specs.Places.{at as put, closed}
-use Rattle.connection_model.specs.Setup.{Setup}
-use Rattle.connection_model.specs.State.{Cut, Link, link_of, TraceState, Does, Over}
-use Rattle.connection_model.specs.Trace.{finish, next_item, GivesNoMore}
-use Rattle.connection_model.proofs.Cutting.{rest_is_cut}
-use Rattle.connection_model.proofs.Furthering.{cut_ends}
-use Rattle.connection_model.proofs.Given.{only_cut_is}
+use Rattle.conn_trace.specs.declared.note.CutReason.{CutReason}
+use Rattle.conn_trace.specs.Further.{choosing, longer}
+use Rattle.conn_trace.specs.Gates.{TakenCounts}
+use Rattle.conn_trace.specs.Item.{CutBy, Finished, Reason}
+use Rattle.conn_trace.specs.Laws.{takes_cut}
+use Rattle.conn_trace.specs.Host.{HostState}
+use Rattle.conn_trace.specs.Places.{at as put, closed}
+use Rattle.conn_trace.specs.Setup.{Setup}
+use Rattle.conn_trace.specs.State.{Cut, Link, link_of, TraceState, Does, Over}
+use Rattle.conn_trace.specs.Trace.{finish, next_item, GivesNoMore}
+use Rattle.conn_trace.proofs.Cutting.{rest_is_cut}
+use Rattle.conn_trace.proofs.Furthering.{cut_ends}
+use Rattle.conn_trace.proofs.Given.{only_cut_is}
 
 abbrev pub cut_by : CutReason → TakenCounts → Cut
 cut_by reason took = record { reason = reason; took = took }

@@ -11,9 +11,9 @@ use Rattle.event_order.specs.declared.event.EventName.{EventName}
 use Rattle.irule_net.specs.State.{side_of}
 use Rattle.irule_net.specs.declared.groups.Groups.{Groups}
 use Rattle.irule_net.specs.declared.state.NetState.{NetState}
-use Rattle.connection_model.specs.Host.{HostState, commands}
-use Rattle.connection_model.specs.Setup.{Setup}
-use Rattle.connection_model.specs.declared.note.Note.{Note}
+use Rattle.conn_trace.specs.Host.{HostState, commands}
+use Rattle.conn_trace.specs.Setup.{Setup}
+use Rattle.conn_trace.specs.declared.note.Note.{Note}
 use Rattle.frame_machine.specs.Went.{CalledBy, IsCall, Place, Went, effects_in, place}
 use Rattle.frame_machine.specs.declared.turn.Turn.{Turn}
 use Rattle.conn.specs.Bodies.{SaidIs}

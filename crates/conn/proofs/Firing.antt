@@ -2,16 +2,16 @@
 use Rattle.std.proofs.Common.{◌≡◌, refl, sym, ap, ◌∙◌, ℕ, List, [], ◌∷◌, append-nil, take, true, false, true≢false, None}
 use Rattle.px_bytes.specs.declared.addr.Side.{Side}
 use Rattle.px_bytes.specs.declared.addr.Side.TheVariants.{Client, Server}
-use Rattle.connection_model.specs.Further.{choosing, longer}
-use Rattle.connection_model.specs.Host.{HostState}
-use Rattle.connection_model.specs.Item.{Fired, Fires}
-use Rattle.connection_model.specs.Places.{at as put, data_event, enter}
-use Rattle.connection_model.specs.Relay.{fired_host as fires_host}
-use Rattle.connection_model.specs.Setup.{Setup}
-use Rattle.connection_model.specs.State.{Link as ModelLink, TraceState, Does, Next, link_of, read, read_server, server_stream, with_choices}
-use Rattle.connection_model.specs.Trace.{counted, fired_next, next_item}
-use Rattle.connection_model.specs.declared.note.Note.{Note}
-use Rattle.connection_model.specs.declared.note.Note.TheVariants as note
+use Rattle.conn_trace.specs.Further.{choosing, longer}
+use Rattle.conn_trace.specs.Host.{HostState}
+use Rattle.conn_trace.specs.Item.{Fired, Fires}
+use Rattle.conn_trace.specs.Places.{at as put, data_event, enter}
+use Rattle.conn_trace.specs.Relay.{fired_host as fires_host}
+use Rattle.conn_trace.specs.Setup.{Setup}
+use Rattle.conn_trace.specs.State.{Link as ModelLink, TraceState, Does, Next, link_of, read, read_server, server_stream, with_choices}
+use Rattle.conn_trace.specs.Trace.{counted, fired_next, next_item}
+use Rattle.conn_trace.specs.declared.note.Note.{Note}
+use Rattle.conn_trace.specs.declared.note.Note.TheVariants as note
 use Rattle.conn.specs.Changes.{Enters}
 use Rattle.conn.specs.Ends.{connects_by, has_stream, is_up, link_by, server_by}
 use Rattle.conn.specs.Events.{event_of, is_closed}

@@ -18,7 +18,7 @@ use Rattle.rule_model.proofs.Bodies.{AllBodies, SameLoop, loop_same, each_same, 
 use Rattle.rule_model.proofs.Calls.{command_same}
 use Rattle.rule_model.proofs.Facts.{Free, free as any}
 use Rattle.rule_model.proofs.Pieces.{AllJoined, AllPaired, in_word_same, word_at_same, in_order_same, commands_same, prefixes_same, operands_same, row_same, whole_same}
-use Rattle.rule_steps.specs.Rows.{rows_view}
+use Rattle.rule_nodes.specs.Rows.{rows_view}
 use Rattle.frame_machine.specs.Children.{node_at}
 use Rattle.frame_machine.specs.Frames.{inner_of, places, wants, room_in, inside, commands_in, pieces_in, text_end, word_price, words_in, words_end, operators_of, joints_in, conditions_in, condition_price, last_in, after_condition, test_in, next_in, body_in, again, apply, unwind, tree_above, path_of, room_above, current, meaning}
 use Rattle.frame_machine.specs.declared.frame.Frame.{Frame}

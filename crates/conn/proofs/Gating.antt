@@ -3,15 +3,15 @@ use Rattle.std.proofs.Common.{◌≡◌, refl, sym, ap, subst, ◌∙◌, ℕ, L
 use Rattle.std.specs.Bool.{MatchBool}
 use Rattle.std.proofs.lemmas.Bool.{and_parts, not-true}
 use Rattle.px_bytes.specs.declared.fault.FaultKind.{FaultKind}
-use Rattle.connection_model.specs.Item.{BeforeBodies, Logged, Opened}
-use Rattle.connection_model.specs.Places.{Place, at as put, after_fault, is_closing, next_body, place}
-use Rattle.connection_model.specs.Setup.{Handler, Setup}
-use Rattle.connection_model.specs.State.{Draining, Failing, Finishing, Gated, InEvent, Phase, Running, TraceState, Does, Over, link_of}
-use Rattle.connection_model.specs.Trace.{GivesNoMore, next_item}
-use Rattle.connection_model.specs.declared.note.CutReason.{CutReason}
-use Rattle.connection_model.specs.declared.note.CutReason.TheVariants.{ClientReset, ServerReset}
-use Rattle.connection_model.specs.declared.note.Note.{Note}
-use Rattle.connection_model.specs.declared.note.Note.TheVariants as note
+use Rattle.conn_trace.specs.Item.{BeforeBodies, Logged, Opened}
+use Rattle.conn_trace.specs.Places.{Place, at as put, after_fault, is_closing, next_body, place}
+use Rattle.conn_trace.specs.Setup.{Handler, Setup}
+use Rattle.conn_trace.specs.State.{Draining, Failing, Finishing, Gated, InEvent, Phase, Running, TraceState, Does, Over, link_of}
+use Rattle.conn_trace.specs.Trace.{GivesNoMore, next_item}
+use Rattle.conn_trace.specs.declared.note.CutReason.{CutReason}
+use Rattle.conn_trace.specs.declared.note.CutReason.TheVariants.{ClientReset, ServerReset}
+use Rattle.conn_trace.specs.declared.note.Note.{Note}
+use Rattle.conn_trace.specs.declared.note.Note.TheVariants as note
 use Rattle.conn.specs.Acts.{BehindFault, Finishes, PassesGate, Rests, cut_of, has_room}
 use Rattle.conn.specs.Changes.{GoesTo, NextBody, StartsBody}
 use Rattle.conn.specs.Ends.{link_by}

@@ -1,15 +1,15 @@
 -- Items that were given, one after another.
 use Rattle.std.proofs.Common.{◌≡◌, refl, sym, ap, subst, ◌∙◌, ℕ, List, [], ◌∷◌, ◌++◌, Bool, true, false, append-nil, append_assoc, None}
 use Rattle.std.proofs.lemmas.Grind.{flat_map-append}
-use Rattle.connection_model.specs.Edges.{edges_by, edges_noted}
-use Rattle.connection_model.specs.declared.edges.Edges.{Edges}
-use Rattle.connection_model.specs.declared.note.Note.{Note}
-use Rattle.connection_model.specs.Gates.{may_give}
-use Rattle.connection_model.specs.Item.{Item, listed, shown, calls_in, to_client, client_output, to_server, server_output, note_of, notes_of}
-use Rattle.connection_model.specs.Setup.{Setup}
-use Rattle.connection_model.specs.State.{TraceState, Does}
-use Rattle.connection_model.specs.Trace.{next_item}
-use Rattle.connection_model.proofs.Unfolding.{unfolds_one}
+use Rattle.conn_trace.specs.Edges.{edges_by, edges_noted}
+use Rattle.conn_trace.specs.declared.edges.Edges.{Edges}
+use Rattle.conn_trace.specs.declared.note.Note.{Note}
+use Rattle.conn_trace.specs.Gates.{may_give}
+use Rattle.conn_trace.specs.Item.{Item, listed, shown, calls_in, to_client, client_output, to_server, server_output, note_of, notes_of}
+use Rattle.conn_trace.specs.Setup.{Setup}
+use Rattle.conn_trace.specs.State.{TraceState, Does}
+use Rattle.conn_trace.specs.Trace.{next_item}
+use Rattle.conn_trace.proofs.Unfolding.{unfolds_one}
 use Rattle.conn.specs.Holds.{Around, Holds, HoldsEnds}
 use Rattle.conn.specs.RunsItems.{Passes}
 use Rattle.conn.specs.declared.connection.Conn.{Conn}

@@ -2,19 +2,19 @@
 use Rattle.std.proofs.Common.{◌≡◌, refl, sym, ap, subst, ◌∙◌, List, [], ◌∷◌, ◌++◌, Bool, true, false, append-nil, append_assoc, Option, Some, None}
 use Rattle.std.proofs.lemmas.Grind.{flat_map-append}
 use Rattle.px_bytes.specs.declared.fault.Reply.{Reply}
-use Rattle.connection_model.specs.declared.note.CutReason.{CutReason}
-use Rattle.connection_model.specs.Further.{CutMeets, choosing, first_cut, longer, nothing_comes}
-use Rattle.connection_model.specs.Gates.{Counts, TakenCounts, Met}
-use Rattle.connection_model.specs.HeardLaws.{cut_for, cut_in, taken_by_items}
-use Rattle.connection_model.specs.Item.{Item, Choice, Reason, Closed, Tcl, Unselected, Rejected, CutBy, Finished, shown, listed, choices_in}
-use Rattle.connection_model.specs.Setup.{Setup}
-use Rattle.connection_model.specs.State.{Cut, ServerSide, Stream, TraceState}
-use Rattle.connection_model.specs.Trace.{Unfolds}
-use Rattle.connection_model.proofs.Furthering.{choices_join}
-use Rattle.connection_model.proofs.Given.{sent_counted}
-use Rattle.connection_model.proofs.Querying.{met_joins}
-use Rattle.connection_model.proofs.Streams.{nothing_stream, nothing_server, nothing_on_last}
-use Rattle.connection_model.proofs.Unfolding.{unfolds_on}
+use Rattle.conn_trace.specs.declared.note.CutReason.{CutReason}
+use Rattle.conn_trace.specs.Further.{CutMeets, choosing, first_cut, longer, nothing_comes}
+use Rattle.conn_trace.specs.Gates.{Counts, TakenCounts, Met}
+use Rattle.conn_trace.specs.HeardLaws.{cut_for, cut_in, taken_by_items}
+use Rattle.conn_trace.specs.Item.{Item, Choice, Reason, Closed, Tcl, Unselected, Rejected, CutBy, Finished, shown, listed, choices_in}
+use Rattle.conn_trace.specs.Setup.{Setup}
+use Rattle.conn_trace.specs.State.{Cut, ServerSide, Stream, TraceState}
+use Rattle.conn_trace.specs.Trace.{Unfolds}
+use Rattle.conn_trace.proofs.Furthering.{choices_join}
+use Rattle.conn_trace.proofs.Given.{sent_counted}
+use Rattle.conn_trace.proofs.Querying.{met_joins}
+use Rattle.conn_trace.proofs.Streams.{nothing_stream, nothing_server, nothing_on_last}
+use Rattle.conn_trace.proofs.Unfolding.{unfolds_on}
 use Rattle.conn.specs.RunsItems.{CutAtRest, Passes}
 
 -- the same state with these parts

@@ -2,15 +2,15 @@
 use Rattle.std.proofs.Common.{◌≡◌, refl, sym, ap, subst, ◌∙◌, ℕ, ◌+◌, List, [], ◌∷◌, ◌++◌, append-nil, true, false, true≢false, not, Option}
 use Rattle.std.proofs.lemmas.Bool.{and_parts}
 use Rattle.px_bytes.specs.declared.addr.Addr.{Addr}
-use Rattle.connection_model.specs.Gates.{sent_after}
-use Rattle.connection_model.specs.Item.{Answered, Connected}
-use Rattle.connection_model.specs.Places.{at as put, enter}
-use Rattle.connection_model.specs.Setup.{Setup}
-use Rattle.connection_model.specs.State.{Answering, Connecting, NoServer, Sought, There, TraceState, with_connects}
-use Rattle.connection_model.specs.Trace.{GivesNoMore}
-use Rattle.connection_model.specs.declared.note.CutReason.{CutReason}
-use Rattle.connection_model.specs.declared.note.Note.{Note}
-use Rattle.connection_model.specs.declared.note.Note.TheVariants as note
+use Rattle.conn_trace.specs.Gates.{sent_after}
+use Rattle.conn_trace.specs.Item.{Answered, Connected}
+use Rattle.conn_trace.specs.Places.{at as put, enter}
+use Rattle.conn_trace.specs.Setup.{Setup}
+use Rattle.conn_trace.specs.State.{Answering, Connecting, NoServer, Sought, There, TraceState, with_connects}
+use Rattle.conn_trace.specs.Trace.{GivesNoMore}
+use Rattle.conn_trace.specs.declared.note.CutReason.{CutReason}
+use Rattle.conn_trace.specs.declared.note.Note.{Note}
+use Rattle.conn_trace.specs.declared.note.Note.TheVariants as note
 use Rattle.conn.specs.Acts.{Answers, AnswersBy, Connects, Rests, asked_ends, cut_of, with_link}
 use Rattle.conn.specs.Ends.{arrived, connects_by, has_stream, is_sought, is_up, link_by, number_by, servers_by}
 use Rattle.conn.specs.Events.{event_of}

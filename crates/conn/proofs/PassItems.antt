@@ -3,14 +3,14 @@ use Rattle.std.proofs.Common.{◌≡◌, refl, sym, ap, ◌∙◌, ℕ, ◌+◌,
 use Rattle.px_bytes.specs.declared.addr.Side.{Side}
 use Rattle.px_bytes.specs.declared.addr.Side.TheVariants.{Client, Server}
 use Rattle.px_bytes.specs.declared.fault.Reply.{Reply}
-use Rattle.connection_model.specs.Further.{choosing, first_cut, longer, nothing_comes}
-use Rattle.connection_model.specs.Item.{Choice, PassesOn, Passed, ToClient, ToServer}
+use Rattle.conn_trace.specs.Further.{choosing, first_cut, longer, nothing_comes}
+use Rattle.conn_trace.specs.Item.{Choice, PassesOn, Passed, ToClient, ToServer}
 use Rattle.irule_net.specs.declared.state.Asks.TheVariants.{NotAsked}
-use Rattle.connection_model.specs.Relay.{Incoming, Passing, is_done}
-use Rattle.connection_model.specs.Setup.{Setup}
-use Rattle.connection_model.specs.State.{Cut, Relaying, ServerSide, Stream, There, TraceState, Does, read, with_choices}
-use Rattle.connection_model.specs.Trace.{counted, next_item, relay_next}
-use Rattle.connection_model.proofs.Streams.{nothing_stream, nothing_server, nothing_on_last}
+use Rattle.conn_trace.specs.Relay.{Incoming, Passing, is_done}
+use Rattle.conn_trace.specs.Setup.{Setup}
+use Rattle.conn_trace.specs.State.{Cut, Relaying, ServerSide, Stream, There, TraceState, Does, read, with_choices}
+use Rattle.conn_trace.specs.Trace.{counted, next_item, relay_next}
+use Rattle.conn_trace.proofs.Streams.{nothing_stream, nothing_server, nothing_on_last}
 use Rattle.conn.proofs.RelayItems.{InRelay, relay_passes}
 
 -- the same state with these parts

@@ -3,19 +3,19 @@ use Rattle.std.proofs.Common.{◌≡◌, refl, sym, ap, subst, ◌∙◌, ℕ, �
 use Rattle.std.proofs.lemmas.Bool.Decides.{nat_tests}
 use Rattle.px_bytes.specs.declared.addr.Side.{Side}
 use Rattle.px_bytes.specs.declared.addr.Side.TheVariants.{Client, Server}
-use Rattle.connection_model.specs.Further.{choosing, longer}
+use Rattle.conn_trace.specs.Further.{choosing, longer}
 use Rattle.irule_net.specs.declared.state.Asks.{Asks}
 use Rattle.irule_net.specs.declared.state.Asks.TheVariants.{NotAsked, Stated}
-use Rattle.connection_model.specs.Gates.{has_room, may_give, other, room_limit}
-use Rattle.connection_model.specs.HeardLaws.{cut_in, taken_by_items}
-use Rattle.connection_model.specs.Relay.{Incoming, is_done, ready, ready_of}
-use Rattle.connection_model.specs.Item.{Choice, Fires, Item, PassesOn, Passed, ToClient, ToServer, choices_in, note_of, to_client, to_server, calls_in}
-use Rattle.connection_model.specs.Setup.{Setup}
-use Rattle.connection_model.specs.State.{TraceState, Does, with_choices}
-use Rattle.connection_model.specs.Trace.{GivesNoMore, may_relay, next_item}
-use Rattle.connection_model.specs.declared.note.CutReason.{CutReason}
-use Rattle.connection_model.specs.declared.note.Note.{Note}
-use Rattle.connection_model.specs.declared.note.Note.TheVariants as note
+use Rattle.conn_trace.specs.Gates.{has_room, may_give, other, room_limit}
+use Rattle.conn_trace.specs.HeardLaws.{cut_in, taken_by_items}
+use Rattle.conn_trace.specs.Relay.{Incoming, is_done, ready, ready_of}
+use Rattle.conn_trace.specs.Item.{Choice, Fires, Item, PassesOn, Passed, ToClient, ToServer, choices_in, note_of, to_client, to_server, calls_in}
+use Rattle.conn_trace.specs.Setup.{Setup}
+use Rattle.conn_trace.specs.State.{TraceState, Does, with_choices}
+use Rattle.conn_trace.specs.Trace.{GivesNoMore, may_relay, next_item}
+use Rattle.conn_trace.specs.declared.note.CutReason.{CutReason}
+use Rattle.conn_trace.specs.declared.note.Note.{Note}
+use Rattle.conn_trace.specs.declared.note.Note.TheVariants as note
 use Rattle.conn.specs.Acts.{Relays, RelaysBy, Rests, cut_of}
 use Rattle.conn.specs.Ends.{arrived, connects_by, end_of, has_stream, is_sought, is_up, number_by, queue_of, server_by}
 use Rattle.conn.specs.Holds.{Around, Between, Holds, HoldsEnds, Stands}

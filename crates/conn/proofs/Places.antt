@@ -17,13 +17,13 @@ use Rattle.irule_net.specs.declared.state.Asks.TheVariants.{NotAsked, Stated}
 use Rattle.irule_net.specs.declared.state.Ending.{Ending}
 use Rattle.irule_net.specs.declared.state.Ending.TheVariants.{Rejects, Closes}
 use Rattle.irule_net.specs.declared.state.Selected.{Selected}
-use Rattle.connection_model.specs.Host.{body_setting}
-use Rattle.connection_model.specs.Item.{Unselected}
-use Rattle.connection_model.specs.Places as model
-use Rattle.connection_model.specs.Places.{Place, place, at as put, after_event, begun, behind_accepted, behind_connected, behind_data, bodies_left, closed, closed_client, closed_server, connecting, enter, entered, next_body}
-use Rattle.connection_model.specs.Setup.{Handler, Setup}
-use Rattle.connection_model.specs.State.{Choosing, Collecting, Finishing, Gated, Relaying, Running, InEvent, Phase, Stream, TraceState, link_of}
-use Rattle.connection_model.specs.State as state
+use Rattle.conn_trace.specs.Host.{body_setting}
+use Rattle.conn_trace.specs.Item.{Unselected}
+use Rattle.conn_trace.specs.Places as model
+use Rattle.conn_trace.specs.Places.{Place, place, at as put, after_event, begun, behind_accepted, behind_connected, behind_data, bodies_left, closed, closed_client, closed_server, connecting, enter, entered, next_body}
+use Rattle.conn_trace.specs.Setup.{Handler, Setup}
+use Rattle.conn_trace.specs.State.{Choosing, Collecting, Finishing, Gated, Relaying, Running, InEvent, Phase, Stream, TraceState, link_of}
+use Rattle.conn_trace.specs.State as state
 use Rattle.frame_machine.specs.Frames.{full_room, meaning, comes_to}
 use Rattle.frame_machine.specs.declared.frame.Frame.{Frame}
 use Rattle.frame_machine.specs.declared.frame.Mode.{Mode}

@@ -6,8 +6,8 @@ use Rattle.px_bytes.specs.declared.addr.Side.TheVariants.{Client, Server}
 use Rattle.irule_net.specs.declared.state.Asks.{Asks}
 use Rattle.irule_net.specs.declared.state.Asks.TheVariants.{NotAsked, Stated}
 use Rattle.irule_net.specs.declared.state.NetState.{NetState}
-use Rattle.connection_model.specs.Gates.{other}
-use Rattle.connection_model.specs.Relay.{is_done}
+use Rattle.conn_trace.specs.Gates.{other}
+use Rattle.conn_trace.specs.Relay.{is_done}
 use Rattle.conn.specs.Ends.{end_of}
 use Rattle.conn.specs.Relaying.{incoming_of, passes_now, plan_of, relay_plan, side_plan, to_pass}
 use Rattle.conn.specs.declared.ends.End.{End}

@@ -37,7 +37,7 @@ use Rattle.irule_net.specs.declared.state.Target.{Target}
 use Rattle.irule_net.specs.declared.state.Target.TheVariants.{PoolOf}
 use Rattle.conn.specs.Events.{collects_in}
 use Rattle.conn.specs.Hosts.{KeepsCollects}
-use Rattle.connection_model.specs.Host.{HostState, commands, first_word, host_step, is_there, names_one}
+use Rattle.conn_trace.specs.Host.{HostState, commands, first_word, host_step, is_there, names_one}
 
 -- in an event of this side, where there is a server or none, bytes may be sent to a side
 abbrev pub MaySend : Side → (relays : Bool) → Side → Type 0

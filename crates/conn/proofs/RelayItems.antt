@@ -6,12 +6,12 @@ use Rattle.px_bytes.specs.declared.addr.Side.{Side}
 use Rattle.px_bytes.specs.declared.addr.Side.TheVariants.{Client, Server}
 use Rattle.irule_net.specs.declared.state.Asks.{Asks}
 use Rattle.irule_net.specs.declared.state.Asks.TheVariants.{NotAsked, Stated}
-use Rattle.connection_model.specs.Gates.{Counts, TakenCounts, has_room, room_limit}
-use Rattle.connection_model.specs.Item.{Choice, PassesOn, Fires, Closed}
-use Rattle.connection_model.specs.Relay.{Incoming, by_side, firing, is_done, meets, passes, ready, ready_of, BothDone, Firing, Passing, Resting, chosen_act, relay_act}
-use Rattle.connection_model.specs.Setup.{Setup}
-use Rattle.connection_model.specs.State.{Relaying, ServerSide, Stream, There, link_of, TraceState, Next, Waits, ForRelay, IsMet, Nothing, stream_of}
-use Rattle.connection_model.specs.Trace.{counted, finish, may_relay, next_item, relay_next, rests}
+use Rattle.conn_trace.specs.Gates.{Counts, TakenCounts, has_room, room_limit}
+use Rattle.conn_trace.specs.Item.{Choice, PassesOn, Fires, Closed}
+use Rattle.conn_trace.specs.Relay.{Incoming, by_side, firing, is_done, meets, passes, ready, ready_of, BothDone, Firing, Passing, Resting, chosen_act, relay_act}
+use Rattle.conn_trace.specs.Setup.{Setup}
+use Rattle.conn_trace.specs.State.{Relaying, ServerSide, Stream, There, link_of, TraceState, Next, Waits, ForRelay, IsMet, Nothing, stream_of}
+use Rattle.conn_trace.specs.Trace.{counted, finish, may_relay, next_item, relay_next, rests}
 use Rattle.conn.proofs.SelectItems.{next_in}
 
 -- it relays, and these are the collects in force and what came of both sides and wasn't read

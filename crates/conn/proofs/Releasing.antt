@@ -2,14 +2,14 @@
 use Rattle.std.proofs.Common.{◌≡◌, refl, sym, ap, subst, ◌∙◌, ℕ, ◌+◌, List, [], ◌∷◌, ◌++◌, append-nil, length, length-append, Bool, true, false, true≢false, nat_lt, arith, eq-eqb, if◌then◌else◌}
 use Rattle.std.specs.Bool.{MatchBool}
 use Rattle.px_bytes.specs.declared.addr.Side.TheVariants.{Client, Server}
-use Rattle.connection_model.specs.Gates.{room_limit}
-use Rattle.connection_model.specs.Host.{HostState, with_loose}
-use Rattle.connection_model.specs.Item.{Moved, ToServer}
-use Rattle.connection_model.specs.Setup.{Setup}
-use Rattle.connection_model.specs.State.{Relaying, Releasing, TraceState, Does}
-use Rattle.connection_model.specs.Trace.{GivesNoMore, next_item}
-use Rattle.connection_model.specs.declared.note.Note.{Note}
-use Rattle.connection_model.proofs.Unfolding.{unfolds_one}
+use Rattle.conn_trace.specs.Gates.{room_limit}
+use Rattle.conn_trace.specs.Host.{HostState, with_loose}
+use Rattle.conn_trace.specs.Item.{Moved, ToServer}
+use Rattle.conn_trace.specs.Setup.{Setup}
+use Rattle.conn_trace.specs.State.{Relaying, Releasing, TraceState, Does}
+use Rattle.conn_trace.specs.Trace.{GivesNoMore, next_item}
+use Rattle.conn_trace.specs.declared.note.Note.{Note}
+use Rattle.conn_trace.proofs.Unfolding.{unfolds_one}
 use Rattle.conn.specs.Acts.{PassesReleased, Rests, cut_of}
 use Rattle.conn.specs.Ends.{connects_by, has_stream, is_up, link_by, number_by, server_by}
 use Rattle.conn.specs.Holds.{Around, Between, Holds, HoldsEnds, Stands}

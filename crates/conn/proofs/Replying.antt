@@ -11,18 +11,18 @@ use Rattle.irule_net.specs.State.{collected}
 use Rattle.rule_model.specs.Evaluator.{evaluate}
 use Rattle.rule_model.specs.Outcome.{Act, Called, reply_code}
 use Rattle.rule_model.specs.Setting as given
-use Rattle.connection_model.specs.Further.{longer, first_cut, nothing_comes, replies_only}
-use Rattle.connection_model.specs.Host.{body_setting}
-use Rattle.connection_model.specs.Setup.{Handler, Setup}
-use Rattle.connection_model.specs.State.{Running, TraceState}
+use Rattle.conn_trace.specs.Further.{longer, first_cut, nothing_comes, replies_only}
+use Rattle.conn_trace.specs.Host.{body_setting}
+use Rattle.conn_trace.specs.Setup.{Handler, Setup}
+use Rattle.conn_trace.specs.State.{Running, TraceState}
 use Rattle.frame_machine.specs.Frames.{comes_to, path_of}
 use Rattle.frame_machine.specs.declared.frame.Mode.{Mode}
 use Rattle.frame_machine.specs.declared.frame.Mode.TheVariants as mode
 use Rattle.frame_machine.specs.declared.frame.Standing.{Standing}
-use Rattle.connection_model.specs.State as phase
-use Rattle.connection_model.specs.Selected.{addr_of}
-use Rattle.connection_model.proofs.Spelling.{spelled, written_is_selected}
-use Rattle.connection_model.proofs.Streams.{nothing_stream, nothing_server, nothing_on_last}
+use Rattle.conn_trace.specs.State as phase
+use Rattle.conn_trace.specs.Selected.{addr_of}
+use Rattle.conn_trace.proofs.Spelling.{spelled, written_is_selected}
+use Rattle.conn_trace.proofs.Streams.{nothing_stream, nothing_server, nothing_on_last}
 use Rattle.conn.specs.Bodies.{Heard}
 use Rattle.conn.specs.Calls.{Replies}
 use Rattle.conn.specs.Events.{event_of}

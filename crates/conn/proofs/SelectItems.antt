@@ -8,15 +8,15 @@ use Rattle.irule_net.specs.Steps.{target_pool}
 use Rattle.irule_net.specs.declared.state.Selected.{Selected}
 use Rattle.irule_net.specs.declared.state.Target.{Target}
 use Rattle.irule_net.specs.declared.state.Target.TheVariants.{Default, PoolOf, MemberOf, NodeAt}
-use Rattle.connection_model.specs.Gates.{sent_after}
-use Rattle.connection_model.specs.Host.{HostState, with_selected}
-use Rattle.connection_model.specs.Item.{Answered, Called, Connected, Resumed}
-use Rattle.connection_model.specs.Places.{Place, at as put, enter}
-use Rattle.connection_model.specs.Selected.{addr_of, any_member, only_member, select_call}
-use Rattle.connection_model.specs.Setup.{Setup}
-use Rattle.connection_model.specs.State.{Answering, Choosing, Connecting, Phase, Selecting, Absent, Up, Link, link_of, NoServer, Sought, There, Stream, TraceState, Next, Does, Waits, ForConnect, ForReply, with_replies, with_connects}
-use Rattle.connection_model.specs.Trace.{answering_next, choosing_next, counted, default_next, next_item, phase_next, selected_next, selecting_next}
-use Rattle.connection_model.proofs.Longer.{plain_next}
+use Rattle.conn_trace.specs.Gates.{sent_after}
+use Rattle.conn_trace.specs.Host.{HostState, with_selected}
+use Rattle.conn_trace.specs.Item.{Answered, Called, Connected, Resumed}
+use Rattle.conn_trace.specs.Places.{Place, at as put, enter}
+use Rattle.conn_trace.specs.Selected.{addr_of, any_member, only_member, select_call}
+use Rattle.conn_trace.specs.Setup.{Setup}
+use Rattle.conn_trace.specs.State.{Answering, Choosing, Connecting, Phase, Selecting, Absent, Up, Link, link_of, NoServer, Sought, There, Stream, TraceState, Next, Does, Waits, ForConnect, ForReply, with_replies, with_connects}
+use Rattle.conn_trace.specs.Trace.{answering_next, choosing_next, counted, default_next, next_item, phase_next, selected_next, selecting_next}
+use Rattle.conn_trace.proofs.Longer.{plain_next}
 use Rattle.conn.specs.Stages.{selects}
 
 -- it stands in this phase, with this host and this link, and no cut is recorded

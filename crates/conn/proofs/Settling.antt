@@ -17,25 +17,25 @@ use Rattle.irule_net.specs.declared.state.Target.{Target}
 use Rattle.irule_net.specs.declared.state.Target.TheVariants.{Default, PoolOf, MemberOf, NodeAt}
 use Rattle.rule_model.specs.Laws.{state_after}
 use Rattle.rule_model.specs.Outcome.{Act, Outcome, Ends, Waits as Stops}
-use Rattle.connection_model.specs.Bodies.{act_next, bodies_next, ended_next, run_body}
-use Rattle.connection_model.specs.Edges.{edge_of}
-use Rattle.connection_model.specs.Gates.{other, taken_of, to_take}
-use Rattle.connection_model.specs.Heard.{taken_by}
-use Rattle.connection_model.specs.Host.{HostState, with_selected}
-use Rattle.connection_model.specs.Queries.{half_close_due, is_reset, relays_at}
-use Rattle.connection_model.specs.Queries as query
-use Rattle.connection_model.specs.Relay.{RelayAct, BothDone, Passing, Firing, Resting, behind_fires, collect_act, incoming, relay_act}
-use Rattle.connection_model.specs.Selected.{addr_of}
-use Rattle.connection_model.specs.Setup.{Handler, Setup}
-use Rattle.connection_model.specs.State.{Bodies, Gated, Running, Failing, Carrying, Fate, Phase, InEvent, Choosing, Selecting, Connecting, Answering, Releasing, Relaying, Collecting, Finishing, Draining, Link, Next, ServerSide, Stream, There, TraceState, link_of, server_stream, stream_of}
-use Rattle.connection_model.specs.State as next
-use Rattle.connection_model.specs.Trace.{answering_next, carrying_next, choosing_next, collect_next, collecting_next, counted, default_next, next_item, phase_next, relay_next, selected_next, selecting_next, unit_next}
-use Rattle.connection_model.proofs.Longer.{plain_next}
+use Rattle.conn_trace.specs.Bodies.{act_next, bodies_next, ended_next, run_body}
+use Rattle.conn_trace.specs.Edges.{edge_of}
+use Rattle.conn_trace.specs.Gates.{other, taken_of, to_take}
+use Rattle.conn_trace.specs.Heard.{taken_by}
+use Rattle.conn_trace.specs.Host.{HostState, with_selected}
+use Rattle.conn_trace.specs.Queries.{half_close_due, is_reset, relays_at}
+use Rattle.conn_trace.specs.Queries as query
+use Rattle.conn_trace.specs.Relay.{RelayAct, BothDone, Passing, Firing, Resting, behind_fires, collect_act, incoming, relay_act}
+use Rattle.conn_trace.specs.Selected.{addr_of}
+use Rattle.conn_trace.specs.Setup.{Handler, Setup}
+use Rattle.conn_trace.specs.State.{Bodies, Gated, Running, Failing, Carrying, Fate, Phase, InEvent, Choosing, Selecting, Connecting, Answering, Releasing, Relaying, Collecting, Finishing, Draining, Link, Next, ServerSide, Stream, There, TraceState, link_of, server_stream, stream_of}
+use Rattle.conn_trace.specs.State as next
+use Rattle.conn_trace.specs.Trace.{answering_next, carrying_next, choosing_next, collect_next, collecting_next, counted, default_next, next_item, phase_next, relay_next, selected_next, selecting_next, unit_next}
+use Rattle.conn_trace.proofs.Longer.{plain_next}
 use Rattle.conn.specs.Ends.{arrived, end_of, is_done, is_up, lost_at, number_by, queued_in, server_by, servers_by}
 use Rattle.conn.specs.Events.{event_of, is_data}
 use Rattle.conn.specs.Holds.{Around, Between, GatedBefore, Holds, RunsFirst, Stands}
 use Rattle.conn.specs.Queues.{dropped_at, dropped_by, queue_in}
-use Rattle.connection_model.specs.declared.note.Note.TheVariants.{HalfClose}
+use Rattle.conn_trace.specs.declared.note.Note.TheVariants.{HalfClose}
 use Rattle.conn.specs.Settling as settle
 use Rattle.conn.specs.Settling.{DropsReset, RestsWith, Settles, SettlesNotes, half_close, half_due, half_notes, is_drained, is_over, is_spent, lost_by, lost_of, note_if, noted_in, over_in, rest_notes, settle_notes, settling, settling_at}
 use Rattle.conn.specs.Stages.{has_finished, is_draining, is_in_body, is_relaying, reason_for}

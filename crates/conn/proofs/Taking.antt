@@ -3,8 +3,8 @@ use Rattle.std.proofs.Common.{◌≡◌, refl, sym, ap, subst, ◌∙◌, ℕ, z
 use Rattle.std.proofs.lemmas.List.{length-drop}
 use Rattle.px_bytes.specs.declared.addr.Side.{Side}
 use Rattle.px_bytes.specs.declared.addr.Side.TheVariants.{Client, Server}
-use Rattle.connection_model.specs.Heard.{taken_by}
-use Rattle.connection_model.specs.State.{TraceState}
+use Rattle.conn_trace.specs.Heard.{taken_by}
+use Rattle.conn_trace.specs.State.{TraceState}
 use Rattle.conn.specs.Calls.{Takes, more_at_last, took_ends, took_more}
 use Rattle.conn.specs.Ends.{connects_by, end_of, fresh_end, is_up, queue_of, server_by, servers_by}
 use Rattle.conn.specs.Holds.{Around, HoldsEnds}

@@ -4,10 +4,10 @@ use Rattle.std.proofs.lemmas.Bool.Decides.{nat_tests}
 use Rattle.px_bytes.specs.declared.addr.Side.{Side}
 use Rattle.px_bytes.specs.declared.addr.Side.TheVariants.{Client, Server}
 use Rattle.seg_buffer.specs.Bytes.{is_empty}
-use Rattle.connection_model.specs.Gates.{taken_of, to_take, untaken}
-use Rattle.connection_model.specs.Heard.{taken_by}
-use Rattle.connection_model.specs.Queries.{is_reset}
-use Rattle.connection_model.specs.State.{TraceState}
+use Rattle.conn_trace.specs.Gates.{taken_of, to_take, untaken}
+use Rattle.conn_trace.specs.Heard.{taken_by}
+use Rattle.conn_trace.specs.Queries.{is_reset}
+use Rattle.conn_trace.specs.State.{TraceState}
 use Rattle.conn.specs.Ends.{end_of, is_up, number_by, queue_of, servers_by}
 use Rattle.conn.specs.Holds.{Around, HoldsEnds}
 use Rattle.conn.specs.declared.ends.Ends.{Ends}

@@ -5,10 +5,10 @@ use Rattle.px_bytes.specs.declared.addr.Side.{Side}
 use Rattle.px_bytes.specs.declared.addr.Side.TheVariants.{Client, Server}
 use Rattle.irule_net.specs.State.{collected}
 use Rattle.irule_net.specs.declared.state.Asks.{Asks}
-use Rattle.connection_model.specs.Queries as query
-use Rattle.connection_model.specs.Queries.{arriving, first_some, held_under, last_made, own_stream, unread_at, unread_limit}
-use Rattle.connection_model.specs.Setup.{Handler, Setup}
-use Rattle.connection_model.specs.State.{Bodies, Failing, Gated, Running, Phase, Carrying, InEvent, Choosing, Selecting, Connecting, Answering, Releasing, Relaying, Collecting, Finishing, Draining, TraceState}
+use Rattle.conn_trace.specs.Queries as query
+use Rattle.conn_trace.specs.Queries.{arriving, first_some, held_under, last_made, own_stream, unread_at, unread_limit}
+use Rattle.conn_trace.specs.Setup.{Handler, Setup}
+use Rattle.conn_trace.specs.State.{Bodies, Failing, Gated, Running, Phase, Carrying, InEvent, Choosing, Selecting, Connecting, Answering, Releasing, Relaying, Collecting, Finishing, Draining, TraceState}
 use Rattle.conn.specs.Calls.{Wants, counted_held, wanted_in}
 use Rattle.conn.specs.Ends.{connects_by, end_of, fresh_end, has_stream, server_by}
 use Rattle.conn.specs.Events.{collects_in, event_of}

@@ -6,15 +6,15 @@ use Rattle.px_bytes.specs.declared.addr.Side.{Side}
 use Rattle.px_bytes.specs.declared.addr.Side.TheVariants.{Client, Server}
 use Rattle.px_bytes.specs.declared.fault.Reply.{Reply}
 use Rattle.irule_net.specs.State.{collected}
-use Rattle.connection_model.specs.Edges.{answered_edge, edge_ends, edge_resets}
-use Rattle.connection_model.specs.Further.{Coming, Further, nothing_further, longer}
-use Rattle.connection_model.specs.Further.{replies_only}
-use Rattle.connection_model.specs.Phases.{Orderly}
-use Rattle.connection_model.specs.Queries.{held_under, unread_limit}
-use Rattle.connection_model.specs.Queries as query
-use Rattle.connection_model.specs.Setup as model
-use Rattle.connection_model.specs.State.{Stream, TraceState, no_stream, no_answers}
-use Rattle.connection_model.specs.Trace.{start}
+use Rattle.conn_trace.specs.Edges.{answered_edge, edge_ends, edge_resets}
+use Rattle.conn_trace.specs.Further.{Coming, Further, nothing_further, longer}
+use Rattle.conn_trace.specs.Further.{replies_only}
+use Rattle.conn_trace.specs.Phases.{Orderly}
+use Rattle.conn_trace.specs.Queries.{held_under, unread_limit}
+use Rattle.conn_trace.specs.Queries as query
+use Rattle.conn_trace.specs.Setup as model
+use Rattle.conn_trace.specs.State.{Stream, TraceState, no_stream, no_answers}
+use Rattle.conn_trace.specs.Trace.{start}
 use Rattle.conn.specs.declared.connection.Conn.{Conn}
 use Rattle.conn.specs.declared.ends.End.{End}
 use Rattle.conn.specs.declared.ends.Ends.{Ends}

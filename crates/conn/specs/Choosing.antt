@@ -6,7 +6,7 @@ use Rattle.irule_net.specs.Steps.{target_pool}
 use Rattle.irule_net.specs.declared.state.NetState.{NetState}
 use Rattle.irule_net.specs.declared.state.Target.{Target}
 use Rattle.irule_net.specs.declared.state.Target.TheVariants.{Default, PoolOf, MemberOf, NodeAt}
-use Rattle.connection_model.specs.Selected.{any_member, only_member}
+use Rattle.conn_trace.specs.Selected.{any_member, only_member}
 use Rattle.conn.specs.declared.connection.Conn.{Conn}
 use Rattle.conn.specs.declared.events.At.TheVariants.{Selected, Failed}
 use Rattle.conn.specs.declared.select.Plan.{Plan}

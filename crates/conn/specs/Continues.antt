@@ -6,20 +6,20 @@ use Rattle.px_bytes.specs.declared.fault.Reply.{Reply}
 use Rattle.event_order.specs.declared.event.EventName.{EventName}
 use Rattle.rule_model.specs.Laws.{state_after}
 use Rattle.rule_model.specs.Outcome.{Act, Outcome}
-use Rattle.connection_model.specs.Bodies.{act_item, ended_next}
-use Rattle.connection_model.specs.Further.{Further, longer, replies_only}
-use Rattle.connection_model.specs.Gates.{Counts, TakenCounts, Met, sent_from}
-use Rattle.connection_model.specs.HeardLaws.{taken_by_items}
-use Rattle.connection_model.specs.Host.{HostState, body_setting}
-use Rattle.connection_model.specs.Item.{Item}
-use Rattle.connection_model.specs.Laws.{TakesMore}
-use Rattle.connection_model.specs.Setup.{Handler, Setup}
-use Rattle.connection_model.specs.State.{Gated, Running, Failing, Phase, InEvent, Stream}
-use Rattle.connection_model.specs.State.{Cut, Answers, TraceState, Next, no_stream, no_answers}
-use Rattle.connection_model.specs.declared.note.Note.{Note}
-use Rattle.connection_model.specs.State as phase
-use Rattle.connection_model.specs.Trace.{counted, next_item, selected_next, Unfolds, trace_from}
-use Rattle.connection_model.specs.Trace.{trace, start}
+use Rattle.conn_trace.specs.Bodies.{act_item, ended_next}
+use Rattle.conn_trace.specs.Further.{Further, longer, replies_only}
+use Rattle.conn_trace.specs.Gates.{Counts, TakenCounts, Met, sent_from}
+use Rattle.conn_trace.specs.HeardLaws.{taken_by_items}
+use Rattle.conn_trace.specs.Host.{HostState, body_setting}
+use Rattle.conn_trace.specs.Item.{Item}
+use Rattle.conn_trace.specs.Laws.{TakesMore}
+use Rattle.conn_trace.specs.Setup.{Handler, Setup}
+use Rattle.conn_trace.specs.State.{Gated, Running, Failing, Phase, InEvent, Stream}
+use Rattle.conn_trace.specs.State.{Cut, Answers, TraceState, Next, no_stream, no_answers}
+use Rattle.conn_trace.specs.declared.note.Note.{Note}
+use Rattle.conn_trace.specs.State as phase
+use Rattle.conn_trace.specs.Trace.{counted, next_item, selected_next, Unfolds, trace_from}
+use Rattle.conn_trace.specs.Trace.{trace, start}
 use Rattle.frame_machine.specs.Frames.{comes_to}
 use Rattle.irule_net.specs.declared.state.NetState.{NetState}
 use Rattle.px_bytes.specs.declared.addr.Side.{Side}

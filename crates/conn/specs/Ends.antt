@@ -5,12 +5,12 @@ use Rattle.std.specs.Prelude.{Option, Some, None, if◌then◌else◌}
 use Rattle.px_bytes.specs.declared.addr.Side.{Side}
 use Rattle.px_bytes.specs.declared.addr.Side.TheVariants.{Client, Server}
 use Rattle.seg_buffer.specs.Bytes.{is_empty}
-use Rattle.connection_model.specs.Edges.{accepted_edges}
-use Rattle.connection_model.specs.Further.{Coming}
-use Rattle.connection_model.specs.Gates.{room_limit}
-use Rattle.connection_model.specs.Heard.{taken_by}
-use Rattle.connection_model.specs.State.{Stream, ServerSide, NoServer, Sought, There}
-use Rattle.connection_model.specs.State as model
+use Rattle.conn_trace.specs.Edges.{accepted_edges}
+use Rattle.conn_trace.specs.Further.{Coming}
+use Rattle.conn_trace.specs.Gates.{room_limit}
+use Rattle.conn_trace.specs.Heard.{taken_by}
+use Rattle.conn_trace.specs.State.{Stream, ServerSide, NoServer, Sought, There}
+use Rattle.conn_trace.specs.State as model
 use Rattle.conn.specs.declared.ends.End.{End}
 use Rattle.conn.specs.declared.ends.Ends.{Ends}
 use Rattle.conn.specs.declared.ends.Link.{Link}

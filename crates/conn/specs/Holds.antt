@@ -11,14 +11,14 @@ use Rattle.irule_net.specs.declared.state.Target.{Target}
 use Rattle.irule_net.specs.declared.state.Target.TheVariants.{Default, PoolOf, MemberOf, NodeAt}
 use Rattle.rule_model.specs.Evaluator.{evaluate}
 use Rattle.rule_model.specs.Outcome.{Act}
-use Rattle.connection_model.specs.Edges.{is_connecting}
-use Rattle.connection_model.specs.Gates.{TakenCounts, none_taken}
-use Rattle.connection_model.specs.Heard.{taken_by}
-use Rattle.connection_model.specs.Host.{body_setting}
-use Rattle.connection_model.specs.Selected.{any_member, only_member, select_call}
-use Rattle.connection_model.specs.Setup.{Handler, Setup}
-use Rattle.connection_model.specs.State.{Gated, Running, Failing, Phase, InEvent, TraceState}
-use Rattle.connection_model.specs.State as phase
+use Rattle.conn_trace.specs.Edges.{is_connecting}
+use Rattle.conn_trace.specs.Gates.{TakenCounts, none_taken}
+use Rattle.conn_trace.specs.Heard.{taken_by}
+use Rattle.conn_trace.specs.Host.{body_setting}
+use Rattle.conn_trace.specs.Selected.{any_member, only_member, select_call}
+use Rattle.conn_trace.specs.Setup.{Handler, Setup}
+use Rattle.conn_trace.specs.State.{Gated, Running, Failing, Phase, InEvent, TraceState}
+use Rattle.conn_trace.specs.State as phase
 use Rattle.frame_machine.specs.Frames.{comes_to}
 use Rattle.conn.specs.declared.connection.Conn.{Conn}
 use Rattle.conn.specs.declared.ends.Ends.{Ends}

@@ -8,10 +8,10 @@ use Rattle.irule_net.specs.State.{begun, collected, with_collected}
 use Rattle.irule_net.specs.declared.state.Asks.TheVariants.{NotAsked}
 use Rattle.irule_net.specs.declared.state.NetState.{NetState}
 use Rattle.irule_net.specs.declared.state.Selected.{Selected}
-use Rattle.connection_model.specs.Host.{HostState}
-use Rattle.connection_model.specs.Setup.{Setup}
-use Rattle.connection_model.specs.declared.note.Note.{Note}
-use Rattle.connection_model.specs.declared.note.Note.TheVariants as note
+use Rattle.conn_trace.specs.Host.{HostState}
+use Rattle.conn_trace.specs.Setup.{Setup}
+use Rattle.conn_trace.specs.declared.note.Note.{Note}
+use Rattle.conn_trace.specs.declared.note.Note.TheVariants as note
 use Rattle.conn.specs.declared.ends.Link.{Link}
 use Rattle.conn.specs.declared.events.At.{At}
 use Rattle.conn.specs.declared.events.At.TheVariants.{Accepted}

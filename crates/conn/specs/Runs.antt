@@ -1,11 +1,11 @@
 -- What a Run makes of a connection, for each state that its trace may stand at.
 use Rattle.std.specs.Prelude.{◌≡◌, ◌⊎◌, ℕ, ◌+◌, ◌<◌, ◌≤◌, List, [], ◌∷◌, ◌++◌, length, Bool, true, false}
-use Rattle.connection_model.specs.declared.note.Note.{Note}
-use Rattle.connection_model.specs.Edges.{edges_noted}
-use Rattle.connection_model.specs.declared.note.Note.TheVariants.{Ended}
-use Rattle.connection_model.specs.Item.{Item, calls_in, client_output, server_output}
-use Rattle.connection_model.specs.Setup as model
-use Rattle.connection_model.specs.State.{TraceState}
+use Rattle.conn_trace.specs.declared.note.Note.{Note}
+use Rattle.conn_trace.specs.Edges.{edges_noted}
+use Rattle.conn_trace.specs.declared.note.Note.TheVariants.{Ended}
+use Rattle.conn_trace.specs.Item.{Item, calls_in, client_output, server_output}
+use Rattle.conn_trace.specs.Setup as model
+use Rattle.conn_trace.specs.State.{TraceState}
 use Rattle.conn.specs.declared.connection.Conn.{Conn}
 use Rattle.conn.specs.declared.setup.Setup.{Setup}
 use Rattle.conn.specs.declared.stage.Stage.TheVariants as stage

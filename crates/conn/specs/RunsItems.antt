@@ -3,22 +3,22 @@
 use Rattle.std.specs.Prelude.{◌≡◌, ℕ, List, [], ◌∷◌, ◌++◌, Bool, true, false, Some, None}
 use Rattle.std.specs.Prelude.{if◌then◌else◌}
 use Rattle.px_bytes.specs.declared.addr.Side.TheVariants.{Client, Server}
-use Rattle.connection_model.specs.Edges.{edges_noted}
-use Rattle.connection_model.specs.declared.edges.Edges.{Edges}
-use Rattle.connection_model.specs.declared.note.Cause.TheVariants.{Memory}
-use Rattle.connection_model.specs.declared.note.CutReason.{CutReason}
-use Rattle.connection_model.specs.declared.note.CutReason.TheVariants.{ClientReset, ServerReset}
-use Rattle.connection_model.specs.declared.note.CutReason.TheVariants.{Idle}
-use Rattle.connection_model.specs.declared.note.Note.{Note}
-use Rattle.connection_model.specs.declared.note.Note.TheVariants.{Finish}
-use Rattle.connection_model.specs.Gates.{Counts, TakenCounts, Met}
-use Rattle.connection_model.specs.Item.{Item, CutBy, Finished, calls_in, choices_in, notes_of}
-use Rattle.connection_model.specs.Further.{choosing, longer}
-use Rattle.connection_model.specs.HeardLaws.{cut_in, taken_by_items}
-use Rattle.connection_model.specs.Queries.{is_reset}
-use Rattle.connection_model.specs.Setup.{Setup}
-use Rattle.connection_model.specs.State.{TraceState, ForReply, Waits}
-use Rattle.connection_model.specs.Trace.{next_item, Unfolds, GivesNoMore}
+use Rattle.conn_trace.specs.Edges.{edges_noted}
+use Rattle.conn_trace.specs.declared.edges.Edges.{Edges}
+use Rattle.conn_trace.specs.declared.note.Cause.TheVariants.{Memory}
+use Rattle.conn_trace.specs.declared.note.CutReason.{CutReason}
+use Rattle.conn_trace.specs.declared.note.CutReason.TheVariants.{ClientReset, ServerReset}
+use Rattle.conn_trace.specs.declared.note.CutReason.TheVariants.{Idle}
+use Rattle.conn_trace.specs.declared.note.Note.{Note}
+use Rattle.conn_trace.specs.declared.note.Note.TheVariants.{Finish}
+use Rattle.conn_trace.specs.Gates.{Counts, TakenCounts, Met}
+use Rattle.conn_trace.specs.Item.{Item, CutBy, Finished, calls_in, choices_in, notes_of}
+use Rattle.conn_trace.specs.Further.{choosing, longer}
+use Rattle.conn_trace.specs.HeardLaws.{cut_in, taken_by_items}
+use Rattle.conn_trace.specs.Queries.{is_reset}
+use Rattle.conn_trace.specs.Setup.{Setup}
+use Rattle.conn_trace.specs.State.{TraceState, ForReply, Waits}
+use Rattle.conn_trace.specs.Trace.{next_item, Unfolds, GivesNoMore}
 use Rattle.conn.specs.Settling.{closing, is_drained, resting}
 use Rattle.conn.specs.declared.turn.ConnTurn.{ConnTurn}
 use Rattle.conn.specs.declared.turn.ConnTurn.TheVariants as turn

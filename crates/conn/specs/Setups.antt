@@ -8,7 +8,7 @@ use Rattle.rule_loader.specs.Events.{event_place}
 use Rattle.rule_loader.specs.Handlers.{handlers_at}
 use Rattle.rule_loader.specs.declared.handler.Handler as loaded
 use Rattle.rule_loader.specs.declared.rule.Rule.{Rule}
-use Rattle.connection_model.specs.Setup.{Handler, Setup}
+use Rattle.conn_trace.specs.Setup.{Handler, Setup}
 use Rattle.conn.specs.Events.{event_of}
 use Rattle.conn.specs.declared.events.At.{At}
 use Rattle.conn.specs.declared.setup.Handler as code

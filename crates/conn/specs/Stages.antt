@@ -13,11 +13,11 @@ use Rattle.irule_net.specs.declared.state.Ending.{Ending}
 use Rattle.irule_net.specs.declared.state.Ending.TheVariants.{Rejects, Closes}
 use Rattle.irule_net.specs.declared.state.NetState.{NetState}
 use Rattle.irule_net.specs.declared.state.Selected.{Selected}
-use Rattle.connection_model.specs.Item.{Reason}
-use Rattle.connection_model.specs.Item as reason
-use Rattle.connection_model.specs.Selected.{addr_of}
-use Rattle.connection_model.specs.declared.note.Cause.{Cause}
-use Rattle.connection_model.specs.declared.note.Cause.TheVariants as cause
+use Rattle.conn_trace.specs.Item.{Reason}
+use Rattle.conn_trace.specs.Item as reason
+use Rattle.conn_trace.specs.Selected.{addr_of}
+use Rattle.conn_trace.specs.declared.note.Cause.{Cause}
+use Rattle.conn_trace.specs.declared.note.Cause.TheVariants as cause
 use Rattle.conn.specs.declared.ends.Link.{Link}
 use Rattle.conn.specs.declared.events.At.{At}
 use Rattle.conn.specs.declared.events.At.TheVariants as at

@@ -3,9 +3,9 @@ use Rattle.std.specs.Prelude.{◌≡◌, ℕ, ◌+◌, List, [], ◌∷◌, ◌+
 use Rattle.px_bytes.specs.Host.{Effect}
 use Rattle.px_bytes.specs.declared.fault.TclFault.{TclFault}
 use Rattle.rule_model.specs.Outcome.{uncaught_of}
-use Rattle.connection_model.specs.Host.{commands}
-use Rattle.connection_model.specs.Setup.{Handler, uncaught_line}
-use Rattle.connection_model.specs.declared.note.Note.{Note}
+use Rattle.conn_trace.specs.Host.{commands}
+use Rattle.conn_trace.specs.Setup.{Handler, uncaught_line}
+use Rattle.conn_trace.specs.declared.note.Note.{Note}
 use Rattle.frame_machine.specs.Given.{setting}
 use Rattle.frame_machine.specs.Went.{Went, place}
 use Rattle.frame_machine.specs.declared.turn.Turn.{Turn}

@@ -13,7 +13,7 @@ use crate::setup::{Handler, Setup};
 use crate::stage::Stage;
 use crate::turn::Act;
 use crate::uncaught::uncaught;
-use connection_model::{Notes, uncaught_line};
+use conn_trace::{Notes, uncaught_line};
 use frame_machine::Turn;
 use irule_net::NetState;
 use px_bytes::{FaultKind, M, Steps, Text, Texts};

@@ -2,7 +2,7 @@
 
 ghost use Rattle.std.specs.Prelude.{◌≡◌, ◌+◌, ◌≤◌, ◌++◌, length, take, IfOk, OnErr, OnOk};
 ghost use Rattle.irule_net.specs.State.{collected};
-ghost use Rattle.connection_model.specs.Relay.{meets};
+ghost use Rattle.conn_trace.specs.Relay.{meets};
 ghost use Rattle.conn.specs.Acts.{Collects, PassesReleased};
 ghost use Rattle.conn.specs.Ends.{end_of};
 ghost use Rattle.conn.specs.Relaying.{Fires, passes_now};
@@ -13,7 +13,7 @@ use crate::events::At;
 use crate::setup::Setup;
 use crate::stage::Stage;
 use crate::turn::Act;
-use connection_model::{Note, Notes};
+use conn_trace::{Note, Notes};
 use irule_net::Asks;
 use px_bytes::{M, Side};
 use std::alloc::Global;

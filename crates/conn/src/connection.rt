@@ -2,11 +2,11 @@
 
 ghost use Rattle.std.specs.Prelude.{◌≡◌, ◌≤◌, [], true, false, IfOk, OnOk, OnErr};
 ghost use Rattle.std.specs.Prelude.{length, take};
-ghost use Rattle.connection_model.specs.Edges.{is_connecting};
+ghost use Rattle.conn_trace.specs.Edges.{is_connecting};
 ghost use Rattle.conn.specs.Calls.{Begins, Connects, Hears, Replies, Resets, Takes, Wants};
 ghost use Rattle.conn.specs.Calls.{connected_ends, ended_ends, heard_ends, reset_ends, took_ends};
 ghost use Rattle.conn.specs.Calls.{counted_held, wanted_in};
-ghost use Rattle.connection_model.specs.Selected.{addr_of};
+ghost use Rattle.conn_trace.specs.Selected.{addr_of};
 ghost use Rattle.conn.specs.Ends.{end_of, fresh_ends};
 ghost use Rattle.conn.specs.Queues.{queue_in};
 ghost use Rattle.conn.specs.Stages.{has_finished, is_asking, selects};
@@ -17,7 +17,7 @@ use crate::events::At;
 use crate::host::RuleHost;
 use crate::setup::Setup;
 use crate::stage::Stage;
-use connection_model::Edges;
+use conn_trace::Edges;
 use irule_net::{Asks, NetState};
 use px_bytes::{Addr, M, Reply, Side, Text, read_addr};
 use std::alloc::Global;

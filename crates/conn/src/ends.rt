@@ -6,7 +6,7 @@ ghost use Rattle.conn.specs.Ends.{end_of, fresh_end, fresh_ends, has_stream, hea
 ghost use Rattle.conn.specs.Ends.{is_sought, is_up, lost_at, queue_of, queued_in, room_left};
 ghost use Rattle.conn.specs.Relaying.{passes_now, read_ends};
 
-use connection_model::{Edge, EdgeState, Edges};
+use conn_trace::{Edge, EdgeState, Edges};
 use px_bytes::{M, Side, Text};
 use seg_buffer::Held;
 use std::alloc::Global;
@@ -131,7 +131,7 @@ impl End {
 }
 
 /// Whether there is a server connection. One is made at most.
-#[derive(Clone, Copy, Debug, PartialEq, Eq)]
+#[derive(Clone, Copy, PartialEq, Eq)]
 pub enum Link {
     Absent,
     /// It was asked for.

@@ -7,7 +7,7 @@ use event_order::EventName;
 use px_bytes::Side;
 
 /// An event of a connection.
-#[derive(Clone, Copy, Debug, PartialEq, Eq)]
+#[derive(Clone, Copy, PartialEq, Eq)]
 pub enum At {
     /// Its client was accepted.
     Accepted,

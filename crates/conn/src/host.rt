@@ -3,12 +3,12 @@
 ghost use Rattle.std.specs.Prelude.{◌≡◌, ◌++◌, [], MatchResult, OnErr, OnOk};
 ghost use Rattle.irule_net.specs.State.{collected};
 ghost use Rattle.px_bytes.specs.Answered.{DidStep};
-ghost use Rattle.connection_model.specs.Host.{commands, first_word};
+ghost use Rattle.conn_trace.specs.Host.{commands, first_word};
 ghost use Rattle.conn.specs.Hosts.{begun_host, fired_host, fresh_host, released_host, seen_net};
 ghost use Rattle.conn.specs.Hosts.{selected_host};
 
 use crate::events::At;
-use connection_model::is_there;
+use conn_trace::is_there;
 use event_order::EventName;
 use frame_machine::Host;
 use irule_net::{Asks, Collected, Effects, Groups, NetState, Selected, net_command};
@@ -94,7 +94,7 @@ fn hold(collected: &mut Collected, bytes: &[u8]) -> M<()>
 }
 
 impl Host for RuleHost {
-    ghost use Rattle.connection_model.specs.Host.{HostState, commands};
+    ghost use Rattle.conn_trace.specs.Host.{HostState, commands};
     ghost use Rattle.conn.specs.Hosts.{Made, seen_host};
     ghost use Rattle.conn.specs.Making.{made_none, made_both};
 

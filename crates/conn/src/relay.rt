@@ -2,8 +2,8 @@
 
 ghost use Rattle.std.specs.Prelude.{◌≡◌, ◌+◌, ◌≤◌, ◌++◌, length, take, drop, IfOk, OnErr, OnOk};
 ghost use Rattle.conn.specs.Acts.{Relays};
-ghost use Rattle.connection_model.specs.Gates.{other};
-ghost use Rattle.connection_model.specs.Relay.{is_done};
+ghost use Rattle.conn_trace.specs.Gates.{other};
+ghost use Rattle.conn_trace.specs.Relay.{is_done};
 ghost use Rattle.conn.specs.Relaying.{incoming_of, moved, passes_now, plan_of, relay_plan};
 ghost use Rattle.conn.specs.Relaying.{side_plan, to_pass};
 
@@ -12,13 +12,13 @@ use crate::ends::{End, Ends};
 use crate::setup::Setup;
 use crate::stage::{Finish, Stage};
 use crate::turn::Act;
-use connection_model::{Note, Notes};
+use conn_trace::{Note, Notes};
 use irule_net::Asks;
 use px_bytes::{M, Side};
 use std::mem;
 
 /// What a relay does next.
-#[derive(Clone, Copy, Debug, PartialEq, Eq)]
+#[derive(Clone, Copy, PartialEq, Eq)]
 pub(crate) enum Relay {
     /// No more of either end is to be passed on.
     Done,

@@ -8,12 +8,12 @@ ghost use Rattle.conn.specs.Stages.{is_draining, is_relaying};
 
 use crate::ends::Link;
 use crate::events::At;
-use connection_model::{Cause, CutReason};
+use conn_trace::{Cause, CutReason};
 use irule_net::{Asks, Ending, NetState, Selected};
 use px_bytes::{Addr, FaultKind, Side, Text};
 
 /// Why a connection finishes.
-#[derive(Clone, Copy, Debug, PartialEq, Eq)]
+#[derive(Clone, Copy, PartialEq, Eq)]
 pub enum Finish {
     /// Both ends closed, or a rule closed it.
     Closed,

@@ -6,7 +6,7 @@ use px_bytes::Memory;
 
 /// Rows are no group of a kind: the key of the row at this place isn't of the kind. Or memory was
 /// refused.
-#[derive(Clone, Copy, Debug, PartialEq, Eq)]
+#[derive(Clone, Copy, PartialEq, Eq)]
 pub enum GroupFault {
     BadKey(usize),
     Memory,

@@ -1,7 +1,7 @@
 // Kinds of data groups, and the tests of a row.
 
 /// What the keys of a data group are: texts, networks or whole numbers.
-#[derive(Clone, Copy, Debug, PartialEq, Eq)]
+#[derive(Clone, Copy, PartialEq, Eq)]
 pub enum GroupKind {
     String,
     Ip,
@@ -9,7 +9,7 @@ pub enum GroupKind {
 }
 
 /// How an item and a key are compared.
-#[derive(Clone, Copy, Debug, PartialEq, Eq)]
+#[derive(Clone, Copy, PartialEq, Eq)]
 pub enum ClassOp {
     Equals,
     StartsWith,

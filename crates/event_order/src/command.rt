@@ -6,7 +6,7 @@ ghost use Rattle.event_order.specs.Command.{command_row};
 use crate::EventName;
 
 /// A command that the host of a rule carries out, in place of Tcl.
-#[derive(Clone, Copy, Debug, PartialEq, Eq)]
+#[derive(Clone, Copy, PartialEq, Eq)]
 pub enum HostCommand {
     Log,
     Class,

@@ -6,7 +6,7 @@ ghost use Rattle.event_order.specs.Event.{event_text, every_event};
 ghost use Rattle.event_order.specs.declared.event.EventName.{EventName};
 
 /// An event, at which the bodies of rules run.
-#[derive(Clone, Copy, Debug, PartialEq, Eq)]
+#[derive(Clone, Copy, PartialEq, Eq)]
 pub enum EventName {
     RuleInit,
     ClientAccepted,

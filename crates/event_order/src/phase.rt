@@ -4,7 +4,7 @@ ghost use Rattle.std.specs.Prelude.{◌≡◌, ◌↔◌, IsTrue, Contains};
 ghost use Rattle.event_order.specs.Phase.{MayFollow, chosen_phase, next_phases, is_live};
 
 /// Where a connection stands.
-#[derive(Clone, Copy, Debug, PartialEq, Eq)]
+#[derive(Clone, Copy, PartialEq, Eq)]
 pub enum Phase {
     /// A client has connected.
     Accepted,
@@ -37,7 +37,7 @@ pub enum Phase {
 }
 
 /// What happened in a phase.
-#[derive(Clone, Copy, Debug, PartialEq, Eq)]
+#[derive(Clone, Copy, PartialEq, Eq)]
 pub enum Happening {
     /// The phase's conditions chose this one.
     Goes(Phase),

@@ -15,7 +15,7 @@ use Rattle.rule_model.specs.Host.{Effect}
 use Rattle.rule_model.specs.Outcome.{Ends}
 use Rattle.rule_model.specs.Setting.{Setting}
 use Rattle.rule_model.specs.declared.code.Code.TheVariants.{Value, Raised}
-use Rattle.rule_steps.specs.Rows.{rows_view}
+use Rattle.rule_nodes.specs.Rows.{rows_view}
 use Rattle.frame_machine.specs.Calls.{Caller}
 use Rattle.frame_machine.specs.Children.{all, child_at}
 use Rattle.frame_machine.specs.Ends.{EachEnds, EndsAs, VerbEnds}

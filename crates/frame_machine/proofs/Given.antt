@@ -8,7 +8,7 @@ use Rattle.px_bytes.specs.declared.fault.TclFault.{TclFault}
 use Rattle.px_bytes.specs.declared.memory.Memory as memory
 use Rattle.rule_model.specs.Outcome.{code_of}
 use Rattle.rule_model.specs.declared.code.Code.{Code}
-use Rattle.rule_steps.specs.Own.{coded}
+use Rattle.rule_nodes.specs.Own.{coded}
 
 given_code : (r : Result (List ℕ) Raise) (wanted : Result (List ℕ) TclFault) → Gives r wanted
     → IfOk (coded r) (λ c. c ≡ code_of wanted)

@@ -14,7 +14,7 @@ use Rattle.rule_model.specs.Outcome.{State, state, Outcome, Ends, Meaning}
 use Rattle.rule_model.specs.declared.code.Code.{Code}
 use Rattle.rule_model.specs.declared.code.Code.TheVariants.{Value, Raised, Return, Break, Continue}
 use Rattle.rule_model.specs.Setting.{Setting, Inner}
-use Rattle.rule_steps.specs.Operators.{if_truth, truth_read}
+use Rattle.rule_nodes.specs.Operators.{if_truth, truth_read}
 use Rattle.frame_machine.specs.Branches.{paired, Choices, choices, choices_of, condition_cost, value_cost, within, value_move, last_by, holds_by, condition_by, condition_move, told_by, condition_told, branches_move}
 use Rattle.frame_machine.specs.Children.{both, child_at, children}
 use Rattle.frame_machine.specs.Frames.{after_condition, condition_price, conditions_in, inner_of, last_in}

@@ -11,7 +11,7 @@ use Rattle.rule_model.specs.Outcome.{Did, State, Ends, answered, heard, heard_co
 use Rattle.rule_model.specs.Setting.{Setting, Inner}
 use Rattle.rule_model.specs.declared.code.Code.{Code}
 use Rattle.rule_model.specs.declared.code.Code.TheVariants.{Value, Raised}
-use Rattle.rule_steps.specs.Own.{is_own, is_pure_call, named_code, own_done}
+use Rattle.rule_nodes.specs.Own.{is_own, is_pure_call, named_code, own_done}
 use Rattle.px_bytes.specs.Answered.{DidStep}
 use Rattle.frame_machine.specs.Commands.{Answers, Finished}
 use Rattle.frame_machine.specs.Went.{effects_in}

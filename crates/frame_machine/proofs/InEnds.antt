@@ -18,8 +18,8 @@ use Rattle.rule_model.specs.Commands.{Bound, bound_of}
 use Rattle.rule_model.specs.Control.{Row, is_caught, most_turns, rows_of}
 use Rattle.rule_model.specs.declared.code.Code.{Code}
 use Rattle.rule_model.specs.declared.code.Code.TheVariants.{Value, Raised}
-use Rattle.rule_steps.specs.Rows.{if_some, rows_view}
-use Rattle.rule_steps.specs.declared.rows.Row as steps
+use Rattle.rule_nodes.specs.Rows.{if_some, rows_view}
+use Rattle.rule_nodes.specs.declared.rows.Row as steps
 use Rattle.frame_machine.specs.Calls.{Caller, body_move, call_by, call_move, called_told, entered_by, place_in}
 use Rattle.frame_machine.specs.Catches.{catch_in_move, caught_by}
 use Rattle.frame_machine.specs.Children.{all}

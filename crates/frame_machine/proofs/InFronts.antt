@@ -15,9 +15,9 @@ use Rattle.rule_model.specs.Setting.{Setting, Inner}
 use Rattle.rule_model.specs.Words.{commands}
 use Rattle.rule_model.specs.declared.code.Code.{Code}
 use Rattle.rule_model.specs.declared.code.Code.TheVariants.{Value, Raised, Return, Break, Continue}
-use Rattle.rule_steps.specs.Short.{Purse, purse, short_front}
-use Rattle.rule_steps.proofs.ShortEvals.{state_of}
-use Rattle.rule_steps.proofs.ShortFronts.{Goes, IsFront, front_is, row}
+use Rattle.rule_nodes.specs.Short.{Purse, purse, short_front}
+use Rattle.rule_nodes.proofs.ShortEvals.{state_of}
+use Rattle.rule_nodes.proofs.ShortFronts.{Goes, IsFront, front_is, row}
 use Rattle.frame_machine.specs.AtOnce.{GoesFrom, from_command, is_script, is_value, script_then, unheard}
 use Rattle.frame_machine.specs.Children.{commands_of}
 use Rattle.frame_machine.specs.Frames.{commands_in, inner_of}

@@ -17,7 +17,7 @@ use Rattle.rule_model.specs.Outcome.{Act, State, state, Outcome, Meaning, heard,
 use Rattle.rule_model.specs.declared.code.Code.{Code}
 use Rattle.rule_model.specs.declared.code.Code.TheVariants.{Value, Raised, Return, Break, Continue}
 use Rattle.rule_model.specs.Setting.{Setting}
-use Rattle.rule_steps.specs.Operators.{if_truth, truth_read}
+use Rattle.rule_nodes.specs.Operators.{if_truth, truth_read}
 use Rattle.frame_machine.specs.Children.{child_at}
 use Rattle.frame_machine.specs.Frames.{again, body_in, inner_of, next_in, test_in}
 use Rattle.frame_machine.specs.Leafs.{leaf_code}

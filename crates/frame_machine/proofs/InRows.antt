@@ -15,7 +15,7 @@ use Rattle.rule_model.specs.Outcome.{Act, state, Ends, Meaning, then_value}
 use Rattle.rule_model.specs.declared.code.Code.{Code}
 use Rattle.rule_model.specs.declared.code.Code.TheVariants.{Value, Raised, Return, Break, Continue}
 use Rattle.rule_model.specs.Setting.{Setting, Inner}
-use Rattle.rule_steps.specs.Operators.{joint_ticks}
+use Rattle.rule_nodes.specs.Operators.{joint_ticks}
 use Rattle.frame_machine.specs.Children.{behind, child_at}
 use Rattle.frame_machine.specs.Counted.{Counted, given, counted_after}
 use Rattle.frame_machine.specs.Frames.{inner_of, joints_in}

@@ -12,8 +12,8 @@ use Rattle.rule_model.specs.Outcome.{State, state, Ends, Meaning, code_of, then_
 use Rattle.rule_model.specs.declared.code.Code.{Code}
 use Rattle.rule_model.specs.declared.code.Code.TheVariants.{Value, Raised, Return, Break, Continue}
 use Rattle.rule_model.specs.Setting.{Setting}
-use Rattle.rule_steps.specs.Rows.{rows_view}
-use Rattle.rule_steps.specs.declared.rows.Row.{Row}
+use Rattle.rule_nodes.specs.Rows.{rows_view}
+use Rattle.rule_nodes.specs.declared.rows.Row.{Row}
 use Rattle.frame_machine.specs.Children.{child_at}
 use Rattle.frame_machine.specs.Frames.{body_in, inner_of}
 use Rattle.frame_machine.specs.Leafs.{leaf_code}

@@ -17,12 +17,12 @@ use Rattle.rule_model.specs.Outcome.{Act, State, state, Outcome, Ends, Waits, Me
 use Rattle.rule_model.specs.declared.code.Code.{Code}
 use Rattle.rule_model.specs.declared.code.Code.TheVariants.{Value, Raised, Return, Break, Continue}
 use Rattle.rule_model.specs.Setting.{Setting, Inner}
-use Rattle.rule_steps.specs.Short.{purse}
-use Rattle.rule_steps.specs.ShortTurns.{Loop, Point, from_part, many, point, row, script_at}
-use Rattle.rule_steps.specs.ShortTurns as short
-use Rattle.rule_steps.proofs.ShortTurns.{IsPoint, many_is}
-use Rattle.rule_steps.specs.Goes.{body_goes, next_goes}
-use Rattle.rule_steps.specs.declared.goes.Goes.TheVariants.{On}
+use Rattle.rule_nodes.specs.Short.{purse}
+use Rattle.rule_nodes.specs.ShortTurns.{Loop, Point, from_part, many, point, row, script_at}
+use Rattle.rule_nodes.specs.ShortTurns as short
+use Rattle.rule_nodes.proofs.ShortTurns.{IsPoint, many_is}
+use Rattle.rule_nodes.specs.Goes.{body_goes, next_goes}
+use Rattle.rule_nodes.specs.declared.goes.Goes.TheVariants.{On}
 use Rattle.frame_machine.specs.AtOnce.{DoesTurns, OnOff, Turns, are_scripts, ended, is_script, loop_at, part_then, part_view, turn_unit}
 use Rattle.frame_machine.specs.Children.{all, child_at, commands_of}
 use Rattle.frame_machine.specs.Frames.{again, body_in, inner_of, inside, next_in, test_in}

@@ -7,7 +7,7 @@ use Rattle.tcl_compile.specs.Tree as tree
 use Rattle.tcl_compile.specs.TreeView.{node_step, node_view, nodes_view, operands_view, values_view}
 use Rattle.tcl_compile.specs.declared.node.Node.{Node, out-Node, map-Node, fold_out-Node}
 use Rattle.tcl_compile.specs.declared.node.Node.TheOpen.{Node-F}
-use Rattle.rule_steps.specs.Parts.{or_alone, parts_in}
+use Rattle.rule_nodes.specs.Parts.{or_alone, parts_in}
 use Rattle.frame_machine.specs.Children.{all, behind, both, children, child_at, commands_of, parts_of, pieces_of, words_of}
 use Rattle.frame_machine.specs.Nodes.{both_nodes, children_in, commands_in, pieces_in, words_in}
 

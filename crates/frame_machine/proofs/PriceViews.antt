@@ -4,7 +4,7 @@ use Rattle.tcl_compile.specs.TreeView.{node_view}
 use Rattle.tcl_compile.specs.declared.node.Node.{Node, out-Node}
 use Rattle.tcl_compile.specs.declared.node.Node.TheOpen.{Node-F}
 use Rattle.rule_model.specs.Children.{alone, is_next}
-use Rattle.rule_steps.specs.Choice.{is_next_in}
+use Rattle.rule_nodes.specs.Choice.{is_next_in}
 use Rattle.frame_machine.specs.Prices.{alone_in}
 use Rattle.frame_machine.proofs.NodeViews.{step_of, viewed}
 

@@ -6,8 +6,8 @@ use Rattle.tcl_vars.specs.Scopes.{Level, Scopes}
 use Rattle.rule_model.specs.Setting.{Setting}
 use Rattle.rule_model.specs.declared.code.Code.{Code}
 use Rattle.rule_model.specs.declared.code.Code.TheVariants.{Value, Raised, Return, Break, Continue}
-use Rattle.rule_steps.specs.AtOnce.{DoesFront}
-use Rattle.rule_steps.specs.Short.{purse, short_front}
+use Rattle.rule_nodes.specs.AtOnce.{DoesFront}
+use Rattle.rule_nodes.specs.Short.{purse, short_front}
 use Rattle.frame_machine.specs.AtOnce.{GoesFrom, is_value, script_then, unheard}
 use Rattle.frame_machine.specs.Children.{commands_of}
 use Rattle.frame_machine.specs.Moves.{back_under, goes_on, stop}

@@ -9,9 +9,9 @@ use Rattle.rule_model.specs.Laws.{meaning, state_after}
 use Rattle.rule_model.specs.Outcome.{Outcome}
 use Rattle.rule_model.specs.Setting.{Setting}
 use Rattle.rule_model.proofs.Facts.{acts_stay}
-use Rattle.rule_steps.specs.AtOnce.{DoesFront}
-use Rattle.rule_steps.specs.Short.{Purse, Shortly, purse, short, short_command, short_front, where_some}
-use Rattle.rule_steps.proofs.ShortEvals.{Is, short_is, state_of}
+use Rattle.rule_nodes.specs.AtOnce.{DoesFront}
+use Rattle.rule_nodes.specs.Short.{Purse, Shortly, purse, short, short_command, short_front, where_some}
+use Rattle.rule_nodes.proofs.ShortEvals.{Is, short_is, state_of}
 
 -- a setting without a host
 abbrev lone : Option Level → Setting (Unit {0})

@@ -12,10 +12,10 @@ use Rattle.tcl_compile.specs.TreeView.{node_view, nodes_view}
 use Rattle.tcl_compile.specs.declared.node.Node.{Node}
 use Rattle.tcl_vars.specs.Scopes.{Level, Scopes}
 use Rattle.rule_model.specs.Children.{alone}
-use Rattle.rule_steps.specs.AtOnce.{DoesCommand, DoesFront, ReadsWhole}
-use Rattle.rule_steps.specs.Short.{Purse, Shortly, purse, short_command, short_front, where_some}
-use Rattle.rule_steps.specs.ShortTurns.{Loop, Point, behind, many, once, point, turn_once}
-use Rattle.rule_steps.specs.ShortTurns as short
+use Rattle.rule_nodes.specs.AtOnce.{DoesCommand, DoesFront, ReadsWhole}
+use Rattle.rule_nodes.specs.Short.{Purse, Shortly, purse, short_command, short_front, where_some}
+use Rattle.rule_nodes.specs.ShortTurns.{Loop, Point, behind, many, once, point, turn_once}
+use Rattle.rule_nodes.specs.ShortTurns as short
 use Rattle.frame_machine.specs.AtOnce.{DoesTurns, are_scripts, is_script, is_start, loop_at}
 use Rattle.frame_machine.specs.Children.{commands_of}
 use Rattle.frame_machine.specs.Loops.{Parts}

@@ -4,7 +4,7 @@ use Rattle.std.specs.Prelude.{IfOk, Option, Result, Ok, Err}
 use Rattle.px_bytes.specs.declared.memory.Memory.{Memory}
 use Rattle.tcl_vars.specs.Scopes.{Level, Scopes}
 use Rattle.rule_model.specs.declared.code.Code.TheVariants.{Value}
-use Rattle.rule_steps.specs.Short.{purse}
+use Rattle.rule_nodes.specs.Short.{purse}
 use Rattle.frame_machine.specs.AtOnce.{DoesTurns, Turns, part_then, turn_unit}
 use Rattle.frame_machine.specs.Loops.{Parts, above, next_move, test_move}
 use Rattle.frame_machine.specs.Moves.{back_under}

@@ -11,11 +11,11 @@ use Rattle.rule_model.specs.Setting.{Setting, Inner}
 use Rattle.rule_model.specs.Words.{commands}
 use Rattle.rule_model.specs.declared.code.Code.{Code}
 use Rattle.rule_model.specs.declared.code.Code.TheVariants.{Value}
-use Rattle.rule_steps.specs.Short.{Purse, purse, short_front}
-use Rattle.rule_steps.specs.ShortTurns.{Loop, many, point}
-use Rattle.rule_steps.specs.ShortTurns as short
-use Rattle.rule_steps.specs.declared.goes.Goes.{Goes}
-use Rattle.rule_steps.specs.declared.goes.Goes.TheVariants.{On, Over, Ends}
+use Rattle.rule_nodes.specs.Short.{Purse, purse, short_front}
+use Rattle.rule_nodes.specs.ShortTurns.{Loop, many, point}
+use Rattle.rule_nodes.specs.ShortTurns as short
+use Rattle.rule_nodes.specs.declared.goes.Goes.{Goes}
+use Rattle.rule_nodes.specs.declared.goes.Goes.TheVariants.{On, Over, Ends}
 use Rattle.frame_machine.specs.Children.{commands_of}
 use Rattle.frame_machine.specs.Frames.{commands_in}
 use Rattle.frame_machine.specs.Loops.{Parts, above, next_move, test_move}

@@ -7,7 +7,7 @@ use Rattle.tcl_compile.specs.Tree as tree
 use Rattle.rule_model.specs.Children.{alone}
 use Rattle.rule_model.specs.declared.code.Code.{Code}
 use Rattle.rule_model.specs.declared.code.Code.TheVariants.{Value, Raised}
-use Rattle.rule_steps.specs.Operators.{truth_read}
+use Rattle.rule_nodes.specs.Operators.{truth_read}
 use Rattle.frame_machine.specs.Leafs.{leaf_code}
 use Rattle.frame_machine.specs.Moves.{back_under, child_under, stop}
 use Rattle.frame_machine.specs.Owed.{is_flat}

@@ -11,8 +11,8 @@ use Rattle.tcl_vars.specs.Scopes.{Level, Scopes}
 use Rattle.rule_model.specs.Commands.{expression_of}
 use Rattle.rule_model.specs.Control.{Row, most_turns, rows_of}
 use Rattle.rule_model.specs.declared.code.Code.TheVariants.{Value, Raised}
-use Rattle.rule_steps.specs.Rows.{rows_view}
-use Rattle.rule_steps.specs.declared.rows.Row as code
+use Rattle.rule_nodes.specs.Rows.{rows_view}
+use Rattle.rule_nodes.specs.declared.rows.Row as code
 use Rattle.frame_machine.specs.Calls.{Caller, call_move}
 use Rattle.frame_machine.specs.Catches.{catch_in_move}
 use Rattle.frame_machine.specs.Children.{all}

@@ -23,7 +23,7 @@ use Rattle.rule_model.specs.Outcome.{then_code, then_value, heard, ask}
 use Rattle.rule_model.specs.Setting.{Setting, Inner}
 use Rattle.rule_model.specs.Words.{after_piece, in_word, told, after_word, in_order, behind_name}
 use Rattle.rule_model.specs.Words.{commands}
-use Rattle.rule_steps.specs.Rows.{rows_view}
+use Rattle.rule_nodes.specs.Rows.{rows_view}
 use Rattle.frame_machine.specs.Children.{part_at, node_at}
 use Rattle.frame_machine.specs.declared.frame.Frame.{Frame}
 use Rattle.frame_machine.specs.declared.frame.Frame.TheVariants as frame

@@ -13,7 +13,7 @@ use Rattle.tcl_var_commands.specs.Reading.{read_value}
 use Rattle.rule_model.specs.Outcome.{code_of}
 use Rattle.rule_model.specs.declared.code.Code.{Code}
 use Rattle.rule_model.specs.declared.code.Code.TheVariants.{Value, Raised, Break, Continue}
-use Rattle.rule_steps.specs.Values.{element_read}
+use Rattle.rule_nodes.specs.Values.{element_read}
 
 abbrev pub variable_value : Option Level → Scopes → List ℕ → Result (List ℕ) TclFault
 variable_value statics vars name =

@@ -7,10 +7,10 @@ use Rattle.tcl_compile.specs.Tree.{Tree}
 use Rattle.rule_model.specs.Children.{alone}
 use Rattle.rule_model.specs.declared.code.Code.{Code}
 use Rattle.rule_model.specs.declared.code.Code.TheVariants.{Value, Raised}
-use Rattle.rule_steps.specs.Goes.{next_goes}
-use Rattle.rule_steps.specs.Operators.{truth_read}
-use Rattle.rule_steps.specs.declared.goes.Goes.{Goes}
-use Rattle.rule_steps.specs.declared.goes.Goes.TheVariants.{On, Over, Ends}
+use Rattle.rule_nodes.specs.Goes.{next_goes}
+use Rattle.rule_nodes.specs.Operators.{truth_read}
+use Rattle.rule_nodes.specs.declared.goes.Goes.{Goes}
+use Rattle.rule_nodes.specs.declared.goes.Goes.TheVariants.{On, Over, Ends}
 use Rattle.frame_machine.specs.Leafs.{leaf_code}
 use Rattle.frame_machine.specs.Moves.{back_under, child_under, stop}
 use Rattle.frame_machine.specs.Owed.{is_flat}

@@ -8,7 +8,7 @@ use Rattle.tcl_compile.specs.Tree as tree
 use Rattle.rule_model.specs.Expressions.{decided_by, joint_value}
 use Rattle.rule_model.specs.declared.code.Code.{Code}
 use Rattle.rule_model.specs.declared.code.Code.TheVariants.{Value, Raised}
-use Rattle.rule_steps.specs.Operators.{joint_ticks}
+use Rattle.rule_nodes.specs.Operators.{joint_ticks}
 use Rattle.frame_machine.specs.Counted.{Counted, given, counted_after}
 use Rattle.frame_machine.specs.Leafs.{leaf_code}
 use Rattle.frame_machine.specs.Moves.{back_under, child_under, stop}

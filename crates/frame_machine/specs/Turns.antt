@@ -10,11 +10,11 @@ use Rattle.tcl_var_commands.specs.Changed.{Changed}
 use Rattle.rule_model.specs.Control.{turn_assigned}
 use Rattle.rule_model.specs.declared.code.Code.{Code}
 use Rattle.rule_model.specs.declared.code.Code.TheVariants.{Value, Raised}
-use Rattle.rule_steps.specs.Goes.{body_goes}
-use Rattle.rule_steps.specs.Rows.{rows_view}
-use Rattle.rule_steps.specs.declared.goes.Goes.{Goes}
-use Rattle.rule_steps.specs.declared.goes.Goes.TheVariants.{On, Over, Ends}
-use Rattle.rule_steps.specs.declared.rows.Row.{Row}
+use Rattle.rule_nodes.specs.Goes.{body_goes}
+use Rattle.rule_nodes.specs.Rows.{rows_view}
+use Rattle.rule_nodes.specs.declared.goes.Goes.{Goes}
+use Rattle.rule_nodes.specs.declared.goes.Goes.TheVariants.{On, Over, Ends}
+use Rattle.rule_nodes.specs.declared.rows.Row.{Row}
 use Rattle.frame_machine.specs.Loops.{above}
 use Rattle.frame_machine.specs.Moves.{stop}
 use Rattle.frame_machine.specs.Reads.{known}

@@ -8,7 +8,7 @@ use Rattle.tcl_vars.specs.Scopes.{Level, Scopes}
 use Rattle.rule_model.specs.Outcome.{code_of}
 use Rattle.rule_model.specs.declared.code.Code.{Code}
 use Rattle.rule_model.specs.declared.code.Code.TheVariants.{Value, Raised, Return, Break, Continue}
-use Rattle.rule_steps.specs.Values.{element_read}
+use Rattle.rule_nodes.specs.Values.{element_read}
 use Rattle.frame_machine.specs.Children.{pieces_of}
 use Rattle.frame_machine.specs.Moves.{child_under, stop}
 use Rattle.frame_machine.specs.Pieces.{pieces_behind, pieces_behind_cost, pieces_cost, pieces_from}

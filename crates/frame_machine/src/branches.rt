@@ -8,7 +8,7 @@ ghost use Rattle.frame_machine.specs.Branches.{condition_cost, condition_move};
 ghost use Rattle.frame_machine.specs.Branches.{condition_told, holds_by, last_move, told_by};
 ghost use Rattle.frame_machine.specs.Branches.{value_move, within};
 ghost use Rattle.frame_machine.specs.ChoiceParts.{choices_view};
-ghost use Rattle.rule_steps.specs.Operators.{truth_read};
+ghost use Rattle.rule_nodes.specs.Operators.{truth_read};
 ghost use Rattle.frame_machine.specs.Reads.{known_by};
 
 use crate::frame::Frame;
@@ -19,7 +19,7 @@ use crate::quick::quick;
 use crate::reads::Reads;
 use px_bytes::{M, Memory, Raise, Steps, Text};
 use rule_model::Code;
-use rule_steps::truth_of;
+use rule_nodes::truth_of;
 use std::sync::ledger::Ledger;
 use tcl_compile::Node;
 

@@ -3,7 +3,7 @@
 ghost use Rattle.std.specs.Prelude.{IfOk, OnOk, ◌≡◌};
 ghost use Rattle.tcl_compile.specs.Procedures.{procs_view};
 ghost use Rattle.tcl_compile.specs.TreeView.{node_view};
-ghost use Rattle.rule_steps.specs.Calls.{call_view};
+ghost use Rattle.rule_nodes.specs.Calls.{call_view};
 ghost use Rattle.frame_machine.specs.CallParts.{caller_view};
 ghost use Rattle.frame_machine.specs.Calls.{body_move, bound_move, call_move, called_told};
 ghost use Rattle.frame_machine.specs.Calls.{place_in};
@@ -13,7 +13,7 @@ use crate::leafs::{is_leaf, leaf_code};
 use crate::next::Next;
 use px_bytes::{M, Memory, Raise, Texts};
 use rule_model::Code;
-use rule_steps::{Call, bound, code_left, set_parameters, too_deep};
+use rule_nodes::{Call, bound, code_left, set_parameters, too_deep};
 use std::alloc::Global;
 use tcl_compile::{Node, Procs};
 use tcl_vars::Vars;

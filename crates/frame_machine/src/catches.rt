@@ -13,7 +13,7 @@ use crate::next::Next;
 use crate::reads::Reads;
 use px_bytes::{M, Memory, Raise, Steps, Text, Texts};
 use rule_model::Code;
-use rule_steps::{catch_code, code_number, is_caught};
+use rule_nodes::{catch_code, code_number, is_caught};
 use std::alloc::Global;
 use std::sync::ledger::Ledger;
 use tcl_compile::Node;

@@ -9,7 +9,7 @@ ghost use Rattle.frame_machine.specs.Children.{pieces_of, words_of};
 ghost use Rattle.frame_machine.specs.Nodes.{both_nodes, children_in, commands_in, pieces_in};
 ghost use Rattle.frame_machine.specs.Nodes.{words_in};
 
-use rule_steps::parts;
+use rule_nodes::parts;
 use std::slice;
 use tcl_compile::Node;
 use tcl_expr::Joint;

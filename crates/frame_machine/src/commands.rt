@@ -11,7 +11,7 @@ use crate::host::Host;
 use crate::next::Next;
 use px_bytes::{HostAnswer, M, Memory, Steps, Texts};
 use rule_model::Code;
-use rule_steps::{is_own, own_command};
+use rule_nodes::{is_own, own_command};
 use std::sync::ledger::Ledger;
 use tcl_compile::Verb;
 use tcl_vars::Vars;

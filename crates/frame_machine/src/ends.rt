@@ -17,7 +17,7 @@ use crate::switches::choose;
 use crate::turns::{Count, Turns, each_turn};
 use px_bytes::{M, Memory, Raise, Steps, Text, Texts};
 use rule_model::Code;
-use rule_steps::{most_turns, rows_of};
+use rule_nodes::{most_turns, rows_of};
 use std::alloc::Global;
 use std::sync::ledger::Ledger;
 use tcl_compile::{Node, Verb};

@@ -3,13 +3,13 @@
 use crate::values::Values;
 use px_bytes::{Text, Texts};
 use rule_model::Code;
-use rule_steps::Row;
+use rule_nodes::Row;
 use tcl_compile::Node;
 use tcl_expr::Joint;
 
 /// How many calls, and how many expressions that are read when they run, may still stand inside one
 /// another.
-#[derive(Clone, Copy, Debug, PartialEq, Eq)]
+#[derive(Clone, Copy, PartialEq, Eq)]
 pub struct Room {
     pub calls: usize,
     pub expressions: usize,

@@ -8,7 +8,7 @@ ghost use Rattle.frame_machine.specs.Owed.{is_flat};
 
 use px_bytes::{M, TclFault, Text};
 use rule_model::Code;
-use rule_steps::{coded, element, variable};
+use rule_nodes::{coded, element, variable};
 use std::alloc::Global;
 use tcl_compile::{Node, Verb};
 use tcl_vars::Vars;

@@ -16,7 +16,7 @@ use crate::quick::quick;
 use crate::reads::Reads;
 use px_bytes::{M, Memory, Raise, Steps, TclFault, Text};
 use rule_model::Code;
-use rule_steps::{Goes, after_next, truth_of};
+use rule_nodes::{Goes, after_next, truth_of};
 use std::sync::ledger::Ledger;
 use tcl_compile::Node;
 

@@ -8,7 +8,7 @@ ghost use Rattle.frame_machine.specs.Went.{IsAsked};
 use crate::frame::{Mode, Standing};
 use crate::stops;
 use px_bytes::{M, Reply};
-use rule_steps::code_of_reply;
+use rule_nodes::code_of_reply;
 use std::alloc::Global;
 
 /// A body that stops where it asks a shared call, and goes on with the reply.

@@ -15,7 +15,7 @@ use crate::quick::quick;
 use crate::reads::Reads;
 use px_bytes::{M, Memory, Raise, Steps, Texts};
 use rule_model::Code;
-use rule_steps::{read_expression, too_deep};
+use rule_nodes::{read_expression, too_deep};
 use std::sync::ledger::Ledger;
 use tcl_compile::Node;
 

@@ -14,7 +14,7 @@ use crate::next::Next;
 use crate::reads::Reads;
 use px_bytes::{M, Memory, Raise, Steps, Text};
 use rule_model::Code;
-use rule_steps::{decide, joint_text};
+use rule_nodes::{decide, joint_text};
 use std::sync::ledger::Ledger;
 use tcl_compile::Node;
 use tcl_expr::Joint;

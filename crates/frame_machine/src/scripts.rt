@@ -16,7 +16,7 @@ use crate::leafs::{is_leaf, leaf_code};
 use crate::next::Next;
 use px_bytes::{M, Steps, TclFault, Text};
 use rule_model::Code;
-use rule_steps::commands_at_once;
+use rule_nodes::commands_at_once;
 use std::alloc::Global;
 use std::sync::ledger::Ledger;
 use tcl_compile::Node;

@@ -4,7 +4,7 @@ ghost use Rattle.std.specs.Prelude.{IfOk, drop, length, ◌+◌, ◌≡◌};
 ghost use Rattle.tcl_compile.specs.TreeView.{node_view, nodes_view};
 ghost use Rattle.tcl_compile.specs.declared.node.Node.{out-Node};
 ghost use Rattle.rule_model.specs.Children.{is_next};
-ghost use Rattle.rule_steps.specs.Choice.{is_next_in};
+ghost use Rattle.rule_nodes.specs.Choice.{is_next_in};
 ghost use Rattle.frame_machine.specs.Reads.{known_by};
 ghost use Rattle.frame_machine.specs.Switches.{first_within, switch_next};
 
@@ -13,7 +13,7 @@ use crate::next::Next;
 use crate::reads::Reads;
 use px_bytes::{M, Memory, Raise, Text};
 use rule_model::Code;
-use rule_steps::hit_of;
+use rule_nodes::hit_of;
 use tcl_compile::Node;
 
 /// The body that a `switch` chooses by the values of its words, of which so many are options and

@@ -11,7 +11,7 @@ use crate::next::Next;
 use crate::reads::Reads;
 use px_bytes::{M, Memory, Raise, Steps, TclFault, Text};
 use rule_model::Code;
-use rule_steps::{Goes, Row, after_body, set_turn};
+use rule_nodes::{Goes, Row, after_body, set_turn};
 use std::alloc::Global;
 use std::sync::ledger::Ledger;
 use tcl_compile::Node;

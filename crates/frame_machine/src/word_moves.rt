@@ -12,7 +12,7 @@ use crate::next::Next;
 use crate::pieces::{Piece, pieces, pieces_behind};
 use px_bytes::{M, Steps, Text};
 use rule_model::Code;
-use rule_steps::{coded, element};
+use rule_nodes::{coded, element};
 use std::alloc::Global;
 use std::sync::ledger::Ledger;
 use tcl_compile::Node;

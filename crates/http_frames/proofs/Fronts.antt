@@ -6,7 +6,7 @@ use Rattle.std.proofs.lemmas.List.{drop-append-le, drop-drop, get_or-append_righ
 use Rattle.std.proofs.Math.Seq.{drop-append_seam}
 use Rattle.memchr.specs.Find.{FindsNeedle}
 use Rattle.seg_buffer.specs.Bytes.{crlf2}
-use Rattle.http_heads.specs.declared.fault.HttpFault.TheVariants.{BadChunk}
+use Rattle.px_bytes.specs.declared.fault.HttpFault.TheVariants.{BadChunk}
 use Rattle.http_frames.specs.ChunkLines.{IsWithin, behind_cr, line_of, line_size}
 use Rattle.http_frames.specs.ChunkLines.Crlf.{There, Due, Other}
 use Rattle.http_frames.specs.Cuttings.{IsFound, NotYetMayBecome}

@@ -5,7 +5,7 @@ use Rattle.std.proofs.lemmas.Bool.{cond-true, lt-ltb, ltb-true}
 use Rattle.std.proofs.lemmas.List.{drop-append-le, length-append, length-drop}
 use Rattle.memchr.specs.Find.{FindsNeedle}
 use Rattle.seg_buffer.specs.Bytes.{crlf2}
-use Rattle.http_heads.specs.declared.fault.HttpFault.TheVariants.{BadChunk}
+use Rattle.px_bytes.specs.declared.fault.HttpFault.TheVariants.{BadChunk}
 use Rattle.http_frames.specs.ChunkLines.{IsWithin, behind_cr, line_of}
 use Rattle.http_frames.specs.ChunkLines.Crlf.{There, Other}
 use Rattle.http_frames.specs.Units.{IsChunkUnit, IsEnd, IsLineUnit, IsNextUnit, IsUnit, IsUnitBehind, IsUnitOf, begun, left_unit, piece, to_end, trailers_by}

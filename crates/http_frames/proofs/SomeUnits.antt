@@ -2,7 +2,7 @@
 use Rattle.std.proofs.Common.{ℕ, zero, suc, ◌+◌, ◌<◌, Bool, List, [], ◌∷◌, ◌++◌, length, drop, refl, arith}
 use Rattle.std.specs.List.{concat}
 use Rattle.std.proofs.lemmas.List.{length-append, length-drop}
-use Rattle.http_heads.specs.declared.fault.HttpFault.TheVariants.{BadChunk}
+use Rattle.px_bytes.specs.declared.fault.HttpFault.TheVariants.{BadChunk}
 use Rattle.http_frames.specs.ChunkLines.{Crlf, crlf, line_of}
 use Rattle.http_frames.specs.ChunkLines.Crlf.{There, Due, Other}
 use Rattle.http_frames.specs.Cuttings.{AreUnits, CutsAreRead, at_end}

@@ -2,7 +2,7 @@
 use Rattle.std.proofs.Common.{◌≡◌, ℕ, zero, suc, ◌+◌, ◌-◌, ◌<◌, ◌≤◌, Bool, true, false, cond, ◌==◌, List, [], ◌∷◌, length, drop, nat_lt, Option, Some, None, refl, sym, subst, arith}
 use Rattle.std.specs.Prelude.{⊤}
 use Rattle.std.proofs.lemmas.List.{length-drop}
-use Rattle.http_heads.specs.declared.fault.HttpFault.TheVariants.{BadChunk}
+use Rattle.px_bytes.specs.declared.fault.HttpFault.TheVariants.{BadChunk}
 use Rattle.http_frames.specs.ChunkLines.{IsWithin, behind_cr, line_of}
 use Rattle.http_frames.specs.ChunkLines.Crlf.{There, Other}
 use Rattle.http_frames.specs.Units.{IsChunkUnit, IsLineUnit, IsNextUnit, IsUnit, IsUnitBehind, IsUnitOf, begun, left_unit, piece, to_end, trailers_by, waits}

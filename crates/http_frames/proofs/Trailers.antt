@@ -1,7 +1,7 @@
 -- Trailers whose end isn't there yet.
 use Rattle.std.proofs.Common.{◌≡◌, ℕ, ◌+◌, ◌-◌, ◌<◌, ◌≤◌, Bool, List, length, None, sym, arith, nat_lt}
 use Rattle.std.proofs.lemmas.Bool.{cond-false, cond-true, le-ltb, lt-ltb}
-use Rattle.http_heads.specs.declared.fault.HttpFault.TheVariants.{BadChunk}
+use Rattle.px_bytes.specs.declared.fault.HttpFault.TheVariants.{BadChunk}
 use Rattle.http_frames.specs.Units.{begun, trailers_by, waits}
 use Rattle.http_frames.specs.declared.unit.Unit.TheVariants.{Fault}
 

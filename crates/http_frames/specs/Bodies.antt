@@ -7,8 +7,8 @@ use Rattle.std.specs.Str.{bytes_eq}
 use Rattle.std.specs.Str.Parse.{digits_value}
 use Rattle.px_bytes.specs.Letters.{lowered}
 use Rattle.http_heads.specs.Fields.{Pair, is_named, named}
-use Rattle.http_heads.specs.declared.fault.HttpFault.{HttpFault}
-use Rattle.http_heads.specs.declared.fault.HttpFault.TheVariants.{Framing}
+use Rattle.px_bytes.specs.declared.fault.HttpFault.{HttpFault}
+use Rattle.px_bytes.specs.declared.fault.HttpFault.TheVariants.{Framing}
 use Rattle.http_heads.specs.declared.line.Version.{Version}
 use Rattle.http_heads.specs.declared.line.Version.TheVariants.{Http10, Http11}
 use Rattle.http_heads.specs.declared.request.RequestHead.{RequestHead}

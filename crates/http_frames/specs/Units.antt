@@ -4,7 +4,7 @@ use Rattle.std.specs.Prelude.{Option, Some, None, nat_eq, nat_lt, if◌then◌el
 use Rattle.std.specs.List.{ends_with}
 use Rattle.memchr.specs.Find.{FindsNeedle}
 use Rattle.seg_buffer.specs.Bytes.{crlf2}
-use Rattle.http_heads.specs.declared.fault.HttpFault.TheVariants as fault
+use Rattle.px_bytes.specs.declared.fault.HttpFault.TheVariants as fault
 use Rattle.http_frames.specs.ChunkLines.{Crlf, crlf, line_of}
 use Rattle.http_frames.specs.ChunkLines.Crlf.{There, Due, Other}
 use Rattle.http_frames.specs.declared.chunk_line.Line.{Line}

@@ -9,11 +9,11 @@ ghost use Rattle.http_frames.specs.Bodies.{size_with, values};
 
 use crate::number::number_of;
 use crate::state::Body;
-use http_heads::{Fields, HttpFault, RequestHead, ResponseHead, Version};
-use px_bytes::{Text, same_name};
+use http_heads::{Fields, RequestHead, ResponseHead, Version};
+use px_bytes::{HttpFault, Text, same_name};
 
 /// What the Transfer-Encoding fields say.
-#[derive(Clone, Copy, PartialEq, Eq, Debug)]
+#[derive(Clone, Copy, PartialEq, Eq)]
 enum Coding {
     Absent,
     /// One `chunked`, and no other.
@@ -22,7 +22,7 @@ enum Coding {
 }
 
 /// What the Content-Length fields say.
-#[derive(Clone, Copy, PartialEq, Eq, Debug)]
+#[derive(Clone, Copy, PartialEq, Eq)]
 enum Size {
     Absent,
     /// Each has this number.

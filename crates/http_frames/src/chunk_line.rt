@@ -8,7 +8,7 @@ ghost use Rattle.http_frames.specs.ChunkLines.{IsWithin, crlf, line_by, line_of}
 use crate::number::number_of;
 
 /// What stands at the front of bytes where a chunk line is due.
-#[derive(Clone, Copy, PartialEq, Eq, Debug)]
+#[derive(Clone, Copy, PartialEq, Eq)]
 pub(crate) enum Line {
     /// A line of so many bytes, with its CRLF, and the size of the chunk.
     Whole { length: usize, size: u64 },

@@ -4,8 +4,8 @@ ghost use Rattle.std.specs.Prelude.{◌≡◌, ◌≤◌, length};
 ghost use Rattle.http_frames.specs.Units.{IsEnd, begun, waits};
 
 use crate::unit::Unit;
-use http_heads::HttpFault;
 use memchr::memmem;
+use px_bytes::HttpFault;
 
 /// The most bytes of the trailers with their empty line.
 const MOST_TRAILERS: usize = 60_000;

@@ -6,7 +6,7 @@ ghost use Rattle.http_frames.specs.States.{after_unit, beginning, chunk_after};
 use crate::unit::Unit;
 
 /// How the length of a message's body is known: RFC 9112, 6.3.
-#[derive(Clone, Copy, PartialEq, Eq, Debug)]
+#[derive(Clone, Copy, PartialEq, Eq)]
 pub enum Body {
     Length(u64),
     Chunked,
@@ -16,7 +16,7 @@ pub enum Body {
 }
 
 /// Where the reader of a body stands.
-#[derive(Clone, Copy, PartialEq, Eq, Debug)]
+#[derive(Clone, Copy, PartialEq, Eq)]
 pub enum BodyState {
     /// So many bytes are left of a body of known length.
     Left(u64),

@@ -7,10 +7,10 @@ ghost use Rattle.http_frames.specs.Units.{piece, to_end};
 use crate::chunk_line::{Line, line_of};
 use crate::last_chunk::{end_unit, waits};
 use crate::state::BodyState;
-use http_heads::HttpFault;
+use px_bytes::HttpFault;
 
 /// What stands at the front of the bytes of a body.
-#[derive(Clone, Copy, PartialEq, Eq, Debug)]
+#[derive(Clone, Copy, PartialEq, Eq)]
 pub enum Unit {
     /// So many bytes of the body: one or more.
     Piece(usize),

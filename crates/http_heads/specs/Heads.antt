@@ -7,7 +7,7 @@ use Rattle.httparse.specs.Spans.{name_and_value}
 use Rattle.http_heads.specs.Lines.{minor_of}
 use Rattle.http_heads.specs.declared.fault.HeadFault.{HeadFault}
 use Rattle.http_heads.specs.declared.fault.HeadFault.TheVariants.{Fault, Memory}
-use Rattle.http_heads.specs.declared.fault.HttpFault.TheVariants.{BadHead}
+use Rattle.px_bytes.specs.declared.fault.HttpFault.TheVariants.{BadHead}
 use Rattle.http_heads.specs.declared.request.RequestHead.{RequestHead}
 use Rattle.http_heads.specs.declared.response.ResponseHead.{ResponseHead}
 

@@ -9,7 +9,7 @@ use std::marker::Model;
 
 /// A field: a token as its name, and a value without a control byte but the tab, and without white
 /// space around it (RFC 9110, 5.1, 5.5).
-#[derive(Drop, Debug)]
+#[derive(Drop)]
 pub struct Field {
     name: Text,
     value: Text,

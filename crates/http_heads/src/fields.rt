@@ -8,7 +8,7 @@ use std::alloc::Global;
 use std::marker::Model;
 
 /// At most 100 fields in their order, with the spelling of their names.
-#[derive(Drop, Debug)]
+#[derive(Drop)]
 pub struct Fields {
     pub(crate) list: Vec<(Text, Text)>,
 }

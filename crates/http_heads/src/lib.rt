@@ -13,7 +13,7 @@ mod response;
 mod spans;
 mod written;
 
-pub use fault::{HeadFault, HttpFault};
+pub use fault::HeadFault;
 pub use field::Field;
 pub use fields::Fields;
 pub use laws::{request_is_one, response_is_one};

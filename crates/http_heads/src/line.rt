@@ -9,7 +9,7 @@ use px_bytes::Text;
 use std::marker::Model;
 
 /// HTTP/1.0 or HTTP/1.1: RFC 9112, 2.3.
-#[derive(Clone, Copy, PartialEq, Eq, Debug)]
+#[derive(Clone, Copy, PartialEq, Eq)]
 pub enum Version {
     Http10,
     Http11,
@@ -39,7 +39,7 @@ impl Version {
 }
 
 /// The method of a request, a token: RFC 9110, 9.1.
-#[derive(Drop, Debug)]
+#[derive(Drop)]
 pub struct Method {
     text: Text,
 }
@@ -72,7 +72,7 @@ impl Method {
 }
 
 /// The target of a request: visible characters, those past ASCII in UTF-8 (RFC 9112, 3.2, and `httparse`).
-#[derive(Drop, Debug)]
+#[derive(Drop)]
 pub struct Target {
     text: Text,
 }
@@ -122,7 +122,7 @@ impl Target {
 }
 
 /// The status code of a response: RFC 9112, 4, three digits.
-#[derive(Drop, Debug)]
+#[derive(Drop)]
 pub struct Status {
     code: u16,
 }
@@ -154,7 +154,7 @@ impl Status {
 }
 
 /// The reason phrase of a response, which may be empty: RFC 9112, 4.
-#[derive(Drop, Debug)]
+#[derive(Drop)]
 pub struct Reason {
     text: Text,
 }

@@ -5,18 +5,18 @@ ghost use Rattle.httparse.specs.Spans.{IsRequestOf, IsRequestWithin};
 ghost use Rattle.http_heads.specs.Heads.{GivesRequest};
 ghost use Rattle.http_heads.specs.Written.{written_request};
 
-use crate::fault::{HeadFault, HttpFault};
+use crate::fault::HeadFault;
 use crate::fields::Fields;
 use crate::line::{Method, Target, Version, version_of};
 use crate::spans::fields_at;
 use crate::written::{put_section, put_version};
 use httparse::Status;
 use httparse::spans::{EMPTY_HEADER_SPAN, HeaderSpan, RequestSpans, parse_request};
-use px_bytes::{M, Text};
+use px_bytes::{HttpFault, M, Text};
 use std::alloc::Global;
 
 /// The head of a request: RFC 9112, 3 and 5.
-#[derive(Drop, Debug)]
+#[derive(Drop)]
 pub struct RequestHead {
     pub method: Method,
     pub target: Target,

@@ -5,17 +5,17 @@ ghost use Rattle.httparse.specs.Spans.{IsResponseOf, IsResponseWithin};
 ghost use Rattle.http_heads.specs.Heads.{GivesResponse};
 ghost use Rattle.http_heads.specs.Written.{written_response};
 
-use crate::fault::{HeadFault, HttpFault};
+use crate::fault::HeadFault;
 use crate::fields::Fields;
 use crate::line::{Reason, Status, Version, version_of};
 use crate::spans::fields_at;
 use crate::written::{put_section, put_status, put_version};
 use httparse::spans::{EMPTY_HEADER_SPAN, HeaderSpan, ResponseSpans, parse_response};
-use px_bytes::{M, Text};
+use px_bytes::{HttpFault, M, Text};
 use std::alloc::Global;
 
 /// The head of a response: RFC 9112, 4 and 5.
-#[derive(Drop, Debug)]
+#[derive(Drop)]
 pub struct ResponseHead {
     pub version: Version,
     pub status: Status,

@@ -2,7 +2,7 @@
 use Rattle.std.specs.Prelude.{ℕ, List, [], ◌∷◌, ◌++◌, Bool, ◌||◌, not, find, is_some, IsTrue}
 use Rattle.std.specs.List.{All, list_all}
 use Rattle.std.specs.Str.{bytes_eq}
-use Rattle.connection_model.specs.Host.{names_one}
+use Rattle.conn_trace.specs.Host.{names_one}
 use Rattle.event_order.specs.Command.{IsHostCommand, command_row, every_command}
 use Rattle.irule_net.specs.Checks.{command_of}
 use Rattle.tcl_compile.specs.Tree.{Tree, plain, variable, element, word, script, command, expr}

@@ -9,7 +9,7 @@ ghost use Rattle.interim_rules.specs.HostCommands.{only_text, plain_text};
 ghost use Rattle.tcl_compile.specs.Tree.{operands_of, trees_of, values_of};
 ghost use Rattle.tcl_compile.specs.TreeView.{node_view, nodes_view, operands_view, values_view};
 
-use connection_model::is_there;
+use conn_trace::is_there;
 use event_order::is_host_command;
 use tcl_compile::{Node, Verb};
 use tcl_expr::Joint;

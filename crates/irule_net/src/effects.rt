@@ -9,14 +9,14 @@ use std::alloc::Global;
 use std::marker::Model;
 
 /// A line that was logged, or bytes that were sent to a side.
-#[derive(Drop, Debug)]
+#[derive(Drop)]
 pub enum Made {
     Logged(Text),
     Sent(Side, Text),
 }
 
 /// What commands did outside the script, in the order in which it is to be seen.
-#[derive(Drop, Debug)]
+#[derive(Drop)]
 pub struct Effects {
     made: Vec<Made>,
 }

@@ -9,7 +9,7 @@ use event_order::HostCommand;
 use px_bytes::Text;
 
 /// A form of a network command. `Reject` is `drop` too.
-#[derive(Clone, Copy, Debug, PartialEq, Eq)]
+#[derive(Clone, Copy, PartialEq, Eq)]
 pub(crate) enum Form {
     Log,
     Match,

@@ -13,7 +13,7 @@ use px_bytes::{M, Raise, Text};
 use std::alloc::Global;
 
 /// What is told of the row that an item matches: whether there is one, its key or its value.
-#[derive(Clone, Copy, Debug, PartialEq, Eq)]
+#[derive(Clone, Copy, PartialEq, Eq)]
 pub(crate) enum Telling {
     Whether,
     OfKey,

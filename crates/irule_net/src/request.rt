@@ -4,7 +4,7 @@ use crate::{Ending, Target};
 use px_bytes::{Text, Texts};
 
 /// What is told of the state.
-#[derive(Clone, Copy, Debug, PartialEq, Eq)]
+#[derive(Clone, Copy, PartialEq, Eq)]
 pub(crate) enum Tell {
     ClientAddr,
     ClientPort,

@@ -8,7 +8,7 @@ use std::alloc::Global;
 
 /// Where a server is to come from: the last `pool` or `node`. `Default` is the virtual server's
 /// pool.
-#[derive(Drop, Debug)]
+#[derive(Drop)]
 pub enum Target {
     Default,
     PoolOf(Text),
@@ -17,28 +17,28 @@ pub enum Target {
 }
 
 /// The server that was selected, and the pool that it came from. The name is empty for a node.
-#[derive(Drop, Debug)]
+#[derive(Drop)]
 pub struct Selected {
     pub pool: Text,
     pub addr: Addr,
 }
 
 /// What the collect of a side asks for: nothing, or so many bytes beyond those that are held.
-#[derive(Clone, Copy, Debug, PartialEq, Eq)]
+#[derive(Clone, Copy, PartialEq, Eq)]
 pub enum Asks {
     NotAsked,
     Stated(usize),
 }
 
 /// The collect of a side, and the bytes that it holds.
-#[derive(Drop, Debug)]
+#[derive(Drop)]
 pub struct Collected {
     pub asks: Asks,
     pub held: Text,
 }
 
 /// How the bodies of an event end the connection.
-#[derive(Clone, Copy, Debug, PartialEq, Eq)]
+#[derive(Clone, Copy, PartialEq, Eq)]
 pub enum Ending {
     Rejects,
     Closes,
@@ -47,7 +47,7 @@ pub enum Ending {
 /// What the bodies of one event did and asked for: how many bytes they sent by `TCP::respond`, how
 /// many they released, whether they released at all, asked for another selection or gave up the
 /// server connection, and how they end the connection, which the first of them says.
-#[derive(Clone, Copy, Debug, PartialEq, Eq)]
+#[derive(Clone, Copy, PartialEq, Eq)]
 pub struct Wishes {
     pub sent: usize,
     pub let_go: usize,
@@ -61,7 +61,7 @@ pub struct Wishes {
 /// address, and the port, default pool (empty where there is none) and HTTP of the virtual server.
 /// `reselects` counts those of the request. `loose` are bytes of the client that were released
 /// before there was a server, and `relays` says that there is one.
-#[derive(Drop, Debug)]
+#[derive(Drop)]
 pub struct NetState {
     pub from: Addr,
     pub port: u16,

@@ -11,17 +11,17 @@ use Rattle.px_bytes.specs.declared.fault.FaultKind.TheVariants.{NoVariable, NoCo
 use Rattle.px_bytes.specs.declared.fault.FaultKind.TheVariants.{NotWhole, OutOfRange, DivideByZero}
 use Rattle.px_bytes.specs.declared.fault.FaultKind.TheVariants.{TooLong, TooDeep, Budget, Context}
 use Rattle.px_bytes.specs.declared.fault.FaultKind.TheVariants.{Raised, Syntax, NoSuch, TableFull}
-use Rattle.connection_model.specs.declared.note.Cause.{Cause}
-use Rattle.connection_model.specs.declared.note.Cause.TheVariants.{Closed, Tcl, Unselected}
-use Rattle.connection_model.specs.declared.note.Cause.TheVariants.{Rejected, Cut, Memory}
-use Rattle.connection_model.specs.declared.note.CutReason.{CutReason}
-use Rattle.connection_model.specs.declared.note.CutReason.TheVariants.{ClientReset, ServerReset}
-use Rattle.connection_model.specs.declared.note.CutReason.TheVariants.{Idle}
-use Rattle.connection_model.specs.declared.note.Note.{Note}
-use Rattle.connection_model.specs.declared.note.Note.TheVariants.{Connect, Sleep, History, Log}
-use Rattle.connection_model.specs.declared.note.Note.TheVariants.{Pass, Fired, Reuse, Finish}
-use Rattle.connection_model.specs.declared.note.Note.TheVariants.{HalfClose}
-use Rattle.connection_model.specs.declared.note.Note.TheVariants.{CloseServer, CloseClient, Ended}
+use Rattle.conn_trace.specs.declared.note.Cause.{Cause}
+use Rattle.conn_trace.specs.declared.note.Cause.TheVariants.{Closed, Tcl, Unselected}
+use Rattle.conn_trace.specs.declared.note.Cause.TheVariants.{Rejected, Cut, Memory}
+use Rattle.conn_trace.specs.declared.note.CutReason.{CutReason}
+use Rattle.conn_trace.specs.declared.note.CutReason.TheVariants.{ClientReset, ServerReset}
+use Rattle.conn_trace.specs.declared.note.CutReason.TheVariants.{Idle}
+use Rattle.conn_trace.specs.declared.note.Note.{Note}
+use Rattle.conn_trace.specs.declared.note.Note.TheVariants.{Connect, Sleep, History, Log}
+use Rattle.conn_trace.specs.declared.note.Note.TheVariants.{Pass, Fired, Reuse, Finish}
+use Rattle.conn_trace.specs.declared.note.Note.TheVariants.{HalfClose}
+use Rattle.conn_trace.specs.declared.note.Note.TheVariants.{CloseServer, CloseClient, Ended}
 use Rattle.px_bytes.specs.declared.fault.Reply.{Reply}
 use Rattle.px_bytes.specs.declared.fault.Reply.TheVariants as reply
 use Rattle.tcl_lists.specs.Write.{joined}

@@ -6,7 +6,7 @@ use px_bytes::Memory as NoMemory;
 use std::alloc::AllocError;
 
 /// Why a line gives no event. The numbers are those that a report prints.
-#[derive(Clone, Copy, Debug, PartialEq, Eq)]
+#[derive(Clone, Copy, PartialEq, Eq)]
 pub enum LineKind {
     /// It has more than `LONGEST_LINE` bytes.
     LongLine = 1,

@@ -3,7 +3,7 @@
 ghost use Rattle.std.specs.Prelude.{◌≡◌, IfOk, string_bytes};
 ghost use Rattle.journal_text.specs.Notes.{fault_number, note_line, note_lines, reply_text, side_text};
 
-use connection_model::{Cause, CutReason, Note};
+use conn_trace::{Cause, CutReason, Note};
 use px_bytes::{Addr, FaultKind, M, Reply, Side, Text, Texts, escape, print_addr, print_hex};
 use std::alloc::Global;
 use tcl_lists::join_list;

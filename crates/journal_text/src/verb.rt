@@ -6,7 +6,7 @@ ghost use Rattle.journal_text.specs.Verb.{verb_text, every_verb};
 ghost use Rattle.journal_text.specs.declared.verb.Verb.{Verb};
 
 /// The first word of a line, which says what happens.
-#[derive(Clone, Copy, Debug, PartialEq, Eq)]
+#[derive(Clone, Copy, PartialEq, Eq)]
 pub enum Verb {
     Accept,
     Client,

@@ -7,7 +7,7 @@ use px_bytes::Addr;
 
 /// The member that was chosen for the clients of an address at a virtual server. The timeout is in
 /// seconds, and counts from the moment, in milliseconds, when the record was used last.
-#[derive(Clone, Copy, Debug, PartialEq, Eq)]
+#[derive(Clone, Copy, PartialEq, Eq)]
 pub struct Record {
     pub virtual_server: u32,
     pub ip: u32,

@@ -8,7 +8,7 @@ use Vocabulary.{answered, heard_code, paid, then_code, unvalued, Inner, Setting,
 use Vocabulary.{Value, Is, Leaves, EndsAs, Ran, Stand, from, stand, End, Run}
 use Rattle.tcl_compile.specs.declared.node.Verb.TheVariants as verb
 use Rattle.tcl_var_commands.specs.Assigning.{row_assigned}
-use Rattle.rule_steps.specs.Own.{is_own, is_pure_call}
+use Rattle.rule_nodes.specs.Own.{is_own, is_pure_call}
 use Rattle.plain_eval.specs.declared.run.End.TheVariants as end
 use Rattle.plain_eval.proofs.Steps.{changing, code_ran, code_waits, is_code, is_heard, with_vars}
 

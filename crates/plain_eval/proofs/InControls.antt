@@ -6,7 +6,7 @@ use Vocabulary.{nodes_view, Node, out-Node, Node-F, Changed, Level, free, is_nex
 use Vocabulary.{code_number, first_body, is_caught, number_changed, bodies, eval, Act, Ends}
 use Vocabulary.{Meaning, Outcome, code_of, then_code, Inner, Setting, Code, Value, Caught, CaughtBy}
 use Vocabulary.{ChangeIs, caught_code, EndsAs, Ran, Stand, from, stand, End, Run}
-use Rattle.rule_steps.specs.Choice.{first_body_of, is_next_in}
+use Rattle.rule_nodes.specs.Choice.{first_body_of, is_next_in}
 use Rattle.plain_eval.specs.declared.run.End.TheVariants as end
 use Rattle.plain_eval.proofs.InWords.{child_ran, step_of, view_is}
 use Rattle.plain_eval.proofs.Steps.{at_stand, code_goes, code_goes_unheard, code_waits, is_code}

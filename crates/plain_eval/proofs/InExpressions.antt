@@ -11,7 +11,7 @@ use Rattle.tcl_expr.specs.OperatorFaults.{not_truth}
 use Rattle.tcl_expr.specs.Truth.{truth}
 use Rattle.rule_model.specs.Expressions.{after_test, by_truth, decided, decided_by, first_true}
 use Rattle.rule_model.specs.Expressions.{joined_value, joint_value, operands, then_truth}
-use Rattle.rule_steps.specs.Operators.{if_truth, truth_read}
+use Rattle.rule_nodes.specs.Operators.{if_truth, truth_read}
 use Rattle.px_bytes.specs.declared.fault.Raise.TheVariants as raise
 use Rattle.plain_eval.specs.declared.run.End.TheVariants as end
 use Rattle.plain_eval.proofs.InWords.{child_ran, split_at}

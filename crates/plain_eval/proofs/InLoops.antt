@@ -9,9 +9,9 @@ use Vocabulary.{then_code, Code, Raised, Value, body_goes, next_goes, if_some, S
 use Vocabulary.{ended, going, kept, loop_end, body_of, loop_tree, meaning_of, test_of, turns_of}
 use Vocabulary.{words_of, EndsAs, Gave, GoesOn, Ran, Stand, Went, from, setting_of, stand, End}
 use Vocabulary.{Halted, Context, Run}
-use Rattle.rule_steps.specs.declared.goes.Goes.{Goes}
+use Rattle.rule_nodes.specs.declared.goes.Goes.{Goes}
 use Rattle.plain_eval.specs.declared.loops.Loop.{Loop}
-use Rattle.rule_steps.specs.declared.goes.Goes.TheVariants as goes
+use Rattle.rule_nodes.specs.declared.goes.Goes.TheVariants as goes
 use Rattle.plain_eval.specs.declared.run.End.TheVariants as end
 use Rattle.plain_eval.proofs.InWords.{child_ran}
 use Rattle.plain_eval.proofs.Steps.{at_stand, change_goes, changing, code_goes_unheard, code_waits}

@@ -42,9 +42,9 @@ pub use Rattle.rule_model.specs.Setting.{Inner, Setting}
 pub use Rattle.rule_model.specs.Words.{after_piece, commands, in_order, in_word, told, word_at}
 pub use Rattle.rule_model.specs.declared.code.Code.{Code}
 pub use Rattle.rule_model.specs.declared.code.Code.TheVariants.{Raised, Value}
-pub use Rattle.rule_steps.specs.Calls.{call_view}
-pub use Rattle.rule_steps.specs.Goes.{body_goes, next_goes}
-pub use Rattle.rule_steps.specs.Rows.{if_some, rows_view}
+pub use Rattle.rule_nodes.specs.Calls.{call_view}
+pub use Rattle.rule_nodes.specs.Goes.{body_goes, next_goes}
+pub use Rattle.rule_nodes.specs.Rows.{if_some, rows_view}
 pub use Rattle.plain_eval.specs.End.{AddsPiece, AddsValue, Caught, CaughtBy, ChangeIs, Is, Leaves}
 pub use Rattle.plain_eval.specs.End.{Limited, Spends, after_end, caught_code, end_of, ended}
 pub use Rattle.plain_eval.specs.End.{fault_end, going, kept, kept_end, loop_end, value_in}

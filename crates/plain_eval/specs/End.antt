@@ -16,9 +16,9 @@ use Rattle.rule_model.specs.Control.{code_number, is_caught, number_changed}
 use Rattle.rule_model.specs.Outcome.{code_of, heard_code, reply_code}
 use Rattle.rule_model.specs.declared.code.Code.{Code}
 use Rattle.rule_model.specs.declared.code.Code.TheVariants.{Value, Raised}
-use Rattle.rule_steps.specs.Own as own
-use Rattle.rule_steps.specs.declared.goes.Goes.{Goes}
-use Rattle.rule_steps.specs.declared.goes.Goes.TheVariants.{On, Over, Ends}
+use Rattle.rule_nodes.specs.Own as own
+use Rattle.rule_nodes.specs.declared.goes.Goes.{Goes}
+use Rattle.rule_nodes.specs.declared.goes.Goes.TheVariants.{On, Over, Ends}
 use Rattle.plain_eval.specs.declared.run.End.{End}
 use Rattle.plain_eval.specs.declared.run.End.TheVariants.{Done, Waits, Memory}
 use Rattle.plain_eval.specs.declared.run.Halted.{Halted}

@@ -14,7 +14,7 @@ use Rattle.rule_model.specs.Expressions.{first_true, then_truth}
 use Rattle.rule_model.specs.Host.{HostStep}
 use Rattle.rule_model.specs.Outcome.{Meaning, changed, then_code, then_value}
 use Rattle.rule_model.specs.Words.{in_order, in_word, told}
-use Rattle.rule_steps.specs.declared.calls.Call.{Call}
+use Rattle.rule_nodes.specs.declared.calls.Call.{Call}
 use Rattle.plain_eval.specs.Stand.{stand, Ran, setting_of, inner_of}
 use Rattle.plain_eval.specs.declared.context.Context.{Context}
 use Rattle.plain_eval.specs.declared.loops.Loop.{Loop}

@@ -12,7 +12,7 @@ use crate::host::PlainHost;
 use crate::run::{End, Halted, Halts, Run};
 use crate::tree::eval_tree;
 use px_bytes::Texts;
-use rule_steps::{Call, bound, code_left, read_expression, set_parameters, too_deep, whole_text};
+use rule_nodes::{Call, bound, code_left, read_expression, set_parameters, too_deep, whole_text};
 use std::alloc::Global;
 use std::mem;
 

@@ -14,7 +14,7 @@ use crate::tree::eval_tree;
 use crate::words::eval_words;
 use px_bytes::Text;
 use rule_model::Code;
-use rule_steps::{catch_code, code_number, is_caught};
+use rule_nodes::{catch_code, code_number, is_caught};
 use std::slice;
 use tcl_compile::Node;
 

@@ -3,7 +3,7 @@
 ghost use Rattle.std.specs.Prelude.{drop, option_and_then, option_map, ◌≡◌};
 ghost use Rattle.tcl_compile.specs.Tree.{switch, trees_of};
 ghost use Rattle.tcl_compile.specs.TreeView.{nodes_view};
-ghost use Rattle.rule_steps.specs.Choice.{first_body_of};
+ghost use Rattle.rule_nodes.specs.Choice.{first_body_of};
 ghost use Rattle.plain_eval.specs.End.{ended};
 ghost use Rattle.plain_eval.specs.Ran.{Evaluates};
 
@@ -12,7 +12,7 @@ use crate::host::PlainHost;
 use crate::run::{Halts, Run};
 use crate::tree::eval_tree;
 use crate::words::eval_words;
-use rule_steps::{first_body, hit_of};
+use rule_nodes::{first_body, hit_of};
 use tcl_compile::Node;
 
 /// Options, the text and the patterns, and then the body of the case that is hit.

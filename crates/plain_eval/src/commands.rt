@@ -16,7 +16,7 @@ use crate::uncounted::own_code;
 use crate::words::eval_words;
 use px_bytes::{HostAnswer, Texts};
 use rule_model::Code;
-use rule_steps::{code_of_reply, is_own};
+use rule_nodes::{code_of_reply, is_own};
 use tcl_compile::{Node, Verb};
 
 /// The words of a command, and then what it does with them.

@@ -12,7 +12,7 @@ use crate::host::PlainHost;
 use crate::run::{Halted, Halts, Run};
 use crate::tree::eval_tree;
 use crate::uncounted::{both_text, prefixed_text};
-use rule_steps::{decide, truth_of, whole_text};
+use rule_nodes::{decide, truth_of, whole_text};
 use tcl_compile::Node;
 use tcl_expr::{Joint, Op1};
 

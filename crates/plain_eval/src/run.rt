@@ -8,7 +8,7 @@ ghost use Rattle.plain_eval.specs.End.{fault_end, going, kept, kept_end, loop_en
 
 use px_bytes::{M, Raise, Reply, TEXT_LIMIT, TclFault, Text, Texts};
 use rule_model::Code;
-use rule_steps::{Goes, coded};
+use rule_nodes::{Goes, coded};
 use std::alloc::Global;
 use std::mem;
 use tcl_vars::Vars;

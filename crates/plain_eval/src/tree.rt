@@ -18,7 +18,7 @@ use crate::host::PlainHost;
 use crate::loops::{Loop, eval_each, eval_loop};
 use crate::run::{Halts, Run};
 use crate::words::{eval_element, eval_word};
-use rule_steps::{literal, variable};
+use rule_nodes::{literal, variable};
 use tcl_compile::Node;
 
 /// Evaluates a tree: whether it has a value.

@@ -3,12 +3,12 @@
 ghost use Rattle.std.specs.Prelude.{option_map, ◌<◌, ◌≡◌};
 ghost use Rattle.px_bytes.specs.Gives.{Gives};
 ghost use Rattle.rule_model.specs.Expressions.{joint_value, prefixed_value};
-ghost use Rattle.rule_steps.specs.Own.{own_done};
+ghost use Rattle.rule_nodes.specs.Own.{own_done};
 ghost use Rattle.plain_eval.specs.End.{OwnedAs};
 
 use px_bytes::{M, Raise, Steps, Text, Texts};
 use rule_model::Code;
-use rule_steps::{joint_text, own_command, prefixed};
+use rule_nodes::{joint_text, own_command, prefixed};
 use std::alloc::Global;
 use std::marker::Brand;
 use std::sync::ledger::{Blank, Ledger};

@@ -13,7 +13,7 @@ use crate::host::PlainHost;
 use crate::run::{Halted, Halts, Run};
 use crate::tree::eval_tree;
 use px_bytes::{Text, Texts};
-use rule_steps::{element, parts};
+use rule_nodes::{element, parts};
 use tcl_compile::Node;
 
 /// The values of words, in order, behind a name of so many bytes.

@@ -4,14 +4,14 @@ use px_bytes::{Addr, Seq};
 
 /// How the members of a pool are taken in turn: each once in a round, or each as often as its ratio
 /// says.
-#[derive(Clone, Copy, Debug, PartialEq, Eq)]
+#[derive(Clone, Copy, PartialEq, Eq)]
 pub enum Method {
     RoundRobin,
     Ratio,
 }
 
 /// A server, and how often it is taken in a round by its ratio.
-#[derive(Clone, Copy, Debug, PartialEq, Eq)]
+#[derive(Clone, Copy, PartialEq, Eq)]
 pub struct Member {
     pub addr: Addr,
     pub ratio: u8,
@@ -21,7 +21,7 @@ pub struct Member {
 pub type Members = Seq<Member>;
 
 /// A member, and whether it is up.
-#[derive(Clone, Copy, Debug, PartialEq, Eq)]
+#[derive(Clone, Copy, PartialEq, Eq)]
 pub struct Marked {
     pub member: Member,
     pub up: bool,
@@ -29,7 +29,7 @@ pub struct Marked {
 
 /// What a selection asks for: any member; one of an address, and any where it isn't up; or that one
 /// only.
-#[derive(Clone, Copy, Debug, PartialEq, Eq)]
+#[derive(Clone, Copy, PartialEq, Eq)]
 pub enum Wanted {
     Any,
     Wish(Addr),

@@ -1,6 +1,6 @@
 -- A journal is read as exactly the events that were served, in one way.
 use Rattle.std.proofs.Common.{◌≡◌, inl, inr, refl, sym, ap, subst, ℕ, suc, List, [], ◌∷◌, ◌++◌, Some, None, append_assoc, append-nil}
-use Rattle.connection_model.specs.declared.note.Note.{Note}
+use Rattle.conn_trace.specs.declared.note.Note.{Note}
 use Rattle.journal_text.specs.Line.{IsSkipped, event_text}
 use Rattle.journal_text.specs.Line.{SpellsEvent as Spells}
 use Rattle.journal_text.specs.Notes.{note_line, note_lines}

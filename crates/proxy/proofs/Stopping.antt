@@ -9,7 +9,7 @@ use Rattle.std.proofs.Math.Seq.{take-length}
 use Rattle.px_outside.specs.Outside.{told_more, AddsPrefix}
 use Rattle.px_outside.specs.declared.failed.Failed.{Failed}
 use Rattle.px_outside.specs.declared.failed.Failed.TheVariants as failed
-use Rattle.connection_model.specs.declared.note.Note.{Note}
+use Rattle.conn_trace.specs.declared.note.Note.{Note}
 use Rattle.proxy_core.specs.Past.{Past, kind_of}
 use Rattle.proxy_core.specs.Refusal.{refusal, refused}
 use Rattle.proxy_core.specs.Represents.{Represents}

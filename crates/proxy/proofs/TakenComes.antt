@@ -7,10 +7,10 @@ use Rattle.std.specs.Bool.{MatchBool}
 use Rattle.std.specs.List.{IsDistinct}
 use Rattle.std.proofs.lemmas.Map.Keys.{IsDistinct-head, IsDistinct-tail}
 use Rattle.px_bytes.specs.declared.addr.Side.TheVariants.{Client, Server}
-use Rattle.connection_model.specs.declared.note.Note.{Note}
-use Rattle.connection_model.specs.Heard.{Input, Bytes, Ends, Resets, Connects, Takes, EventKind, Comes, Heard, edges_met, hears}
-use Rattle.connection_model.specs.Item.{client_output, server_output}
-use Rattle.connection_model.specs.Tellings.{finish_told, notes_about}
+use Rattle.conn_trace.specs.declared.note.Note.{Note}
+use Rattle.conn_trace.specs.Heard.{Input, Bytes, Ends, Resets, Connects, Takes, EventKind, Comes, Heard, edges_met, hears}
+use Rattle.conn_trace.specs.Item.{client_output, server_output}
+use Rattle.conn_trace.specs.Tellings.{finish_told, notes_about}
 use Rattle.conn.specs.Holds.{Around}
 use Rattle.proxy_core.specs.Live.{met_by}
 use Rattle.proxy_core.specs.Moves.{Moves, MovesBy, MovesFailed, MovesLacks, MovesOn}

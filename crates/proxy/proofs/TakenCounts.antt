@@ -7,9 +7,9 @@ use Rattle.std.specs.Prelude.{is_none}
 use Rattle.std.proofs.lemmas.Bool.Decides.{nat_tests}
 use Rattle.px_bytes.specs.declared.addr.Side.{Side}
 use Rattle.px_bytes.specs.declared.addr.Side.TheVariants.{Client, Server}
-use Rattle.connection_model.specs.declared.note.Note.{Note}
-use Rattle.connection_model.specs.Heard.{Takes, Comes, Heard, has_made}
-use Rattle.connection_model.specs.Item.{Item, client_output, server_output}
+use Rattle.conn_trace.specs.declared.note.Note.{Note}
+use Rattle.conn_trace.specs.Heard.{Takes, Comes, Heard, has_made}
+use Rattle.conn_trace.specs.Item.{Item, client_output, server_output}
 use Rattle.conn.specs.declared.connection.Conn.{Conn}
 use Rattle.conn.specs.Holds.{Around}
 use Rattle.conn.specs.Queues.{queue_in}

@@ -8,11 +8,11 @@ use Rattle.std.specs.List.{IsDistinct}
 use Rattle.std.proofs.lemmas.Bool.Decides.{nat_tests}
 use Rattle.std.proofs.lemmas.List.{map-append}
 use Rattle.px_bytes.specs.declared.addr.Addr.{Addr}
-use Rattle.connection_model.specs.declared.note.Cause.TheVariants.{Memory}
-use Rattle.connection_model.specs.declared.note.Note.{Note}
-use Rattle.connection_model.specs.declared.note.Note.TheVariants.{Finish}
-use Rattle.connection_model.specs.Heard.{Accepts, Accepted}
-use Rattle.connection_model.specs.Item.{client_output, server_output}
+use Rattle.conn_trace.specs.declared.note.Cause.TheVariants.{Memory}
+use Rattle.conn_trace.specs.declared.note.Note.{Note}
+use Rattle.conn_trace.specs.declared.note.Note.TheVariants.{Finish}
+use Rattle.conn_trace.specs.Heard.{Accepts, Accepted}
+use Rattle.conn_trace.specs.Item.{client_output, server_output}
 use Rattle.proxy_core.specs.Moves.{Leads, Moves}
 use Rattle.proxy_core.specs.Past.{Happened, Past, kind_of, shared}
 use Rattle.proxy_core.specs.Ready.{is_in}
@@ -29,8 +29,8 @@ use Rattle.proxy_core.proofs.Members.{eq_same, in_pushed_other}
 use Rattle.proxy_core.proofs.ReadyRing.{distinct_none, distinct_push}
 use Rattle.proxy_core.proofs.SoundAccepts.{fresh, seen_accept}
 use Rattle.proxy_core.proofs.SoundPast.{none_holds, not_accepted}
-use Rattle.connection_table.specs.Table.{Rises}
-use Rattle.connection_table.proofs.Numbers.{rises_push}
+use Rattle.number_table.specs.Table.{Rises}
+use Rattle.number_table.proofs.Numbers.{rises_push}
 use Rattle.proxy.specs.declared.taken.Taken.{Taken}
 use Rattle.proxy_core.specs.Servers.{servers_made, took_of as took_of_number}
 use Rattle.proxy.specs.Replay.{accepted, numbers_to, taken_bytes, taken_by, taken_of}

@@ -8,10 +8,10 @@ use Rattle.std.specs.List.{flat_map}
 use Rattle.std.proofs.lemmas.List.{take-append-le}
 use Rattle.std.proofs.lemmas.Grind.{flat_map-append}
 use Rattle.px_bytes.specs.declared.addr.Side.TheVariants.{Client, Server}
-use Rattle.connection_model.specs.declared.note.Note.{Note}
-use Rattle.connection_model.specs.Heard.{Bytes, Ends, Resets, Connects, Runs, Ticks, Turns, Marks, Heard, hears}
-use Rattle.connection_model.specs.Item.{Item, to_client, to_server, client_output, server_output}
-use Rattle.connection_model.proofs.Hearing.{others_not_heard}
+use Rattle.conn_trace.specs.declared.note.Note.{Note}
+use Rattle.conn_trace.specs.Heard.{Bytes, Ends, Resets, Connects, Runs, Ticks, Turns, Marks, Heard, hears}
+use Rattle.conn_trace.specs.Item.{Item, to_client, to_server, client_output, server_output}
+use Rattle.conn_trace.proofs.Hearing.{others_not_heard}
 use Rattle.proxy_core.specs.Calls.{asker}
 use Rattle.proxy_core.specs.History.{store_of}
 use Rattle.proxy_core.specs.Moves.{Leads, Moves, Rests}

@@ -1,7 +1,7 @@
 -- The bytes that the sides of connections took.
 use Rattle.std.specs.Prelude.{ℕ, List, [], ◌∷◌, ◌++◌, map, nat_eq, Option, Some, None}
 use Rattle.std.specs.Prelude.{if◌then◌else◌}
-use Rattle.connection_table.specs.Table.{Rises}
+use Rattle.number_table.specs.Table.{Rises}
 use Rattle.px_bytes.specs.declared.addr.Side.{Side}
 use Rattle.px_bytes.specs.declared.addr.Side.TheVariants.{Client, Server}
 use Rattle.proxy_core.specs.declared.core_state.Core.{Core}

@@ -3,7 +3,7 @@
 use crate::end::Status;
 
 /// How serving comes to its end.
-#[derive(Clone, Copy, Debug, PartialEq, Eq)]
+#[derive(Clone, Copy, PartialEq, Eq)]
 pub enum Outcome {
     /// As many connections as were asked for are over.
     Conns,

@@ -27,7 +27,7 @@ pub struct Replay {
 }
 
 /// Why a replay stops before the schedule's end.
-#[derive(Clone, Copy, Debug, PartialEq, Eq)]
+#[derive(Clone, Copy, PartialEq, Eq)]
 pub enum Stop {
     /// The line spells no event.
     Text { line: u64, kind: LineKind },

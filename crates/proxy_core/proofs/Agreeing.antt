@@ -4,9 +4,9 @@ use Rattle.std.specs.Prelude.{slice_get, is_some, option_and_then}
 use Rattle.std.specs.List.{IsDistinct, position_from}
 use Rattle.std.specs.Str.{bytes_eq}
 use Rattle.std.proofs.lemmas.Slice.Eq.{bytes_eq-Decides}
-use Rattle.connection_model.specs.declared.note.Note.{Note}
-use Rattle.connection_model.specs.Heard.{EventKind, Accepts, Accepted}
-use Rattle.connection_model.specs.Setup.{Setup}
+use Rattle.conn_trace.specs.declared.note.Note.{Note}
+use Rattle.conn_trace.specs.Heard.{EventKind, Accepts, Accepted}
+use Rattle.conn_trace.specs.Setup.{Setup}
 use Rattle.conn.specs.declared.connection.Conn.{Conn}
 use Rattle.conn.specs.declared.setup.Place.{Place}
 use Rattle.proxy_core.specs.Bodies.{all_places}
@@ -28,10 +28,10 @@ use Rattle.proxy_core.specs.declared.core_state.Core.{Core}
 use Rattle.proxy_core.specs.declared.live.Live.{Live}
 use Rattle.px_bytes.specs.declared.addr.Addr.{Addr}
 use Rattle.tcl_vars.specs.Scopes.{Level}
-use Rattle.connection_model.specs.declared.note.Cause.TheVariants.{Memory}
-use Rattle.connection_model.specs.declared.note.Note.TheVariants.{Finish}
+use Rattle.conn_trace.specs.declared.note.Cause.TheVariants.{Memory}
+use Rattle.conn_trace.specs.declared.note.Note.TheVariants.{Finish}
 use Rattle.proxy_core.specs.Refusal.{refused}
-use Rattle.connection_model.specs.Edges.{accepted_edges}
+use Rattle.conn_trace.specs.Edges.{accepted_edges}
 use Rattle.proxy_core.specs.Others.{about}
 use Rattle.proxy_core.proofs.Framing.{touches, only_changed, each_by}
 use Rattle.proxy_core.proofs.LiveLookups.{live_absent, live_set_self, live_set_other, live_removed_other, numbers_removed, live_pushed_other, live_pushed_self}

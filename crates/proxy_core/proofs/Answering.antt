@@ -4,17 +4,17 @@ use Rattle.std.specs.Bool.{MatchBool}
 use Rattle.std.proofs.lemmas.List.{map-append}
 use Rattle.px_bytes.specs.declared.addr.Side.TheVariants.{Client, Server}
 use Rattle.px_bytes.specs.declared.fault.Reply.{Reply}
-use Rattle.connection_model.specs.declared.note.Cause.TheVariants.{Memory}
-use Rattle.connection_model.specs.declared.note.Note.{Note}
-use Rattle.connection_model.specs.declared.note.Note.TheVariants.{Finish}
-use Rattle.connection_model.specs.Heard.{Input, Bytes, Ends, Resets, Connects, Takes, EventKind, Accepts, Comes, Ticks, Turns, Runs, Marks, Heard, accepts, marks, event_marks, hears}
-use Rattle.connection_model.specs.Item.{Item, notes_of}
-use Rattle.connection_model.specs.Tellings.{own, replies_told, notes_about}
-use Rattle.connection_model.specs.declared.edges.Edges.{Edges}
-use Rattle.connection_model.specs.Edges.{edges_noted}
-use Rattle.connection_model.specs.Heard.{edges_met, taken}
+use Rattle.conn_trace.specs.declared.note.Cause.TheVariants.{Memory}
+use Rattle.conn_trace.specs.declared.note.Note.{Note}
+use Rattle.conn_trace.specs.declared.note.Note.TheVariants.{Finish}
+use Rattle.conn_trace.specs.Heard.{Input, Bytes, Ends, Resets, Connects, Takes, EventKind, Accepts, Comes, Ticks, Turns, Runs, Marks, Heard, accepts, marks, event_marks, hears}
+use Rattle.conn_trace.specs.Item.{Item, notes_of}
+use Rattle.conn_trace.specs.Tellings.{own, replies_told, notes_about}
+use Rattle.conn_trace.specs.declared.edges.Edges.{Edges}
+use Rattle.conn_trace.specs.Edges.{edges_noted}
+use Rattle.conn_trace.specs.Heard.{edges_met, taken}
 use Rattle.conn.specs.RunsItems.{told_behind}
-use Rattle.connection_model.specs.Trace.{next_item}
+use Rattle.conn_trace.specs.Trace.{next_item}
 use Rattle.conn.specs.Settling.{closing, is_over, settling_at, took_all}
 use Rattle.shared_store.specs.Calls.{reply}
 use Rattle.proxy_core.specs.History.{entries_in, store_of, IsAnswer, AreAnswers, IsHistory}

@@ -8,18 +8,18 @@ use Rattle.px_bytes.specs.declared.addr.Side.TheVariants.{Client, Server}
 use Rattle.irule_net.specs.State.{asked_bytes, collected}
 use Rattle.irule_net.specs.declared.state.Asks.{Asks}
 use Rattle.irule_net.specs.declared.state.Asks.TheVariants.{NotAsked, Stated}
-use Rattle.connection_model.specs.Bounds.{FewUnread, FewOfServer, FewOfMade, PassWithin}
-use Rattle.connection_model.specs.Further.{Coming, nothing_comes, Further, longer_by, longer_stream, longer_where, longer_server, left_for, on_last, longer}
-use Rattle.connection_model.specs.Item.{Item}
-use Rattle.connection_model.specs.Phases.{OrderlyIn}
-use Rattle.connection_model.specs.Places.{is_up}
-use Rattle.connection_model.specs.Queries.{arriving, counted_held, first_some, held_under, in_event_of, last_made, own_stream, unread_at, unread_limit}
-use Rattle.connection_model.specs.Setup.{Setup}
-use Rattle.connection_model.specs.State.{Stream, ServerSide, NoServer, Sought, There, Retired, Phase, Answering, TraceState, link_of}
-use Rattle.connection_model.specs.Trace.{Unfolds}
-use Rattle.connection_model.specs.declared.edges.EdgeState.{EdgeState}
-use Rattle.connection_model.proofs.Lying.{Before, Lies, allowed, item_lies}
-use Rattle.connection_model.proofs.Streams.{link_same}
+use Rattle.conn_trace.specs.Bounds.{FewUnread, FewOfServer, FewOfMade, PassWithin}
+use Rattle.conn_trace.specs.Further.{Coming, nothing_comes, Further, longer_by, longer_stream, longer_where, longer_server, left_for, on_last, longer}
+use Rattle.conn_trace.specs.Item.{Item}
+use Rattle.conn_trace.specs.Phases.{OrderlyIn}
+use Rattle.conn_trace.specs.Places.{is_up}
+use Rattle.conn_trace.specs.Queries.{arriving, counted_held, first_some, held_under, in_event_of, last_made, own_stream, unread_at, unread_limit}
+use Rattle.conn_trace.specs.Setup.{Setup}
+use Rattle.conn_trace.specs.State.{Stream, ServerSide, NoServer, Sought, There, Retired, Phase, Answering, TraceState, link_of}
+use Rattle.conn_trace.specs.Trace.{Unfolds}
+use Rattle.conn_trace.specs.declared.edges.EdgeState.{EdgeState}
+use Rattle.conn_trace.proofs.Lying.{Before, Lies, allowed, item_lies}
+use Rattle.conn_trace.proofs.Streams.{link_same}
 use Rattle.proxy_core.specs.Servers.{Linked, awaits}
 use Rattle.proxy_core.proofs.ServerGone.{unlinked}
 use Rattle.proxy_core.proofs.ServerLaws.{Unserved, unserved_step}

@@ -1,8 +1,8 @@
 -- The replies that notes tell.
 use Rattle.std.proofs.Common.{◌≡◌, refl, ap, List, [], ◌∷◌, map}
-use Rattle.connection_model.specs.declared.note.Note.{Note}
-use Rattle.connection_model.specs.declared.note.Note.TheVariants as note
-use Rattle.connection_model.specs.Tellings.{tells, replies_told}
+use Rattle.conn_trace.specs.declared.note.Note.{Note}
+use Rattle.conn_trace.specs.declared.note.Note.TheVariants as note
+use Rattle.conn_trace.specs.Tellings.{tells, replies_told}
 use Rattle.proxy_core.specs.History.{entries_in}
 
 -- the replies that notes tell are those of their entries

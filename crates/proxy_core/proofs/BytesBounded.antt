@@ -8,26 +8,26 @@ use Rattle.px_bytes.specs.declared.addr.Side.TheVariants.{Client, Server}
 use Rattle.px_bytes.specs.declared.fault.Reply.{Reply}
 use Rattle.shared_store.specs.Calls.{reply}
 use Rattle.shared_store.specs.Store.{StoreState}
-use Rattle.connection_model.specs.Bounds.{PassWithin}
-use Rattle.connection_model.specs.Edges.{edges_noted, is_open}
-use Rattle.connection_model.specs.Further.{CutMeets, is_some_of, longer, replies_only}
-use Rattle.connection_model.specs.Gates.{TakenCounts, no_bytes}
-use Rattle.connection_model.specs.Heard.{Input, Bytes, Ends, Resets, Connects, Takes, EventKind, Accepts, Comes, Ticks, Turns, Runs, Marks, Accepted, Heard, Brought, as_answer, brings_in, brought, brought_nothing, edges_met, event_brings, further_of, hears, marks, nothing_heard, start_of, taken}
-use Rattle.connection_model.specs.HeardLaws.{TellsNothing, taken_by_items}
-use Rattle.connection_model.specs.Item.{Item, cause_of, notes_of, reasons_in}
-use Rattle.connection_model.specs.Queries.{arriving, counted_held, held_under, in_event_of, unread_at, unread_limit}
-use Rattle.connection_model.specs.Queries as query
-use Rattle.connection_model.specs.Setup.{Setup}
-use Rattle.connection_model.specs.State.{TraceState, no_answers, no_stream}
-use Rattle.connection_model.specs.Tellings.{choices_told, cut_told, finish_told, notes_about, replies_told, tells}
-use Rattle.connection_model.specs.Trace.{Unfolds, next_item}
-use Rattle.connection_model.specs.declared.note.Cause.{Cause}
-use Rattle.connection_model.specs.declared.note.Cause.TheVariants.{Memory}
-use Rattle.connection_model.specs.declared.note.Note.{Note}
-use Rattle.connection_model.specs.declared.note.Note.TheVariants.{Finish}
-use Rattle.connection_model.proofs.Hearing.{event_stands, finished_stands, others_not_heard}
-use Rattle.connection_model.proofs.PendingFits.{pending_bounded}
-use Rattle.connection_model.proofs.Lying.{Lies, allowed, start_lies}
+use Rattle.conn_trace.specs.Bounds.{PassWithin}
+use Rattle.conn_trace.specs.Edges.{edges_noted, is_open}
+use Rattle.conn_trace.specs.Further.{CutMeets, is_some_of, longer, replies_only}
+use Rattle.conn_trace.specs.Gates.{TakenCounts, no_bytes}
+use Rattle.conn_trace.specs.Heard.{Input, Bytes, Ends, Resets, Connects, Takes, EventKind, Accepts, Comes, Ticks, Turns, Runs, Marks, Accepted, Heard, Brought, as_answer, brings_in, brought, brought_nothing, edges_met, event_brings, further_of, hears, marks, nothing_heard, start_of, taken}
+use Rattle.conn_trace.specs.HeardLaws.{TellsNothing, taken_by_items}
+use Rattle.conn_trace.specs.Item.{Item, cause_of, notes_of, reasons_in}
+use Rattle.conn_trace.specs.Queries.{arriving, counted_held, held_under, in_event_of, unread_at, unread_limit}
+use Rattle.conn_trace.specs.Queries as query
+use Rattle.conn_trace.specs.Setup.{Setup}
+use Rattle.conn_trace.specs.State.{TraceState, no_answers, no_stream}
+use Rattle.conn_trace.specs.Tellings.{choices_told, cut_told, finish_told, notes_about, replies_told, tells}
+use Rattle.conn_trace.specs.Trace.{Unfolds, next_item}
+use Rattle.conn_trace.specs.declared.note.Cause.{Cause}
+use Rattle.conn_trace.specs.declared.note.Cause.TheVariants.{Memory}
+use Rattle.conn_trace.specs.declared.note.Note.{Note}
+use Rattle.conn_trace.specs.declared.note.Note.TheVariants.{Finish}
+use Rattle.conn_trace.proofs.Hearing.{event_stands, finished_stands, others_not_heard}
+use Rattle.conn_trace.proofs.PendingFits.{pending_bounded}
+use Rattle.conn_trace.proofs.Lying.{Lies, allowed, start_lies}
 use Rattle.conn.specs.RunsItems.{Passes, told_behind}
 use Rattle.conn.specs.Settling.{closing, is_over, settling_at, took_all}
 use Rattle.proxy_core.specs.Bounds.{BytesAreBounded}

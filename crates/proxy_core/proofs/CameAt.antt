@@ -2,18 +2,18 @@
 use Rattle.std.proofs.Common.{◌≡◌, ◌⊎◌, inl, inr, refl, sym, ap, subst, ◌∙◌, ℕ, List, [], ◌∷◌, map, Bool, true, false, ◌||◌, Option, None, nat_eq, if◌then◌else◌}
 use Rattle.px_bytes.specs.declared.addr.Side.TheVariants.{Client, Server}
 use Rattle.px_bytes.specs.declared.fault.Reply.{Reply}
-use Rattle.connection_model.specs.declared.note.Note.{Note}
-use Rattle.connection_model.specs.declared.note.Note.TheVariants as note
-use Rattle.connection_model.specs.Further.{CutMeets, Further, first_cut, longer, nothing_further, replies_only}
-use Rattle.connection_model.specs.Gates.{TakenCounts, no_bytes}
-use Rattle.connection_model.specs.Heard.{Input, Bytes, Ends, Resets, Connects, Takes, EventKind, Accepts, Comes, Ticks, Turns, Runs, Marks, Heard, accepts, marks, event_marks, taken, hears_event, hears, further_of, start_of}
-use Rattle.connection_model.specs.HeardLaws.{TellsNothing}
-use Rattle.connection_model.specs.Item.{Item}
-use Rattle.connection_model.specs.Setup.{Setup}
-use Rattle.connection_model.specs.State.{Cut, TraceState}
-use Rattle.connection_model.specs.Tellings.{tells, own, notes_about, cut_told, finish_told}
-use Rattle.connection_model.specs.Trace.{Unfolds}
-use Rattle.connection_model.proofs.Hearing.{event_stands, finished_stands}
+use Rattle.conn_trace.specs.declared.note.Note.{Note}
+use Rattle.conn_trace.specs.declared.note.Note.TheVariants as note
+use Rattle.conn_trace.specs.Further.{CutMeets, Further, first_cut, longer, nothing_further, replies_only}
+use Rattle.conn_trace.specs.Gates.{TakenCounts, no_bytes}
+use Rattle.conn_trace.specs.Heard.{Input, Bytes, Ends, Resets, Connects, Takes, EventKind, Accepts, Comes, Ticks, Turns, Runs, Marks, Heard, accepts, marks, event_marks, taken, hears_event, hears, further_of, start_of}
+use Rattle.conn_trace.specs.HeardLaws.{TellsNothing}
+use Rattle.conn_trace.specs.Item.{Item}
+use Rattle.conn_trace.specs.Setup.{Setup}
+use Rattle.conn_trace.specs.State.{Cut, TraceState}
+use Rattle.conn_trace.specs.Tellings.{tells, own, notes_about, cut_told, finish_told}
+use Rattle.conn_trace.specs.Trace.{Unfolds}
+use Rattle.conn_trace.proofs.Hearing.{event_stands, finished_stands}
 use Rattle.conn.specs.Calls.{unless_finished}
 use Rattle.proxy_core.specs.Live.{further_in}
 use Rattle.proxy_core.specs.Past.{Past, heard, kind_of}

@@ -3,22 +3,22 @@ use Rattle.std.proofs.Common.{◌≡◌, ◌⊎◌, inl, inr, refl, sym, ap, sub
 use Rattle.std.specs.Bool.{MatchBool}
 use Rattle.std.proofs.lemmas.List.{length-drop}
 use Rattle.px_bytes.specs.declared.addr.Side.TheVariants.{Client, Server}
-use Rattle.connection_model.specs.declared.edges.Edges.{Edges}
-use Rattle.connection_model.specs.declared.note.Cause.TheVariants.{Memory}
-use Rattle.connection_model.specs.declared.note.Note.{Note}
-use Rattle.connection_model.specs.declared.note.Note.TheVariants.{Finish}
-use Rattle.connection_model.specs.Edges.{answered_edge, edge_ends, edges_noted}
-use Rattle.connection_model.specs.Further.{longer, nothing_comes, nothing_further}
-use Rattle.connection_model.specs.Gates.{no_bytes, sent_from}
-use Rattle.connection_model.specs.Heard.{Input, Bytes, Ends, Resets, Connects, Takes, Comes, SideHeard, servers_taken, Heard, taken, edges_met, hears, further_of, start_of}
-use Rattle.connection_model.specs.HeardLaws.{TellsNothing}
-use Rattle.connection_model.specs.Item.{Item, client_output, server_output}
-use Rattle.connection_model.specs.Phases.{Orderly}
-use Rattle.connection_model.specs.Setup.{Setup}
-use Rattle.connection_model.specs.State.{Cut, TraceState}
-use Rattle.connection_model.specs.Tellings.{notes_about, finish_told, failure_told}
-use Rattle.connection_model.specs.Trace.{Unfolds}
-use Rattle.connection_model.proofs.Streams.{nothing_stream, nothing_server, nothing_on_last}
+use Rattle.conn_trace.specs.declared.edges.Edges.{Edges}
+use Rattle.conn_trace.specs.declared.note.Cause.TheVariants.{Memory}
+use Rattle.conn_trace.specs.declared.note.Note.{Note}
+use Rattle.conn_trace.specs.declared.note.Note.TheVariants.{Finish}
+use Rattle.conn_trace.specs.Edges.{answered_edge, edge_ends, edges_noted}
+use Rattle.conn_trace.specs.Further.{longer, nothing_comes, nothing_further}
+use Rattle.conn_trace.specs.Gates.{no_bytes, sent_from}
+use Rattle.conn_trace.specs.Heard.{Input, Bytes, Ends, Resets, Connects, Takes, Comes, SideHeard, servers_taken, Heard, taken, edges_met, hears, further_of, start_of}
+use Rattle.conn_trace.specs.HeardLaws.{TellsNothing}
+use Rattle.conn_trace.specs.Item.{Item, client_output, server_output}
+use Rattle.conn_trace.specs.Phases.{Orderly}
+use Rattle.conn_trace.specs.Setup.{Setup}
+use Rattle.conn_trace.specs.State.{Cut, TraceState}
+use Rattle.conn_trace.specs.Tellings.{notes_about, finish_told, failure_told}
+use Rattle.conn_trace.specs.Trace.{Unfolds}
+use Rattle.conn_trace.proofs.Streams.{nothing_stream, nothing_server, nothing_on_last}
 use Rattle.conn.specs.Calls.{unless_finished}
 use Rattle.conn.specs.Ends.{fresh_end, has_stream, queue_of, queued_in, servers_by}
 use Rattle.conn.specs.Holds.{Around, Holds, HoldsEnds}

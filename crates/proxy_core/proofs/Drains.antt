@@ -6,17 +6,17 @@ use Rattle.rule_model.specs.Host as effect
 use Rattle.rule_model.specs.Outcome.{Act, Did, Outcome, Ends, Waits as Stops}
 use Rattle.rule_model.specs.Outcome as act
 use Rattle.rule_model.specs.Laws.{state_after}
-use Rattle.connection_model.specs.Bodies.{act_item, run_body, ended_next, act_next}
-use Rattle.connection_model.specs.Further.{Coming, Further, longer, longer_server, left_for}
-use Rattle.connection_model.specs.Gates.{Counts, TakenCounts}
-use Rattle.connection_model.specs.HeardLaws.{cut_for, cut_in}
-use Rattle.connection_model.specs.Host.{HostState}
-use Rattle.connection_model.specs.Item.{Reason, Item, shown, listed, choices_in}
-use Rattle.connection_model.specs.Phases.{finishes, Orderly, OrderlyIn}
-use Rattle.connection_model.specs.Setup.{Handler, Setup}
-use Rattle.connection_model.specs.State.{Gated, Running, Failing, Phase, Carrying, InEvent, Choosing, Selecting, Connecting, Answering, Releasing, Relaying, Collecting, Finishing, Draining, ServerSide, NoServer, Sought, There, Retired, TraceState, Next, Does, Waits, Over, link_of}
-use Rattle.connection_model.specs.Trace.{counted, phase_next, next_item, Unfolds}
-use Rattle.connection_model.proofs.Stepping.{steps}
+use Rattle.conn_trace.specs.Bodies.{act_item, run_body, ended_next, act_next}
+use Rattle.conn_trace.specs.Further.{Coming, Further, longer, longer_server, left_for}
+use Rattle.conn_trace.specs.Gates.{Counts, TakenCounts}
+use Rattle.conn_trace.specs.HeardLaws.{cut_for, cut_in}
+use Rattle.conn_trace.specs.Host.{HostState}
+use Rattle.conn_trace.specs.Item.{Reason, Item, shown, listed, choices_in}
+use Rattle.conn_trace.specs.Phases.{finishes, Orderly, OrderlyIn}
+use Rattle.conn_trace.specs.Setup.{Handler, Setup}
+use Rattle.conn_trace.specs.State.{Gated, Running, Failing, Phase, Carrying, InEvent, Choosing, Selecting, Connecting, Answering, Releasing, Relaying, Collecting, Finishing, Draining, ServerSide, NoServer, Sought, There, Retired, TraceState, Next, Does, Waits, Over, link_of}
+use Rattle.conn_trace.specs.Trace.{counted, phase_next, next_item, Unfolds}
+use Rattle.conn_trace.proofs.Stepping.{steps}
 use Rattle.proxy_core.proofs.Overs.{finished_plain}
 
 -- no choice is made

@@ -4,20 +4,20 @@ use Rattle.std.specs.Prelude.{is_some}
 use Rattle.std.proofs.lemmas.Bool.{and_from, and_parts}
 use Rattle.px_bytes.specs.declared.addr.Side.{Side}
 use Rattle.px_bytes.specs.declared.addr.Side.TheVariants.{Client, Server}
-use Rattle.connection_model.specs.declared.edges.Edge.{Edge}
-use Rattle.connection_model.specs.declared.edges.Edges.{Edges}
-use Rattle.connection_model.specs.declared.edges.EdgeState.{EdgeState}
-use Rattle.connection_model.specs.declared.edges.EdgeState.TheVariants as state
-use Rattle.connection_model.specs.declared.note.Note.{Note}
-use Rattle.connection_model.specs.declared.note.Note.TheVariants as note
-use Rattle.connection_model.specs.Edges.{accepted_edges, edge_of, edges_by, edges_noted}
-use Rattle.connection_model.specs.Gates.{TakenCounts}
-use Rattle.connection_model.specs.Heard.{Input, Bytes, Ends, Resets, Connects, Takes, EventKind, Accepts, Comes, Ticks, Turns, Runs, Marks, Heard, accepts, marks, event_marks, edges_met, event_edges}
-use Rattle.connection_model.specs.Queries.{half_close_due}
-use Rattle.connection_model.specs.Setup.{Setup}
-use Rattle.connection_model.specs.State.{TraceState}
-use Rattle.connection_model.specs.Tellings.{own}
-use Rattle.connection_model.specs.Trace.{next_item}
+use Rattle.conn_trace.specs.declared.edges.Edge.{Edge}
+use Rattle.conn_trace.specs.declared.edges.Edges.{Edges}
+use Rattle.conn_trace.specs.declared.edges.EdgeState.{EdgeState}
+use Rattle.conn_trace.specs.declared.edges.EdgeState.TheVariants as state
+use Rattle.conn_trace.specs.declared.note.Note.{Note}
+use Rattle.conn_trace.specs.declared.note.Note.TheVariants as note
+use Rattle.conn_trace.specs.Edges.{accepted_edges, edge_of, edges_by, edges_noted}
+use Rattle.conn_trace.specs.Gates.{TakenCounts}
+use Rattle.conn_trace.specs.Heard.{Input, Bytes, Ends, Resets, Connects, Takes, EventKind, Accepts, Comes, Ticks, Turns, Runs, Marks, Heard, accepts, marks, event_marks, edges_met, event_edges}
+use Rattle.conn_trace.specs.Queries.{half_close_due}
+use Rattle.conn_trace.specs.Setup.{Setup}
+use Rattle.conn_trace.specs.State.{TraceState}
+use Rattle.conn_trace.specs.Tellings.{own}
+use Rattle.conn_trace.specs.Trace.{next_item}
 use Rattle.conn.specs.RunsItems.{is_resting, told_behind}
 use Rattle.conn.specs.Settling.{client_notes, close_notes, closing, half_close, is_over, is_there, note_if, resting, server_notes, settling, settling_at, took_all}
 use Rattle.conn.specs.declared.turn.ConnTurn.{ConnTurn}

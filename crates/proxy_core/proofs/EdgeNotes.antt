@@ -1,9 +1,9 @@
 -- Where notes put the ends of a connection.
 use Rattle.std.proofs.Common.{◌≡◌, refl, ap, ◌∙◌, ℕ, List, [], ◌∷◌, ◌++◌, if◌then◌else◌}
-use Rattle.connection_model.specs.declared.edges.Edges.{Edges}
-use Rattle.connection_model.specs.declared.note.Note.{Note}
-use Rattle.connection_model.specs.Edges.{edges_by, edges_noted}
-use Rattle.connection_model.specs.Heard.{Input, Comes, EventKind, Heard, edges_met, event_edges, hears}
+use Rattle.conn_trace.specs.declared.edges.Edges.{Edges}
+use Rattle.conn_trace.specs.declared.note.Note.{Note}
+use Rattle.conn_trace.specs.Edges.{edges_by, edges_noted}
+use Rattle.conn_trace.specs.Heard.{Input, Comes, EventKind, Heard, edges_met, event_edges, hears}
 use Rattle.proxy_core.proofs.GroupNotes.{About, own_all}
 use Rattle.proxy_core.proofs.Members.{eq_self}
 

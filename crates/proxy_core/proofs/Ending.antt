@@ -9,22 +9,22 @@ use Rattle.px_bytes.specs.declared.fault.Reply.TheVariants as reply
 use Rattle.rule_model.specs.Outcome.{Act, Outcome, Ends, Waits as Stops}
 use Rattle.rule_model.specs.Laws.{state_after}
 use Rattle.event_order.specs.declared.event.EventName.{EventName}
-use Rattle.connection_model.specs.Bodies.{act_item, run_body, ended_next, act_next}
-use Rattle.connection_model.specs.Gates.{Counts, TakenCounts, to_take, may_give}
+use Rattle.conn_trace.specs.Bodies.{act_item, run_body, ended_next, act_next}
+use Rattle.conn_trace.specs.Gates.{Counts, TakenCounts, to_take, may_give}
 use Rattle.irule_net.specs.declared.state.Asks.{Asks}
 use Rattle.irule_net.specs.declared.state.Asks.TheVariants.{NotAsked, Stated}
 use Rattle.irule_net.specs.declared.state.Target.{Target}
 use Rattle.irule_net.specs.declared.state.Target.TheVariants.{Default, PoolOf, MemberOf, NodeAt}
-use Rattle.connection_model.specs.Host.{HostState, with_selected}
-use Rattle.connection_model.specs.Item.{BeforeBodies, Item, Opened, Logged, Ran, Rejected}
-use Rattle.connection_model.specs.Phases.{Orderly, OrderlyIn}
-use Rattle.connection_model.specs.Relay.{RelayAct, BothDone, Passing, Firing, Resting, incoming, relay_act, behind_fires, collect_act}
-use Rattle.connection_model.specs.Selected.{addr_of}
-use Rattle.connection_model.specs.Setup.{Handler, Setup}
-use Rattle.connection_model.specs.State.{Gated, Running, Failing, Fate, Stream, ForBytes, stream_of, Phase, Carrying, InEvent, Choosing, Selecting, Connecting, Answering, Releasing, Relaying, Collecting, Finishing, Draining, TraceState, Next, Does, Waits, Over, link_of}
-use Rattle.connection_model.specs.Trace.{finish, choosing_next, default_next, selected_next, selecting_next, answering_next, relay_next, collect_next, collecting_next, unit_next, carrying_next, phase_next, counted, next_item, GivesNoMore}
-use Rattle.connection_model.proofs.Longer.{plain_next}
-use Rattle.connection_model.proofs.Taking.{taken_all_opens}
+use Rattle.conn_trace.specs.Host.{HostState, with_selected}
+use Rattle.conn_trace.specs.Item.{BeforeBodies, Item, Opened, Logged, Ran, Rejected}
+use Rattle.conn_trace.specs.Phases.{Orderly, OrderlyIn}
+use Rattle.conn_trace.specs.Relay.{RelayAct, BothDone, Passing, Firing, Resting, incoming, relay_act, behind_fires, collect_act}
+use Rattle.conn_trace.specs.Selected.{addr_of}
+use Rattle.conn_trace.specs.Setup.{Handler, Setup}
+use Rattle.conn_trace.specs.State.{Gated, Running, Failing, Fate, Stream, ForBytes, stream_of, Phase, Carrying, InEvent, Choosing, Selecting, Connecting, Answering, Releasing, Relaying, Collecting, Finishing, Draining, TraceState, Next, Does, Waits, Over, link_of}
+use Rattle.conn_trace.specs.Trace.{finish, choosing_next, default_next, selected_next, selecting_next, answering_next, relay_next, collect_next, collecting_next, unit_next, carrying_next, phase_next, counted, next_item, GivesNoMore}
+use Rattle.conn_trace.proofs.Longer.{plain_next}
+use Rattle.conn_trace.proofs.Taking.{taken_all_opens}
 
 -- a trace that has finished, and of which all is taken, is at its end where no more may be given
 gives_on : (sent : Counts) (took : TakenCounts) (i : Item) → to_take sent took Client ≡ 0 → to_take sent took Server ≡ 0 → may_give i sent took ≡ false → ⊥

@@ -2,12 +2,12 @@
 use Rattle.std.proofs.Common.{◌≡◌, refl, sym, ap, ◌∙◌, ℕ, List, [], ◌∷◌, ◌++◌, append-nil, map, Bool, true, false, ◌||◌, nat_eq, if◌then◌else◌}
 use Rattle.std.proofs.lemmas.List.{map-append}
 use Rattle.px_bytes.specs.declared.addr.Side.TheVariants.{Client, Server}
-use Rattle.connection_model.specs.Further.{is_some_of}
-use Rattle.connection_model.specs.Heard.{Input, Bytes, Ends, Resets, Connects, Takes, EventKind, Accepts, Comes, Ticks, Turns, Runs, Marks, Heard, accepts, marks, event_marks}
-use Rattle.connection_model.specs.Item.{cause_of, reasons_in}
-use Rattle.connection_model.specs.Phases.{Orderly}
-use Rattle.connection_model.specs.Tellings.{NoteTells, tells, own, notes_about, finish_told}
-use Rattle.connection_model.proofs.Stepping.{finishes_once}
+use Rattle.conn_trace.specs.Further.{is_some_of}
+use Rattle.conn_trace.specs.Heard.{Input, Bytes, Ends, Resets, Connects, Takes, EventKind, Accepts, Comes, Ticks, Turns, Runs, Marks, Heard, accepts, marks, event_marks}
+use Rattle.conn_trace.specs.Item.{cause_of, reasons_in}
+use Rattle.conn_trace.specs.Phases.{Orderly}
+use Rattle.conn_trace.specs.Tellings.{NoteTells, tells, own, notes_about, finish_told}
+use Rattle.conn_trace.proofs.Stepping.{finishes_once}
 use Rattle.proxy_core.specs.Past.{Past, kind_of, heard}
 use Rattle.proxy_core.specs.Scheduler.{Seen}
 use Rattle.proxy_core.specs.Setup.{setup_of, begins_at, stand_of}

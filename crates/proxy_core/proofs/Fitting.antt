@@ -7,25 +7,25 @@ use Rattle.px_bytes.specs.declared.addr.Side.{Side}
 use Rattle.px_bytes.specs.declared.addr.Side.TheVariants.{Client, Server}
 use Rattle.px_bytes.specs.declared.fault.Reply.{Reply}
 use Rattle.event_order.specs.declared.event.EventName.TheVariants.{ClientData, ServerData}
-use Rattle.connection_model.specs.declared.edges.Edges.{Edges}
-use Rattle.connection_model.specs.declared.edges.EdgeState.{EdgeState}
-use Rattle.connection_model.specs.declared.note.Cause.TheVariants.{Memory}
-use Rattle.connection_model.specs.declared.note.Note.{Note}
-use Rattle.connection_model.specs.declared.note.Note.TheVariants as note
-use Rattle.connection_model.specs.Edges.{edge_of, edges_noted}
-use Rattle.connection_model.specs.Further.{longer}
-use Rattle.connection_model.specs.Gates.{TakenCounts}
-use Rattle.connection_model.specs.Heard.{Input, EventKind, Accepts, Comes, Ticks, Turns, Runs, Marks, Heard, hears, edges_met, event_edges, taken}
-use Rattle.connection_model.specs.HeardLaws.{taken_by_items}
-use Rattle.connection_model.specs.Item.{Item, Passed, Fired, Reused, Connected, Logged, Finished, note_of, notes_of}
-use Rattle.connection_model.specs.Phases.{Orderly}
-use Rattle.connection_model.specs.Places.{is_up}
-use Rattle.connection_model.specs.Queries.{half_close_due, relays_at}
-use Rattle.connection_model.specs.Setup.{Setup}
-use Rattle.connection_model.specs.State.{Phase, InEvent, Relaying, Link, Absent, Asked, Up, GivenUp, TraceState, link_of}
-use Rattle.connection_model.specs.Tellings.{own}
-use Rattle.connection_model.specs.Trace.{next_item, Unfolds}
-use Rattle.connection_model.proofs.Stepping.{steps}
+use Rattle.conn_trace.specs.declared.edges.Edges.{Edges}
+use Rattle.conn_trace.specs.declared.edges.EdgeState.{EdgeState}
+use Rattle.conn_trace.specs.declared.note.Cause.TheVariants.{Memory}
+use Rattle.conn_trace.specs.declared.note.Note.{Note}
+use Rattle.conn_trace.specs.declared.note.Note.TheVariants as note
+use Rattle.conn_trace.specs.Edges.{edge_of, edges_noted}
+use Rattle.conn_trace.specs.Further.{longer}
+use Rattle.conn_trace.specs.Gates.{TakenCounts}
+use Rattle.conn_trace.specs.Heard.{Input, EventKind, Accepts, Comes, Ticks, Turns, Runs, Marks, Heard, hears, edges_met, event_edges, taken}
+use Rattle.conn_trace.specs.HeardLaws.{taken_by_items}
+use Rattle.conn_trace.specs.Item.{Item, Passed, Fired, Reused, Connected, Logged, Finished, note_of, notes_of}
+use Rattle.conn_trace.specs.Phases.{Orderly}
+use Rattle.conn_trace.specs.Places.{is_up}
+use Rattle.conn_trace.specs.Queries.{half_close_due, relays_at}
+use Rattle.conn_trace.specs.Setup.{Setup}
+use Rattle.conn_trace.specs.State.{Phase, InEvent, Relaying, Link, Absent, Asked, Up, GivenUp, TraceState, link_of}
+use Rattle.conn_trace.specs.Tellings.{own}
+use Rattle.conn_trace.specs.Trace.{next_item, Unfolds}
+use Rattle.conn_trace.proofs.Stepping.{steps}
 use Rattle.conn.specs.RunsItems.{Passes, told_behind}
 use Rattle.conn.specs.Settling.{closing, is_over, settling_at, took_all}
 use Rattle.shared_store.specs.Calls.{reply}

@@ -1,17 +1,17 @@
 -- An event changes one connection alone: the others see the same.
 use Rattle.std.proofs.Common.{◌≡◌, refl, sym, ap, subst, ◌∙◌, ℕ, List, [], ◌∷◌, ◌++◌, Bool, true, false, nat_eq, inl, inr, ◌⊎◌, if◌then◌else◌}
 use Rattle.std.specs.Bool.{MatchBool}
-use Rattle.connection_model.specs.declared.note.Cause.TheVariants.{Memory}
-use Rattle.connection_model.specs.declared.note.Note.{Note}
-use Rattle.connection_model.specs.declared.note.Note.TheVariants.{Finish}
-use Rattle.connection_model.specs.Heard.{Input, EventKind, Accepts, Comes, Ticks, Turns, Runs, Marks, Heard, taken, edges_met, hears}
-use Rattle.connection_model.specs.HeardLaws.{concerns}
+use Rattle.conn_trace.specs.declared.note.Cause.TheVariants.{Memory}
+use Rattle.conn_trace.specs.declared.note.Note.{Note}
+use Rattle.conn_trace.specs.declared.note.Note.TheVariants.{Finish}
+use Rattle.conn_trace.specs.Heard.{Input, EventKind, Accepts, Comes, Ticks, Turns, Runs, Marks, Heard, taken, edges_met, hears}
+use Rattle.conn_trace.specs.HeardLaws.{concerns}
 use Rattle.px_bytes.specs.declared.fault.Reply.{Reply}
 use Rattle.shared_store.specs.Store.{StoreState}
 use Rattle.shared_store.specs.Calls.{reply}
-use Rattle.connection_model.specs.Item.{Item, notes_of}
-use Rattle.connection_model.specs.Tellings.{tells, conn_of}
-use Rattle.connection_model.proofs.Hearing.{others_not_heard}
+use Rattle.conn_trace.specs.Item.{Item, notes_of}
+use Rattle.conn_trace.specs.Tellings.{tells, conn_of}
+use Rattle.conn_trace.proofs.Hearing.{others_not_heard}
 use Rattle.proxy_core.specs.Calls.{calls_of, is_any, asker, queue_behind}
 use Rattle.proxy_core.specs.History.{store_of}
 use Rattle.proxy_core.specs.Moves.{Rests, is_drained_at, came, lacked, ran, MovesFailed, MovesLacks, MovesOn, MovesCome, RunsOn, RunsOut, RunsFailed, MovesRing, TurnNotes, MovesQueue, MovesBy}
@@ -21,11 +21,11 @@ use Rattle.proxy_core.specs.Past.{Past, heard, ended_in, without_all, with_accep
 use Rattle.proxy_core.specs.Ready.{is_in, ring_behind, with_ready, without}
 use Rattle.conn.specs.RunsItems.{is_resting, out_of_memory, told_behind}
 use Rattle.conn.specs.Settling.{closing, resting, settling_at}
-use Rattle.connection_model.specs.Edges.{edges_noted}
-use Rattle.connection_model.specs.Gates.{TakenCounts}
-use Rattle.connection_model.specs.Setup.{Setup}
-use Rattle.connection_model.specs.State.{TraceState}
-use Rattle.connection_model.specs.declared.edges.Edges.{Edges}
+use Rattle.conn_trace.specs.Edges.{edges_noted}
+use Rattle.conn_trace.specs.Gates.{TakenCounts}
+use Rattle.conn_trace.specs.Setup.{Setup}
+use Rattle.conn_trace.specs.State.{TraceState}
+use Rattle.conn_trace.specs.declared.edges.Edges.{Edges}
 use Rattle.conn.specs.declared.turn.ConnTurn.{ConnTurn}
 use Rattle.proxy_core.specs.Scheduler.{State, entries, Seen, seen, seen_after, untaken_all}
 use Rattle.proxy_core.specs.declared.config.Config.{Config}
@@ -33,7 +33,7 @@ use Rattle.proxy_core.proofs.Entries.{entries_behind, entries_pushed, entries_re
 use Rattle.proxy_core.proofs.GroupNotes.{About, about_joined, about_items, closing_due, due_about, of_items, own_none, resting_due, settling_due}
 use Rattle.proxy_core.specs.Setup.{setup_of, stand_of}
 use Rattle.conn.specs.Settling.{is_over, took_all}
-use Rattle.connection_model.specs.Trace.{next_item}
+use Rattle.conn_trace.specs.Trace.{next_item}
 use Rattle.px_bytes.specs.declared.addr.Side.TheVariants.{Client, Server}
 use Rattle.proxy_core.proofs.Members.{eq_same, eq_turned, in_pushed_other, in_without_other}
 

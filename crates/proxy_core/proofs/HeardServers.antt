@@ -1,9 +1,9 @@
 -- The server connections that are heard are those that were made: all of them while the connection hasn't finished.
 use Rattle.std.proofs.Common.{◌≡◌, refl, sym, ap, ◌∙◌, ℕ, suc, ◌+◌, ◌≤◌, List, [], ◌∷◌, ◌++◌, Bool, true, false, ◌||◌, true≢false, Option, Some, None, nat_eq, if◌then◌else◌, arith}
 use Rattle.px_bytes.specs.declared.addr.Side.TheVariants.{Client, Server}
-use Rattle.connection_model.specs.declared.note.Note.{Note}
-use Rattle.connection_model.specs.Heard.{Input, Bytes, Ends, Resets, Connects, Takes, EventKind, Accepts, Comes, Ticks, Turns, Runs, Marks, SideHeard, Heard, hears_more, at_last, Brought, brought_nothing, brings_in, event_brings, accepts, marks, event_marks, brought, hears}
-use Rattle.connection_model.specs.Tellings.{notes_about, finish_told}
+use Rattle.conn_trace.specs.declared.note.Note.{Note}
+use Rattle.conn_trace.specs.Heard.{Input, Bytes, Ends, Resets, Connects, Takes, EventKind, Accepts, Comes, Ticks, Turns, Runs, Marks, SideHeard, Heard, hears_more, at_last, Brought, brought_nothing, brings_in, event_brings, accepts, marks, event_marks, brought, hears}
+use Rattle.conn_trace.specs.Tellings.{notes_about, finish_told}
 use Rattle.proxy_core.specs.Past.{Past, kind_of, heard}
 use Rattle.proxy_core.specs.Servers.{made, makes, servers_made}
 

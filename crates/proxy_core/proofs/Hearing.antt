@@ -3,14 +3,14 @@ use Rattle.std.proofs.Common.{◌≡◌, refl, sym, ap, subst, ◌∙◌, ℕ, z
 use Rattle.std.specs.Prelude.{slice_get, unwrap_or}
 use Rattle.px_bytes.specs.declared.addr.Side.TheVariants.{Client, Server}
 use Rattle.px_bytes.specs.declared.fault.Reply.{Reply}
-use Rattle.connection_model.specs.declared.note.Note.{Note}
-use Rattle.connection_model.specs.Further.{Coming, Further, nothing_comes, replies_only}
-use Rattle.connection_model.specs.Item.{Choice}
-use Rattle.connection_model.specs.State.{Cut}
-use Rattle.connection_model.specs.Gates.{TakenCounts, taken_of}
-use Rattle.connection_model.specs.Heard.{Input, Bytes, Ends, Resets, Connects, Takes, EventKind, Comes, Turns, Runs, SideHeard, Heard, taken_by, side_taken, servers_taken, taken, has_made, hears_by, hears_more, at_last, as_answer, Brought, brought_nothing, hear_brought, marks, event_marks, brought, hears_event, hears, further_of}
-use Rattle.connection_model.specs.Laws.{AtLeast, TakesMore}
-use Rattle.connection_model.specs.Tellings.{tells, own, notes_about, replies_told, choices_told, cut_told, finish_told, failure_told}
+use Rattle.conn_trace.specs.declared.note.Note.{Note}
+use Rattle.conn_trace.specs.Further.{Coming, Further, nothing_comes, replies_only}
+use Rattle.conn_trace.specs.Item.{Choice}
+use Rattle.conn_trace.specs.State.{Cut}
+use Rattle.conn_trace.specs.Gates.{TakenCounts, taken_of}
+use Rattle.conn_trace.specs.Heard.{Input, Bytes, Ends, Resets, Connects, Takes, EventKind, Comes, Turns, Runs, SideHeard, Heard, taken_by, side_taken, servers_taken, taken, has_made, hears_by, hears_more, at_last, as_answer, Brought, brought_nothing, hear_brought, marks, event_marks, brought, hears_event, hears, further_of}
+use Rattle.conn_trace.specs.Laws.{AtLeast, TakesMore}
+use Rattle.conn_trace.specs.Tellings.{tells, own, notes_about, replies_told, choices_told, cut_told, finish_told, failure_told}
 use Rattle.proxy_core.proofs.GroupNotes.{About, own_all, tells_all}
 use Rattle.proxy_core.proofs.Members.{eq_self}
 

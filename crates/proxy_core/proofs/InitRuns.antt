@@ -12,7 +12,7 @@ use Rattle.rule_model.specs.declared.code.Code.{Code}
 use Rattle.plain_eval.specs.Plain.{Answers, IsOutcome}
 use Rattle.plain_eval.specs.declared.plain.Plain.{Plain}
 use Rattle.plain_eval.specs.declared.plain.Plain.TheVariants as plain
-use Rattle.connection_model.specs.Host.{HostState}
+use Rattle.conn_trace.specs.Host.{HostState}
 use Rattle.conn.specs.Hosts.{seen_net}
 use Rattle.conn.specs.declared.setup.Place.{Place}
 use Rattle.proxy_core.specs.Bodies.{Body, bodies_of, places_of}

@@ -1,21 +1,21 @@
 -- A cut that was heard was allowed: behind each event what was told still allows it.
 use Rattle.std.proofs.Common.{◌≡◌, inl, inr, refl, sym, ap, ◌∙◌, ℕ, ◌+◌, List, [], ◌∷◌, ◌++◌, append-nil, Bool, true, false, ◌||◌, if◌then◌else◌, Option, Some, None, is_none, zero-add}
 use Rattle.px_bytes.specs.declared.addr.Side.TheVariants.{Client, Server}
-use Rattle.connection_model.specs.declared.edges.Edges.{Edges}
-use Rattle.connection_model.specs.declared.note.CutReason.{CutReason}
-use Rattle.connection_model.specs.declared.note.CutReason.TheVariants.{ClientReset, ServerReset, Idle}
-use Rattle.connection_model.specs.declared.note.Note.{Note}
-use Rattle.connection_model.specs.Further.{Coming, nothing_comes, choosing, longer, first_cut, on_last}
-use Rattle.connection_model.specs.Gates.{TakenCounts, taken_of}
-use Rattle.connection_model.specs.Heard.{Input, Bytes, Ends, Resets, Connects, Takes, EventKind, Comes, Runs, SideHeard, Heard, taken, taken_by, servers_taken, has_made, hears_by, hears_more, at_last, brought_nothing, event_brings, brought, hear_brought, marks, event_marks, hears_event, hears, start_of}
-use Rattle.connection_model.specs.HeardLaws.{cut_for, cut_in, TellsNothing}
-use Rattle.connection_model.specs.Item.{Item, Reason, Closed, Tcl, Unselected, Rejected, CutBy, choices_in, notes_of, shown}
-use Rattle.connection_model.specs.Setup.{Setup}
-use Rattle.connection_model.specs.State.{Cut, TraceState}
-use Rattle.connection_model.specs.Tellings.{notes_about, cut_told, finish_told}
-use Rattle.connection_model.specs.Trace.{Unfolds}
-use Rattle.connection_model.proofs.Streams.{nothing_on_last}
-use Rattle.connection_model.proofs.Telling.{run_tells}
+use Rattle.conn_trace.specs.declared.edges.Edges.{Edges}
+use Rattle.conn_trace.specs.declared.note.CutReason.{CutReason}
+use Rattle.conn_trace.specs.declared.note.CutReason.TheVariants.{ClientReset, ServerReset, Idle}
+use Rattle.conn_trace.specs.declared.note.Note.{Note}
+use Rattle.conn_trace.specs.Further.{Coming, nothing_comes, choosing, longer, first_cut, on_last}
+use Rattle.conn_trace.specs.Gates.{TakenCounts, taken_of}
+use Rattle.conn_trace.specs.Heard.{Input, Bytes, Ends, Resets, Connects, Takes, EventKind, Comes, Runs, SideHeard, Heard, taken, taken_by, servers_taken, has_made, hears_by, hears_more, at_last, brought_nothing, event_brings, brought, hear_brought, marks, event_marks, hears_event, hears, start_of}
+use Rattle.conn_trace.specs.HeardLaws.{cut_for, cut_in, TellsNothing}
+use Rattle.conn_trace.specs.Item.{Item, Reason, Closed, Tcl, Unselected, Rejected, CutBy, choices_in, notes_of, shown}
+use Rattle.conn_trace.specs.Setup.{Setup}
+use Rattle.conn_trace.specs.State.{Cut, TraceState}
+use Rattle.conn_trace.specs.Tellings.{notes_about, cut_told, finish_told}
+use Rattle.conn_trace.specs.Trace.{Unfolds}
+use Rattle.conn_trace.proofs.Streams.{nothing_on_last}
+use Rattle.conn_trace.proofs.Telling.{run_tells}
 use Rattle.conn.specs.RunsItems.{CutAtRest, Passes}
 use Rattle.proxy_core.specs.Scheduler.{last_took}
 use Rattle.proxy_core.specs.Servers.{made, last_reset, licenses, awaits, Linked}

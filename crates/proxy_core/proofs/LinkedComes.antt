@@ -2,13 +2,13 @@
 use Rattle.std.proofs.Common.{◌≡◌, refl, sym, subst, ◌∙◌, ℕ, List, [], ◌∷◌, Bool, true, false, ◌||◌, not, true≢false}
 use Rattle.std.specs.List.{list_any}
 use Rattle.px_bytes.specs.declared.addr.Side.TheVariants.{Client, Server}
-use Rattle.connection_model.specs.declared.edges.Edges.{Edges}
-use Rattle.connection_model.specs.declared.note.Note.{Note}
-use Rattle.connection_model.specs.declared.note.Note.TheVariants as note
-use Rattle.connection_model.specs.Edges.{edges_by, edges_noted, is_connecting}
-use Rattle.connection_model.specs.Further.{Further, longer, nothing_further}
-use Rattle.connection_model.specs.Heard.{Input, Bytes, Ends, Resets, Connects, Takes, edges_met}
-use Rattle.connection_model.specs.State.{TraceState}
+use Rattle.conn_trace.specs.declared.edges.Edges.{Edges}
+use Rattle.conn_trace.specs.declared.note.Note.{Note}
+use Rattle.conn_trace.specs.declared.note.Note.TheVariants as note
+use Rattle.conn_trace.specs.Edges.{edges_by, edges_noted, is_connecting}
+use Rattle.conn_trace.specs.Further.{Further, longer, nothing_further}
+use Rattle.conn_trace.specs.Heard.{Input, Bytes, Ends, Resets, Connects, Takes, edges_met}
+use Rattle.conn_trace.specs.State.{TraceState}
 use Rattle.conn.specs.Calls.{unless_finished}
 use Rattle.conn.specs.Settling.{close_notes, closing}
 use Rattle.proxy_core.specs.Live.{further_in}

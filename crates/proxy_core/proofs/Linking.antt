@@ -1,21 +1,21 @@
 -- Where the server's end stands: along items and their notes, which fit it, and where more comes.
 use Rattle.std.proofs.Common.{◌≡◌, refl, sym, ap, subst, ◌∙◌, ℕ, suc, ◌≤◌, List, [], ◌∷◌, ◌++◌, append-nil, length, map, Bool, true, false, true≢false, Option, Some, None, is_some, arith}
 use Rattle.std.specs.Bool.{MatchBool}
-use Rattle.connection_model.specs.declared.edges.Edges.{Edges}
-use Rattle.connection_model.specs.declared.edges.EdgeState.{EdgeState}
-use Rattle.connection_model.specs.declared.edges.EdgeState.TheVariants as state
-use Rattle.connection_model.specs.declared.note.Note.{Note}
-use Rattle.connection_model.specs.Edges.{edges_by, edges_noted, answered_edge, is_connecting}
-use Rattle.connection_model.specs.Further.{Coming, Further, longer, on_last}
-use Rattle.connection_model.specs.Heard.{answer, as_answer}
-use Rattle.connection_model.specs.Item.{Item, Answered, Connected, Passed, Fired, Reused, Logged, Finished, note_of, notes_of}
-use Rattle.connection_model.specs.Phases.{OrderlyIn, Steps}
-use Rattle.connection_model.specs.Places.{is_up}
-use Rattle.connection_model.specs.Setup.{Setup}
-use Rattle.connection_model.specs.State.{Stream, link_of, TraceState}
-use Rattle.connection_model.specs.Trace.{Unfolds}
-use Rattle.connection_model.proofs.Stepping.{steps}
-use Rattle.connection_model.proofs.Streams.{link_same}
+use Rattle.conn_trace.specs.declared.edges.Edges.{Edges}
+use Rattle.conn_trace.specs.declared.edges.EdgeState.{EdgeState}
+use Rattle.conn_trace.specs.declared.edges.EdgeState.TheVariants as state
+use Rattle.conn_trace.specs.declared.note.Note.{Note}
+use Rattle.conn_trace.specs.Edges.{edges_by, edges_noted, answered_edge, is_connecting}
+use Rattle.conn_trace.specs.Further.{Coming, Further, longer, on_last}
+use Rattle.conn_trace.specs.Heard.{answer, as_answer}
+use Rattle.conn_trace.specs.Item.{Item, Answered, Connected, Passed, Fired, Reused, Logged, Finished, note_of, notes_of}
+use Rattle.conn_trace.specs.Phases.{OrderlyIn, Steps}
+use Rattle.conn_trace.specs.Places.{is_up}
+use Rattle.conn_trace.specs.Setup.{Setup}
+use Rattle.conn_trace.specs.State.{Stream, link_of, TraceState}
+use Rattle.conn_trace.specs.Trace.{Unfolds}
+use Rattle.conn_trace.proofs.Stepping.{steps}
+use Rattle.conn_trace.proofs.Streams.{link_same}
 use Rattle.proxy_core.specs.Fitting.{Fit}
 use Rattle.proxy_core.specs.Servers.{is_free, awaits, AskedAt, LinkedAt, Linked}
 use Rattle.proxy_core.proofs.EdgeNotes.{edges_joined}

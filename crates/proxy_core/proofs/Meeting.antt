@@ -3,13 +3,13 @@ use Rattle.std.proofs.Common.{◌≡◌, refl, sym, ap, ◌∙◌, ℕ, ◌+◌,
 use Rattle.std.proofs.lemmas.List.{drop-drop}
 use Rattle.px_bytes.specs.declared.addr.Side.TheVariants.{Client, Server}
 use Rattle.px_bytes.specs.declared.fault.Reply.{Reply}
-use Rattle.connection_model.specs.Further.{Coming, Further, nothing_comes, nothing_further}
-use Rattle.connection_model.specs.Heard.{Input, Bytes, Ends, Resets, Connects, Takes, Comes, EventKind, SideHeard, fresh_side, Heard, taken_by, side_taken, servers_taken, taken, hears_by, hears_more, has_made, at_last, answer, as_answer, Brought, brought_nothing, brings_in, event_brings, marks, event_marks, brought, hears_event, hears, further_of}
-use Rattle.connection_model.specs.HeardLaws.{TellsNothing}
-use Rattle.connection_model.specs.Item.{Choice, Item, client_output, server_output}
-use Rattle.connection_model.specs.State.{Cut}
-use Rattle.connection_model.specs.Tellings.{notes_about, replies_told, choices_told, cut_told, finish_told, failure_told}
-use Rattle.connection_model.specs.declared.note.Note.{Note}
+use Rattle.conn_trace.specs.Further.{Coming, Further, nothing_comes, nothing_further}
+use Rattle.conn_trace.specs.Heard.{Input, Bytes, Ends, Resets, Connects, Takes, Comes, EventKind, SideHeard, fresh_side, Heard, taken_by, side_taken, servers_taken, taken, hears_by, hears_more, has_made, at_last, answer, as_answer, Brought, brought_nothing, brings_in, event_brings, marks, event_marks, brought, hears_event, hears, further_of}
+use Rattle.conn_trace.specs.HeardLaws.{TellsNothing}
+use Rattle.conn_trace.specs.Item.{Choice, Item, client_output, server_output}
+use Rattle.conn_trace.specs.State.{Cut}
+use Rattle.conn_trace.specs.Tellings.{notes_about, replies_told, choices_told, cut_told, finish_told, failure_told}
+use Rattle.conn_trace.specs.declared.note.Note.{Note}
 use Rattle.conn.specs.Calls.{answered_by, more_at_last, none_at_last, unless_finished}
 use Rattle.conn.specs.Ends.{has_stream, heard_by, heard_end}
 use Rattle.conn.specs.Holds.{Around}

@@ -4,22 +4,22 @@ use Rattle.std.specs.Prelude.{is_some}
 use Rattle.std.specs.Bool.{MatchBool}
 use Rattle.px_bytes.specs.declared.addr.Side.TheVariants.{Client, Server}
 use Rattle.px_bytes.specs.declared.fault.Reply.{Reply}
-use Rattle.connection_model.specs.declared.edges.Edges.{Edges}
-use Rattle.connection_model.specs.declared.note.Cause.TheVariants.{Memory}
-use Rattle.connection_model.specs.declared.note.Note.{Note}
-use Rattle.connection_model.specs.declared.note.Note.TheVariants.{Finish}
-use Rattle.connection_model.specs.Edges.{accepted_edges, edges_noted, is_connecting}
-use Rattle.connection_model.specs.Further.{nothing_comes, longer, on_last}
-use Rattle.connection_model.specs.Heard.{Input, Bytes, Ends, Resets, Connects, Takes, EventKind, Accepts, Comes, Ticks, Turns, Runs, Marks, Heard, hears, edges_met, event_edges, start_of, taken}
-use Rattle.connection_model.specs.HeardLaws.{taken_by_items}
-use Rattle.connection_model.specs.Item.{Item, Answered, Connected, note_of, notes_of, server_output}
-use Rattle.connection_model.specs.Phases.{OrderlyIn}
-use Rattle.connection_model.specs.Setup.{Setup}
-use Rattle.connection_model.specs.State.{TraceState, link_of}
-use Rattle.connection_model.specs.Gates.{TakenCounts}
-use Rattle.connection_model.specs.Trace.{next_item, Unfolds}
-use Rattle.connection_model.proofs.Stepping.{steps}
-use Rattle.connection_model.proofs.Streams.{nothing_on_last}
+use Rattle.conn_trace.specs.declared.edges.Edges.{Edges}
+use Rattle.conn_trace.specs.declared.note.Cause.TheVariants.{Memory}
+use Rattle.conn_trace.specs.declared.note.Note.{Note}
+use Rattle.conn_trace.specs.declared.note.Note.TheVariants.{Finish}
+use Rattle.conn_trace.specs.Edges.{accepted_edges, edges_noted, is_connecting}
+use Rattle.conn_trace.specs.Further.{nothing_comes, longer, on_last}
+use Rattle.conn_trace.specs.Heard.{Input, Bytes, Ends, Resets, Connects, Takes, EventKind, Accepts, Comes, Ticks, Turns, Runs, Marks, Heard, hears, edges_met, event_edges, start_of, taken}
+use Rattle.conn_trace.specs.HeardLaws.{taken_by_items}
+use Rattle.conn_trace.specs.Item.{Item, Answered, Connected, note_of, notes_of, server_output}
+use Rattle.conn_trace.specs.Phases.{OrderlyIn}
+use Rattle.conn_trace.specs.Setup.{Setup}
+use Rattle.conn_trace.specs.State.{TraceState, link_of}
+use Rattle.conn_trace.specs.Gates.{TakenCounts}
+use Rattle.conn_trace.specs.Trace.{next_item, Unfolds}
+use Rattle.conn_trace.proofs.Stepping.{steps}
+use Rattle.conn_trace.proofs.Streams.{nothing_on_last}
 use Rattle.conn.specs.RunsItems.{Passes, is_resting, told_behind}
 use Rattle.conn.specs.Settling.{closing, is_over, resting, settling_at, took_all}
 use Rattle.conn.specs.declared.turn.ConnTurn.{ConnTurn}

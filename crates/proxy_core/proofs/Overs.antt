@@ -1,14 +1,14 @@
 -- A trace that is over stays so, and has finished.
 use Rattle.std.proofs.Common.{◌≡◌, refl, sym, ap, subst, ◌∙◌, List, [], ◌∷◌, Bool, true, false, not, ◌||◌, Option, Some, None, if◌then◌else◌}
-use Rattle.connection_model.specs.Further.{Further, Same, longer}
-use Rattle.connection_model.specs.Gates.{Counts, TakenCounts, may_give}
-use Rattle.connection_model.specs.HeardLaws.{taken_by_items}
-use Rattle.connection_model.specs.Item.{CutBy, Item}
-use Rattle.connection_model.specs.Phases.{Orderly}
-use Rattle.connection_model.specs.Setup.{Setup}
-use Rattle.connection_model.specs.State.{Cut, TraceState, Next, Does, Waits, Over}
-use Rattle.connection_model.specs.Trace.{cut_next, cut_open, cut_takes, uncut, finish, counted, phase_next, next_item, Unfolds}
-use Rattle.connection_model.proofs.Longer.{phase_same}
+use Rattle.conn_trace.specs.Further.{Further, Same, longer}
+use Rattle.conn_trace.specs.Gates.{Counts, TakenCounts, may_give}
+use Rattle.conn_trace.specs.HeardLaws.{taken_by_items}
+use Rattle.conn_trace.specs.Item.{CutBy, Item}
+use Rattle.conn_trace.specs.Phases.{Orderly}
+use Rattle.conn_trace.specs.Setup.{Setup}
+use Rattle.conn_trace.specs.State.{Cut, TraceState, Next, Does, Waits, Over}
+use Rattle.conn_trace.specs.Trace.{cut_next, cut_open, cut_takes, uncut, finish, counted, phase_next, next_item, Unfolds}
+use Rattle.conn_trace.proofs.Longer.{phase_same}
 use Rattle.conn.specs.Settling.{is_over}
 use Rattle.proxy_core.proofs.Ending.{over_finished}
 

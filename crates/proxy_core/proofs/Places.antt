@@ -2,8 +2,8 @@
 use Rattle.std.proofs.Common.{◌≡◌, ℕ, zero, suc, ◌+◌, ◌-◌, ◌≤◌, List, [], ◌∷◌, Bool, true, false, ◌||◌, if◌then◌else◌, Some, nat_eq, refl, sym, ap, ◌∙◌, arith, remove, set, get_or}
 use Rattle.std.specs.List.{position_from, slice_get}
 use Rattle.std.proofs.lemmas.Bool.Decides.{nat_tests}
-use Rattle.connection_table.specs.Table.{place_in}
-use Rattle.connection_table.proofs.Numbers.{placed_by}
+use Rattle.number_table.specs.Table.{place_in}
+use Rattle.number_table.proofs.Numbers.{placed_by}
 use Rattle.proxy_core.specs.declared.live.Live.{Live}
 use Rattle.proxy_core.specs.Ready.{numbers, is_in, place_of}
 use Rattle.proxy_core.specs.Refusals.{live_at}

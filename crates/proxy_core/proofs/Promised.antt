@@ -5,29 +5,29 @@ use Rattle.std.proofs.lemmas.List.{take-append-le}
 use Rattle.std.proofs.lemmas.Grind.{flat_map-append}
 use Rattle.px_bytes.specs.declared.addr.Side.{Side}
 use Rattle.px_bytes.specs.declared.addr.Side.TheVariants.{Client, Server}
-use Rattle.connection_model.specs.declared.edges.Edges.{Edges}
-use Rattle.connection_model.specs.declared.note.Cause.{Cause}
-use Rattle.connection_model.specs.declared.note.Cause.TheVariants.{Memory}
-use Rattle.connection_model.specs.declared.note.Note.{Note}
-use Rattle.connection_model.specs.Further.{is_some_of}
-use Rattle.connection_model.specs.Gates.{Counts, TakenCounts, no_bytes, to_take, untaken}
-use Rattle.connection_model.specs.Heard.{Heard, taken, taken_by}
-use Rattle.connection_model.specs.Item.{Item, Reason, cause_of, to_client, to_server, client_output, server_output, notes_of, reasons_in}
-use Rattle.connection_model.specs.Laws.{Stops, cut_is_taken, takes_cut}
-use Rattle.connection_model.specs.Setup.{Setup}
-use Rattle.connection_model.specs.State.{TraceState, Next, Does, Waits, Over, link_of}
-use Rattle.connection_model.specs.Trace.{next_item, trace, GivesNoMore}
-use Rattle.connection_model.proofs.Given.{sent_output}
-use Rattle.connection_model.proofs.Stepping.{finishes_once}
-use Rattle.connection_model.proofs.Taking.{taken_all_opens}
-use Rattle.connection_model.proofs.Telling.{items_tell}
-use Rattle.connection_model.proofs.Unfolding.{trace_unfolds, stopped_is_whole}
-use Rattle.connection_model.specs.Edges.{edge_of}
-use Rattle.connection_model.specs.Queries.{half_close_due}
-use Rattle.connection_model.specs.Tellings.{failure_told, notes_about}
-use Rattle.connection_model.specs.declared.note.Note.TheVariants.{HalfClose}
-use Rattle.connection_model.specs.declared.note.CutReason.{CutReason}
-use Rattle.connection_model.specs.declared.note.CutReason.TheVariants.{ClientReset, ServerReset, Idle}
+use Rattle.conn_trace.specs.declared.edges.Edges.{Edges}
+use Rattle.conn_trace.specs.declared.note.Cause.{Cause}
+use Rattle.conn_trace.specs.declared.note.Cause.TheVariants.{Memory}
+use Rattle.conn_trace.specs.declared.note.Note.{Note}
+use Rattle.conn_trace.specs.Further.{is_some_of}
+use Rattle.conn_trace.specs.Gates.{Counts, TakenCounts, no_bytes, to_take, untaken}
+use Rattle.conn_trace.specs.Heard.{Heard, taken, taken_by}
+use Rattle.conn_trace.specs.Item.{Item, Reason, cause_of, to_client, to_server, client_output, server_output, notes_of, reasons_in}
+use Rattle.conn_trace.specs.Laws.{Stops, cut_is_taken, takes_cut}
+use Rattle.conn_trace.specs.Setup.{Setup}
+use Rattle.conn_trace.specs.State.{TraceState, Next, Does, Waits, Over, link_of}
+use Rattle.conn_trace.specs.Trace.{next_item, trace, GivesNoMore}
+use Rattle.conn_trace.proofs.Given.{sent_output}
+use Rattle.conn_trace.proofs.Stepping.{finishes_once}
+use Rattle.conn_trace.proofs.Taking.{taken_all_opens}
+use Rattle.conn_trace.proofs.Telling.{items_tell}
+use Rattle.conn_trace.proofs.Unfolding.{trace_unfolds, stopped_is_whole}
+use Rattle.conn_trace.specs.Edges.{edge_of}
+use Rattle.conn_trace.specs.Queries.{half_close_due}
+use Rattle.conn_trace.specs.Tellings.{failure_told, notes_about}
+use Rattle.conn_trace.specs.declared.note.Note.TheVariants.{HalfClose}
+use Rattle.conn_trace.specs.declared.note.CutReason.{CutReason}
+use Rattle.conn_trace.specs.declared.note.CutReason.TheVariants.{ClientReset, ServerReset, Idle}
 use Rattle.conn.specs.RunsItems.{is_cut, licenses}
 use Rattle.conn.specs.Settling.{half_close, is_drained, is_over, note_if, settling_at}
 use Rattle.proxy_core.specs.Calls.{calls_of}
@@ -42,7 +42,7 @@ use Rattle.proxy_core.specs.declared.config.Config.{Config}
 use Rattle.proxy_core.proofs.Answering.{heard_recorded}
 use Rattle.proxy_core.proofs.Ending.{finished_is_over}
 use Rattle.proxy_core.proofs.Finished.{heard_finish, stands_orderly, trace_finished}
-use Rattle.connection_model.specs.Phases.{Orderly, OrderlyIn}
+use Rattle.conn_trace.specs.Phases.{Orderly, OrderlyIn}
 use Rattle.proxy_core.proofs.Overs.{finished_plain, over_done}
 use Rattle.proxy_core.proofs.Standing.{sent_at}
 

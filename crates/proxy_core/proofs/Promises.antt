@@ -1,13 +1,13 @@
 -- The promise, of every past that leads to a state, from what holds of it.
 use Rattle.std.proofs.Common.{◌≡◌, refl, sym, subst, ◌∙◌, ℕ, ◌+◌, ◌-◌, ◌≤◌, List, length, true, false, arith}
 use Rattle.px_bytes.specs.declared.addr.Side.TheVariants.{Server}
-use Rattle.connection_model.specs.Gates.{Counts, no_bytes, sent_from}
-use Rattle.connection_model.specs.Heard.{Heard, taken}
-use Rattle.connection_model.specs.Item.{Item, client_output}
-use Rattle.connection_model.specs.Setup.{Setup}
-use Rattle.connection_model.specs.State.{TraceState}
-use Rattle.connection_model.specs.Trace.{next_item, GivesNoMore}
-use Rattle.connection_model.specs.declared.note.CutReason.TheVariants.{ClientReset, ServerReset, Idle}
+use Rattle.conn_trace.specs.Gates.{Counts, no_bytes, sent_from}
+use Rattle.conn_trace.specs.Heard.{Heard, taken}
+use Rattle.conn_trace.specs.Item.{Item, client_output}
+use Rattle.conn_trace.specs.Setup.{Setup}
+use Rattle.conn_trace.specs.State.{TraceState}
+use Rattle.conn_trace.specs.Trace.{next_item, GivesNoMore}
+use Rattle.conn_trace.specs.declared.note.CutReason.TheVariants.{ClientReset, ServerReset, Idle}
 use Rattle.proxy_core.specs.Headline.{IsSettled, NoCutIsDue, ConnectionPromise, EveryPastMatches, OutputMatchesEvaluator}
 use Rattle.proxy_core.specs.Moves.{Leads}
 use Rattle.proxy_core.specs.Past.{Past, heard}

@@ -1,9 +1,9 @@
 -- The numbers of the live connections, where one is accepted.
 use Rattle.std.proofs.Common.{◌≡◌, ℕ, ◌<◌, ◌≤◌, List, [], ◌∷◌, ◌++◌, Bool, true, false, nat_eq, sym, ◌∙◌, refl, arith}
 use Rattle.std.proofs.lemmas.List.{map-append}
-pub use Rattle.connection_table.proofs.Ring.{absent_all, distinct_none, distinct_push, distinct_without}
-use Rattle.connection_table.proofs.Numbers.{eq_same}
-use Rattle.connection_table.proofs.Ring.{in_pushed_other}
+pub use Rattle.number_table.proofs.Ring.{absent_all, distinct_none, distinct_push, distinct_without}
+use Rattle.number_table.proofs.Numbers.{eq_same}
+use Rattle.number_table.proofs.Ring.{in_pushed_other}
 use Rattle.proxy_core.specs.declared.live.Live.{Live}
 use Rattle.proxy_core.specs.Ready.{numbers, is_in}
 

@@ -1,9 +1,9 @@
 -- A Tick, a Mark, and a Turn on an empty queue: from what changed in a core to what the core stands for.
 use Rattle.std.proofs.Common.{◌≡◌, refl, sym, ap, subst, ◌∙◌, ℕ, List, [], Bool}
 use Rattle.px_bytes.specs.declared.addr.Addr.{Addr}
-use Rattle.connection_model.specs.declared.note.Note.{Note}
-use Rattle.connection_model.specs.Heard.{Heard, EventKind, Ticks, Turns, Marks, hears}
-use Rattle.connection_model.proofs.Hearing.{others_not_heard}
+use Rattle.conn_trace.specs.declared.note.Note.{Note}
+use Rattle.conn_trace.specs.Heard.{Heard, EventKind, Ticks, Turns, Marks, hears}
+use Rattle.conn_trace.proofs.Hearing.{others_not_heard}
 use Rattle.proxy_core.specs.Changes as code
 use Rattle.shared_store.specs.Store.{marked}
 use Rattle.proxy_core.specs.Calls.{asker}

@@ -1,14 +1,14 @@
 -- A Run: from what changed in a core to what the core stands for.
 use Rattle.std.proofs.Common.{◌≡◌, refl, sym, ap, subst, ◌∙◌, ℕ, ◌<◌, List, [], ◌∷◌, length, Bool, true, false, not, nat_eq, if◌then◌else◌, remove, set}
 use Rattle.tcl_vars.specs.Scopes.{Level}
-use Rattle.connection_model.specs.declared.edges.Edges.{Edges}
-use Rattle.connection_model.specs.declared.note.Note.{Note}
-use Rattle.connection_model.specs.Edges.{edges_noted}
-use Rattle.connection_model.specs.Gates.{TakenCounts}
-use Rattle.connection_model.specs.Heard.{Runs, taken}
-use Rattle.connection_model.specs.Setup.{Setup}
-use Rattle.connection_model.specs.State.{TraceState}
-use Rattle.connection_model.proofs.Hearing.{others_not_heard}
+use Rattle.conn_trace.specs.declared.edges.Edges.{Edges}
+use Rattle.conn_trace.specs.declared.note.Note.{Note}
+use Rattle.conn_trace.specs.Edges.{edges_noted}
+use Rattle.conn_trace.specs.Gates.{TakenCounts}
+use Rattle.conn_trace.specs.Heard.{Runs, taken}
+use Rattle.conn_trace.specs.Setup.{Setup}
+use Rattle.conn_trace.specs.State.{TraceState}
+use Rattle.conn_trace.proofs.Hearing.{others_not_heard}
 use Rattle.conn.specs.RunsItems.{ends}
 use Rattle.proxy_core.specs.Changes as code
 use Rattle.proxy_core.specs.Calls.{calls_of, queue_behind}

@@ -3,22 +3,22 @@ use Rattle.std.proofs.Common.{◌≡◌, ◌⊎◌, inl, inr, refl, sym, ap, sub
 use Rattle.std.specs.Bool.{MatchBool}
 use Rattle.std.proofs.lemmas.List.{length-drop, drop-append-le}
 use Rattle.std.proofs.lemmas.Grind.{flat_map-append}
-use Rattle.connection_model.specs.declared.edges.Edges.{Edges}
-use Rattle.connection_model.specs.declared.note.Cause.TheVariants.{Memory}
-use Rattle.connection_model.specs.declared.note.Note.{Note}
-use Rattle.connection_model.specs.declared.note.Note.TheVariants.{Finish}
-use Rattle.connection_model.specs.Edges.{edges_noted}
-use Rattle.connection_model.specs.Further.{longer}
-use Rattle.connection_model.specs.Gates.{Counts, TakenCounts, no_bytes, sent_after, sent_from}
-use Rattle.connection_model.specs.Heard.{Runs, Heard, taken, hears, start_of}
-use Rattle.connection_model.specs.HeardLaws.{TellsNothing, taken_by_items}
-use Rattle.connection_model.specs.Item.{Item, to_client, to_server, client_output, server_output, notes_of}
-use Rattle.connection_model.specs.Setup.{Setup}
-use Rattle.connection_model.specs.State.{TraceState}
-use Rattle.connection_model.specs.Tellings.{notes_about, failure_told}
-use Rattle.connection_model.specs.Trace.{Unfolds}
-use Rattle.connection_model.proofs.Given.{sent_counted, sent_output}
-use Rattle.connection_model.proofs.Sending.{sent_to_server}
+use Rattle.conn_trace.specs.declared.edges.Edges.{Edges}
+use Rattle.conn_trace.specs.declared.note.Cause.TheVariants.{Memory}
+use Rattle.conn_trace.specs.declared.note.Note.{Note}
+use Rattle.conn_trace.specs.declared.note.Note.TheVariants.{Finish}
+use Rattle.conn_trace.specs.Edges.{edges_noted}
+use Rattle.conn_trace.specs.Further.{longer}
+use Rattle.conn_trace.specs.Gates.{Counts, TakenCounts, no_bytes, sent_after, sent_from}
+use Rattle.conn_trace.specs.Heard.{Runs, Heard, taken, hears, start_of}
+use Rattle.conn_trace.specs.HeardLaws.{TellsNothing, taken_by_items}
+use Rattle.conn_trace.specs.Item.{Item, to_client, to_server, client_output, server_output, notes_of}
+use Rattle.conn_trace.specs.Setup.{Setup}
+use Rattle.conn_trace.specs.State.{TraceState}
+use Rattle.conn_trace.specs.Tellings.{notes_about, failure_told}
+use Rattle.conn_trace.specs.Trace.{Unfolds}
+use Rattle.conn_trace.proofs.Given.{sent_counted, sent_output}
+use Rattle.conn_trace.proofs.Sending.{sent_to_server}
 use Rattle.conn.specs.Ends.{is_up, number_by, queued_in}
 use Rattle.conn.specs.Holds.{Around, Holds, HoldsEnds}
 use Rattle.conn.specs.Runs.{GoesOnWith, StopsWithout}

@@ -2,10 +2,10 @@
 use Rattle.std.proofs.Common.{◌≡◌, ◌⊎◌, inl, inr, refl, sym, ap, ◌∙◌, ℕ, zero, suc, ◌+◌, ◌-◌, ◌≤◌, List, [], ◌∷◌, ◌++◌, map, Bool, true, false, true≢false, if◌then◌else◌, Option, Some, None, nat_eq, arith}
 use Rattle.std.specs.Prelude.{slice_get, unwrap_or}
 use Rattle.px_bytes.specs.declared.addr.Side.TheVariants.{Client, Server}
-use Rattle.connection_model.specs.declared.note.Note.{Note}
-use Rattle.connection_model.specs.Gates.{untaken, taken_of}
-use Rattle.connection_model.specs.Heard.{Input, Bytes, Ends, Resets, Connects, Takes, Comes, SideHeard, Heard, taken_by, side_taken, servers_taken, has_made, hears_by, hears_more, at_last, answer, as_answer, Brought, brought_nothing, brings_in, marks, event_brings, event_marks, brought, hears}
-use Rattle.connection_model.specs.Further.{Coming}
+use Rattle.conn_trace.specs.declared.note.Note.{Note}
+use Rattle.conn_trace.specs.Gates.{untaken, taken_of}
+use Rattle.conn_trace.specs.Heard.{Input, Bytes, Ends, Resets, Connects, Takes, Comes, SideHeard, Heard, taken_by, side_taken, servers_taken, has_made, hears_by, hears_more, at_last, answer, as_answer, Brought, brought_nothing, brings_in, marks, event_brings, event_marks, brought, hears}
+use Rattle.conn_trace.specs.Further.{Coming}
 use Rattle.proxy_core.specs.Scheduler.{last_took}
 use Rattle.proxy_core.specs.Servers.{made, took_behind, took_of, last_reset}
 use Rattle.proxy_core.proofs.ServerGone.{never}

@@ -7,11 +7,11 @@ use Rattle.irule_net.specs.declared.state.Asks.TheVariants.{NotAsked, Stated}
 use Rattle.irule_net.specs.declared.state.Ending.{Ending}
 use Rattle.irule_net.specs.declared.state.Ending.TheVariants.{Rejects, Closes}
 use Rattle.irule_net.specs.declared.state.Selected.{Selected}
-use Rattle.connection_model.specs.Host.{HostState}
-use Rattle.connection_model.specs.Item.{Unselected}
-use Rattle.connection_model.specs.Places.{place, is_up, begun, bodies_left, closed_client, closed, connecting, behind_accepted, behind_data, behind_connected, goes_on, unless_ended, after_event, entered, enter, next_body}
-use Rattle.connection_model.specs.Setup.{Handler, Setup}
-use Rattle.connection_model.specs.State.{Phase, Carrying, InEvent, Choosing, Selecting, Connecting, Answering, Collecting, Finishing, Draining, Link, Absent, Asked, Up, GivenUp, link_of, TraceState}
+use Rattle.conn_trace.specs.Host.{HostState}
+use Rattle.conn_trace.specs.Item.{Unselected}
+use Rattle.conn_trace.specs.Places.{place, is_up, begun, bodies_left, closed_client, closed, connecting, behind_accepted, behind_data, behind_connected, goes_on, unless_ended, after_event, entered, enter, next_body}
+use Rattle.conn_trace.specs.Setup.{Handler, Setup}
+use Rattle.conn_trace.specs.State.{Phase, Carrying, InEvent, Choosing, Selecting, Connecting, Answering, Collecting, Finishing, Draining, Link, Absent, Asked, Up, GivenUp, link_of, TraceState}
 use Rattle.proxy_core.specs.Servers.{awaits}
 
 pub never : {A : Type 0} → false ≡ true → A

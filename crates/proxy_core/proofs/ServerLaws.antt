@@ -1,18 +1,18 @@
 -- The server connections along items: the made ones are those that were answered and those that wait; while there is none its number is 0; a server is asked for where the one before took all; and to a later one nothing was sent.
 use Rattle.std.proofs.Common.{◌≡◌, refl, sym, ap, subst, ◌∙◌, ℕ, ◌+◌, ◌<◌, ◌≤◌, List, [], ◌∷◌, ◌++◌, length, Bool, true, false, ◌||◌, not, true≢false, if◌then◌else◌, Option, Some, None, is_some, arith, eqb-true, ne_eqb}
 use Rattle.px_bytes.specs.declared.addr.Side.TheVariants.{Server}
-use Rattle.connection_model.specs.Further.{Further, longer}
-use Rattle.connection_model.specs.Gates.{Counts, no_bytes, TakenCounts, to_take, may_give, sent_to, sent_part, renewed, sent_after, Met}
-use Rattle.connection_model.specs.Item.{Item, Answered, Connected, CutBy, Peer, ToClient, ToServer, Sending, shown, bytes_to_server, server_part, server_output}
-use Rattle.connection_model.specs.Phases.{finishes, Orderly, Steps}
-use Rattle.connection_model.specs.Places.{is_up}
-use Rattle.connection_model.specs.Setup.{Setup}
-use Rattle.connection_model.specs.State.{Answers, link_of, Cut, Stream, TraceState, Next, Does, Waits, Over}
-use Rattle.connection_model.specs.Trace.{finish, uncut, phase_next, cut_takes, cut_open, cut_next, counted, next_item, Unfolds, start}
-use Rattle.connection_model.proofs.Fair.{PeerIs, SendsTo, FairNext, phase_fair}
-use Rattle.connection_model.proofs.Given.{sent_step}
-use Rattle.connection_model.proofs.Stepping.{start_orderly, steps}
-use Rattle.connection_model.proofs.Streams.{link_same}
+use Rattle.conn_trace.specs.Further.{Further, longer}
+use Rattle.conn_trace.specs.Gates.{Counts, no_bytes, TakenCounts, to_take, may_give, sent_to, sent_part, renewed, sent_after, Met}
+use Rattle.conn_trace.specs.Item.{Item, Answered, Connected, CutBy, Peer, ToClient, ToServer, Sending, shown, bytes_to_server, server_part, server_output}
+use Rattle.conn_trace.specs.Phases.{finishes, Orderly, Steps}
+use Rattle.conn_trace.specs.Places.{is_up}
+use Rattle.conn_trace.specs.Setup.{Setup}
+use Rattle.conn_trace.specs.State.{Answers, link_of, Cut, Stream, TraceState, Next, Does, Waits, Over}
+use Rattle.conn_trace.specs.Trace.{finish, uncut, phase_next, cut_takes, cut_open, cut_next, counted, next_item, Unfolds, start}
+use Rattle.conn_trace.proofs.Fair.{PeerIs, SendsTo, FairNext, phase_fair}
+use Rattle.conn_trace.proofs.Given.{sent_step}
+use Rattle.conn_trace.proofs.Stepping.{start_orderly, steps}
+use Rattle.conn_trace.proofs.Streams.{link_same}
 use Rattle.proxy_core.specs.Servers.{awaits, made}
 use Rattle.proxy_core.proofs.Drains.{longer_orderly}
 use Rattle.proxy_core.proofs.ServerGone.{never, unlinked, NotUp}

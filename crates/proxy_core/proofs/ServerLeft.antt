@@ -1,15 +1,15 @@
 -- What was told of a server connection agrees with what was sent to it: what it took, what is pending, and its reset.
 use Rattle.std.proofs.Common.{◌≡◌, refl, sym, ap, subst, ◌∙◌, ℕ, zero, suc, ◌+◌, ◌-◌, ◌≤◌, ◌<◌, List, [], ◌∷◌, length, map, Bool, true, false, Option, is_none, arith, zero-add}
 use Rattle.px_bytes.specs.declared.addr.Side.TheVariants.{Server}
-use Rattle.connection_model.specs.declared.note.CutReason.TheVariants.{ServerReset}
-use Rattle.connection_model.specs.Gates.{no_bytes, sent_from, to_take, taken_of, untaken}
-use Rattle.connection_model.specs.Heard.{Heard, taken, taken_by, servers_taken, as_answer, start_of}
-use Rattle.connection_model.specs.Item.{Item, server_output}
-use Rattle.connection_model.specs.Phases.{OrderlyIn}
-use Rattle.connection_model.specs.Setup.{Setup}
-use Rattle.connection_model.specs.State.{Phase, Answering, Link, Stream, TraceState, link_of}
-use Rattle.connection_model.specs.Trace.{next_item, Unfolds, GivesNoMore}
-use Rattle.connection_model.proofs.Sending.{sent_to_server}
+use Rattle.conn_trace.specs.declared.note.CutReason.TheVariants.{ServerReset}
+use Rattle.conn_trace.specs.Gates.{no_bytes, sent_from, to_take, taken_of, untaken}
+use Rattle.conn_trace.specs.Heard.{Heard, taken, taken_by, servers_taken, as_answer, start_of}
+use Rattle.conn_trace.specs.Item.{Item, server_output}
+use Rattle.conn_trace.specs.Phases.{OrderlyIn}
+use Rattle.conn_trace.specs.Setup.{Setup}
+use Rattle.conn_trace.specs.State.{Phase, Answering, Link, Stream, TraceState, link_of}
+use Rattle.conn_trace.specs.Trace.{next_item, Unfolds, GivesNoMore}
+use Rattle.conn_trace.proofs.Sending.{sent_to_server}
 use Rattle.conn.specs.RunsItems.{licenses as licensed_at}
 use Rattle.proxy_core.specs.Scheduler.{Seen, last_took, untaken_of}
 use Rattle.proxy_core.specs.Servers.{made, took_of, last_reset, awaits}

@@ -19,16 +19,16 @@ use Rattle.irule_net.specs.declared.state.Asks.{Asks}
 use Rattle.irule_net.specs.declared.state.Asks.TheVariants.{NotAsked, Stated}
 use Rattle.irule_net.specs.declared.state.Target.{Target}
 use Rattle.irule_net.specs.declared.state.Target.TheVariants.{Default, PoolOf, MemberOf, NodeAt}
-use Rattle.connection_model.specs.Bodies.{run_body, act_item, ended_next, act_next, bodies_next}
-use Rattle.connection_model.specs.Host.{HostState, with_selected}
-use Rattle.connection_model.specs.Item.{Item, Reason, Closed, Rejected, Tcl, Choice, Answered, Connected}
-use Rattle.connection_model.specs.Phases.{OrderlyIn}
-use Rattle.connection_model.specs.Places.{at as put, place, is_up, is_closing, next_body, after_body, data_event}
-use Rattle.connection_model.specs.Relay.{incoming, RelayAct, BothDone, Passing, Firing, Resting, relay_act, fired_host, collect_act, behind_fires}
-use Rattle.connection_model.specs.Selected.{addr_of}
-use Rattle.connection_model.specs.Setup.{Handler, Setup}
-use Rattle.connection_model.specs.State.{Bodies, Gated, Running, Failing, Fate, Forwards, Drops, Phase, Carrying, InEvent, Choosing, Selecting, Connecting, Answering, Releasing, Relaying, Collecting, Finishing, Draining, Stream, ServerSide, NoServer, Sought, There, Retired, Link, Absent, Up, link_of, TraceState, Next, Does, Waits, Over, stream_of, read_server, read_side}
-use Rattle.connection_model.specs.Trace.{finish, choosing_next, default_next, selected_next, selecting_next, answering_next, fired_next, relay_next, collect_next, collecting_next, unit_item, unit_next, carrying_next, phase_next}
+use Rattle.conn_trace.specs.Bodies.{run_body, act_item, ended_next, act_next, bodies_next}
+use Rattle.conn_trace.specs.Host.{HostState, with_selected}
+use Rattle.conn_trace.specs.Item.{Item, Reason, Closed, Rejected, Tcl, Choice, Answered, Connected}
+use Rattle.conn_trace.specs.Phases.{OrderlyIn}
+use Rattle.conn_trace.specs.Places.{at as put, place, is_up, is_closing, next_body, after_body, data_event}
+use Rattle.conn_trace.specs.Relay.{incoming, RelayAct, BothDone, Passing, Firing, Resting, relay_act, fired_host, collect_act, behind_fires}
+use Rattle.conn_trace.specs.Selected.{addr_of}
+use Rattle.conn_trace.specs.Setup.{Handler, Setup}
+use Rattle.conn_trace.specs.State.{Bodies, Gated, Running, Failing, Fate, Forwards, Drops, Phase, Carrying, InEvent, Choosing, Selecting, Connecting, Answering, Releasing, Relaying, Collecting, Finishing, Draining, Stream, ServerSide, NoServer, Sought, There, Retired, Link, Absent, Up, link_of, TraceState, Next, Does, Waits, Over, stream_of, read_server, read_side}
+use Rattle.conn_trace.specs.Trace.{finish, choosing_next, default_next, selected_next, selecting_next, answering_next, fired_next, relay_next, collect_next, collecting_next, unit_item, unit_next, carrying_next, phase_next}
 use Rattle.proxy_core.specs.Servers.{awaits}
 use Rattle.proxy_core.proofs.ServerGone.{never, event_unlinked, NotUpIn, NotUp, Gone, next_gone, enter_gone, closed_waits}
 

@@ -1,11 +1,11 @@
 -- What each item does to the server's side of a trace, a cut among them.
 use Rattle.std.proofs.Common.{◌≡◌, refl, sym, ap, subst, ◌∙◌, [], Bool, true, false, ◌||◌, not, true≢false, if◌then◌else◌, Option, Some, None}
-use Rattle.connection_model.specs.Gates.{Counts, TakenCounts, may_give}
-use Rattle.connection_model.specs.Item.{Item, Reason, CutBy, Answered, Connected}
-use Rattle.connection_model.specs.Phases.{Orderly}
-use Rattle.connection_model.specs.Setup.{Setup}
-use Rattle.connection_model.specs.State.{Phase, link_of, Cut, TraceState, Next, Does, Waits, Over}
-use Rattle.connection_model.specs.Trace.{finish, phase_next, cut_takes, uncut, cut_open, cut_next, counted, next_item, GivesNoMore}
+use Rattle.conn_trace.specs.Gates.{Counts, TakenCounts, may_give}
+use Rattle.conn_trace.specs.Item.{Item, Reason, CutBy, Answered, Connected}
+use Rattle.conn_trace.specs.Phases.{Orderly}
+use Rattle.conn_trace.specs.Setup.{Setup}
+use Rattle.conn_trace.specs.State.{Phase, link_of, Cut, TraceState, Next, Does, Waits, Over}
+use Rattle.conn_trace.specs.Trace.{finish, phase_next, cut_takes, uncut, cut_open, cut_next, counted, next_item, GivesNoMore}
 use Rattle.proxy_core.specs.Servers.{awaits}
 use Rattle.proxy_core.proofs.ServerGone.{never, NotUp, closed_waits}
 use Rattle.proxy_core.proofs.ServerPhases.{SideBy, SideNext, phase_side}

@@ -3,7 +3,7 @@ use Rattle.std.proofs.Common.{◌≡◌, sym, ap, ◌∙◌, ℕ, List, [], leng
 use Rattle.std.specs.Prelude.{option_and_then, slice_get, slice_index_or}
 use Rattle.tcl_vars.specs.Scopes.{Level}
 use Rattle.event_order.specs.declared.event.EventName.{EventName}
-use Rattle.connection_model.specs.Setup.{Setup}
+use Rattle.conn_trace.specs.Setup.{Setup}
 use Rattle.conn.specs.Setups as conn
 use Rattle.conn.specs.Setups.{body_in, places_in}
 use Rattle.conn.specs.declared.setup.Place.{Place}

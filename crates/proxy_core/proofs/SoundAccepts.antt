@@ -2,18 +2,18 @@
 use Rattle.std.proofs.Common.{◌≡◌, refl, sym, ap, ◌∙◌, ℕ, zero, suc, ◌≤◌, List, [], ◌∷◌, ◌++◌, length, map, Bool, true, false, ◌||◌, Some, None, arith, if◌then◌else◌}
 use Rattle.px_bytes.specs.declared.addr.Side.{Side}
 use Rattle.px_bytes.specs.declared.addr.Side.TheVariants.{Client, Server}
-use Rattle.connection_model.specs.declared.note.Cause.TheVariants.{Memory}
-use Rattle.connection_model.specs.declared.note.Note.{Note}
-use Rattle.connection_model.specs.declared.note.Note.TheVariants.{Finish}
-use Rattle.connection_model.specs.Edges.{accepted_edges, edge_of}
-use Rattle.connection_model.specs.Heard.{Accepts, Accepted, nothing_heard, hears}
-use Rattle.connection_model.specs.Host.{first_host}
-use Rattle.connection_model.specs.declared.edges.EdgeState.TheVariants as state
+use Rattle.conn_trace.specs.declared.note.Cause.TheVariants.{Memory}
+use Rattle.conn_trace.specs.declared.note.Note.{Note}
+use Rattle.conn_trace.specs.declared.note.Note.TheVariants.{Finish}
+use Rattle.conn_trace.specs.Edges.{accepted_edges, edge_of}
+use Rattle.conn_trace.specs.Heard.{Accepts, Accepted, nothing_heard, hears}
+use Rattle.conn_trace.specs.Host.{first_host}
+use Rattle.conn_trace.specs.declared.edges.EdgeState.TheVariants as state
 use Rattle.event_order.specs.declared.event.EventName.TheVariants.{ClientAccepted}
-use Rattle.connection_model.specs.Item.{server_output}
-use Rattle.connection_model.specs.Setup.{Setup}
-use Rattle.connection_model.specs.State.{Stream, Absent, Answers as Recorded, Cut}
-use Rattle.connection_model.specs.Trace.{start}
+use Rattle.conn_trace.specs.Item.{server_output}
+use Rattle.conn_trace.specs.Setup.{Setup}
+use Rattle.conn_trace.specs.State.{Stream, Absent, Answers as Recorded, Cut}
+use Rattle.conn_trace.specs.Trace.{start}
 use Rattle.proxy_core.specs.Calls.{calls_of}
 use Rattle.proxy_core.specs.History.{entries_in}
 use Rattle.proxy_core.specs.Past.{Past, ended_in, without_all, shared}

@@ -5,25 +5,25 @@ use Rattle.std.specs.List.{IsDistinct, filter, list_any}
 use Rattle.std.proofs.lemmas.Grind.{flat_map-append}
 use Rattle.px_bytes.specs.declared.addr.Side.{Side}
 use Rattle.px_bytes.specs.declared.addr.Side.TheVariants.{Client, Server}
-use Rattle.connection_model.specs.declared.edges.Edges.{Edges}
-use Rattle.connection_model.specs.declared.note.Note.{Note}
-use Rattle.connection_model.specs.declared.note.Note.TheVariants.{Ended}
-use Rattle.connection_model.specs.Edges.{edge_of, edges_noted}
-use Rattle.connection_model.specs.Further.{Further, Same, longer, first_cut, replies_only, choosing, CutMeets, nothing_further}
-use Rattle.connection_model.specs.Further as further
-use Rattle.connection_model.specs.Gates.{Counts, TakenCounts, no_bytes, sent_from, to_take, untaken}
-use Rattle.connection_model.specs.Heard.{Input, Comes, Heard, taken, hears, start_of, further_of, edges_met}
-use Rattle.connection_model.specs.HeardLaws.{TellsNothing}
-use Rattle.connection_model.specs.Item.{Item, shown, listed, calls_in, cause_of, notes_of, reasons_in}
-use Rattle.connection_model.specs.Laws.{AtLeast, TakesMore}
-use Rattle.connection_model.specs.Setup.{Setup}
-use Rattle.connection_model.specs.State.{TraceState, ForReply, Next, Waits, Over}
-use Rattle.connection_model.specs.Tellings.{tells, notes_about, finish_told}
-use Rattle.connection_model.specs.Trace.{next_item, Unfolds}
-use Rattle.connection_model.proofs.Given.{no_cut_behind, next_same_on_replies}
-use Rattle.connection_model.proofs.Longer.{next_same}
-use Rattle.connection_model.proofs.Stepping.{finishes_once}
-use Rattle.connection_model.proofs.Taking.{met_more}
+use Rattle.conn_trace.specs.declared.edges.Edges.{Edges}
+use Rattle.conn_trace.specs.declared.note.Note.{Note}
+use Rattle.conn_trace.specs.declared.note.Note.TheVariants.{Ended}
+use Rattle.conn_trace.specs.Edges.{edge_of, edges_noted}
+use Rattle.conn_trace.specs.Further.{Further, Same, longer, first_cut, replies_only, choosing, CutMeets, nothing_further}
+use Rattle.conn_trace.specs.Further as further
+use Rattle.conn_trace.specs.Gates.{Counts, TakenCounts, no_bytes, sent_from, to_take, untaken}
+use Rattle.conn_trace.specs.Heard.{Input, Comes, Heard, taken, hears, start_of, further_of, edges_met}
+use Rattle.conn_trace.specs.HeardLaws.{TellsNothing}
+use Rattle.conn_trace.specs.Item.{Item, shown, listed, calls_in, cause_of, notes_of, reasons_in}
+use Rattle.conn_trace.specs.Laws.{AtLeast, TakesMore}
+use Rattle.conn_trace.specs.Setup.{Setup}
+use Rattle.conn_trace.specs.State.{TraceState, ForReply, Next, Waits, Over}
+use Rattle.conn_trace.specs.Tellings.{tells, notes_about, finish_told}
+use Rattle.conn_trace.specs.Trace.{next_item, Unfolds}
+use Rattle.conn_trace.proofs.Given.{no_cut_behind, next_same_on_replies}
+use Rattle.conn_trace.proofs.Longer.{next_same}
+use Rattle.conn_trace.proofs.Stepping.{finishes_once}
+use Rattle.conn_trace.proofs.Taking.{met_more}
 use Rattle.conn.specs.Calls.{unless_finished}
 use Rattle.conn.specs.Settling.{is_drained, is_over, is_there, settling, settling_at, took_all}
 use Rattle.proxy_core.specs.Calls.{calls_of, is_any}

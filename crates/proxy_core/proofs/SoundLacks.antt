@@ -2,23 +2,23 @@
 use Rattle.std.proofs.Common.{◌≡◌, refl, sym, ap, subst, ◌∙◌, ℕ, List, [], ◌∷◌, ◌++◌, map, Bool, true, false, ◌||◌, append-nil, inl, inr}
 use Rattle.std.specs.List.{filter}
 use Rattle.px_bytes.specs.declared.fault.Reply.{Reply}
-use Rattle.connection_model.specs.declared.edges.Edges.{Edges}
-use Rattle.connection_model.specs.declared.note.Cause.{Cause}
-use Rattle.connection_model.specs.declared.note.Cause.TheVariants.{Memory}
-use Rattle.connection_model.specs.declared.note.Note.{Note}
-use Rattle.connection_model.specs.declared.note.Note.TheVariants.{Finish}
-use Rattle.connection_model.specs.Further.{Further, Same, longer, first_cut, replies_only, choosing, CutMeets, nothing_further}
-use Rattle.connection_model.specs.Further as further
-use Rattle.connection_model.specs.Gates.{TakenCounts, no_bytes}
-use Rattle.connection_model.specs.Heard.{Input, Comes, Heard, taken, hears, start_of, further_of}
-use Rattle.connection_model.specs.HeardLaws.{TellsNothing}
-use Rattle.connection_model.specs.Item.{Item, cause_of, notes_of, reasons_in}
-use Rattle.connection_model.specs.Setup.{Setup}
-use Rattle.connection_model.specs.State.{TraceState}
-use Rattle.connection_model.specs.Tellings.{tells, notes_about, finish_told}
-use Rattle.connection_model.specs.Trace.{Unfolds}
-use Rattle.connection_model.proofs.Hearing.{finished_stands}
-use Rattle.connection_model.proofs.Taking.{met_more}
+use Rattle.conn_trace.specs.declared.edges.Edges.{Edges}
+use Rattle.conn_trace.specs.declared.note.Cause.{Cause}
+use Rattle.conn_trace.specs.declared.note.Cause.TheVariants.{Memory}
+use Rattle.conn_trace.specs.declared.note.Note.{Note}
+use Rattle.conn_trace.specs.declared.note.Note.TheVariants.{Finish}
+use Rattle.conn_trace.specs.Further.{Further, Same, longer, first_cut, replies_only, choosing, CutMeets, nothing_further}
+use Rattle.conn_trace.specs.Further as further
+use Rattle.conn_trace.specs.Gates.{TakenCounts, no_bytes}
+use Rattle.conn_trace.specs.Heard.{Input, Comes, Heard, taken, hears, start_of, further_of}
+use Rattle.conn_trace.specs.HeardLaws.{TellsNothing}
+use Rattle.conn_trace.specs.Item.{Item, cause_of, notes_of, reasons_in}
+use Rattle.conn_trace.specs.Setup.{Setup}
+use Rattle.conn_trace.specs.State.{TraceState}
+use Rattle.conn_trace.specs.Tellings.{tells, notes_about, finish_told}
+use Rattle.conn_trace.specs.Trace.{Unfolds}
+use Rattle.conn_trace.proofs.Hearing.{finished_stands}
+use Rattle.conn_trace.proofs.Taking.{met_more}
 use Rattle.conn.specs.Calls.{unless_finished}
 use Rattle.proxy_core.specs.Calls.{is_any}
 use Rattle.proxy_core.specs.Live.{further_in}

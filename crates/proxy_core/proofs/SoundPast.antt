@@ -6,21 +6,21 @@ use Rattle.std.specs.List.{IsDistinct}
 use Rattle.std.proofs.lemmas.Bool.Decides.{nat_tests}
 use Rattle.px_bytes.specs.declared.addr.Addr.{Addr}
 use Rattle.px_bytes.specs.declared.addr.Side.TheVariants.{Client, Server}
-use Rattle.connection_model.specs.declared.note.Cause.TheVariants.{Memory}
-use Rattle.connection_model.specs.declared.note.Note.{Note}
-use Rattle.connection_model.specs.declared.note.Note.TheVariants.{Finish}
-use Rattle.connection_model.specs.Gates.{TakenCounts, no_bytes, untaken}
-use Rattle.connection_model.specs.Edges.{edges_noted}
-use Rattle.connection_model.specs.Further.{longer}
-use Rattle.connection_model.specs.Tellings.{finish_told}
-use Rattle.connection_model.specs.Trace.{next_item}
-use Rattle.connection_model.proofs.Given.{sent_output}
-use Rattle.connection_model.specs.Heard.{Input, Bytes, Ends, Resets, Connects, Takes, EventKind, Accepts, Comes, Ticks, Turns, Runs, Marks, Accepted, Heard, taken, taken_by, event_marks, marks, brought, edges_met, further_of, hears}
-use Rattle.connection_model.specs.declared.edges.Edges.{Edges}
-use Rattle.connection_model.specs.Item.{Item, client_output, notes_of, server_output}
-use Rattle.connection_model.specs.State.{TraceState}
-use Rattle.connection_model.specs.Setup.{Setup}
-use Rattle.connection_model.proofs.Hearing.{others_not_heard}
+use Rattle.conn_trace.specs.declared.note.Cause.TheVariants.{Memory}
+use Rattle.conn_trace.specs.declared.note.Note.{Note}
+use Rattle.conn_trace.specs.declared.note.Note.TheVariants.{Finish}
+use Rattle.conn_trace.specs.Gates.{TakenCounts, no_bytes, untaken}
+use Rattle.conn_trace.specs.Edges.{edges_noted}
+use Rattle.conn_trace.specs.Further.{longer}
+use Rattle.conn_trace.specs.Tellings.{finish_told}
+use Rattle.conn_trace.specs.Trace.{next_item}
+use Rattle.conn_trace.proofs.Given.{sent_output}
+use Rattle.conn_trace.specs.Heard.{Input, Bytes, Ends, Resets, Connects, Takes, EventKind, Accepts, Comes, Ticks, Turns, Runs, Marks, Accepted, Heard, taken, taken_by, event_marks, marks, brought, edges_met, further_of, hears}
+use Rattle.conn_trace.specs.declared.edges.Edges.{Edges}
+use Rattle.conn_trace.specs.Item.{Item, client_output, notes_of, server_output}
+use Rattle.conn_trace.specs.State.{TraceState}
+use Rattle.conn_trace.specs.Setup.{Setup}
+use Rattle.conn_trace.proofs.Hearing.{others_not_heard}
 use Rattle.px_bytes.specs.declared.fault.Reply.{Reply}
 use Rattle.shared_store.specs.Calls.{reply}
 use Rattle.shared_store.specs.Store.{StoreState}
@@ -35,7 +35,7 @@ use Rattle.proxy_core.specs.Refusal.{Row, answers_nothing, by_edges, wants_at, s
 use Rattle.proxy_core.specs.Servers.{took_of}
 use Rattle.conn.specs.RunsItems.{asked_at, ends, Passes, StopsAt, out_of_memory, told_behind}
 use Rattle.conn.specs.Settling.{closing, is_drained, is_over, resting, settling_at, took_all}
-use Rattle.connection_model.specs.Item.{calls_in}
+use Rattle.conn_trace.specs.Item.{calls_in}
 use Rattle.conn.specs.declared.turn.ConnTurn.{ConnTurn}
 use Rattle.conn.specs.declared.turn.ConnTurn.TheVariants as turn
 use Rattle.proxy_core.specs.Scheduler.{State, no_connections, entries, Seen, seen, seen_after, untaken_of, untaken_all}

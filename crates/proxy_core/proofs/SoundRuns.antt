@@ -4,25 +4,25 @@ use Rattle.std.specs.List.{IsDistinct, filter, list_any}
 use Rattle.std.proofs.lemmas.Grind.{flat_map-append}
 use Rattle.px_bytes.specs.declared.addr.Side.{Side}
 use Rattle.px_bytes.specs.declared.fault.Reply.{Reply}
-use Rattle.connection_model.specs.declared.edges.Edges.{Edges}
-use Rattle.connection_model.specs.declared.note.Note.{Note}
-use Rattle.connection_model.specs.Edges.{edge_of, edges_noted}
-use Rattle.connection_model.specs.Further.{Further, Same, longer, first_cut, replies_only, choosing, CutMeets, nothing_further}
-use Rattle.connection_model.specs.Further as further
-use Rattle.connection_model.specs.Gates.{Counts, TakenCounts, no_bytes, sent_from, to_take, Met}
-use Rattle.connection_model.specs.Heard.{Runs, Heard, taken, hears, start_of}
-use Rattle.connection_model.specs.HeardLaws.{cut_in, cut_for, taken_by_items, TellsNothing}
-use Rattle.connection_model.specs.Item.{Item, Reason, Closed, Tcl, Unselected, Rejected, CutBy, Choice, note_of, shown, listed, calls_in, cause_of, notes_of, reasons_in}
-use Rattle.connection_model.specs.Phases.{Orderly}
-use Rattle.connection_model.specs.Setup.{Setup}
-use Rattle.connection_model.specs.State.{Cut, TraceState}
-use Rattle.connection_model.specs.Tellings.{tells, notes_about, choices_told, finish_told, failure_told}
-use Rattle.connection_model.specs.Trace.{next_item, Unfolds}
-use Rattle.connection_model.proofs.Hearing.{finished_stands, run_stands}
-use Rattle.connection_model.proofs.Querying.{met_joins}
-use Rattle.connection_model.proofs.Stepping.{finishes_once}
-use Rattle.connection_model.proofs.Telling.{run_tells}
-use Rattle.connection_model.proofs.Unfolding.{unfolds_on}
+use Rattle.conn_trace.specs.declared.edges.Edges.{Edges}
+use Rattle.conn_trace.specs.declared.note.Note.{Note}
+use Rattle.conn_trace.specs.Edges.{edge_of, edges_noted}
+use Rattle.conn_trace.specs.Further.{Further, Same, longer, first_cut, replies_only, choosing, CutMeets, nothing_further}
+use Rattle.conn_trace.specs.Further as further
+use Rattle.conn_trace.specs.Gates.{Counts, TakenCounts, no_bytes, sent_from, to_take, Met}
+use Rattle.conn_trace.specs.Heard.{Runs, Heard, taken, hears, start_of}
+use Rattle.conn_trace.specs.HeardLaws.{cut_in, cut_for, taken_by_items, TellsNothing}
+use Rattle.conn_trace.specs.Item.{Item, Reason, Closed, Tcl, Unselected, Rejected, CutBy, Choice, note_of, shown, listed, calls_in, cause_of, notes_of, reasons_in}
+use Rattle.conn_trace.specs.Phases.{Orderly}
+use Rattle.conn_trace.specs.Setup.{Setup}
+use Rattle.conn_trace.specs.State.{Cut, TraceState}
+use Rattle.conn_trace.specs.Tellings.{tells, notes_about, choices_told, finish_told, failure_told}
+use Rattle.conn_trace.specs.Trace.{next_item, Unfolds}
+use Rattle.conn_trace.proofs.Hearing.{finished_stands, run_stands}
+use Rattle.conn_trace.proofs.Querying.{met_joins}
+use Rattle.conn_trace.proofs.Stepping.{finishes_once}
+use Rattle.conn_trace.proofs.Telling.{run_tells}
+use Rattle.conn_trace.proofs.Unfolding.{unfolds_on}
 use Rattle.conn.specs.RunsItems.{Passes}
 use Rattle.conn.specs.Settling.{closing, is_over, is_there, took_all}
 use Rattle.proxy_core.specs.Calls.{calls_of}

@@ -3,18 +3,18 @@ use Rattle.std.proofs.Common.{◌≡◌, refl, sym, ap, subst, ◌∙◌, ℕ, �
 use Rattle.std.specs.List.{filter, list_any}
 use Rattle.std.proofs.lemmas.Grind.{flat_map-append}
 use Rattle.px_bytes.specs.declared.addr.Side.{Side}
-use Rattle.connection_model.specs.declared.edges.Edges.{Edges}
-use Rattle.connection_model.specs.declared.note.Note.{Note}
-use Rattle.connection_model.specs.Edges.{edge_of, edges_noted}
-use Rattle.connection_model.specs.Further.{Further, longer, replies_only, CutMeets}
-use Rattle.connection_model.specs.Gates.{TakenCounts, no_bytes, sent_from, Met}
-use Rattle.connection_model.specs.Heard.{Turns, SideHeard, Heard, taken, hears, start_of}
-use Rattle.connection_model.specs.Item.{Item, to_client, to_server, cause_of, client_output, server_output, reasons_in}
-use Rattle.connection_model.specs.Setup.{Setup}
-use Rattle.connection_model.specs.State.{Cut, TraceState, ForReply, Waits}
-use Rattle.connection_model.specs.Tellings.{tells, notes_about, replies_told, choices_told, cut_told, finish_told, failure_told}
-use Rattle.connection_model.specs.Trace.{next_item, Unfolds}
-use Rattle.connection_model.proofs.Hearing.{event_stands, finished_stands}
+use Rattle.conn_trace.specs.declared.edges.Edges.{Edges}
+use Rattle.conn_trace.specs.declared.note.Note.{Note}
+use Rattle.conn_trace.specs.Edges.{edge_of, edges_noted}
+use Rattle.conn_trace.specs.Further.{Further, longer, replies_only, CutMeets}
+use Rattle.conn_trace.specs.Gates.{TakenCounts, no_bytes, sent_from, Met}
+use Rattle.conn_trace.specs.Heard.{Turns, SideHeard, Heard, taken, hears, start_of}
+use Rattle.conn_trace.specs.Item.{Item, to_client, to_server, cause_of, client_output, server_output, reasons_in}
+use Rattle.conn_trace.specs.Setup.{Setup}
+use Rattle.conn_trace.specs.State.{Cut, TraceState, ForReply, Waits}
+use Rattle.conn_trace.specs.Tellings.{tells, notes_about, replies_told, choices_told, cut_told, finish_told, failure_told}
+use Rattle.conn_trace.specs.Trace.{next_item, Unfolds}
+use Rattle.conn_trace.proofs.Hearing.{event_stands, finished_stands}
 use Rattle.proxy_core.specs.Calls.{calls_of}
 use Rattle.proxy_core.specs.History.{called_in, entries_in}
 use Rattle.proxy_core.specs.declared.call.Asked.{Asked}

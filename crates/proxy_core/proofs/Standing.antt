@@ -2,13 +2,13 @@
 use Rattle.std.proofs.Common.{◌≡◌, refl, sym, ap, subst, ◌∙◌, ℕ, ◌+◌, ◌-◌, List, length, Bool, true, false, arith}
 use Rattle.std.specs.Prelude.{is_some}
 use Rattle.std.specs.Bool.{MatchBool}
-use Rattle.connection_model.specs.Gates.{no_bytes, sent_from}
-use Rattle.connection_model.specs.Heard.{Heard, taken, start_of}
-use Rattle.connection_model.specs.Item.{Item}
-use Rattle.connection_model.specs.Setup.{Setup}
-use Rattle.connection_model.specs.State.{TraceState}
-use Rattle.connection_model.specs.Trace.{Unfolds, behind}
-use Rattle.connection_model.proofs.Given.{unfolds_behind, sent_counted}
+use Rattle.conn_trace.specs.Gates.{no_bytes, sent_from}
+use Rattle.conn_trace.specs.Heard.{Heard, taken, start_of}
+use Rattle.conn_trace.specs.Item.{Item}
+use Rattle.conn_trace.specs.Setup.{Setup}
+use Rattle.conn_trace.specs.State.{TraceState}
+use Rattle.conn_trace.specs.Trace.{Unfolds, behind}
+use Rattle.conn_trace.proofs.Given.{unfolds_behind, sent_counted}
 use Rattle.proxy_core.specs.Moves.{is_drained_at}
 use Rattle.conn.specs.Settling.{is_drained}
 use Rattle.proxy_core.specs.Scheduler.{Seen}

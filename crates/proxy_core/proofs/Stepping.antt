@@ -3,10 +3,10 @@ use Rattle.std.proofs.Common.{◌≡◌, refl, sym, ap, ◌∙◌, ℕ, ◌+◌,
 use Rattle.std.proofs.lemmas.List.{length-append, length-map}
 use Rattle.px_bytes.specs.declared.addr.Side.{Side}
 use Rattle.px_bytes.specs.declared.addr.Side.TheVariants.{Client, Server}
-use Rattle.connection_model.specs.declared.edges.Edges.{Edges}
-use Rattle.connection_model.specs.declared.note.Note.{Note}
-use Rattle.connection_model.specs.Heard.{Bytes, Connects, Ends, Takes, EventKind, Resets}
-use Rattle.connection_model.specs.Tellings.{tells, finish_told}
+use Rattle.conn_trace.specs.declared.edges.Edges.{Edges}
+use Rattle.conn_trace.specs.declared.note.Note.{Note}
+use Rattle.conn_trace.specs.Heard.{Bytes, Connects, Ends, Takes, EventKind, Resets}
+use Rattle.conn_trace.specs.Tellings.{tells, finish_told}
 use Rattle.proxy_core.specs.Changes.{Changes}
 use Rattle.proxy_core.specs.Live.{pending_in, wanted_of}
 use Rattle.proxy_core.specs.Past.{Past, kind_of, Shared, shared}

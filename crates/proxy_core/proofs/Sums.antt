@@ -4,12 +4,12 @@ use Rattle.std.proofs.lemmas.List.{map-append}
 use Rattle.std.proofs.lemmas.List.Elements.{filter-append}
 use Rattle.std.proofs.lemmas.Grind.{flat_map-append}
 use Rattle.std.specs.List.{filter}
-use Rattle.connection_model.specs.declared.note.Cause.{Cause}
-use Rattle.connection_model.specs.declared.note.Note.{Note}
-use Rattle.connection_model.specs.declared.note.Note.TheVariants as note
-use Rattle.connection_model.specs.Further.{is_some_of}
-use Rattle.connection_model.specs.Item.{Item, Passed, Fired, Reused, Connected, Logged, Finished, shown, listed, cause_of, note_of, notes_of, reasons_in}
-use Rattle.connection_model.specs.Tellings.{tells, finish_told}
+use Rattle.conn_trace.specs.declared.note.Cause.{Cause}
+use Rattle.conn_trace.specs.declared.note.Note.{Note}
+use Rattle.conn_trace.specs.declared.note.Note.TheVariants as note
+use Rattle.conn_trace.specs.Further.{is_some_of}
+use Rattle.conn_trace.specs.Item.{Item, Passed, Fired, Reused, Connected, Logged, Finished, shown, listed, cause_of, note_of, notes_of, reasons_in}
+use Rattle.conn_trace.specs.Tellings.{tells, finish_told}
 use Rattle.proxy_core.specs.Shown.{shows, cause_told, causes_told}
 use Rattle.proxy_core.proofs.GroupNotes.{AreDue, due_hidden, of_items, shown_all}
 

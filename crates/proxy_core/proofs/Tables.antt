@@ -2,7 +2,7 @@
 use Rattle.std.proofs.Common.{◌≡◌, ◌∙◌, sym, ap, ℕ, ◌≤◌, List, Some, true, length, arith, remove, set, slice_get, length-set}
 use Rattle.std.proofs.lemmas.List.Edits.{length-remove}
 use Rattle.std.proofs.lemmas.Option.{slice_get_within}
-use Rattle.connection_table.specs.Table.{place_in}
+use Rattle.number_table.specs.Table.{place_in}
 use Rattle.proxy_core.specs.Ready.{numbers, is_in, place_of}
 use Rattle.proxy_core.specs.declared.live.Live.{Live}
 use Rattle.proxy_core.proofs.Places.{in_before, numbers_removed_at, numbers_set, placed, remove_set}

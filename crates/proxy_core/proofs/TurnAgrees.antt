@@ -2,12 +2,12 @@
 use Rattle.std.proofs.Common.{◌≡◌, inl, inr, refl, sym, ap, subst, ◌∙◌, ℕ, List, [], ◌∷◌, Bool, true, false, Option, Some, None, nat_eq}
 use Rattle.std.specs.Prelude.{slice_get, option_and_then}
 use Rattle.px_bytes.specs.declared.fault.Reply.{Reply}
-use Rattle.connection_model.specs.declared.edges.Edges.{Edges}
-use Rattle.connection_model.specs.declared.note.Note.{Note}
-use Rattle.connection_model.specs.Gates.{TakenCounts}
-use Rattle.connection_model.specs.Heard.{Turns, hears, taken}
-use Rattle.connection_model.specs.Setup.{Setup}
-use Rattle.connection_model.specs.State.{TraceState}
+use Rattle.conn_trace.specs.declared.edges.Edges.{Edges}
+use Rattle.conn_trace.specs.declared.note.Note.{Note}
+use Rattle.conn_trace.specs.Gates.{TakenCounts}
+use Rattle.conn_trace.specs.Heard.{Turns, hears, taken}
+use Rattle.conn_trace.specs.Setup.{Setup}
+use Rattle.conn_trace.specs.State.{TraceState}
 use Rattle.conn.specs.declared.connection.Conn.{Conn}
 use Rattle.shared_store.specs.Calls.{reply}
 use Rattle.proxy_core.specs.Calls.{asker, calls_of, is_any}

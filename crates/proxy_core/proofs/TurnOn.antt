@@ -1,21 +1,21 @@
 -- A connection of the code whose shared call is answered: what it goes on with, for what was heard then.
 use Rattle.std.proofs.Common.{◌≡◌, ◌⊎◌, inl, inr, refl, sym, ap, subst, ◌∙◌, ℕ, List, [], ◌∷◌, drop, map, append-nil, Bool, true, false, ◌||◌, Option, Some, None, if◌then◌else◌}
 use Rattle.px_bytes.specs.declared.fault.Reply.{Reply}
-use Rattle.connection_model.specs.declared.edges.Edges.{Edges}
-use Rattle.connection_model.specs.declared.note.Cause.TheVariants.{Memory}
-use Rattle.connection_model.specs.declared.note.Note.{Note}
-use Rattle.connection_model.specs.declared.note.Note.TheVariants.{Finish}
-use Rattle.connection_model.specs.Edges.{edges_noted}
-use Rattle.connection_model.specs.Further.{CutMeets, Further, longer, nothing_comes, replies_only}
-use Rattle.connection_model.specs.Gates.{TakenCounts, no_bytes}
-use Rattle.connection_model.specs.Heard.{Turns, Heard, as_answer, Brought, brought_nothing, hears, hears_event, further_of, start_of, taken}
-use Rattle.connection_model.specs.Item.{Choice, Item, client_output, server_output}
-use Rattle.connection_model.specs.Setup.{Setup}
-use Rattle.connection_model.specs.State.{Cut, TraceState}
-use Rattle.connection_model.specs.Tellings.{tells, notes_about, replies_told, choices_told, cut_told, finish_told, failure_told}
-use Rattle.connection_model.specs.Trace.{Unfolds}
-use Rattle.connection_model.proofs.Hearing.{event_stands, finished_stands}
-use Rattle.connection_model.proofs.Streams.{nothing_stream, nothing_server, nothing_on_last}
+use Rattle.conn_trace.specs.declared.edges.Edges.{Edges}
+use Rattle.conn_trace.specs.declared.note.Cause.TheVariants.{Memory}
+use Rattle.conn_trace.specs.declared.note.Note.{Note}
+use Rattle.conn_trace.specs.declared.note.Note.TheVariants.{Finish}
+use Rattle.conn_trace.specs.Edges.{edges_noted}
+use Rattle.conn_trace.specs.Further.{CutMeets, Further, longer, nothing_comes, replies_only}
+use Rattle.conn_trace.specs.Gates.{TakenCounts, no_bytes}
+use Rattle.conn_trace.specs.Heard.{Turns, Heard, as_answer, Brought, brought_nothing, hears, hears_event, further_of, start_of, taken}
+use Rattle.conn_trace.specs.Item.{Choice, Item, client_output, server_output}
+use Rattle.conn_trace.specs.Setup.{Setup}
+use Rattle.conn_trace.specs.State.{Cut, TraceState}
+use Rattle.conn_trace.specs.Tellings.{tells, notes_about, replies_told, choices_told, cut_told, finish_told, failure_told}
+use Rattle.conn_trace.specs.Trace.{Unfolds}
+use Rattle.conn_trace.proofs.Hearing.{event_stands, finished_stands}
+use Rattle.conn_trace.proofs.Streams.{nothing_stream, nothing_server, nothing_on_last}
 use Rattle.conn.specs.Holds.{Around, Holds, HoldsEnds}
 use Rattle.conn.specs.Stages.{is_asking}
 use Rattle.conn.specs.declared.connection.Conn.{Conn}

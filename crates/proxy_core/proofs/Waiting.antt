@@ -2,10 +2,10 @@
 use Rattle.std.proofs.Common.{◌≡◌, inl, inr, refl, sym, ap, ◌∙◌, ℕ, zero, suc, ◌+◌, List, [], ◌∷◌, length, drop, Bool, true, false, Option, Some, None, if◌then◌else◌, arith}
 use Rattle.px_bytes.specs.declared.addr.Side.{Side}
 use Rattle.px_bytes.specs.declared.addr.Side.TheVariants.{Client, Server}
-use Rattle.connection_model.specs.Gates.{no_bytes, sent_from, taken_of, to_take, untaken}
-use Rattle.connection_model.specs.Heard.{Heard, taken, taken_by}
-use Rattle.connection_model.specs.Item.{Item, client_output, server_output}
-use Rattle.connection_model.proofs.Sending.{sent_to_server}
+use Rattle.conn_trace.specs.Gates.{no_bytes, sent_from, taken_of, to_take, untaken}
+use Rattle.conn_trace.specs.Heard.{Heard, taken, taken_by}
+use Rattle.conn_trace.specs.Item.{Item, client_output, server_output}
+use Rattle.conn_trace.proofs.Sending.{sent_to_server}
 use Rattle.conn.specs.Ends.{is_up, number_by, servers_by}
 use Rattle.conn.specs.Holds.{HoldsEnds}
 use Rattle.conn.specs.declared.connection.Conn.{Conn}

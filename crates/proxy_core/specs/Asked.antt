@@ -3,10 +3,10 @@ use Rattle.std.specs.Prelude.{ℕ, List, [], ◌∷◌, length, take, drop, Bool
 use Rattle.std.specs.Prelude.{None, ◌&&◌, nat_le, slice_get, option_and_then, if◌then◌else◌}
 use Rattle.px_bytes.specs.declared.addr.Side.{Side}
 use Rattle.px_bytes.specs.declared.addr.Side.TheVariants.{Client, Server}
-use Rattle.connection_model.specs.declared.edges.Edges.{Edges}
-use Rattle.connection_model.specs.Gates.{no_bytes, sent_from, taken_of}
-use Rattle.connection_model.specs.Heard.{Heard, taken}
-use Rattle.connection_model.specs.Item.{Item, client_output, server_output}
+use Rattle.conn_trace.specs.declared.edges.Edges.{Edges}
+use Rattle.conn_trace.specs.Gates.{no_bytes, sent_from, taken_of}
+use Rattle.conn_trace.specs.Heard.{Heard, taken}
+use Rattle.conn_trace.specs.Item.{Item, client_output, server_output}
 use Rattle.proxy_core.specs.Past.{Past, heard, shared}
 use Rattle.proxy_core.specs.Ready.{is_in}
 use Rattle.proxy_core.specs.Refusal.{wants_at}

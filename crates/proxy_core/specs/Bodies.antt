@@ -5,7 +5,7 @@ use Rattle.event_order.specs.declared.event.EventName.{EventName}
 use Rattle.rule_loader.specs.Handlers.{handlers_at}
 use Rattle.rule_loader.specs.declared.handler.Handler as loaded
 use Rattle.rule_loader.specs.declared.rule.Rule.{Rule}
-use Rattle.connection_model.specs.Setup.{Handler}
+use Rattle.conn_trace.specs.Setup.{Handler}
 use Rattle.conn.specs.Setups.{handler_view}
 use Rattle.conn.specs.declared.setup.Place.{Place}
 use Rattle.proxy_core.specs.Order.{by_priority}

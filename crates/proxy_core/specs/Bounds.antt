@@ -2,9 +2,9 @@
 -- past.
 use Rattle.std.specs.Prelude.{◌≡◌, ◌<◌, ◌≤◌, ℕ, ◌-◌, length, true, is_some}
 use Rattle.px_bytes.specs.declared.addr.Side.{Side}
-use Rattle.connection_model.specs.Bounds.{pending_limit}
-use Rattle.connection_model.specs.Queries.{arriving, counted_held, unread_at, unread_limit}
-use Rattle.connection_model.specs.State.{TraceState}
+use Rattle.conn_trace.specs.Bounds.{pending_limit}
+use Rattle.conn_trace.specs.Queries.{arriving, counted_held, unread_at, unread_limit}
+use Rattle.conn_trace.specs.State.{TraceState}
 use Rattle.proxy_core.specs.Moves.{Leads}
 use Rattle.proxy_core.specs.Past.{Past, heard}
 use Rattle.proxy_core.specs.Scheduler.{State, pending}

@@ -4,11 +4,11 @@ use Rattle.std.specs.Prelude.{Option, Some, None, slice_get, slice_set, remove}
 use Rattle.px_bytes.specs.declared.addr.Addr.{Addr}
 use Rattle.px_bytes.specs.declared.addr.Side.TheVariants.{Client, Server}
 use Rattle.tcl_vars.specs.Scopes.{Level}
-use Rattle.connection_model.specs.declared.note.Cause.TheVariants.{Memory}
-use Rattle.connection_model.specs.declared.note.Note.{Note}
-use Rattle.connection_model.specs.declared.note.Note.TheVariants.{Finish}
-use Rattle.connection_model.specs.Edges.{accepted_edges, edges_noted}
-use Rattle.connection_model.specs.Heard.{Input, Bytes, Ends, Takes, Resets, Connects, edges_met}
+use Rattle.conn_trace.specs.declared.note.Cause.TheVariants.{Memory}
+use Rattle.conn_trace.specs.declared.note.Note.{Note}
+use Rattle.conn_trace.specs.declared.note.Note.TheVariants.{Finish}
+use Rattle.conn_trace.specs.Edges.{accepted_edges, edges_noted}
+use Rattle.conn_trace.specs.Heard.{Input, Bytes, Ends, Takes, Resets, Connects, edges_met}
 use Rattle.conn.specs.Calls.{Begins}
 use Rattle.conn.specs.Ends.{fresh_ends}
 use Rattle.conn.specs.Runs.{IsWhole}

@@ -1,11 +1,11 @@
 -- The notes of an event fit where the ends of their connection stand.
 use Rattle.std.specs.Prelude.{◌≡◌, ℕ, List, [], ◌∷◌, Bool, true, ◌&&◌, not, None}
-use Rattle.connection_model.specs.declared.edges.Edges.{Edges}
-use Rattle.connection_model.specs.declared.note.Note.{Note}
-use Rattle.connection_model.specs.declared.note.Note.TheVariants as note
-use Rattle.connection_model.specs.Edges.{edge_of, edges_by}
-use Rattle.connection_model.specs.Heard.{event_edges}
-use Rattle.connection_model.specs.Tellings.{own}
+use Rattle.conn_trace.specs.declared.edges.Edges.{Edges}
+use Rattle.conn_trace.specs.declared.note.Note.{Note}
+use Rattle.conn_trace.specs.declared.note.Note.TheVariants as note
+use Rattle.conn_trace.specs.Edges.{edge_of, edges_by}
+use Rattle.conn_trace.specs.Heard.{event_edges}
+use Rattle.conn_trace.specs.Tellings.{own}
 use Rattle.proxy_core.specs.Moves.{Leads, Moves}
 use Rattle.proxy_core.specs.Past.{Happened, Past, kind_of, heard}
 use Rattle.proxy_core.specs.Refusal.{refused}

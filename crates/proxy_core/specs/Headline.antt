@@ -5,19 +5,19 @@ use Rattle.std.specs.Prelude.{Bool, true, false, Some, is_some}
 use Rattle.std.specs.List.{filter}
 use Rattle.px_bytes.specs.declared.addr.Side.{Side}
 use Rattle.px_bytes.specs.declared.addr.Side.TheVariants.{Client, Server}
-use Rattle.connection_model.specs.declared.note.Cause.{Cause}
-use Rattle.connection_model.specs.declared.note.Cause.TheVariants.{Memory}
-use Rattle.connection_model.specs.declared.note.CutReason.{CutReason}
-use Rattle.connection_model.specs.Gates.{no_bytes, sent_from}
-use Rattle.connection_model.specs.Heard.{Heard, taken}
-use Rattle.connection_model.specs.Edges.{edge_of}
-use Rattle.connection_model.specs.Queries.{half_close_due}
-use Rattle.connection_model.specs.State.{Cut}
-use Rattle.connection_model.specs.Item.{Item, calls_in, cause_of, client_output, notes_of}
-use Rattle.connection_model.specs.Item.{reasons_in, server_output}
-use Rattle.connection_model.specs.Laws.{cut_is_taken}
-use Rattle.connection_model.specs.Tellings.{notes_about, failure_told}
-use Rattle.connection_model.specs.Trace.{next_item, trace, GivesNoMore}
+use Rattle.conn_trace.specs.declared.note.Cause.{Cause}
+use Rattle.conn_trace.specs.declared.note.Cause.TheVariants.{Memory}
+use Rattle.conn_trace.specs.declared.note.CutReason.{CutReason}
+use Rattle.conn_trace.specs.Gates.{no_bytes, sent_from}
+use Rattle.conn_trace.specs.Heard.{Heard, taken}
+use Rattle.conn_trace.specs.Edges.{edge_of}
+use Rattle.conn_trace.specs.Queries.{half_close_due}
+use Rattle.conn_trace.specs.State.{Cut}
+use Rattle.conn_trace.specs.Item.{Item, calls_in, cause_of, client_output, notes_of}
+use Rattle.conn_trace.specs.Item.{reasons_in, server_output}
+use Rattle.conn_trace.specs.Laws.{cut_is_taken}
+use Rattle.conn_trace.specs.Tellings.{notes_about, failure_told}
+use Rattle.conn_trace.specs.Trace.{next_item, trace, GivesNoMore}
 use Rattle.proxy_core.specs.History.{IsHistory, called_in, entries_in}
 use Rattle.proxy_core.specs.Moves.{Leads}
 use Rattle.proxy_core.specs.Past.{Past, heard}

@@ -3,9 +3,9 @@
 use Rattle.std.specs.Prelude.{◌≡◌, ℕ, List, [], ◌∷◌, ◌++◌, map}
 use Rattle.std.specs.List.{flat_map}
 use Rattle.px_bytes.specs.declared.fault.Reply.{Reply}
-use Rattle.connection_model.specs.declared.note.Note.{Note}
-use Rattle.connection_model.specs.declared.note.Note.TheVariants as note
-use Rattle.connection_model.specs.Heard.{EventKind, Turns, Marks}
+use Rattle.conn_trace.specs.declared.note.Note.{Note}
+use Rattle.conn_trace.specs.declared.note.Note.TheVariants as note
+use Rattle.conn_trace.specs.Heard.{EventKind, Turns, Marks}
 use Rattle.shared_store.specs.Calls.{live_reply, reply}
 use Rattle.shared_store.specs.Store.{StoreState, at_moment, marked, new_store}
 use Rattle.proxy_core.specs.Past.{Past, kind_of, shared}

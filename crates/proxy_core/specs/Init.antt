@@ -16,8 +16,8 @@ use Rattle.irule_net.specs.declared.groups.Groups.{Groups}
 use Rattle.rule_model.specs.Evaluator.{evaluate}
 use Rattle.rule_model.specs.Outcome.{Outcome, Ends, Waits, uncaught_of}
 use Rattle.rule_model.specs.Setting.{Setting}
-use Rattle.connection_model.specs.Host.{HostState, commands}
-use Rattle.connection_model.specs.Setup.{Handler, uncaught_line}
+use Rattle.conn_trace.specs.Host.{HostState, commands}
+use Rattle.conn_trace.specs.Setup.{Handler, uncaught_line}
 use Rattle.conn.specs.Hosts.{seen_net}
 use Rattle.proxy_core.specs.Bodies.{bodies_of}
 use Rattle.proxy_core.specs.declared.config.Config.{Config}

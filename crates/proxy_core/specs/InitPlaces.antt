@@ -5,7 +5,7 @@ use Rattle.rule_model.specs.Outcome.{uncaught_of}
 use Rattle.plain_eval.specs.Plain.{code_of}
 use Rattle.plain_eval.specs.declared.plain.Plain.{Plain}
 use Rattle.plain_eval.specs.declared.plain.Plain.TheVariants.{Done, Waits}
-use Rattle.connection_model.specs.Setup.{Handler}
+use Rattle.conn_trace.specs.Setup.{Handler}
 use Rattle.conn.specs.Setups.{body_in}
 use Rattle.conn.specs.declared.setup.Place.{Place}
 use Rattle.proxy_core.specs.Init.{fault_lines, ran}

@@ -3,7 +3,7 @@ use Rattle.std.specs.Prelude.{◌≡◌, ℕ, List, flat_map}
 use Rattle.std.specs.List.Sorted.{IsSortedBy, IsPermutation, IsStableBy}
 use Rattle.event_order.specs.declared.event.EventName.{EventName}
 use Rattle.rule_loader.specs.declared.rule.Rule.{Rule}
-use Rattle.connection_model.specs.Heard.{Heard}
+use Rattle.conn_trace.specs.Heard.{Heard}
 use Rattle.proxy_core.specs.Bodies.{Body, bodies_of, rule_bodies}
 use Rattle.proxy_core.specs.Init.{init}
 use Rattle.proxy_core.specs.Order.{runs_before}

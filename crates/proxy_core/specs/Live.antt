@@ -3,18 +3,18 @@ use Rattle.std.specs.Prelude.{◌≡◌, ◌⊎◌, ◌≤◌, ℕ, List, [], �
 use Rattle.std.specs.Prelude.{Option, Some, None}
 use Rattle.px_bytes.specs.declared.addr.Side.{Side}
 use Rattle.px_bytes.specs.declared.fault.Reply.{Reply}
-use Rattle.connection_model.specs.declared.edges.Edges.{Edges}
-use Rattle.connection_model.specs.declared.note.Cause.TheVariants.{Memory}
-use Rattle.connection_model.specs.declared.note.Note.{Note}
-use Rattle.connection_model.specs.declared.note.Note.TheVariants.{Finish, History}
-use Rattle.connection_model.specs.Edges.{edges_noted, is_connecting}
-use Rattle.connection_model.specs.Further.{Further, longer, nothing_further}
-use Rattle.connection_model.specs.Heard.{Input, Bytes, Ends, Resets, Connects, Takes, as_answer}
-use Rattle.connection_model.specs.Heard.{brings_in}
-use Rattle.connection_model.specs.Phases.{Orderly}
-use Rattle.connection_model.specs.Queries.{unread_limit}
-use Rattle.connection_model.specs.Setup as model
-use Rattle.connection_model.specs.State.{TraceState}
+use Rattle.conn_trace.specs.declared.edges.Edges.{Edges}
+use Rattle.conn_trace.specs.declared.note.Cause.TheVariants.{Memory}
+use Rattle.conn_trace.specs.declared.note.Note.{Note}
+use Rattle.conn_trace.specs.declared.note.Note.TheVariants.{Finish, History}
+use Rattle.conn_trace.specs.Edges.{edges_noted, is_connecting}
+use Rattle.conn_trace.specs.Further.{Further, longer, nothing_further}
+use Rattle.conn_trace.specs.Heard.{Input, Bytes, Ends, Resets, Connects, Takes, as_answer}
+use Rattle.conn_trace.specs.Heard.{brings_in}
+use Rattle.conn_trace.specs.Phases.{Orderly}
+use Rattle.conn_trace.specs.Queries.{unread_limit}
+use Rattle.conn_trace.specs.Setup as model
+use Rattle.conn_trace.specs.State.{TraceState}
 use Rattle.conn.specs.Calls.{Replies, answered_in, connected_ends, ended_ends, heard_ends}
 use Rattle.conn.specs.Calls.{reset_ends}
 use Rattle.conn.specs.Calls.{reset_in, took_ends, took_more, unless_finished, wanted_in}

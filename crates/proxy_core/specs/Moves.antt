@@ -3,15 +3,15 @@ use Rattle.std.specs.Prelude.{◌≡◌, ◌⊎◌, ℕ, List, [], ◌∷◌, �
 use Rattle.std.specs.Prelude.{if◌then◌else◌}
 use Rattle.std.specs.Bool.{MatchBool}
 use Rattle.px_bytes.specs.declared.fault.Reply.{Reply}
-use Rattle.connection_model.specs.declared.note.Cause.TheVariants.{Memory}
-use Rattle.connection_model.specs.declared.note.Note.{Note}
-use Rattle.connection_model.specs.declared.note.Note.TheVariants.{Finish}
-use Rattle.connection_model.specs.Heard.{Input, EventKind}
-use Rattle.connection_model.specs.Heard.{Accepts, Comes, Ticks, Turns, Runs, Marks, Heard, taken}
-use Rattle.connection_model.specs.Heard.{edges_met, hears}
-use Rattle.connection_model.specs.declared.edges.Edges.{Edges}
-use Rattle.connection_model.specs.Item.{Item, calls_in}
-use Rattle.connection_model.specs.State.{TraceState}
+use Rattle.conn_trace.specs.declared.note.Cause.TheVariants.{Memory}
+use Rattle.conn_trace.specs.declared.note.Note.{Note}
+use Rattle.conn_trace.specs.declared.note.Note.TheVariants.{Finish}
+use Rattle.conn_trace.specs.Heard.{Input, EventKind}
+use Rattle.conn_trace.specs.Heard.{Accepts, Comes, Ticks, Turns, Runs, Marks, Heard, taken}
+use Rattle.conn_trace.specs.Heard.{edges_met, hears}
+use Rattle.conn_trace.specs.declared.edges.Edges.{Edges}
+use Rattle.conn_trace.specs.Item.{Item, calls_in}
+use Rattle.conn_trace.specs.State.{TraceState}
 use Rattle.conn.specs.RunsItems.{Passes, RunsItems}
 use Rattle.conn.specs.Settling.{closing, is_drained, settling_at}
 use Rattle.conn.specs.RunsItems.{out_of_memory}

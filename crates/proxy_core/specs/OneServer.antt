@@ -1,8 +1,8 @@
 -- One server connection of a connection is made at most: a rule may choose again only until one is
 -- there.
 use Rattle.std.specs.Prelude.{◌≡◌, ◌≤◌, ℕ, [], length, false}
-use Rattle.connection_model.specs.Heard.{has_made}
-use Rattle.connection_model.specs.Item.{server_output}
+use Rattle.conn_trace.specs.Heard.{has_made}
+use Rattle.conn_trace.specs.Item.{server_output}
 use Rattle.proxy_core.specs.Moves.{Leads}
 use Rattle.proxy_core.specs.Past.{Past, heard}
 use Rattle.proxy_core.specs.Scheduler.{State, last_took}

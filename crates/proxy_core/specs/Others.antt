@@ -1,7 +1,7 @@
 -- One event changes what may be asked of one connection alone.
 use Rattle.std.specs.Prelude.{◌≡◌, ℕ, List, [], ◌∷◌, false, nat_eq}
 use Rattle.px_bytes.specs.declared.addr.Side.{Side}
-use Rattle.connection_model.specs.Heard.{EventKind, Accepts, Comes, Turns, Runs}
+use Rattle.conn_trace.specs.Heard.{EventKind, Accepts, Comes, Turns, Runs}
 use Rattle.proxy_core.specs.Asked.{edges_of, wants_of, pending_of, queue_of}
 use Rattle.proxy_core.specs.Calls.{asker}
 use Rattle.proxy_core.specs.Moves.{Moves}

@@ -2,11 +2,11 @@
 -- what it tells of one connection and of all.
 use Rattle.std.specs.Prelude.{ℕ, List, [], ◌∷◌, ◌++◌, true, false, if◌then◌else◌}
 use Rattle.px_bytes.specs.declared.addr.Side.TheVariants.{Client, Server}
-use Rattle.connection_model.specs.declared.note.Note.{Note}
-use Rattle.connection_model.specs.Heard.{Bytes, Ends, Resets, Connects, Takes, EventKind, Accepts}
-use Rattle.connection_model.specs.Heard.{Comes, Ticks, Turns, Runs, Marks, Heard, nothing_heard}
-use Rattle.connection_model.specs.Heard.{hears}
-use Rattle.connection_model.specs.Tellings.{tells, conn_of}
+use Rattle.conn_trace.specs.declared.note.Note.{Note}
+use Rattle.conn_trace.specs.Heard.{Bytes, Ends, Resets, Connects, Takes, EventKind, Accepts}
+use Rattle.conn_trace.specs.Heard.{Comes, Ticks, Turns, Runs, Marks, Heard, nothing_heard}
+use Rattle.conn_trace.specs.Heard.{hears}
+use Rattle.conn_trace.specs.Tellings.{tells, conn_of}
 use Rattle.proxy_core.specs.declared.event.Event.{Event}
 use Rattle.proxy_core.specs.declared.event.Event.TheVariants as event
 use Rattle.proxy_core.specs.Ready.{without}

@@ -1,7 +1,7 @@
 -- The numbers of live connections, and the ring of those that are ready to run.
 use Rattle.std.specs.Prelude.{ℕ, List, Option, map, nat_eq}
 use Rattle.std.specs.List.{position_from}
-pub use Rattle.connection_table.specs.Table.{is_in, with_ready, without}
+pub use Rattle.number_table.specs.Table.{is_in, with_ready, without}
 use Rattle.conn.specs.declared.turn.ConnTurn.{ConnTurn}
 use Rattle.conn.specs.declared.turn.ConnTurn.TheVariants as turn
 use Rattle.proxy_core.specs.declared.live.Live.{Live}

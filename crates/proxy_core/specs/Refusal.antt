@@ -4,13 +4,13 @@ use Rattle.std.specs.Prelude.{ℕ, List, [], ◌∷◌, length, Bool, true, fals
 use Rattle.std.specs.Prelude.{is_none, nat_le, nat_lt, not, ◌||◌, option_map, if◌then◌else◌}
 use Rattle.px_bytes.specs.declared.addr.Side.{Side}
 use Rattle.px_bytes.specs.declared.addr.Side.TheVariants.{Client, Server}
-use Rattle.connection_model.specs.declared.edges.Edges.{Edges}
-use Rattle.connection_model.specs.Edges.{edge_of, is_connecting, is_open, may_send}
-use Rattle.connection_model.specs.Edges.{may_take}
-use Rattle.connection_model.specs.Heard.{Input, Bytes, Ends, Resets, Connects, Takes, EventKind}
-use Rattle.connection_model.specs.Heard.{Accepts, Comes, Ticks, Marks}
-use Rattle.connection_model.specs.Queries as query
-use Rattle.connection_model.specs.Queries.{unread_limit}
+use Rattle.conn_trace.specs.declared.edges.Edges.{Edges}
+use Rattle.conn_trace.specs.Edges.{edge_of, is_connecting, is_open, may_send}
+use Rattle.conn_trace.specs.Edges.{may_take}
+use Rattle.conn_trace.specs.Heard.{Input, Bytes, Ends, Resets, Connects, Takes, EventKind}
+use Rattle.conn_trace.specs.Heard.{Accepts, Comes, Ticks, Marks}
+use Rattle.conn_trace.specs.Queries as query
+use Rattle.conn_trace.specs.Queries.{unread_limit}
 use Rattle.shared_store.specs.Store.{StoreState, pool_of}
 use Rattle.shared_store.specs.Store as store
 use Rattle.proxy_core.specs.History.{store_of}

@@ -1,7 +1,7 @@
 -- What a core stands for: a configuration, a past and a state of the scheduler.
 use Rattle.std.specs.Prelude.{◌≡◌, ◌⊎◌, ℕ, List, [], true, false, Option, Some, None, drop}
-use Rattle.connection_model.specs.Heard.{Heard, taken}
-use Rattle.connection_model.specs.Item.{Item, client_output, server_output}
+use Rattle.conn_trace.specs.Heard.{Heard, taken}
+use Rattle.conn_trace.specs.Item.{Item, client_output, server_output}
 use Rattle.conn.specs.Holds.{Around, Holds, HoldsEnds}
 use Rattle.conn.specs.declared.connection.Conn.{Conn}
 use Rattle.conn.specs.declared.ends.Ends.{Ends}

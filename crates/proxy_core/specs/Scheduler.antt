@@ -4,10 +4,10 @@ use Rattle.std.specs.Prelude.{ℕ, ◌+◌, ◌-◌, length, List, [], ◌∷◌
 use Rattle.std.specs.Prelude.{if◌then◌else◌}
 use Rattle.std.specs.List.{filter}
 use Rattle.px_bytes.specs.declared.addr.Side.{Side}
-use Rattle.connection_model.specs.declared.note.Note.{Note}
-use Rattle.connection_model.specs.Gates.{no_bytes, sent_from, to_take}
-use Rattle.connection_model.specs.Heard.{EventKind, SideHeard, Heard, has_made, taken, hears}
-use Rattle.connection_model.specs.Item.{Item, client_output}
+use Rattle.conn_trace.specs.declared.note.Note.{Note}
+use Rattle.conn_trace.specs.Gates.{no_bytes, sent_from, to_take}
+use Rattle.conn_trace.specs.Heard.{EventKind, SideHeard, Heard, has_made, taken, hears}
+use Rattle.conn_trace.specs.Item.{Item, client_output}
 use Rattle.proxy_core.specs.Calls.{calls_of}
 use Rattle.proxy_core.specs.Past.{Past, heard, shared, shared_after}
 use Rattle.proxy_core.specs.Ready.{is_in}

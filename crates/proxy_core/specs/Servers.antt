@@ -3,15 +3,15 @@
 use Rattle.std.specs.Prelude.{◌≡◌, ◌≤◌, ℕ, zero, suc, List, [], ◌∷◌, length, Bool, true, false}
 use Rattle.std.specs.Prelude.{◌+◌, Option, Some, None, nat_eq, if◌then◌else◌}
 use Rattle.std.specs.Bool.{MatchBool}
-use Rattle.connection_model.specs.declared.edges.EdgeState.{EdgeState}
-use Rattle.connection_model.specs.declared.edges.EdgeState.TheVariants.{Absent, Connecting}
-use Rattle.connection_model.specs.declared.edges.EdgeState.TheVariants.{Open, Closed}
-use Rattle.connection_model.specs.declared.note.CutReason.{CutReason}
-use Rattle.connection_model.specs.declared.note.CutReason.TheVariants.{ClientReset, ServerReset}
-use Rattle.connection_model.specs.declared.note.CutReason.TheVariants.{Idle}
-use Rattle.connection_model.specs.Heard.{Connects, EventKind, Comes, SideHeard, Heard, has_made}
-use Rattle.connection_model.specs.Places.{is_up}
-use Rattle.connection_model.specs.State.{Stream, Phase, Answering, TraceState, link_of}
+use Rattle.conn_trace.specs.declared.edges.EdgeState.{EdgeState}
+use Rattle.conn_trace.specs.declared.edges.EdgeState.TheVariants.{Absent, Connecting}
+use Rattle.conn_trace.specs.declared.edges.EdgeState.TheVariants.{Open, Closed}
+use Rattle.conn_trace.specs.declared.note.CutReason.{CutReason}
+use Rattle.conn_trace.specs.declared.note.CutReason.TheVariants.{ClientReset, ServerReset}
+use Rattle.conn_trace.specs.declared.note.CutReason.TheVariants.{Idle}
+use Rattle.conn_trace.specs.Heard.{Connects, EventKind, Comes, SideHeard, Heard, has_made}
+use Rattle.conn_trace.specs.Places.{is_up}
+use Rattle.conn_trace.specs.State.{Stream, Phase, Answering, TraceState, link_of}
 use Rattle.proxy_core.specs.Past.{Past, kind_of}
 
 -- how many of these answers are connections that were made

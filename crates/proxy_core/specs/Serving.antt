@@ -2,7 +2,7 @@
 use Rattle.std.specs.Prelude.{◌≡◌, ℕ, List, [], false, slice_get, slice_index_or}
 use Rattle.tcl_vars.specs.Scopes.{Level}
 use Rattle.event_order.specs.declared.event.EventName.{EventName}
-use Rattle.connection_model.specs.Setup.{Setup}
+use Rattle.conn_trace.specs.Setup.{Setup}
 use Rattle.conn.specs.declared.setup.Place.{Place}
 use Rattle.conn.specs.declared.setup.Setup as code
 use Rattle.proxy_core.specs.Setup.{handlers_in, name_at, pool_at, port_of}

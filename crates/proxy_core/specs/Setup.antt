@@ -5,13 +5,13 @@ use Rattle.std.specs.Prelude.{Option, Some, None}
 use Rattle.px_bytes.specs.declared.addr.Addr.{Addr}
 use Rattle.tcl_vars.specs.Scopes.{Level}
 use Rattle.event_order.specs.declared.event.EventName.{EventName}
-use Rattle.connection_model.specs.declared.note.Note.{Note}
-use Rattle.connection_model.specs.declared.note.Note.TheVariants.{Log}
-use Rattle.connection_model.specs.Heard.{Accepted, Heard, start_of}
-use Rattle.connection_model.specs.Item.{Item}
-use Rattle.connection_model.specs.Setup.{Handler, Setup}
-use Rattle.connection_model.specs.State.{TraceState}
-use Rattle.connection_model.specs.Trace.{behind}
+use Rattle.conn_trace.specs.declared.note.Note.{Note}
+use Rattle.conn_trace.specs.declared.note.Note.TheVariants.{Log}
+use Rattle.conn_trace.specs.Heard.{Accepted, Heard, start_of}
+use Rattle.conn_trace.specs.Item.{Item}
+use Rattle.conn_trace.specs.Setup.{Handler, Setup}
+use Rattle.conn_trace.specs.State.{TraceState}
+use Rattle.conn_trace.specs.Trace.{behind}
 use Rattle.proxy_core.specs.Bodies.{bodies_of}
 use Rattle.proxy_core.specs.Init.{init}
 use Rattle.proxy_core.specs.Refusals.{virtual_place}

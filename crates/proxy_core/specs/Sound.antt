@@ -5,19 +5,19 @@ use Rattle.std.specs.Bool.{MatchBool}
 use Rattle.std.specs.List.{IsDistinct, filter, list_any}
 use Rattle.px_bytes.specs.declared.addr.Side.{Side}
 use Rattle.px_bytes.specs.declared.addr.Side.TheVariants.{Client, Server}
-use Rattle.connection_model.specs.declared.note.Note.{Note}
-use Rattle.connection_model.specs.declared.note.Note.TheVariants as note
-use Rattle.connection_model.specs.Gates.{TakenCounts, no_bytes, Met}
-use Rattle.connection_model.specs.Heard.{Heard, nothing_heard, taken, start_of}
-use Rattle.connection_model.specs.declared.edges.Edges.{Edges}
-use Rattle.connection_model.specs.declared.edges.EdgeState.{EdgeState}
-use Rattle.connection_model.specs.declared.edges.EdgeState.TheVariants as state
-use Rattle.connection_model.specs.Item.{Item, calls_in, cause_of, client_output, notes_of}
-use Rattle.connection_model.specs.Item.{reasons_in, server_output}
-use Rattle.connection_model.specs.Setup.{Setup}
-use Rattle.connection_model.specs.Edges.{edge_of}
-use Rattle.connection_model.specs.State.{Cut, ForReply, Over, TraceState, Waits}
-use Rattle.connection_model.specs.Trace.{next_item, Unfolds, GivesNoMore}
+use Rattle.conn_trace.specs.declared.note.Note.{Note}
+use Rattle.conn_trace.specs.declared.note.Note.TheVariants as note
+use Rattle.conn_trace.specs.Gates.{TakenCounts, no_bytes, Met}
+use Rattle.conn_trace.specs.Heard.{Heard, nothing_heard, taken, start_of}
+use Rattle.conn_trace.specs.declared.edges.Edges.{Edges}
+use Rattle.conn_trace.specs.declared.edges.EdgeState.{EdgeState}
+use Rattle.conn_trace.specs.declared.edges.EdgeState.TheVariants as state
+use Rattle.conn_trace.specs.Item.{Item, calls_in, cause_of, client_output, notes_of}
+use Rattle.conn_trace.specs.Item.{reasons_in, server_output}
+use Rattle.conn_trace.specs.Setup.{Setup}
+use Rattle.conn_trace.specs.Edges.{edge_of}
+use Rattle.conn_trace.specs.State.{Cut, ForReply, Over, TraceState, Waits}
+use Rattle.conn_trace.specs.Trace.{next_item, Unfolds, GivesNoMore}
 use Rattle.conn.specs.RunsItems.{is_cut}
 use Rattle.conn.specs.Settling.{is_drained, is_there, resting}
 use Rattle.proxy_core.specs.History.{called_in}

@@ -4,10 +4,10 @@ ghost use Rattle.std.specs.Prelude.{◌≡◌, ◌≤◌, ◌+◌, ◌++◌, Som
 ghost use Rattle.std.specs.Prelude.{length};
 ghost use Rattle.std.specs.List.{position_from};
 ghost use Rattle.std.specs.Str.{bytes_eq};
-ghost use Rattle.connection_model.specs.Heard.{Accepts as Accepted};
+ghost use Rattle.conn_trace.specs.Heard.{Accepts as Accepted};
 ghost use Rattle.proxy_core.specs.Refusal.{refusal_of};
 ghost use Rattle.proxy_core.specs.Refusals.{virtual_place};
-ghost use Rattle.connection_model.specs.declared.note.Note.{Note};
+ghost use Rattle.conn_trace.specs.declared.note.Note.{Note};
 ghost use Rattle.proxy_core.specs.Changes.{Accepts, Begun};
 
 use crate::config::{Config, Virtual};
@@ -16,7 +16,7 @@ use crate::event::BadEvent;
 use crate::live::Live;
 use crate::setup::setup_at;
 use conn::{Conn, Setup};
-use connection_model::{Cause, Edges, Note, Notes};
+use conn_trace::{Cause, Edges, Note, Notes};
 use px_bytes::Addr;
 use std::alloc::Global;
 

@@ -2,8 +2,8 @@
 
 ghost use Rattle.std.specs.Prelude.{◌≡◌, ◌≤◌, ◌+◌, ◌++◌, Some, None, OnOk, OnErr, IfErr, List};
 ghost use Rattle.std.specs.Prelude.{length};
-ghost use Rattle.connection_model.specs.Heard.{Comes};
-ghost use Rattle.connection_model.specs.declared.note.Note.{Note};
+ghost use Rattle.conn_trace.specs.Heard.{Comes};
+ghost use Rattle.conn_trace.specs.declared.note.Note.{Note};
 ghost use Rattle.proxy_core.specs.Changes.{ComesOf};
 ghost use Rattle.proxy_core.specs.Live.{input_of};
 ghost use Rattle.proxy_core.specs.Refusal.{refusal_of};
@@ -12,7 +12,7 @@ use crate::core_state::Core;
 use crate::event::BadEvent;
 use crate::input::Incoming;
 use crate::ring::{find, wake};
-use connection_model::Notes;
+use conn_trace::Notes;
 
 impl Core {
     /// This comes of a connection, which ends, waits on for the reply to its call, or gets

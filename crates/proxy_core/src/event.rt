@@ -3,7 +3,7 @@
 use px_bytes::{Addr, Text};
 
 /// An event: what the outside did, or a turn that the core is given.
-#[derive(Drop, Debug)]
+#[derive(Drop)]
 pub enum Event {
     /// A client connects from `from` to the virtual server `vs`; its connection is numbered `conn`.
     Accept { conn: u32, vs: Text, from: Addr },
@@ -38,7 +38,7 @@ pub enum Event {
 }
 
 /// Why an event is refused. The numbers are those that a report prints.
-#[derive(Clone, Copy, Debug, PartialEq, Eq)]
+#[derive(Clone, Copy, PartialEq, Eq)]
 pub enum BadEvent {
     /// The connection isn't live.
     NoConn = 1,

@@ -25,7 +25,7 @@ mod turn;
 mod views;
 
 pub use config::{Config, Virtual};
-pub use connection_model::{Cause, Note, Notes};
+pub use conn_trace::{Cause, Note, Notes};
 pub use core_state::Core;
 pub use event::{BadEvent, Event};
 pub use laws::{

@@ -1,7 +1,7 @@
 // A member of a pool is up or down.
 
 ghost use Rattle.std.specs.Prelude.{◌≡◌, Some, None, OnOk, OnErr, IfErr};
-ghost use Rattle.connection_model.specs.Heard.{Marks};
+ghost use Rattle.conn_trace.specs.Heard.{Marks};
 ghost use Rattle.proxy_core.specs.Refusal.{refusal_of};
 ghost use Rattle.shared_store.specs.Store.{marked};
 

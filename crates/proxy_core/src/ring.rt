@@ -9,7 +9,7 @@ use crate::call::Asked;
 use crate::call_queue::CallQueue;
 use crate::live::Live;
 use conn::ConnTurn;
-use connection_table::Table;
+use number_table::Table;
 
 /// Where the live connection of a number stands.
 pub fn find(live: &Table<Live>, number: u32) -> Option<usize>

@@ -2,7 +2,7 @@
 
 ghost use Rattle.std.specs.Prelude.{◌≡◌, ◌≤◌, ◌+◌, ◌-◌, ◌++◌, Some, None, OnOk, OnErr, IfErr, List};
 ghost use Rattle.std.specs.Prelude.{length};
-ghost use Rattle.connection_model.specs.declared.note.Note.{Note};
+ghost use Rattle.conn_trace.specs.declared.note.Note.{Note};
 ghost use Rattle.proxy_core.specs.Changes.{Changes};
 ghost use Rattle.proxy_core.specs.Refusal.{refusal};
 ghost use Rattle.proxy_core.specs.Steps.{Steps, IsRefused};
@@ -10,7 +10,7 @@ ghost use Rattle.proxy_core.specs.Steps.{Steps, IsRefused};
 use crate::core_state::Core;
 use crate::event::{BadEvent, Event};
 use crate::input::Incoming;
-use connection_model::Notes;
+use conn_trace::Notes;
 use px_bytes::Side;
 use std::sync::ledger::Ledger;
 

@@ -1,7 +1,7 @@
 // The present moment.
 
 ghost use Rattle.std.specs.Prelude.{◌≡◌, Some, None, OnOk, OnErr, IfErr};
-ghost use Rattle.connection_model.specs.Heard.{Ticks};
+ghost use Rattle.conn_trace.specs.Heard.{Ticks};
 ghost use Rattle.proxy_core.specs.Refusal.{refusal_of};
 
 use crate::core_state::Core;

@@ -8,7 +8,7 @@ ghost use Rattle.proxy_core.specs.Refusals.{live_at};
 use crate::core_state::Core;
 use crate::live::Live;
 use crate::ring::find;
-use connection_model::Edges;
+use conn_trace::Edges;
 use px_bytes::{M, Side, Text};
 
 impl Core {

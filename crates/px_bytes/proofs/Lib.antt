@@ -13,4 +13,5 @@ pub mod PlainRuns
 pub mod Positions
 pub mod Rows
 pub mod ShortNumbers
+pub mod Tests
 pub mod Wholes

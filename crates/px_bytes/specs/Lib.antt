@@ -1,6 +1,7 @@
 pub mod ByteSet
 pub mod Address
 pub mod Answered
+pub mod At
 pub mod Decimal
 pub mod Escapes
 pub mod FaultText

@@ -6,7 +6,7 @@ use crate::{Memory, Text, Texts};
 use std::alloc::{AllocError, AllocFailed};
 
 /// What kind of fault a command raised. The numbers are those that a report prints.
-#[derive(Clone, Copy, Debug, PartialEq, Eq)]
+#[derive(Clone, Copy, PartialEq, Eq)]
 pub enum FaultKind {
     NoVariable = 1,
     NoCommand = 2,
@@ -25,14 +25,14 @@ pub enum FaultKind {
 }
 
 /// A fault that a script can catch, with the text that `catch` gives.
-#[derive(Drop, Debug)]
+#[derive(Drop)]
 pub struct TclFault {
     pub kind: FaultKind,
     pub text: Text,
 }
 
 /// Why there is no value: a fault, or want of memory.
-#[derive(Drop, Debug)]
+#[derive(Drop)]
 pub enum Raise {
     Fault(TclFault),
     Memory,
@@ -69,7 +69,7 @@ impl<T: Drop> From<AllocFailed<T>> for Raise {
 }
 
 /// The answer to a shared call.
-#[derive(Drop, Debug)]
+#[derive(Drop)]
 pub enum Reply {
     Ok(Text),
     Fault(TclFault),
@@ -77,10 +77,23 @@ pub enum Reply {
 
 /// What a host says to a command: a value, a fault, that it asks a shared call, or that memory was
 /// refused.
-#[derive(Drop, Debug)]
+#[derive(Drop)]
 pub enum HostAnswer {
     Value(Text),
     Fault(TclFault),
     Ask(Texts),
     Memory,
+}
+
+/// Why an HTTP message can't be read. A head is too long where 65,536 bytes hold no end of it.
+#[derive(Clone, Copy, PartialEq, Eq)]
+pub enum HttpFault {
+    BadHead,
+    LongHead,
+    Host,
+    Framing,
+    BadChunk,
+    ShortBody,
+    Switching,
+    Method,
 }

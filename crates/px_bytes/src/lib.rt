@@ -30,7 +30,7 @@ pub use addr::{Addr, Net4, Side};
 pub use address::{print_addr, print_ip, read_addr, read_ip};
 pub use decimal::read_decimal;
 pub use escapes::escape;
-pub use fault::{FaultKind, HostAnswer, Raise, Reply, TclFault};
+pub use fault::{FaultKind, HostAnswer, HttpFault, Raise, Reply, TclFault};
 pub use hex_read::read_hex;
 pub use hexadecimal::print_hex;
 pub use letters::{lower, same_name};

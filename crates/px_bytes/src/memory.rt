@@ -3,7 +3,7 @@
 use std::alloc::{AllocError, AllocFailed};
 
 /// Memory was refused.
-#[derive(Clone, Copy, Debug, PartialEq, Eq)]
+#[derive(Clone, Copy, PartialEq, Eq)]
 pub struct Memory;
 
 /// A value, unless memory was refused.

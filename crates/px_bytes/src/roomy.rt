@@ -9,7 +9,7 @@ use std::alloc::Global;
 use std::marker::Model;
 
 /// Items in order, and how many more can be pushed without taking memory.
-#[derive(Drop, Debug)]
+#[derive(Drop)]
 pub struct RoomySeq<T> {
     items: Vec<T>,
 }

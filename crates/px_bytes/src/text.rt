@@ -15,7 +15,7 @@ use std::marker::Model;
 const INSIDE: usize = 22;
 
 /// A list of bytes. Up to 22 of them stand in the value itself, and take no memory.
-#[derive(Drop, Debug)]
+#[derive(Drop)]
 pub struct Text {
     bytes: SmallVec<u8, INSIDE>,
 }

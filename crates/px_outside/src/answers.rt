@@ -3,7 +3,7 @@
 use px_bytes::{Addr, Seq};
 
 /// Where something may be ready: a listener by its slot, or a link by its number.
-#[derive(Clone, Copy, Debug, PartialEq, Eq)]
+#[derive(Clone, Copy, PartialEq, Eq)]
 pub enum ReadyAt {
     Listener(u32),
     Link(u32),
@@ -13,13 +13,13 @@ pub enum ReadyAt {
 pub type ReadyList = Seq<ReadyAt>;
 
 /// A connection that was waiting at a listener.
-#[derive(Clone, Copy, Debug, PartialEq, Eq)]
+#[derive(Clone, Copy, PartialEq, Eq)]
 pub enum Accepted {
     One { link: u32, from: Addr },
     NotYet,
 }
 
-#[derive(Clone, Copy, Debug, PartialEq, Eq)]
+#[derive(Clone, Copy, PartialEq, Eq)]
 pub enum ReadAnswer {
     /// So many bytes stand at the start of the room.
     Got(usize),
@@ -31,7 +31,7 @@ pub enum ReadAnswer {
     Reset,
 }
 
-#[derive(Clone, Copy, Debug, PartialEq, Eq)]
+#[derive(Clone, Copy, PartialEq, Eq)]
 pub enum WriteAnswer {
     /// So many of the bytes were taken, from the first on.
     Took(usize),
@@ -41,7 +41,7 @@ pub enum WriteAnswer {
     Reset,
 }
 
-#[derive(Clone, Copy, Debug, PartialEq, Eq)]
+#[derive(Clone, Copy, PartialEq, Eq)]
 pub enum ConnectAnswer {
     Connected,
     /// The link is closed by the net itself.

@@ -3,7 +3,7 @@
 use px_bytes::{Memory, Seq};
 
 /// Why nothing was read or written.
-#[derive(Clone, Copy, Debug, PartialEq, Eq)]
+#[derive(Clone, Copy, PartialEq, Eq)]
 pub enum Failed {
     /// The outside failed, and its count of faults rose.
     Failed,

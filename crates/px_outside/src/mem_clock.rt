@@ -7,7 +7,7 @@ use crate::{Clock, Counts};
 use std::marker::Model;
 
 /// Gives its moments one by one, and the last one again when none is left; 0 where there was none.
-#[derive(Drop, Debug)]
+#[derive(Drop)]
 pub struct MemClock {
     moments: Counts,
     at: usize,

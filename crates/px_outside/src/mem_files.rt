@@ -9,7 +9,7 @@ use std::alloc::Global;
 use std::marker::Model;
 
 /// Files in memory, of which reads with given numbers fail.
-#[derive(Drop, Debug)]
+#[derive(Drop)]
 pub struct MemFiles {
     files: Pairs,
     fails: Counts,

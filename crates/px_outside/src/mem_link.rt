@@ -28,7 +28,7 @@ use std::alloc::Global;
 use std::marker::Model;
 
 /// A link in memory, with what is left of its scripts.
-#[derive(Drop, Debug)]
+#[derive(Drop)]
 pub struct MemLink {
     slot: Option<u32>,
     from: Addr,

@@ -29,7 +29,7 @@ use std::alloc::Global;
 use std::marker::Model;
 
 /// Links by their scripts, of which calls with given numbers fail. The first link has number 1.
-#[derive(Drop, Debug)]
+#[derive(Drop)]
 pub struct MemNet {
     links: Vec<MemLink>,
     slots: Seq<u32>,

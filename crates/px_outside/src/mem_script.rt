@@ -4,7 +4,7 @@ use crate::{ConnectAnswer, Counts};
 use px_bytes::{Addr, Text};
 
 /// What a read of a link gives. Each read uses up the first item that is left.
-#[derive(Drop, Debug)]
+#[derive(Drop)]
 pub enum MemRead {
     /// These bytes; those that the room does not hold stay for the next read.
     Bytes(Text),
@@ -16,7 +16,7 @@ pub enum MemRead {
 }
 
 /// What a write to a link takes. Each write uses up the first item that is left.
-#[derive(Clone, Copy, Debug, PartialEq, Eq)]
+#[derive(Clone, Copy, PartialEq, Eq)]
 pub enum MemWrite {
     /// So many bytes at most; NotYet for none.
     Upto(usize),
@@ -34,7 +34,7 @@ pub type MemWrites = Vec<MemWrite>;
 
 /// What a link in memory does: the slot of the listener that gives it, or none where `connect`
 /// does; where it comes from; whether it is connected.
-#[derive(Drop, Debug)]
+#[derive(Drop)]
 pub struct MemScript {
     pub slot: Option<u32>,
     pub from: Addr,
@@ -44,7 +44,7 @@ pub struct MemScript {
 }
 
 /// The numbers of the calls that fail, of each kind, the first being 1.
-#[derive(Drop, Debug)]
+#[derive(Drop)]
 pub struct NetFails {
     pub listen: Counts,
     pub wait: Counts,

@@ -9,7 +9,7 @@ use std::alloc::Global;
 use std::marker::Model;
 
 /// A sink in memory, of which writes with given numbers fail.
-#[derive(Drop, Debug)]
+#[derive(Drop)]
 pub struct MemSink {
     written: Text,
     fails: Counts,

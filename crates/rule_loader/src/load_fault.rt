@@ -6,7 +6,7 @@ ghost use Rattle.rule_loader.specs.Faults.{comes_first, number_of};
 use px_bytes::Memory;
 
 /// What can be wrong with a rule.
-#[derive(Clone, Copy, Debug, PartialEq, Eq)]
+#[derive(Clone, Copy, PartialEq, Eq)]
 pub enum LoadKind {
     /// It can't be read as a script, or a body can't be compiled.
     Parse,
@@ -42,7 +42,7 @@ impl LoadKind {
 }
 
 /// What is wrong with a rule, and where in its text, in bytes from 0.
-#[derive(Clone, Copy, Debug, PartialEq, Eq)]
+#[derive(Clone, Copy, PartialEq, Eq)]
 pub struct RuleFault {
     pub kind: LoadKind,
     pub place: usize,
@@ -60,7 +60,7 @@ impl RuleFault {
 }
 
 /// Why no rule was given: the fault of its text, or out of memory.
-#[derive(Clone, Copy, Debug, PartialEq, Eq)]
+#[derive(Clone, Copy, PartialEq, Eq)]
 pub enum LoadFault {
     Fault(RuleFault),
     Memory,

@@ -12,7 +12,7 @@ use std::marker::Model;
 
 /// A list of bytes that grows at its end and is used up from its front. What is used up is only
 /// skipped; its room is used again once it is as long as the rest.
-#[derive(Drop, Debug)]
+#[derive(Drop)]
 pub struct Held {
     bytes: Vec<u8>,
     start: usize,

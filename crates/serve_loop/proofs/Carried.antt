@@ -7,7 +7,7 @@ use Rattle.px_bytes.specs.declared.addr.Addr.{Addr}
 use Rattle.px_bytes.specs.declared.addr.Side.{Side}
 use Rattle.px_bytes.specs.declared.addr.Side.TheVariants as side
 use Rattle.px_outside.specs.Net.{Call, Connect, Finish, Close}
-use Rattle.connection_model.specs.declared.note.Note.{Note}
+use Rattle.conn_trace.specs.declared.note.Note.{Note}
 use Rattle.served_links.specs.declared.links.Links.{Links}
 use Rattle.served_links.specs.declared.row.Row.{Row}
 use Rattle.served_links.specs.Links.{owner_in, link_in, Opens, Closes}

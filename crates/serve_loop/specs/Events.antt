@@ -1,6 +1,6 @@
 -- What answers of a net become, and the text of events with their notes.
 use Rattle.std.specs.Prelude.{◌≡◌, ℕ, List, [], ◌++◌, Bool, true, false, Option, Some, None}
-use Rattle.connection_model.specs.declared.note.Note.{Note}
+use Rattle.conn_trace.specs.declared.note.Note.{Note}
 use Rattle.journal_text.specs.declared.event.Event.{Event}
 use Rattle.journal_text.specs.declared.event.Event.TheVariants as event
 use Rattle.journal_text.specs.Line.{event_line}

@@ -7,7 +7,7 @@ use Rattle.px_bytes.specs.declared.addr.Side.TheVariants.{Client, Server}
 use Rattle.px_outside.specs.declared.answers.Accepted.TheVariants as accepted
 use Rattle.px_outside.specs.declared.answers.ConnectAnswer.TheVariants as connect
 use Rattle.px_outside.specs.Net.{Call, Wait, Accept, Ask, Read, Write}
-use Rattle.connection_model.specs.declared.note.Note.{Note}
+use Rattle.conn_trace.specs.declared.note.Note.{Note}
 use Rattle.journal_text.specs.declared.event.Event.{Event}
 use Rattle.journal_text.specs.declared.event.Event.TheVariants as event
 use Rattle.served_links.specs.declared.links.Links.{Links}

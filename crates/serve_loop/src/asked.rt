@@ -15,7 +15,7 @@ use served_links::Row;
 use std::alloc::Global;
 
 /// What asking a listener or a link comes to.
-#[derive(Clone, Copy, Debug, PartialEq, Eq)]
+#[derive(Clone, Copy, PartialEq, Eq)]
 pub enum Asked {
     /// It gave something, and may give more.
     Again,

@@ -11,7 +11,7 @@ use crate::journal::Journal;
 use crate::server::Server;
 use crate::serving::Serving;
 use crate::{Core, ServeFault};
-use connection_model::Notes;
+use conn_trace::Notes;
 use px_bytes::{M, Seq};
 use px_outside::{Net, ReadyList};
 use served_links::{Links, Numbers};

@@ -6,7 +6,7 @@ ghost use Rattle.serve_loop.specs.Carrying.{CarriedSome, CarriesUpTo, ConnectSto
 ghost use Rattle.serve_loop.specs.Faults.{FromNet, is_memory};
 
 use crate::ServeFault;
-use connection_model::Note;
+use conn_trace::Note;
 use px_bytes::{Addr, Side};
 use px_outside::Net;
 use served_links::Links;

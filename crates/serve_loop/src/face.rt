@@ -2,11 +2,11 @@
 
 ghost use Rattle.std.specs.Prelude.{◌≡◌, ◌≤◌, ◌<◌, ◌++◌, ℕ, Some, List, length, true};
 ghost use Rattle.std.specs.Prelude.{option_map, IsTrue, IfSome};
-ghost use Rattle.connection_model.specs.declared.note.Note.{Note};
+ghost use Rattle.conn_trace.specs.declared.note.Note.{Note};
 ghost use Rattle.journal_text.specs.declared.event.Event.TheVariants as event;
 ghost use Rattle.serve_loop.specs.Face.{Face, MayCome, MayTake, MayAnswer};
 
-use connection_model::Notes;
+use conn_trace::Notes;
 use journal_text::Event;
 use px_bytes::{Addr, Side};
 

@@ -7,7 +7,7 @@ use px_bytes::Memory;
 use px_outside::Failed;
 
 /// Why serving ends as it was asked to.
-#[derive(Clone, Copy, Debug, PartialEq, Eq)]
+#[derive(Clone, Copy, PartialEq, Eq)]
 pub enum ServeEnd {
     /// So many connections were accepted, and all are over.
     Conns,
@@ -16,7 +16,7 @@ pub enum ServeEnd {
 }
 
 /// Why serving stops.
-#[derive(Clone, Copy, Debug, PartialEq, Eq)]
+#[derive(Clone, Copy, PartialEq, Eq)]
 pub enum ServeFault {
     /// The net failed.
     Net,

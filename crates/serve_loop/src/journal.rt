@@ -8,7 +8,7 @@ ghost use Rattle.serve_loop.specs.Events.{Tells};
 ghost use Rattle.serve_loop.specs.Faults.{FromSink};
 
 use crate::ServeFault;
-use connection_model::Note;
+use conn_trace::Note;
 use journal_text::{Event, write_event, write_notes};
 use px_bytes::{M, Text};
 use px_outside::{Failed, Sink, write_all};

@@ -8,7 +8,7 @@ ghost use Rattle.serve_loop.specs.Faults.{FromNet, is_memory};
 use crate::carry::carry;
 use crate::journal::Journal;
 use crate::{Core, ServeFault};
-use connection_model::Notes;
+use conn_trace::Notes;
 use journal_text::Event;
 use px_outside::Net;
 use served_links::Links;

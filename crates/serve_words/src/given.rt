@@ -10,7 +10,7 @@ use clap::{Arg, Command};
 use std::alloc::{AllocError, Global};
 
 /// The values that the words give.
-#[derive(Debug, Drop)]
+#[derive(Drop)]
 pub struct Given<'a> {
     pub config: Option<&'a str>,
     pub conns: Option<&'a str>,

@@ -14,7 +14,7 @@ use std::alloc::Global;
 const TURNS: u64 = 9_223_372_036_854_775_807;
 
 /// What is to be served, and for how long.
-#[derive(Debug, Drop)]
+#[derive(Drop)]
 pub struct Serve {
     /// The file of the configuration.
     pub config: Text,
@@ -27,7 +27,7 @@ pub struct Serve {
 }
 
 /// Why the words aren't read.
-#[derive(Clone, Copy, Debug, PartialEq, Eq)]
+#[derive(Clone, Copy, PartialEq, Eq)]
 pub enum UsageFault {
     /// They are none of `serve`'s.
     Usage,

@@ -8,11 +8,11 @@ use Rattle.std.proofs.Math.Seq.{take-add}
 use Rattle.std.proofs.lemmas.List.{append-nil, take-append-le}
 use Rattle.std.proofs.lemmas.Grind.{flat_map-append}
 use Rattle.px_bytes.specs.declared.addr.Side.TheVariants.{Client, Server}
-use Rattle.connection_model.specs.declared.note.Note.{Note}
-use Rattle.connection_model.specs.Further.{Coming}
-use Rattle.connection_model.specs.Heard.{Input, Bytes, Ends, Resets, Connects, Takes, EventKind, Accepts, Comes, Ticks, Turns, Runs, Marks}
-use Rattle.connection_model.specs.Heard.{Heard, SideHeard, edges_met, hears, hears_by, marks, accepts, event_marks, brought}
-use Rattle.connection_model.specs.Item.{Item, client_output}
+use Rattle.conn_trace.specs.declared.note.Note.{Note}
+use Rattle.conn_trace.specs.Further.{Coming}
+use Rattle.conn_trace.specs.Heard.{Input, Bytes, Ends, Resets, Connects, Takes, EventKind, Accepts, Comes, Ticks, Turns, Runs, Marks}
+use Rattle.conn_trace.specs.Heard.{Heard, SideHeard, edges_met, hears, hears_by, marks, accepts, event_marks, brought}
+use Rattle.conn_trace.specs.Item.{Item, client_output}
 use Rattle.proxy_core.specs.History.{store_of}
 use Rattle.proxy_core.specs.Moves.{MovesBy, MovesFailed, MovesOn, MovesLacks, MovesRing, MovesQueue, RunsFailed, RunsOn, RunsOut, ran}
 use Rattle.proxy_core.specs.Past.{Past, heard, shared}

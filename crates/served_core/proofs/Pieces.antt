@@ -15,10 +15,10 @@ use Rattle.px_outside.specs.declared.answers.WriteAnswer.TheVariants as write
 use Rattle.px_outside.specs.Net.{Call, Listen, Wait, Accept, Connect, Ask, Read, Write, Finish, Close}
 use Rattle.journal_text.specs.declared.event.Event.{Event}
 use Rattle.journal_text.specs.declared.event.Event.TheVariants as told
-use Rattle.connection_model.specs.Edges.{may_take}
+use Rattle.conn_trace.specs.Edges.{may_take}
 use Rattle.conn.specs.declared.connection.Conn.{Conn}
-use Rattle.connection_model.specs.Heard.{EventKind, Heard, has_made, taken_by}
-use Rattle.connection_model.specs.Item.{client_output, server_output}
+use Rattle.conn_trace.specs.Heard.{EventKind, Heard, has_made, taken_by}
+use Rattle.conn_trace.specs.Item.{client_output, server_output}
 use Rattle.proxy_core.specs.Asked.{edges_of, left_of}
 use Rattle.proxy_core.specs.Past.{Past, heard, kind_of, shared}
 use Rattle.proxy_core.specs.Ready.{is_in}

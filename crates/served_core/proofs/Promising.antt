@@ -6,9 +6,9 @@ use Rattle.px_outside.specs.Net.{Call}
 use Rattle.journal_text.specs.declared.event.Event.{Event as Told}
 use Rattle.px_bytes.specs.declared.addr.Side.{Side}
 use Rattle.px_bytes.specs.declared.addr.Side.TheVariants.{Client, Server}
-use Rattle.connection_model.specs.declared.note.Note.{Note}
-use Rattle.connection_model.specs.Heard.{hears}
-use Rattle.connection_model.specs.Item.{to_client, to_server}
+use Rattle.conn_trace.specs.declared.note.Note.{Note}
+use Rattle.conn_trace.specs.Heard.{hears}
+use Rattle.conn_trace.specs.Item.{to_client, to_server}
 use Rattle.proxy_core.specs.Represents.{Represents}
 use Rattle.proxy_core.specs.Past.{Happened, Past, heard, kind_of}
 use Rattle.proxy_core.specs.Steps.{StandsAfter}

@@ -6,10 +6,10 @@ use Rattle.std.proofs.lemmas.Grind.{common_steps}
 use Rattle.px_bytes.specs.declared.addr.Addr.{Addr}
 use Rattle.px_bytes.specs.declared.addr.Side.{Side}
 use Rattle.px_bytes.specs.declared.addr.Side.TheVariants.{Client, Server}
-use Rattle.connection_model.specs.declared.edges.Edge.{Edge}
-use Rattle.connection_model.specs.declared.edges.Edges.{Edges}
-use Rattle.connection_model.specs.Edges.{edge_of, is_open, may_send, may_take}
-use Rattle.connection_model.specs.Heard.{Input, Bytes, Ends, Resets, Takes, Accepts, Comes, Ticks}
+use Rattle.conn_trace.specs.declared.edges.Edge.{Edge}
+use Rattle.conn_trace.specs.declared.edges.Edges.{Edges}
+use Rattle.conn_trace.specs.Edges.{edge_of, is_open, may_send, may_take}
+use Rattle.conn_trace.specs.Heard.{Input, Bytes, Ends, Resets, Takes, Accepts, Comes, Ticks}
 use Rattle.proxy_core.specs.Asked.{edges_of, live_of, wants_of, pending_of}
 use Rattle.proxy_core.specs.Past.{Past, heard, shared}
 use Rattle.proxy_core.specs.Ready.{is_in}

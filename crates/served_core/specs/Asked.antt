@@ -4,9 +4,9 @@ use Rattle.std.specs.Prelude.{nat_lt, slice_get, option_map, unwrap_or, if◌the
 use Rattle.px_bytes.specs.declared.addr.Addr.{Addr}
 use Rattle.px_bytes.specs.declared.addr.Side.{Side}
 use Rattle.px_bytes.specs.declared.addr.Side.TheVariants.{Server}
-use Rattle.connection_model.specs.declared.edges.Edge.{Edge}
-use Rattle.connection_model.specs.declared.edges.Edges.{Edges}
-use Rattle.connection_model.specs.Edges.{edge_of, may_send, may_take, is_connecting}
+use Rattle.conn_trace.specs.declared.edges.Edge.{Edge}
+use Rattle.conn_trace.specs.declared.edges.Edges.{Edges}
+use Rattle.conn_trace.specs.Edges.{edge_of, may_send, may_take, is_connecting}
 use Rattle.proxy_core.specs.Asked.{edges_of, live_of, next_due_of, queue_of, wants_of}
 use Rattle.proxy_core.specs.Past.{Past, shared}
 use Rattle.proxy_core.specs.Scheduler.{State}

@@ -5,7 +5,7 @@ use Rattle.px_bytes.specs.declared.addr.Side.TheVariants.{Client, Server}
 use Rattle.px_outside.specs.Net.{Call, Write}
 use Rattle.journal_text.specs.declared.event.Event.{Event}
 use Rattle.journal_text.specs.declared.event.Event.TheVariants as event
-use Rattle.connection_model.specs.Item.{Item, client_output, server_output}
+use Rattle.conn_trace.specs.Item.{Item, client_output, server_output}
 use Rattle.serve_loop.specs.Broken.{Broken, Ungiven}
 use Rattle.serve_loop.specs.Walk.{Step, Own, Asked}
 

@@ -1,6 +1,6 @@
 -- The face of the proxy's core: what a loop may ask of it, for every past that it stands for.
 use Rattle.std.specs.Prelude.{◌≡◌, ◌-◌, ◌^◌, List, length, min, None}
-use Rattle.connection_model.specs.declared.note.Note.{Note}
+use Rattle.conn_trace.specs.declared.note.Note.{Note}
 use Rattle.journal_text.specs.declared.event.Event.{Event as Told}
 use Rattle.proxy_core.specs.Asked.{live_of, next_of, settled_of}
 use Rattle.proxy_core.specs.Past.{Past, kind_of, shared}

@@ -4,7 +4,7 @@ use Rattle.px_outside.specs.Net.{Call, Chain}
 use Rattle.px_outside.specs.Outside.{told_more}
 use Rattle.px_bytes.specs.declared.addr.Side.{Side}
 use Rattle.px_bytes.specs.declared.addr.Side.TheVariants as side
-use Rattle.connection_model.specs.Item.{client_output, server_output}
+use Rattle.conn_trace.specs.Item.{client_output, server_output}
 use Rattle.journal_text.specs.Notes.{note_lines}
 use Rattle.proxy_core.specs.Headline.{OutputMatchesEvaluator}
 use Rattle.proxy_core.specs.Past.{Happened, Past, heard}

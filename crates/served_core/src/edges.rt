@@ -1,9 +1,9 @@
 // The ends of a connection.
 
 ghost use Rattle.std.specs.Prelude.{◌≡◌};
-ghost use Rattle.connection_model.specs.Edges.{edge_of, is_open, may_send, may_take};
+ghost use Rattle.conn_trace.specs.Edges.{edge_of, is_open, may_send, may_take};
 
-use connection_model::{Edge, EdgeState, Edges};
+use conn_trace::{Edge, EdgeState, Edges};
 use px_bytes::Side;
 
 /// The end of a side.

@@ -2,7 +2,7 @@
 
 ghost use Rattle.std.specs.Prelude.{◌≡◌, ◌≤◌, ◌<◌, ◌++◌, List, None, true, IsTrue};
 ghost use Rattle.proxy_core.specs.Steps.{KeepsStanding};
-ghost use Rattle.connection_model.specs.declared.note.Note.{Note};
+ghost use Rattle.conn_trace.specs.declared.note.Note.{Note};
 ghost use Rattle.proxy_core.specs.Past.{kind_of};
 ghost use Rattle.proxy_core.specs.Refusal.{refused};
 ghost use Rattle.served_core.specs.Always.{taken_run, taken_turn};
@@ -12,7 +12,7 @@ ghost use Rattle.served_core.specs.Told.{Always};
 use crate::edges::{edge_at, may_send, may_take};
 use crate::served::Served;
 use crate::told::meaning;
-use connection_model::{EdgeState, Notes};
+use conn_trace::{EdgeState, Notes};
 use journal_text::Event as Told;
 use proxy_core::{Core, Event};
 use px_bytes::{Addr, Side, Steps};

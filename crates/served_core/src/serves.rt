@@ -7,7 +7,7 @@ ghost use Rattle.serve_loop.specs.Faults.{FromNetOrSink, FromSink};
 ghost use Rattle.served_core.specs.Serves.{ServesConfig, StopsConfig, WroteSome};
 
 use crate::served::Served;
-use connection_model::Note;
+use conn_trace::Note;
 use journal_text::write_notes;
 use proxy_core::{Config, Core};
 use px_outside::{Clock, Failed, Net, Sink, write_all};

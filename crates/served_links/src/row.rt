@@ -3,7 +3,7 @@
 use px_bytes::Side;
 
 /// A side of a connection.
-#[derive(Clone, Copy, Debug, PartialEq, Eq)]
+#[derive(Clone, Copy, PartialEq, Eq)]
 pub struct Row {
     pub conn: u32,
     pub side: Side,

@@ -27,7 +27,7 @@ impl NamedPool {
 
 /// A virtual server: whether it keeps the member that was chosen for a client's address, and for how
 /// many seconds.
-#[derive(Drop, Debug)]
+#[derive(Drop)]
 pub struct VirtualTime {
     pub name: Text,
     pub by_source: bool,

@@ -8,7 +8,7 @@ use tcl_encodings::read_address;
 
 /// A client's address at a virtual server that keeps the member that was chosen for it, by its place
 /// in the order of the file, for so many seconds.
-#[derive(Clone, Copy, Debug, PartialEq, Eq)]
+#[derive(Clone, Copy, PartialEq, Eq)]
 pub(crate) struct Source {
     pub virtual_server: u32,
     pub timeout: u32,

@@ -8,7 +8,7 @@ use px_bytes::{Addr, Text};
 use tcl_encodings::addr_of;
 
 /// Which shared call a list of words is.
-#[derive(Clone, Copy, Debug, PartialEq, Eq)]
+#[derive(Clone, Copy, PartialEq, Eq)]
 pub(crate) enum Call {
     ActiveMembers,
     Select,

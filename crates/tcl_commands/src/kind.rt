@@ -9,7 +9,7 @@ use crate::pure_command::read_pure;
 use event_order::is_host_command;
 
 /// Who carries out a command.
-#[derive(Clone, Copy, Debug, PartialEq, Eq)]
+#[derive(Clone, Copy, PartialEq, Eq)]
 pub enum Kind {
     /// It makes a text of texts.
     Pure,

@@ -7,7 +7,7 @@ use tcl_expr::Misread;
 use tcl_words::Fault;
 
 /// What is wrong with a script, with its place in the source.
-#[derive(Clone, Copy, Debug, PartialEq, Eq)]
+#[derive(Clone, Copy, PartialEq, Eq)]
 pub enum Flaw {
     /// A body is no script.
     Parse(Fault),
@@ -22,7 +22,7 @@ pub enum Flaw {
 }
 
 /// Why no tree was given: the script's flaw, or out of memory.
-#[derive(Clone, Copy, Debug, PartialEq, Eq)]
+#[derive(Clone, Copy, PartialEq, Eq)]
 pub enum CompileFault {
     Flaw(Flaw),
     Memory,

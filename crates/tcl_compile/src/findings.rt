@@ -54,7 +54,7 @@ pub fn is_too_deep(flaw: Flaw) -> bool
 }
 
 /// A name of a command as it stands in the source, and the place of the command's first byte.
-#[derive(Drop, Debug)]
+#[derive(Drop)]
 pub struct CommandName {
     pub place: usize,
     pub name: Text,
@@ -62,7 +62,7 @@ pub struct CommandName {
 
 /// The flaw to be told of what was looked at so far, and the literal names of the commands in it
 /// that are none of Tcl's own commands on variables, control or expressions.
-#[derive(Drop, Debug)]
+#[derive(Drop)]
 pub struct Findings {
     pub flaw: Option<Flaw>,
     pub names: Seq<CommandName>,

@@ -5,7 +5,7 @@ use tcl_expr::{Joint, Op1};
 
 /// What a command does that evaluates all its words first, its name among them, and is checked when
 /// it runs.
-#[derive(Clone, Copy, Debug, PartialEq, Eq)]
+#[derive(Clone, Copy, PartialEq, Eq)]
 pub enum Verb {
     /// The command that the first word names, a literal that is no command below or of control.
     Named,

@@ -9,7 +9,7 @@ use tcl_words::{Part, Span, stands};
 
 /// How far an expression has been looked at, and how many parentheses and question marks are open
 /// there.
-#[derive(Clone, Copy, Debug, PartialEq, Eq)]
+#[derive(Clone, Copy, PartialEq, Eq)]
 pub(crate) struct Opened {
     pub at: usize,
     pub count: usize,
@@ -17,7 +17,7 @@ pub(crate) struct Opened {
 
 /// What stands around the parts of an operand: whether quotes, and how many openers; and how far the
 /// expression has been looked at behind them.
-#[derive(Clone, Copy, Debug, PartialEq, Eq)]
+#[derive(Clone, Copy, PartialEq, Eq)]
 pub(crate) struct Enclosure {
     pub quoted: bool,
     pub openers: usize,

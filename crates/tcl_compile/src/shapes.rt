@@ -8,7 +8,7 @@ use crate::node::Verb;
 use tcl_words::Word;
 
 /// What a command does with its words.
-#[derive(Clone, Copy, Debug, PartialEq, Eq)]
+#[derive(Clone, Copy, PartialEq, Eq)]
 pub(crate) enum Shape {
     /// It evaluates them all.
     Words(Verb),

@@ -7,7 +7,7 @@ use tcl_words::Part;
 
 /// What stands between two operands. `And` and `Or` evaluate their right operand only where the
 /// left one doesn't decide.
-#[derive(Clone, Copy, Debug, PartialEq, Eq)]
+#[derive(Clone, Copy, PartialEq, Eq)]
 pub enum Joint {
     Both(Op2),
     /// `&&` and `and`.

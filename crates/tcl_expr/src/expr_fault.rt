@@ -7,14 +7,14 @@ use std::alloc::{AllocError, AllocFailed};
 
 /// What is wrong with the text of an expression: the place with which no expression goes on, or the
 /// opener that is one too many.
-#[derive(Clone, Copy, Debug, PartialEq, Eq)]
+#[derive(Clone, Copy, PartialEq, Eq)]
 pub enum Misread {
     Syntax(usize),
     TooDeep(usize),
 }
 
 /// Why no expression was given: the text's fault, or want of memory.
-#[derive(Clone, Copy, Debug, PartialEq, Eq)]
+#[derive(Clone, Copy, PartialEq, Eq)]
 pub enum ExprFault {
     Fault(Misread),
     Memory,

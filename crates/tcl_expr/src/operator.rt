@@ -1,7 +1,7 @@
 // The operators of expressions that evaluate all their operands.
 
 /// An operator of one operand.
-#[derive(Clone, Copy, Debug, PartialEq, Eq)]
+#[derive(Clone, Copy, PartialEq, Eq)]
 pub enum Op1 {
     Plus,
     Neg,
@@ -11,7 +11,7 @@ pub enum Op1 {
 }
 
 /// An operator of two operands, in the order in which they bind, the tightest first.
-#[derive(Clone, Copy, Debug, PartialEq, Eq)]
+#[derive(Clone, Copy, PartialEq, Eq)]
 pub enum Op2 {
     Mul,
     Div,

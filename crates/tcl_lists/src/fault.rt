@@ -6,7 +6,7 @@ use px_bytes::Memory;
 
 /// Why a text is no list, with the place of its first bad element in bytes from 0; or want of
 /// memory.
-#[derive(Clone, Copy, Debug, PartialEq, Eq)]
+#[derive(Clone, Copy, PartialEq, Eq)]
 pub enum ListFault {
     /// A brace stays open.
     OpenBrace(usize),

@@ -4,7 +4,7 @@ use px_bytes::Seq;
 
 /// The range of an element's bytes in the text, without braces or quotes, and whether it stands in
 /// braces.
-#[derive(Clone, Copy, Debug, PartialEq, Eq)]
+#[derive(Clone, Copy, PartialEq, Eq)]
 pub struct Place {
     pub start: usize,
     pub end: usize,

@@ -5,7 +5,7 @@ ghost use Rattle.std.specs.Option.{option_copied};
 ghost use Rattle.tcl_vars.specs.Names.{ends_with_paren, name_of};
 
 /// How a word names a variable: `NAME` or `NAME(INDEX)`.
-#[derive(Clone, Copy, Debug)]
+#[derive(Clone, Copy)]
 pub struct Name<'a> {
     pub name: &'a [u8],
     pub index: Option<&'a [u8]>,

@@ -6,7 +6,7 @@ use px_bytes::Memory;
 
 /// What is wrong with a text, with the place of the construct that stays open, of the byte that
 /// follows a closed one, of the bad escape, or of the opener that is one too many.
-#[derive(Clone, Copy, Debug, PartialEq, Eq)]
+#[derive(Clone, Copy, PartialEq, Eq)]
 pub enum Fault {
     MissingBrace(usize),
     MissingQuote(usize),
@@ -57,7 +57,7 @@ impl Fault {
 }
 
 /// Why no script was given: the text's fault, or want of memory.
-#[derive(Clone, Copy, Debug, PartialEq, Eq)]
+#[derive(Clone, Copy, PartialEq, Eq)]
 pub enum ParseFault {
     Fault(Fault),
     Memory,

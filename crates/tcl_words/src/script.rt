@@ -3,7 +3,7 @@
 use px_bytes::Text;
 
 /// The bytes of the text given from one place up to another, the first byte being at 0.
-#[derive(Clone, Copy, Debug, PartialEq, Eq)]
+#[derive(Clone, Copy, PartialEq, Eq)]
 pub struct Span {
     pub start: usize,
     pub end: usize,
@@ -26,7 +26,7 @@ pub struct Command {
 }
 
 /// How a word is written.
-#[derive(Clone, Copy, Debug, PartialEq, Eq)]
+#[derive(Clone, Copy, PartialEq, Eq)]
 pub enum Form {
     Bare,
     Quoted,

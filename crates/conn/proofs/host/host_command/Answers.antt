@@ -1,6 +1,6 @@
 use Rattle.std.proofs.Common.{◌≡◌, true, false}
 use Rattle.irule_net.specs.Checks.{command_of}
-use Rattle.connection_model.specs.Host.{first_word, names_one}
+use Rattle.conn_trace.specs.Host.{first_word, names_one}
 use Rattle.conn.proofs.Calling.{is_called, not_there}
 use Rattle.conn.proofs.host.host_command.Goals as goal
 

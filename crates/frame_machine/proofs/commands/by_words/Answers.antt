@@ -1,5 +1,5 @@
 use Rattle.std.proofs.Common.{◌≡◌, true, false}
-use Rattle.rule_steps.specs.Own.{is_own}
+use Rattle.rule_nodes.specs.Own.{is_own}
 use Rattle.frame_machine.specs.Given.{setting_of}
 use Rattle.frame_machine.proofs.InCommands.{finished_host, finished_own}
 use Rattle.frame_machine.proofs.commands.by_words.Goals as goal

@@ -1,6 +1,6 @@
 use Rattle.std.proofs.Common.{rules, ◌∙◌}
 use Rattle.std.proofs.lemmas.List.Sorted.{answers_always}
-use Rattle.connection_table.proofs.Numbers.{placed_by, searched}
+use Rattle.number_table.proofs.Numbers.{placed_by, searched}
 use Rattle.proxy.proofs.taken.find.Goals as goal
 
 pub returns-clause-place : goal.returns-clause-place

@@ -3,7 +3,7 @@ use Rattle.px_bytes.specs.declared.fault.Reply.{Reply}
 use Rattle.tcl_vars.specs.Scopes.{Scopes, in_proc}
 use Rattle.rule_model.specs.Evaluator.{evaluate}
 use Rattle.plain_eval.specs.Plain.{IsOutcome}
-use Rattle.connection_model.specs.Setup.{Handler}
+use Rattle.conn_trace.specs.Setup.{Handler}
 use Rattle.conn.specs.Setups.{handler_of}
 use Rattle.proxy_core.specs.Init.{init_host, init_setting, lines_in, ran}
 use Rattle.proxy_core.specs.InitPlaces.{plain_lines}

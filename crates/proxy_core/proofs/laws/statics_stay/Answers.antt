@@ -1,5 +1,5 @@
 use Rattle.std.proofs.Common.{◌≡◌, refl, Option, Some, None}
-use Rattle.connection_model.specs.Heard.{Accepted}
+use Rattle.conn_trace.specs.Heard.{Accepted}
 use Rattle.proxy_core.specs.Init.{init}
 use Rattle.proxy_core.specs.Setup.{setup_in}
 use Rattle.proxy_core.specs.declared.config.Config.{Config}

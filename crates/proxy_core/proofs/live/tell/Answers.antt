@@ -1,5 +1,5 @@
 use Rattle.std.proofs.Common.{refl, ap, ◌∙◌, inl}
-use Rattle.connection_model.specs.Edges.{edges_noted}
+use Rattle.conn_trace.specs.Edges.{edges_noted}
 use Rattle.conn.specs.Settling.{settle_notes}
 use Rattle.conn.specs.Stages.{has_finished}
 use Rattle.proxy_core.specs.Live.{input_of}

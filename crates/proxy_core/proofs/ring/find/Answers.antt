@@ -1,5 +1,5 @@
 use Rattle.std.proofs.Common.{◌∙◌, ap}
-use Rattle.connection_table.specs.Table.{place_in}
+use Rattle.number_table.specs.Table.{place_in}
 use Rattle.proxy_core.proofs.Places.{placed}
 use Rattle.proxy_core.proofs.ring.find.Goals as goal
 

@@ -2,7 +2,7 @@ use Rattle.std.proofs.lemmas.Result.{IfOk-weaker, IfErr-weaker}
 use Rattle.std.proofs.Common.{◌≡◌, ◌≤◌, List, ℕ, Option, inl, inr, length, refl, ap, sym, ◌∙◌, subst, arith}
 use Rattle.std.proofs.lemmas.List.{take_all}
 use Rattle.px_outside.specs.Outside.{told_more}
-use Rattle.connection_model.specs.declared.note.Note.{Note}
+use Rattle.conn_trace.specs.declared.note.Note.{Note}
 use Rattle.journal_text.specs.Notes.{note_lines}
 use Rattle.serve_loop.specs.Fallen.{Stopped}
 use Rattle.serve_loop.specs.Server.{Served, running}

@@ -1,6 +1,6 @@
 use Rattle.std.proofs.Common.{false, sym, ap, ◌∙◌, subst, Bool}
 use Rattle.std.proofs.lemmas.Result.{on_ok_weaker}
-use Rattle.connection_model.specs.Further.{Coming}
+use Rattle.conn_trace.specs.Further.{Coming}
 use Rattle.conn.specs.Calls.{Hears, heard_ends}
 use Rattle.conn.specs.declared.ends.Ends.{Ends}
 use Rattle.conn.proofs.Arriving.{hears, with_ends}

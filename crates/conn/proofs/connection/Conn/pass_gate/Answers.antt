@@ -2,7 +2,7 @@ use Rattle.std.proofs.Common.{◌≡◌, ap, false, ◌&&◌, nat_lt, length, ar
 use Rattle.std.proofs.lemmas.Bool.{and_right}
 use Rattle.std.proofs.lemmas.Bool.Decides.{nat_tests}
 use Rattle.px_bytes.specs.declared.addr.Side.TheVariants.{Client, Server}
-use Rattle.connection_model.specs.Gates.{room_limit}
+use Rattle.conn_trace.specs.Gates.{room_limit}
 use Rattle.conn.specs.Acts.{has_room}
 use Rattle.conn.specs.Queues.{queue_in}
 use Rattle.conn.proofs.Gating.{gate_rests}

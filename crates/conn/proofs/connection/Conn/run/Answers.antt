@@ -1,6 +1,6 @@
 use Rattle.std.proofs.Common.{◌≡◌, sym, ap, subst, [], ◌∷◌, ◌++◌, length, arith}
-use Rattle.connection_model.specs.declared.note.Note.TheVariants.{Finish}
-use Rattle.connection_model.specs.declared.note.Cause.TheVariants.{Memory}
+use Rattle.conn_trace.specs.declared.note.Note.TheVariants.{Finish}
+use Rattle.conn_trace.specs.declared.note.Cause.TheVariants.{Memory}
 use Rattle.conn.specs.Acts.{Acted}
 use Rattle.conn.specs.Runs.{DropsQueued}
 use Rattle.conn.specs.declared.turn.Act.TheVariants as done

@@ -1,5 +1,5 @@
 use Rattle.std.proofs.Common.{◌≡◌, refl, sym, ap, subst, ◌∙◌, ◌-◌, Option, Some, option_map}
-use Rattle.connection_model.specs.Setup.{Handler}
+use Rattle.conn_trace.specs.Setup.{Handler}
 use Rattle.conn.specs.Setups.{body_at, handler_of}
 use Rattle.conn.specs.Steps.{BodyMovedBy, BodySteps, GoesOn}
 use Rattle.conn.specs.declared.body_step.Said.{Said}

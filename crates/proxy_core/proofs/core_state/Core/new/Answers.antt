@@ -1,5 +1,5 @@
 use Rattle.std.proofs.Common.{ap, ap₂, ◌∙◌, refl, map}
-use Rattle.connection_model.specs.declared.note.Note.TheVariants.{Log}
+use Rattle.conn_trace.specs.declared.note.Note.TheVariants.{Log}
 use Rattle.shared_store.specs.Store.{new_store}
 use Rattle.proxy_core.specs.Bodies.{all_places}
 use Rattle.proxy_core.proofs.Stepping.{start_represents}

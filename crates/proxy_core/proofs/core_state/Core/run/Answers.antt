@@ -1,5 +1,5 @@
 use Rattle.std.proofs.Common.{◌≡◌, ◌∙◌, ℕ, ◌<◌, [], ap, append-nil, arith, false, get_or, length, refl, remove, set, subst, sym, true}
-use Rattle.connection_table.proofs.Ring.{without_missing}
+use Rattle.number_table.proofs.Ring.{without_missing}
 use Rattle.proxy_core.specs.Calls.{queue_behind}
 use Rattle.proxy_core.specs.Ready.{ring_behind, without}
 use Rattle.proxy_core.specs.Serving.{IsSetup}

@@ -1,6 +1,6 @@
 use Rattle.std.proofs.Common.{sym, ◌∙◌, ap, length}
-use Rattle.connection_model.specs.declared.edges.Edge.{Edge}
-use Rattle.connection_model.specs.Edges.{may_take}
+use Rattle.conn_trace.specs.declared.edges.Edge.{Edge}
+use Rattle.conn_trace.specs.Edges.{may_take}
 use Rattle.served_core.proofs.Taking.{may_take_of, queue_length}
 use Rattle.served_core.proofs.face.ServedCore.front.Goals as goal
 

@@ -1,6 +1,6 @@
 use Rattle.std.proofs.Common.{sym, ◌∙◌, ap}
-use Rattle.connection_model.specs.declared.edges.Edge.{Edge}
-use Rattle.connection_model.specs.Edges.{may_send}
+use Rattle.conn_trace.specs.declared.edges.Edge.{Edge}
+use Rattle.conn_trace.specs.Edges.{may_send}
 use Rattle.served_core.proofs.Taking.{may_come_of}
 use Rattle.served_core.proofs.face.ServedCore.wants.Goals as goal
 

@@ -1,0 +1,5 @@
+use Rattle.frame_machine.specs.Went.{IsRunning}
+use Rattle.ask_machine.proofs.stepped.Runner.slice.Given as goal
+
+abbrev pub invariant-loop : goal.invariant-loop
+invariant-loop g l = IsRunning l.self.machine.at.mode

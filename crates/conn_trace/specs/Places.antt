@@ -1,0 +1,149 @@
+-- Where a connection goes when an event is entered and when its bodies have ended: the phase and
+-- the host's state, from the host's state and whether there is a server. Nothing here reads a
+-- stream.
+use Rattle.std.specs.Prelude.{ℕ, List, [], ◌∷◌, Bool, true, false, Option, Some, None}
+use Rattle.std.specs.Prelude.{if◌then◌else◌}
+use Rattle.px_bytes.specs.declared.addr.Side.{Side}
+use Rattle.px_bytes.specs.declared.addr.Side.TheVariants.{Client, Server}
+use Rattle.px_bytes.specs.declared.fault.FaultKind.{FaultKind}
+use Rattle.px_bytes.specs.declared.fault.TclFault.{TclFault}
+use Rattle.event_order.specs.declared.event.EventName.{EventName}
+use Rattle.event_order.specs.declared.event.EventName.TheVariants.{ClientAccepted, ClientData}
+use Rattle.event_order.specs.declared.event.EventName.TheVariants.{ClientClosed, ServerConnected}
+use Rattle.event_order.specs.declared.event.EventName.TheVariants.{ServerData, ServerClosed}
+use Rattle.event_order.specs.declared.event.EventName.TheVariants.{LbSelected, LbFailed}
+use Rattle.conn_trace.specs.Item.{Closed, Tcl, Unselected, Rejected}
+use Rattle.conn_trace.specs.Setup.{Handler, Setup, uncaught_line}
+use Rattle.irule_net.specs.State as network
+use Rattle.irule_net.specs.declared.state.Asks.{Asks}
+use Rattle.irule_net.specs.declared.state.Asks.TheVariants.{NotAsked, Stated}
+use Rattle.irule_net.specs.declared.state.Ending.{Ending}
+use Rattle.irule_net.specs.declared.state.Ending.TheVariants.{Rejects, Closes}
+use Rattle.irule_net.specs.declared.state.Selected.{Selected}
+use Rattle.conn_trace.specs.Host.{HostState}
+use Rattle.conn_trace.specs.State.{Gated, Running, Failing, Link, Absent, Asked, Up, GivenUp}
+use Rattle.conn_trace.specs.State.{TraceState, Phase, InEvent, Choosing, Connecting}
+use Rattle.conn_trace.specs.State.{Releasing, Relaying, Collecting, Finishing, Draining}
+
+pub record Place : Type 0 where
+  pub phase : Phase
+  pub host : HostState
+
+abbrev pub place : Phase → HostState → Place
+place phase host = record { phase = phase; host = host }
+
+-- it stands there
+abbrev pub at : Place → TraceState → TraceState
+at p l = record l { phase = p.phase; host = p.host }
+
+-- an event that runs once a side is closed
+abbrev pub is_closing : EventName → Bool
+is_closing ServerClosed = true
+is_closing ClientClosed = true
+is_closing other = false
+
+abbrev pub is_up : Link → Bool
+is_up Up = true
+is_up other = false
+
+-- an event begins: its bodies have done nothing yet
+abbrev pub begun : EventName → Link → HostState → HostState
+begun e link h =
+    record { event = e; net = record (network.begun h.net) { relays = is_up link } }
+
+-- the bodies of an event one after another, and then this
+abbrev pub bodies_left : EventName → List Handler → HostState → Place → Place
+bodies_left e [] h after = after
+bodies_left e (b ∷ bs) h after = place (InEvent e (Running b bs 0)) h
+
+-- The closing events' bodies have no gate. CLIENT_CLOSED:
+abbrev pub closed_client : Setup → Link → HostState → Place
+closed_client g link h =
+    let h' = begun ClientClosed link h in
+    bodies_left ClientClosed (g.handlers ClientClosed) h' (place Draining h')
+
+-- SERVER_CLOSED, where a server was asked for or is there, and then CLIENT_CLOSED
+abbrev pub closed_server : Setup → Link → HostState → Place
+closed_server g link h =
+    bodies_left ServerClosed (g.handlers ServerClosed) (begun ServerClosed link h)
+    (closed_client g link h)
+
+abbrev pub closed : Setup → Link → HostState → Place
+closed g Absent h = closed_client g Absent h
+closed g Asked h = closed_server g Asked h
+closed g Up h = closed_server g Up h
+closed g GivenUp h = closed_client g GivenUp h
+
+abbrev pub connecting : Option Selected → Phase
+connecting None = Finishing Unselected
+connecting (Some s) = Connecting s.addr
+
+abbrev pub behind_accepted : Asks → Phase
+behind_accepted NotAsked = Choosing
+behind_accepted (Stated n) = Collecting
+
+abbrev pub behind_data : Link → Bool → Phase
+behind_data Up released = Relaying
+behind_data other released = if released then Choosing else Collecting
+
+-- the client's bytes that were released before the server was there go to it first
+abbrev pub behind_connected : List ℕ → Phase
+behind_connected [] = Relaying
+behind_connected (b ∷ bs) = Releasing
+
+-- the phase after an event that nothing ended
+abbrev pub goes_on : EventName → Link → HostState → Phase
+goes_on ClientAccepted link h = behind_accepted h.net.client.asks
+goes_on ClientData link h = behind_data link h.net.wishes.released
+goes_on LbSelected link h = connecting h.net.selected
+goes_on LbFailed link h = if h.net.wishes.reselects then Choosing else Finishing Unselected
+goes_on ServerConnected link h = behind_connected h.net.loose
+goes_on ServerData link h = Relaying
+goes_on other link h = Finishing Closed
+
+abbrev pub unless_ended : Option Ending → Phase → Phase
+unless_ended None phase = phase
+unless_ended (Some Rejects) phase = Finishing Rejected
+unless_ended (Some Closes) phase = Finishing Closed
+
+-- SERVER_CLOSED of a connection that has finished is followed by CLIENT_CLOSED; of one that goes
+-- on, by the choice of another server
+abbrev pub after_server : Setup → (finished : Bool) → Link → HostState → Place
+after_server g true link h = closed_client g link h
+after_server g false link h = place Choosing h
+
+-- where all bodies of an event have ended
+abbrev pub after_event : Setup → EventName → (finished : Bool) → Link → HostState → Place
+after_event g ServerClosed finished link h = after_server g finished link h
+after_event g ClientClosed finished link h = place Draining h
+after_event g e finished link h = place (unless_ended h.net.wishes.ends (goes_on e link h)) h
+
+abbrev pub entered : Setup → EventName → Link → List Handler → HostState → Place
+entered g e link [] h = after_event g e false link h
+entered g e link (b ∷ bs) h = place (InEvent e (Gated b bs)) h
+
+-- where an event is entered; an event without bodies has no gate
+abbrev pub enter : Setup → EventName → Link → HostState → Place
+enter g e link h = entered g e link (g.handlers e) (begun e link h)
+
+abbrev pub next_body :
+    Setup → EventName → (finished : Bool) → Link → List Handler → HostState → Place
+next_body g e finished link bs h = bodies_left e bs h (after_event g e finished link h)
+
+-- an uncaught fault finishes the connection; in a closing event it only ends its body
+abbrev pub after_fault :
+    Setup → EventName → (finished : Bool) → Link → FaultKind → List Handler → HostState → Place
+after_fault g e finished link kind bs h =
+    if is_closing e then next_body g e finished link bs h else place (Finishing (Tcl kind)) h
+
+-- where a body of an event ended so
+abbrev pub after_body : Setup → EventName → (finished : Bool) → Link → Handler → List Handler
+    → Option TclFault → HostState → Place
+after_body g e finished link b bs None h = next_body g e finished link bs h
+after_body g e finished link b bs (Some fault) h =
+    place (InEvent e (Failing fault.kind (uncaught_line b.rule e fault.text) bs)) h
+
+-- the event of the bytes that a collect of a side asked for
+abbrev pub data_event : Side → EventName
+data_event Client = ClientData
+data_event Server = ServerData

@@ -1,5 +1,0 @@
-use Rattle.frame_machine.specs.Went.{IsRunning}
-use Rattle.machine_vectors.proofs.stepped.Runner.run.Given as goal
-
-abbrev pub invariant-loop : goal.invariant-loop
-invariant-loop g l = IsRunning l.self.machine.at.mode

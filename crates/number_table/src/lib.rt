@@ -1,0 +1,224 @@
+//! Values under rising numbers, found without a scan, and the ring of those that are ready.
+#![tactic(auto)]
+
+ghost use Rattle.std.specs.Prelude.{◌≡◌, ℕ, ◌+◌, ◌<◌, ◌↔◌, IsTrue, [], ◌∷◌, ◌++◌, true, Some, IfOk, IfSome, IfNone, length};
+ghost use Rattle.std.specs.Prelude.{remove, slice_index, slice_get};
+ghost use Rattle.std.specs.Borrow.{sem};
+ghost use Rattle.std.specs.VecDeque.{deque_capacity};
+ghost use Rattle.number_table.specs.Layout.{numbers_of};
+ghost use Rattle.number_table.specs.Table.{Rises, is_in, place_in, with_ready, without, Pops};
+
+use slab::Slab;
+use std::alloc::{AllocError, Global};
+use std::collections::VecDeque;
+use std::marker::Model;
+use std::ops::{Index, IndexMut};
+
+/// Values of one type under numbers that rise. It has room for as many as it was made for, so that no
+/// later call takes memory.
+#[derive(Drop)]
+pub struct Table<T> {
+    values: Slab<T>,
+    // By rising number.
+    entries: Vec<Entry>,
+    ring: VecDeque<u32>,
+}
+
+#[derive(Drop, Clone, Copy)]
+struct Entry {
+    number: u32,
+    key: usize,
+    // Whether the ring has the number.
+    ready: bool,
+}
+
+impl<T> Model for Table<T> {
+    ghost use Rattle.std.specs.Prelude.{◌≤◌, vec_capacity};
+    ghost use Rattle.std.specs.VecDeque.{deque_capacity};
+    ghost use Rattle.number_table.specs.Table.{Table as Values, table_code};
+    ghost use Rattle.number_table.specs.Layout.{items_of, numbers_of, IsSound};
+
+    ghost Value = { Values T };
+
+    ghost coded = { table_code T.code };
+
+    ghost view = { λ s. record {
+      items = items_of s.values s.entries.items;
+      numbers = numbers_of s.entries.items;
+      ring = s.ring.items;
+      room = vec_capacity s.entries;
+    } };
+
+    ghost invariant = { λ s. IsSound s.values s.entries.items s.ring.items
+        × ((vec_capacity s.entries ≤ s.values.capacity) × (vec_capacity s.entries ≤ deque_capacity s.ring)) };
+}
+
+impl<T> Table<T> {
+    /// An empty table with room for so many values.
+    pub fn with_capacity(alloc: Global, room: usize) -> Result<Self, AllocError>
+    where
+        T: Drop,
+        ensures items { IfOk result (λ s. s.items ≡ []) }
+        ensures numbers { IfOk result (λ s. s.numbers ≡ []) }
+        ensures ring { IfOk result (λ s. s.ring ≡ []) }
+        ensures room { IfOk result (λ s. s.room ≡ room) }
+    {
+        Ok(Table {
+            values: Slab::with_capacity(alloc, room)?,
+            entries: Vec::with_capacity(alloc, room)?,
+            ring: VecDeque::with_capacity(alloc, room)?,
+        })
+    }
+
+    /// How many values there are.
+    pub fn len(&self) -> usize
+        ensures items { result ≡ length self.now.items }
+        ensures numbers { result ≡ length self.now.numbers }
+    {
+        self.entries.len()
+    }
+
+    /// Whether no number is ready.
+    pub fn is_idle(&self) -> bool
+        ensures { IsTrue result ↔ (self.now.ring ≡ []) }
+    {
+        self.ring.is_empty()
+    }
+
+    /// The number that is ready for the longest time.
+    pub fn next_ready(&self) -> Option<u32>
+        ensures { result ≡ slice_get self.now.ring 0 }
+    {
+        self.ring.front().copied()
+    }
+
+    /// The place of a number, found by halving.
+    pub fn place(&self, number: u32) -> Option<usize>
+        ensures place { result ≡ place_in self.now.numbers number }
+        ensures within { IfSome result (λ at. at < length self.now.items) }
+    {
+        find(&self.entries, number)
+    }
+
+    /// Adds a value under a number above all others, at the back, and its number at the back of the ring.
+    pub fn push(&mut self, number: u32, value: T)
+        requires room { length self.old.items < self.old.room }
+        requires above { (n : ℕ) → is_in self.old.numbers n ≡ true → n < number }
+        ensures items { self.new.items ≡ self.old.items ++ value ∷ [] }
+        ensures len { length self.new.items ≡ length self.old.items + 1 }
+        ensures numbers { self.new.numbers ≡ self.old.numbers ++ number ∷ [] }
+        ensures ring { self.new.ring ≡ self.old.ring ++ number ∷ [] }
+        ensures room { self.new.room ≡ self.old.room }
+    {
+        let key = self.values.insert_reserved(value);
+        self.entries.push_reserved(Entry {
+            number,
+            key,
+            ready: true,
+        });
+        self.ring.push_back_reserved(number);
+    }
+
+    /// Takes the value at a place out, and its number out of the ring. The entries behind it move up, no
+    /// value does; the ring is gone through only where it has the number.
+    pub fn remove(&mut self, at: usize) -> T
+        requires { at < length self.old.items }
+        ensures value { slice_get self.old.items at ≡ Some result }
+        ensures items { self.new.items ≡ remove self.old.items at }
+        ensures len { length self.new.items + 1 ≡ length self.old.items }
+        ensures numbers { self.new.numbers ≡ remove self.old.numbers at }
+        ensures ring { self.new.ring ≡ without (slice_index self.old.numbers at) self.old.ring }
+        ensures room { self.new.room ≡ self.old.room }
+    {
+        let entry = self.entries.remove(at);
+        unlink(&mut self.ring, entry);
+        self.values.remove(entry.key)
+    }
+
+    /// Puts the number at a place at the back of the ring, unless it is there.
+    pub fn make_ready(&mut self, at: usize)
+        requires { at < length self.old.items }
+        ensures items { self.new.items ≡ self.old.items }
+        ensures numbers { self.new.numbers ≡ self.old.numbers }
+        ensures ring { self.new.ring ≡ with_ready self.old.ring (slice_index self.old.numbers at) }
+        ensures room { self.new.room ≡ self.old.room }
+    {
+        let entry = self.entries[at];
+        if entry.ready {
+            return;
+        }
+        self.entries[at].ready = true;
+        self.ring.push_back_reserved(entry.number);
+    }
+
+    /// Takes the front off the ring, and tells the place of its number.
+    pub fn pop_ready(&mut self) -> Option<usize>
+        ensures pops { IfSome result (λ at. Pops self.old self.new at) }
+        ensures within { IfSome result (λ at. at < length self.old.items) }
+        ensures none { IfNone result ((self.old.ring ≡ []) × (self.new.ring ≡ [])) }
+        ensures items { self.new.items ≡ self.old.items }
+        ensures numbers { self.new.numbers ≡ self.old.numbers }
+        ensures room { self.new.room ≡ self.old.room }
+    {
+        let number = self.ring.pop_front()?;
+        let Some(at) = find(&self.entries, number) else {
+            unreachable!();
+        };
+        self.entries[at].ready = false;
+        Some(at)
+    }
+}
+
+impl<T> Index<usize> for Table<T> {
+    type Output = T;
+
+    ghost can_index = { λ s at. at < length s.items };
+
+    ghost index_gives = { λ s at value. slice_get s.items at ≡ Some value };
+
+    fn index(&self, at: usize) -> &T {
+        &self.values[self.entries[at].key]
+    }
+}
+
+impl<T> IndexMut<usize> for Table<T> {
+    ghost use Rattle.number_table.specs.Lends.{lends_item};
+
+    fn index_mut(&mut self, at: usize) -> &mut T
+        requires { at < length self.old.items }
+        ensures* writes_back { sem 𝓛 (lends_item T.row self.entry at result) }
+        ensures value { slice_get self.old.items at ≡ Some result.now }
+    {
+        let key = self.entries[at].key;
+        &mut self.values[key]
+    }
+}
+
+// The place of a number.
+fn find(entries: &[Entry], number: u32) -> Option<usize>
+    requires { Rises (numbers_of entries.now) }
+    ensures place { result ≡ place_in (numbers_of entries.now) number }
+    ensures within { IfSome result (λ at. at < length entries.now) }
+{
+    entries.binary_search_by_key(&number, |e| e.number).ok()
+}
+
+// Takes the number of an entry out of the ring, where that has it.
+fn unlink(ring: &mut VecDeque<u32>, entry: Entry)
+    requires { entry.ready ≡ is_in ring.old.items entry.number }
+    ensures items { ring.new.items ≡ without entry.number ring.old.items }
+    ensures capacity { deque_capacity ring.new ≡ deque_capacity ring.old }
+{
+    if !entry.ready {
+        return;
+    }
+    if let Some(at) = place_in_ring(ring, entry.number) {
+        let _ = ring.remove(at);
+    }
+}
+
+fn place_in_ring(ring: &VecDeque<u32>, number: u32) -> Option<usize>
+    ensures { result ≡ place_in ring.now.items number }
+{
+    ring.iter().position(|n| number == *n)
+}

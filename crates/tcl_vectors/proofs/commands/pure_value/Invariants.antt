@@ -1,4 +1,0 @@
-use Rattle.tcl_vectors.proofs.commands.pure_value.Given as goal
-
-abbrev pub ghosts-called : goal.ghosts-called
-ghosts-called a = record { name = a.blank.name; parts = a.blank.parts }

@@ -1,4 +1,0 @@
-use Rattle.tcl_vectors.proofs.operators.answer_one.Given as goal
-
-abbrev pub ghosts-one : goal.ghosts-one
-ghosts-one a = record { name = a.blank.name; parts = a.blank.parts }

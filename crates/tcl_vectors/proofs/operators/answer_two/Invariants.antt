@@ -1,4 +1,0 @@
-use Rattle.tcl_vectors.proofs.operators.answer_two.Given as goal
-
-abbrev pub ghosts-two : goal.ghosts-two
-ghosts-two a = record { name = a.blank.name; parts = a.blank.parts }
