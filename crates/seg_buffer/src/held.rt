@@ -86,8 +86,10 @@ impl Held {
         ensures { self.new ≡ drop n self.old }
     {
         self.start += n;
-        if self.start >= self.bytes.len() - self.start {
-            let _ = self.bytes.drain(..self.start);
+        let left = self.bytes.len() - self.start;
+        if left <= self.start {
+            self.bytes.copy_within(self.start.., 0);
+            self.bytes.truncate(left);
             self.start = 0;
         }
     }
