@@ -2,8 +2,6 @@
 #![tactic(auto)]
 
 mod serve_real;
-#[cfg(test)]
-mod tests;
 
 use crate::serve_real::serve_real;
 use proxy::{Status, offline};

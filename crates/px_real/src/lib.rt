@@ -15,6 +15,3 @@ pub use clock::RealClock;
 pub use files::RealFiles;
 pub use mio_net::MioNet;
 pub use sinks::{FileSink, NoSink, StdoutSink};
-
-#[cfg(test)]
-mod tests;

@@ -1,8 +1,8 @@
 // A net with what its tests need.
 
-use crate::{MioNet, RealClock};
 use px_bytes::Addr;
 use px_outside::{Accepted, Clock, ConnectAnswer, Net, ReadAnswer, ReadyList, WriteAnswer};
+use px_real::{MioNet, RealClock};
 use std::io;
 use std::net::{Ipv4Addr, SocketAddr, TcpListener, TcpStream};
 

@@ -1,7 +1,7 @@
 use super::Went;
 use super::side::free_port;
-use crate::{FileSink, NoSink, RealFiles, StdoutSink};
 use px_outside::{Failed, Files, Sink, write_all};
+use px_real::{FileSink, NoSink, RealFiles, StdoutSink};
 use std::fs::remove_file;
 
 type HostFiles = RealFiles<HostRuntime>;
