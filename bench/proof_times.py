@@ -17,15 +17,21 @@ import sys
 KINDS = "Lts|Proof|Tie|Answers|Code|Statement|Goals|Met|Given|Invariants|Reads|Kinds|Carried"
 
 
-def main(folder, most=30):
-    files = [(os.stat(f"{at}/{name}").st_mtime_ns / 1e9, name) for at, _, names in os.walk(folder) for name in names]
+def by_function(files):
+    """What each function took, and each of its parts, by the moments at which modules were saved, which are in order."""
     whole, parts, last = collections.Counter(), collections.defaultdict(collections.Counter), None
-    for moment, name in sorted(files):
+    for moment, name in files:
         found = re.match(rf"Rattle-\w+?-proofs\.(.*?)\.({KINDS})[.\w+-]*\.oantt$", name)
         function, kind = (found[1], found[2]) if found else ("all else", "")
-        took, last = moment - (last or moment), moment
+        took, last = moment - (moment if last is None else last), moment
         whole[function] += took
         parts[function][kind] += took
+    return whole, parts
+
+
+def main(folder, most=30):
+    files = [(os.stat(f"{at}/{name}").st_mtime_ns / 1e9, name) for at, _, names in os.walk(folder) for name in names]
+    whole, parts = by_function(sorted(files))
     print(f"{sum(whole.values()):8.1f} s in all")
     for function, took in whole.most_common(most):
         largest = ", ".join(f"{kind} {part:.1f}" for kind, part in parts[function].most_common(3) if kind)
