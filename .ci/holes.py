@@ -72,7 +72,7 @@ def functions_of(file, text):
     while at < len(lines):
         line = lines[at]
         if re.match(r"(?:pub(?:\([\w:]+\))? )?(?:impl|mod|trait|unsafe impl|macro_rules!)\b", line) and not line.endswith(("}", ";")):
-            block = re.match(r"impl(?:<.*?>+)? (\w+)((?:<.*>)?) \{$", line)
+            block = None if " for " in line else re.match(r"impl(?:<.*?>+)? (\w+)((?:<.*>)?) \{$", line)
             opens = next((it for it in range(at, len(lines)) if lines[it].endswith("{") and not lines[it].startswith(" ")), at)
             block_ends = end_of(lines, opens, 0)
             if not block:

@@ -54,7 +54,9 @@ class Costs:
 
     def __init__(self, root, parts):
         self.root, self.parts, self.needs = root, parts, needs_of(root)
-        self.checks = [(it, told["began"]) for _, told in parts for it in told["checks"]]
+        # Checks that change nothing are no wrong bodies.
+        is_of = lambda part, it: it["kind"] != "wrong bodies" or "unchanged" not in part
+        self.checks = [(it, told["began"]) for part, told in parts for it in told["checks"] if is_of(part, it)]
         self.seconds, self.bytes = collections.Counter(), collections.Counter()
         self.spans, self.each = {}, collections.defaultdict(list)
         for it, began in self.checks:
