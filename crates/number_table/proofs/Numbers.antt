@@ -7,22 +7,10 @@ use Rattle.std.specs.Result.{result_ok}
 use Rattle.std.proofs.lemmas.Bool.Decides.{nat_tests}
 use Rattle.std.proofs.lemmas.Cmp.{ranked}
 use Rattle.std.proofs.lemmas.List.Sorted.{IsNonDecreasingBy-from_default}
+pub use Rattle.index_lists.proofs.Rings.{eq_self, eq_same, eq_turned, or_false}
 use Rattle.number_table.specs.Layout.{numbers_of}
 use Rattle.number_table.specs.Table.{Rises, is_in, place_in}
 use Rattle.number_table.specs.declared.Entry.{Entry}
-
-pub eq_self : (n : ℕ) → nat_eq n n ≡ true
-eq_self n = grind (arith, nat_tests)
-
-pub eq_same : (n m : ℕ) → nat_eq n m ≡ true → n ≡ m
-eq_same n m h = grind (arith, nat_tests)
-
-pub eq_turned : (n m : ℕ) → nat_eq n m ≡ false → nat_eq m n ≡ false
-eq_turned n m h = grind (arith, nat_tests)
-
-pub or_false : (a b : Bool) → (a || b) ≡ false → (a ≡ false) × (b ≡ false)
-or_false false b h = (refl, h)
-or_false true b h = cc
 
 above_push : (m n : ℕ) (ns : List ℕ) → AllByRecursion (λ k. m < k) ns → m < n → AllByRecursion (λ k. m < k) (ns ++ n ∷ [])
 above_push m n [] a h = (h, tt)

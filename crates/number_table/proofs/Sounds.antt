@@ -1,5 +1,5 @@
 -- What each call keeps of a table.
-use Rattle.std.proofs.Common.{◌≡◌, ◌∙◌, refl, sym, ap, ℕ, ◌+◌, ◌<◌, List, [], ◌∷◌, ◌++◌, Bool, true, false, Some, None, IsSome, is_some, nat_eq, length, arith, remove, set, get_or, slice_get, length-append, length-set, cond, not}
+use Rattle.std.proofs.Common.{◌≡◌, ◌∙◌, refl, sym, ap, ℕ, ◌+◌, ◌<◌, List, [], ◌∷◌, ◌++◌, Bool, true, false, Some, None, IsSome, is_some, nat_eq, length, arith, remove, set, get_or, slice_get, length-append, length-set, cond}
 use Rattle.std.proofs.lemmas.List.Edits.{length-remove}
 use Rattle.std.proofs.lemmas.List.Sums.{sum_by-set}
 use Rattle.std.proofs.lemmas.Option.{slice_get_within}
@@ -18,6 +18,14 @@ module _ {T : Type 0} where
   pub sound_none : (s : Slab T) → s.slots ≡ [] → IsSound s [] []
   sound_none s h = record { held = tt; apart = tt; counted = rw h refl; rises = tt; flagged = tt; once = distinct_none; known = λ n f. f }
 
+  -- a number above all isn't in the ring
+  pub fresh_number : (s : Slab T) (es : List Entry) (ring : List ℕ) (n : ℕ) → IsSound s es ring → ((m : ℕ) → is_in (numbers_of es) m ≡ true → m < n) → is_in ring n ≡ false
+  fresh_number s es ring n z above = by_cases (is_in ring n) refl
+    where
+      by_cases : (b : Bool) → is_in ring n ≡ b → b ≡ false
+      by_cases false t = refl
+      by_cases true t = absurd (omega (arith, above n (z.known n t)))
+
   pub sound_push : (old new : Slab T) (es : List Entry) (ring : List ℕ) (e : Entry) (v : T) → IsSound old es ring → Updates old new e.key (Some v) → get old e.key ≡ None → slab_len new ≡ slab_len old + 1 → e.ready ≡ true → ((m : ℕ) → is_in (numbers_of es) m ≡ true → m < e.number) → IsSound new (es ++ e ∷ []) (ring ++ e.number ∷ [])
   sound_push old new es ring e v s u n c r above = record {
     held = held_push old new es e v u n s.held;
@@ -25,13 +33,9 @@ module _ {T : Type 0} where
     counted = omega (arith, c, s.counted, length-append es (e ∷ []));
     rises = rw (numbers_push es e) (rises_push e.number (numbers_of es) above s.rises);
     flagged = flagged_push (ring ++ e.number ∷ []) es e (flagged_joined e.number ring es above s.flagged) (r ∙ sym (in_pushed_self e.number ring));
-    once = distinct_push e.number ring s.once (fresh (is_in ring e.number) refl);
+    once = distinct_push e.number ring s.once (fresh_number old es ring e.number s above);
     known = pushed_within ring (numbers_of (es ++ e ∷ [])) e.number (λ q h. in_push_numbers es e q (s.known q h)) (in_last_number es e);
   }
-    where
-      fresh : (b : Bool) → is_in ring e.number ≡ b → b ≡ false
-      fresh false t = refl
-      fresh true t = absurd (omega (arith, above e.number (s.known e.number t)))
 
   pub sound_remove : (at : ℕ) (old new : Slab T) (es : List Entry) (ring : List ℕ) (e : Entry) → IsSound old es ring → slice_get es at ≡ Some e → Updates old new e.key None → slab_len new + 1 ≡ slab_len old → IsSound new (remove es at) (without e.number ring)
   sound_remove at old new es ring e s h u c = record {
@@ -110,10 +114,6 @@ front_in ring rest n p = rw (p, eq_self n) refl
 
 pub read_same : (at : ℕ) (es : List Entry) (d e : Entry) → slice_get es at ≡ Some d → slice_get es at ≡ Some e → d ≡ e
 read_same at es d e h k = let f : Some d ≡ Some e = sym h ∙ k in cc
-
-pub not_true : (b : Bool) → not b ≡ true → b ≡ false
-not_true false h = refl
-not_true true h = cc
 
 -- the front is in the ring once
 pub front_once : (ring rest : List ℕ) (n : ℕ) → IsDistinct nat_eq ring → ring ≡ n ∷ rest → is_in rest n ≡ false

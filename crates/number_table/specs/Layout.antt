@@ -1,5 +1,5 @@
 -- How a `Table` keeps its values. No public clause cites this module.
-use Rattle.std.specs.Prelude.{◌≡◌, ℕ, ◌<◌, List, [], ◌∷◌, true, false, length, map}
+use Rattle.std.specs.Prelude.{◌≡◌, ℕ, List, [], ◌∷◌, true, false, length, map}
 use Rattle.std.specs.Prelude.{Option, Some, None, IsSome, nat_eq}
 use Rattle.std.specs.List.{AllByRecursion, IsDistinct}
 use Rattle.slab.specs.Slab.{Slab, get, slab_len}

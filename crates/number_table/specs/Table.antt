@@ -1,8 +1,9 @@
 -- What a contract sees of a `Table`.
-use Rattle.std.specs.Prelude.{◌≡◌, refl, ℕ, ◌<◌, List, [], ◌∷◌, ◌++◌, Bool, false, Option, Some, nat_eq}
+use Rattle.std.specs.Prelude.{◌≡◌, refl, ℕ, ◌<◌, List, [], ◌∷◌, ◌++◌, false, Option, Some, nat_eq}
 use Rattle.std.specs.Prelude.{if◌then◌else◌}
 use Rattle.std.specs.Coded.{Coded, code_by, coded×, coded_ℕ, coded_list}
-use Rattle.std.specs.List.{AllByRecursion, list_any, position_from}
+use Rattle.std.specs.List.{AllByRecursion, position_from}
+pub use Rattle.index_lists.specs.Ring.{is_in, without}
 
 -- the values, by rising number; their numbers; the numbers of those that are ready, the next in
 -- front; and how many values there is room for
@@ -22,17 +23,9 @@ table_code {T} code =
     (λ p. record { items = p.0; numbers = p.1.0; ring = p.1.1.0; room = p.1.1.1 })
     (λ _. refl)
 
-abbrev pub is_in : List ℕ → ℕ → Bool
-is_in ns n = list_any (nat_eq n) ns
-
 -- the ring with n at its back, unless it is there
 abbrev pub with_ready : List ℕ → ℕ → List ℕ
 with_ready ring n = if is_in ring n then ring else ring ++ n ∷ []
-
--- the ring without n
-abbrev pub without : ℕ → List ℕ → List ℕ
-without n [] = []
-without n (m ∷ ring) = if nat_eq n m then ring else m ∷ without n ring
 
 -- the place of a number
 abbrev pub place_in : List ℕ → ℕ → Option ℕ

@@ -4,13 +4,12 @@
 ghost use Rattle.std.specs.Prelude.{◌≡◌, ℕ, ◌+◌, ◌<◌, ◌↔◌, IsTrue, [], ◌∷◌, ◌++◌, true, Some, IfOk, IfSome, IfNone, length};
 ghost use Rattle.std.specs.Prelude.{remove, slice_index, slice_get};
 ghost use Rattle.std.specs.Borrow.{sem};
-ghost use Rattle.std.specs.VecDeque.{deque_capacity};
 ghost use Rattle.number_table.specs.Layout.{numbers_of};
 ghost use Rattle.number_table.specs.Table.{Rises, is_in, place_in, with_ready, without, Pops};
 
+use index_lists::Ring;
 use slab::Slab;
 use std::alloc::{AllocError, Global};
-use std::collections::VecDeque;
 use std::marker::Model;
 use std::ops::{Index, IndexMut};
 
@@ -21,7 +20,7 @@ pub struct Table<T> {
     values: Slab<T>,
     // By rising number.
     entries: Vec<Entry>,
-    ring: VecDeque<u32>,
+    ring: Ring,
 }
 
 #[derive(Drop, Clone, Copy)]
@@ -34,7 +33,6 @@ struct Entry {
 
 impl<T> Model for Table<T> {
     ghost use Rattle.std.specs.Prelude.{◌≤◌, vec_capacity};
-    ghost use Rattle.std.specs.VecDeque.{deque_capacity};
     ghost use Rattle.number_table.specs.Table.{Table as Values, table_code};
     ghost use Rattle.number_table.specs.Layout.{items_of, numbers_of, IsSound};
 
@@ -50,7 +48,7 @@ impl<T> Model for Table<T> {
     } };
 
     ghost invariant = { λ s. IsSound s.values s.entries.items s.ring.items
-        × ((vec_capacity s.entries ≤ s.values.capacity) × (vec_capacity s.entries ≤ deque_capacity s.ring)) };
+        × ((vec_capacity s.entries ≤ s.values.capacity) × (vec_capacity s.entries ≤ s.ring.room)) };
 }
 
 impl<T> Table<T> {
@@ -63,10 +61,12 @@ impl<T> Table<T> {
         ensures ring { IfOk result (λ s. s.ring ≡ []) }
         ensures room { IfOk result (λ s. s.room ≡ room) }
     {
+        let mut ring = Ring::new(alloc);
+        ring.reserve(room)?;
         Ok(Table {
             values: Slab::with_capacity(alloc, room)?,
             entries: Vec::with_capacity(alloc, room)?,
-            ring: VecDeque::with_capacity(alloc, room)?,
+            ring,
         })
     }
 
@@ -89,7 +89,7 @@ impl<T> Table<T> {
     pub fn next_ready(&self) -> Option<u32>
         ensures { result ≡ slice_get self.now.ring 0 }
     {
-        self.ring.front().copied()
+        self.ring.front()
     }
 
     /// The place of a number, found by halving.
@@ -116,7 +116,7 @@ impl<T> Table<T> {
             key,
             ready: true,
         });
-        self.ring.push_back_reserved(number);
+        self.ring.push(number);
     }
 
     /// Takes the value at a place out, and its number out of the ring. The entries behind it move up, no
@@ -148,7 +148,7 @@ impl<T> Table<T> {
             return;
         }
         self.entries[at].ready = true;
-        self.ring.push_back_reserved(entry.number);
+        self.ring.push(entry.number);
     }
 
     /// Takes the front off the ring, and tells the place of its number.
@@ -160,7 +160,7 @@ impl<T> Table<T> {
         ensures numbers { self.new.numbers ≡ self.old.numbers }
         ensures room { self.new.room ≡ self.old.room }
     {
-        let number = self.ring.pop_front()?;
+        let number = self.ring.pop()?;
         let Some(at) = find(&self.entries, number) else {
             unreachable!();
         };
@@ -204,21 +204,12 @@ fn find(entries: &[Entry], number: u32) -> Option<usize>
 }
 
 // Takes the number of an entry out of the ring, where that has it.
-fn unlink(ring: &mut VecDeque<u32>, entry: Entry)
+fn unlink(ring: &mut Ring, entry: Entry)
     requires { entry.ready ≡ is_in ring.old.items entry.number }
     ensures items { ring.new.items ≡ without entry.number ring.old.items }
-    ensures capacity { deque_capacity ring.new ≡ deque_capacity ring.old }
+    ensures room { ring.new.room ≡ ring.old.room }
 {
-    if !entry.ready {
-        return;
+    if entry.ready {
+        ring.unlink(entry.number);
     }
-    if let Some(at) = place_in_ring(ring, entry.number) {
-        let _ = ring.remove(at);
-    }
-}
-
-fn place_in_ring(ring: &VecDeque<u32>, number: u32) -> Option<usize>
-    ensures { result ≡ place_in ring.now.items number }
-{
-    ring.iter().position(|n| number == *n)
 }

@@ -28,8 +28,8 @@ index_mut-requires g c =
     let w = entry_within c.args.at c.self.inside.values es z.held (rw (← c.self.view_is) at c.requires) in
     omega (arith, w, c.self.inside.entries.ok.0)
 
-pub push_back_reserved-requires : goal.push_back_reserved-requires
-push_back_reserved-requires g c =
+pub push-requires-clause-room : goal.push-requires-clause-room
+push-requires-clause-room g c =
     let es = c.self.inside.entries.items in
     let z = c.self.invariant.0 in
     let w = entry_within c.args.at c.self.inside.values es z.held (rw (← c.self.view_is) at c.requires) in
@@ -37,7 +37,16 @@ push_back_reserved-requires g c =
     let h = slice_get_read es (length es) c.args.at e refl w c.index-entry.ensures in
     let absent = sym (flag_at c.args.at _ es e z.flagged h) ∙ c.if-entry.false in
     let fewer = ring_room _ _ e.number z.once z.known absent (in_numbers c.args.at es e h) in
-    omega (arith, fewer, length_numbers es, c.self.inside.entries.ok.0, c.self.inside.entries.ok.1, c.self.invariant.1.1, c.self.inside.ring.ok.0)
+    omega (arith, fewer, length_numbers es, c.self.inside.entries.ok.0, c.self.inside.entries.ok.1, c.self.invariant.1.1)
+
+pub push-requires-clause-absent : goal.push-requires-clause-absent
+push-requires-clause-absent g c =
+    let es = c.self.inside.entries.items in
+    let z = c.self.invariant.0 in
+    let w = entry_within c.args.at c.self.inside.values es z.held (rw (← c.self.view_is) at c.requires) in
+    let e = c.index-entry.result.now in
+    let h = slice_get_read es (length es) c.args.at e refl w c.index-entry.ensures in
+    sym (flag_at c.args.at _ es e z.flagged h) ∙ c.if-entry.false
 
 pub invariant_of-self : goal.invariant_of-self
 invariant_of-self g c =
@@ -48,9 +57,9 @@ invariant_of-self g c =
     let m = c.index_mut.result.now in
     let h = slice_get_read es (length es) c.args.at e refl w c.index-entry.ensures in
     let same = read_same c.args.at es m e (slice_get_read es (length es) c.args.at m refl w c.index_mut.ensures.value) h in
-    rw c.push_back_reserved.ensures.items (
+    rw c.push.ensures.items (
       sound_ready c.args.at _ es _ e (record { number = m.number; key = m.key; ready = true }) z h c.if-entry.false (ap (λ y. y.number) same) (ap (λ y. y.key) same) refl,
-      (c.self.invariant.1.0, omega (arith, c.self.invariant.1.1, c.push_back_reserved.ensures.capacity)),
+      (c.self.invariant.1.0, omega (arith, c.self.invariant.1.1, c.push.ensures.room)),
     )
 
 pub returns-clause-items : goal.returns-clause-items
@@ -77,4 +86,4 @@ returns-clause-ring g c =
     let z = c.self.invariant.0 in
     let w = entry_within c.args.at c.self.inside.values es z.held (rw (← c.self.view_is) at c.requires) in
     let h = slice_get_read es (length es) c.args.at c.index-entry.result.now refl w c.index-entry.ensures in
-    rw (← c.self.view_is, c.push_back_reserved.ensures.items) (sym (ready_goes c.args.at es _ _ z.flagged h c.if-entry.false))
+    rw (← c.self.view_is, c.push.ensures.items) (sym (ready_goes c.args.at es _ _ z.flagged h c.if-entry.false))

@@ -23,9 +23,9 @@ invariant_of-self-2 g c =
     let n = c.in_ok-number.number in
     let place = sym (rw c.deref.ensures.value at c.in-Some.ensures.place) in
     let number = sym (number_at at es m h) ∙ (found_at n at _ place).1 in
-    let p = c.in_ok-number.ensures.items ∙ ap (λ k. k ∷ c.pop_front.new.self.items) (sym number) in (
+    let p = c.in_ok-number.ensures.items ∙ ap (λ k. k ∷ c.pop.new.self.items) (sym number) in (
       sound_pop at _ es _ _ m (record { number = m.number; key = m.key; ready = false }) z p h refl refl refl,
-      (c.self.invariant.1.0, omega (arith, c.self.invariant.1.1, c.pop_front.ensures.capacity)),
+      (c.self.invariant.1.0, omega (arith, c.self.invariant.1.1, c.pop.ensures.room)),
     )
 
 pub returns-clause-within : goal.returns-clause-within

@@ -5,7 +5,7 @@ use Rattle.number_table.specs.declared.Entry.{Entry}
 use Rattle.number_table.proofs.Entries.{items_push, length_items}
 use Rattle.number_table.proofs.Numbers.{length_numbers}
 use Rattle.number_table.proofs.Ring.{ring_within}
-use Rattle.number_table.proofs.Sounds.{sound_push}
+use Rattle.number_table.proofs.Sounds.{fresh_number, sound_push}
 use Rattle.number_table.proofs.Table.push.Goals as goal
 
 pub insert_reserved-key-requires : goal.insert_reserved-key-requires
@@ -18,22 +18,26 @@ push_reserved-requires g c =
     let room = rw (← c.self.view_is) at c.requires.room in
     omega (arith, room, length_items c.self.inside.values c.self.inside.entries.items c.self.invariant.0.held, c.self.inside.entries.ok.0)
 
-pub push_back_reserved-requires : goal.push_back_reserved-requires
-push_back_reserved-requires g c =
+pub push-requires-clause-room : goal.push-requires-clause-room
+push-requires-clause-room g c =
     let es = c.self.inside.entries.items in
     let z = c.self.invariant.0 in
     let room = rw (← c.self.view_is) at c.requires.room in
     let fewer = ring_within c.self.inside.ring.items _ z.once z.known in
-    omega (arith, room, length_items c.self.inside.values es z.held, length_numbers es, fewer, c.self.inside.ring.ok.0, c.self.invariant.1.1)
+    omega (arith, room, length_items c.self.inside.values es z.held, length_numbers es, fewer, c.self.invariant.1.1)
+
+pub push-requires-clause-absent : goal.push-requires-clause-absent
+push-requires-clause-absent g c =
+    fresh_number c.self.inside.values c.self.inside.entries.items _ c.args.number c.self.invariant.0 (rw (← c.self.view_is) at c.requires.above)
 
 pub invariant_of-self : goal.invariant_of-self
 invariant_of-self g c =
     let i = c.insert_reserved-key.ensures in
     let above = rw (← c.self.view_is) at c.requires.above in
     let e : Entry = record { number = c.args.number; key = c.insert_reserved-key.result; ready = true } in
-    rw (c.push_reserved.ensures.items, c.push_back_reserved.ensures.items) (
+    rw (c.push_reserved.ensures.items, c.push.ensures.items) (
       sound_push _ _ c.self.inside.entries.items _ e c.args.value c.self.invariant.0 i.updates i.was_vacant i.len refl above,
-      (omega (arith, c.self.invariant.1.0, i.capacity, c.push_reserved.ensures.capacity), omega (arith, c.self.invariant.1.1, c.push_reserved.ensures.capacity, c.push_back_reserved.ensures.capacity)),
+      (omega (arith, c.self.invariant.1.0, i.capacity, c.push_reserved.ensures.capacity), omega (arith, c.self.invariant.1.1, c.push_reserved.ensures.capacity, c.push.ensures.room)),
     )
 
 pub returns-clause-items : goal.returns-clause-items

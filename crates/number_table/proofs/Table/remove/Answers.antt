@@ -23,7 +23,7 @@ invariant_of-self g c =
     let h = slice_get_read es (length es) c.args.at e refl w c.remove-entry.ensures.value in
     rw (c.remove-entry.ensures.items, c.unlink.ensures.items) (
       sound_remove c.args.at _ _ es _ e z h c.remove.ensures.updates c.remove.ensures.len,
-      (omega (arith, c.self.invariant.1.0, c.remove-entry.ensures.capacity, c.remove.ensures.capacity), omega (arith, c.self.invariant.1.1, c.remove-entry.ensures.capacity, c.unlink.ensures.capacity)),
+      (omega (arith, c.self.invariant.1.0, c.remove-entry.ensures.capacity, c.remove.ensures.capacity), omega (arith, c.self.invariant.1.1, c.remove-entry.ensures.capacity, c.unlink.ensures.room)),
     )
 
 pub returns-clause-value : goal.returns-clause-value

@@ -4,10 +4,10 @@ use Rattle.number_table.proofs.Table.with_capacity.Goals as goal
 
 pub invariant_of-result : goal.invariant_of-result
 invariant_of-result g c =
-    rw (c.in_ok-with_capacity-2.ensures.items, c.in_ok-with_capacity-3.ensures.items) (
+    rw (c.reserve.ensures.items, c.new-ring.ensures.items, c.in_ok-with_capacity-2.ensures.items) (
       sound_none c.in_ok-with_capacity.field-0 c.in_ok-with_capacity.ensures.empty,
       (
         omega (arith, c.in_ok-with_capacity.ensures.capacity, c.in_ok-with_capacity-2.ensures.exact),
-        omega (arith, c.in_ok-with_capacity-3.ensures.exact, c.in_ok-with_capacity-2.ensures.exact),
+        omega (arith, c.in_ok-reserve.ensures.ok, c.in_ok-with_capacity-2.ensures.exact),
       ),
     )

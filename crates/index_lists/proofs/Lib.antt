@@ -1,0 +1,6 @@
+pub mod Leaves
+pub mod Orders
+pub mod Rings
+pub mod Rows
+pub mod Trees
+pub mod Widened

@@ -1,0 +1,3 @@
+pub mod Wheel
+pub mod Least
+pub mod Ring
