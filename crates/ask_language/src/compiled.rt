@@ -4,8 +4,9 @@ use crate::question::Question;
 use crate::words::fault_name;
 use px_bytes::{M, Memory, Text};
 use std::alloc::Global;
-use tcl_compile::{CompileFault, Flaw, Node, compile};
+use tcl_compile::{CompileFault, compile};
 use tcl_expr::Misread;
+use tcl_trees::{Flaw, Node};
 use tcl_words::{ParseFault, Script, parse};
 
 pub fn answer(alloc: Global, question: &Question) -> M<Option<Text>> {

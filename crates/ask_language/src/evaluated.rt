@@ -7,7 +7,7 @@ use crate::question::Question;
 use plain_eval::{Plain, PlainCode, Replies, eval_plain};
 use px_bytes::{M, Raise, TclFault, Text, print_hex};
 use std::alloc::Global;
-use tcl_compile::{Node, Procs, Verb};
+use tcl_trees::{Node, Procs, Verb};
 use tcl_vars::Vars;
 
 /// The budget of a body, more than a rule can have.

@@ -6,7 +6,7 @@ use hex::FromHexError;
 use px_bytes::{M, Memory, Text, print_hex, read_decimal};
 use rule_loader::{Handlers, LoadFault, LoadKind, Rule, RuleFault, load_rule};
 use std::alloc::Global;
-use tcl_compile::{Parameter, Proc};
+use tcl_trees::{Parameter, Proc};
 
 /// The events in the order in which an answer tells their bodies.
 const TOLD: [EventName; 13] = [

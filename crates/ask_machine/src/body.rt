@@ -1,6 +1,6 @@
 // What is run.
 
-use tcl_compile::{Node, Procs};
+use tcl_trees::{Node, Procs};
 
 /// A body with the procedures of its rule, whether all commands of the host are shared calls, the rule's text,
 /// whose words may name variables, and the budget.

@@ -3,7 +3,7 @@ use Rattle.std.proofs.Common.{◌≡◌, ◌<◌, ℕ, Bool, List, [], ◌∷◌
 use Rattle.std.proofs.Common.{arith}
 use Rattle.config.specs.EventWords.{first_misplaced, misplaced_in, misplaced_word}
 use Rattle.rule_loader.specs.Loading.{script_of}
-use Rattle.tcl_compile.specs.Pieces.{all_commands}
+use Rattle.tcl_trees.specs.Pieces.{all_commands}
 use Rattle.tcl_words.specs.Tree.{Command, Commands}
 use Rattle.tcl_words.specs.View.{word_view}
 use Rattle.tcl_words.specs.declared.script.Word.{Word}

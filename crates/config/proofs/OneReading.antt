@@ -4,7 +4,7 @@ use Rattle.std.proofs.Common.{ap₂, ◌∙◌}
 use Rattle.std.specs.Prelude.{Result, Ok, Err}
 use Rattle.rule_loader.specs.Faults.{told_of}
 use Rattle.rule_loader.specs.Loading.{Loaded, loaded, rule_faults, rule_of, script_of, unless}
-use Rattle.tcl_compile.specs.Pieces.{all_commands}
+use Rattle.tcl_trees.specs.Pieces.{all_commands}
 use Rattle.rule_loader.specs.Outcome.{Gives}
 use Rattle.rule_loader.specs.declared.load_fault.RuleFault.{RuleFault}
 use Rattle.rule_loader.specs.declared.rule.Rule.{Rule}

@@ -8,9 +8,9 @@ use Rattle.event_order.specs.declared.event.EventName.TheVariants.{HttpRequest, 
 use Rattle.event_order.specs.declared.event.EventName.TheVariants.{HttpResponse, HttpResponseData}
 use Rattle.rule_loader.specs.Events.{event_of}
 use Rattle.rule_loader.specs.Loading.{script_of}
-use Rattle.tcl_compile.specs.Pieces.{all_commands, all_words}
-use Rattle.tcl_compile.specs.Texts.{is_text}
-use Rattle.tcl_compile.specs.Words.{word_place}
+use Rattle.tcl_trees.specs.Pieces.{all_commands, all_words}
+use Rattle.tcl_trees.specs.Texts.{is_text}
+use Rattle.tcl_trees.specs.Words.{word_place}
 use Rattle.tcl_words.specs.Tree.{Word, Command, command}
 
 -- a virtual server without HTTP has no events of HTTP

@@ -6,8 +6,8 @@ ghost use Rattle.config.specs.EventWords.{misplaced_in};
 ghost use Rattle.config.specs.EventWords.{misplaced_at, misplaced_word};
 ghost use Rattle.rule_loader.specs.Events.{event_named, event_of};
 ghost use Rattle.rule_loader.specs.Loading.{script_of};
-ghost use Rattle.tcl_compile.specs.Texts.{is_text};
-ghost use Rattle.tcl_compile.specs.Words.{word_place};
+ghost use Rattle.tcl_trees.specs.Texts.{is_text};
+ghost use Rattle.tcl_trees.specs.Words.{word_place};
 ghost use Rattle.tcl_words.specs.View.{command_view, script_view, word_view};
 
 use event_order::{EventName, read_event};
@@ -105,7 +105,7 @@ fn first_misplaced(http: bool, commands: &[Command]) -> Option<usize>
 }
 
 // The script that a text is, as far as it can be read.
-#[tactic(auto, unfolding(rule_loader::specs::Loading::script_of, tcl_compile::specs::Compiled::script_within))]
+#[tactic(auto, unfolding(rule_loader::specs::Loading::script_of, tcl_trees::specs::Compiled::script_within))]
 fn read_script(alloc: Global, text: &[u8]) -> M<Script>
     ensures { IfOk result (λ script. (script_of text.now).0 ≡ script_view script) }
 {

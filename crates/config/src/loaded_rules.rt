@@ -19,7 +19,7 @@ impl Model for LoadedRules {
     ghost use Rattle.std.specs.Coded.{codes};
     ghost use Rattle.std.specs.Prelude.{List};
     ghost use Rattle.config.specs.declared.rule_text.LoadedRule.{LoadedRule};
-    ghost use Rattle.tcl_compile.specs.contracts.node.Node as node;
+    ghost use Rattle.tcl_trees.specs.contracts.node.Node as node;
 
     ghost Value = { List LoadedRule };
 

@@ -1,6 +1,6 @@
 -- Frames that ask wait.
 use Rattle.std.proofs.Common.{◌≡◌, refl, ap, ◌∙◌, ℕ, List, [], ◌∷◌, ◌++◌}
-use Rattle.tcl_compile.specs.Tree.{Tree}
+use Rattle.tcl_trees.specs.Tree.{Tree}
 use Rattle.tcl_vars.specs.Scopes.{Scopes}
 use Rattle.rule_model.specs.Outcome.{Act, Called, State, state, Waits, heard}
 use Rattle.rule_model.specs.Setting.{Setting, Inner}

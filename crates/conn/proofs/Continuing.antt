@@ -5,7 +5,7 @@ use Rattle.std.proofs.lemmas.Option.{slice_get_past}
 use Rattle.px_bytes.specs.declared.addr.Addr.{Addr}
 use Rattle.px_bytes.specs.declared.fault.Reply.{Reply}
 use Rattle.px_bytes.specs.declared.fault.Reply.TheVariants as reply
-use Rattle.tcl_compile.specs.Tree.{Tree}
+use Rattle.tcl_trees.specs.Tree.{Tree}
 use Rattle.tcl_vars.specs.Scopes.{Scopes}
 use Rattle.event_order.specs.declared.event.EventName.{EventName}
 use Rattle.rule_model.specs.Laws.{state_after}

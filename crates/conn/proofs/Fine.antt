@@ -2,7 +2,7 @@
 use Rattle.std.proofs.Common.{◌≡◌, refl, subst, ℕ, zero, suc, ◌+◌, List, [], ◌∷◌, drop, Bool, true, false, Result, Ok, Err}
 use Rattle.px_bytes.specs.FaultText.{budget_spent}
 use Rattle.px_bytes.specs.declared.fault.TclFault.{TclFault}
-use Rattle.tcl_compile.specs.Tree.{Tree}
+use Rattle.tcl_trees.specs.Tree.{Tree}
 use Rattle.tcl_expr.specs.declared.expr.Joint.{Joint}
 use Rattle.tcl_vars.specs.Scopes.{out_of_proc}
 use Rattle.rule_model.specs.Commands.{code_left, left, leave}

@@ -1,7 +1,7 @@
 -- From alike states frames come to alike outcomes.
 use Rattle.std.proofs.Common.{refl, ℕ, ◌+◌, List, [], ◌∷◌, ◌++◌, drop, take, Some, codes}
-use Rattle.tcl_compile.specs.Tree.{Tree, Trees, Operands, Values}
-use Rattle.tcl_compile.specs.Tree as tree
+use Rattle.tcl_trees.specs.Tree.{Tree, Trees, Operands, Values}
+use Rattle.tcl_trees.specs.Tree as tree
 use Rattle.tcl_vars.specs.Names.{Name}
 use Rattle.tcl_var_commands.specs.Reading.{read_value}
 use Rattle.rule_model.specs.Children.{child, free, one, alone, is_next, count, places_of}

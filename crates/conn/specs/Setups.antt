@@ -1,8 +1,8 @@
 -- What a connection of the code runs on, and the setup of a trace.
 use Rattle.std.specs.Prelude.{◌≡◌, ℕ, List, [], length, false, Option, option_map}
 use Rattle.std.specs.Prelude.{option_and_then, slice_get, slice_index_or}
-use Rattle.tcl_compile.specs.Procedures.{procs_view}
-use Rattle.tcl_compile.specs.TreeView.{node_view}
+use Rattle.tcl_trees.specs.Procedures.{procs_view}
+use Rattle.tcl_trees.specs.TreeView.{node_view}
 use Rattle.event_order.specs.declared.event.EventName.{EventName}
 use Rattle.rule_loader.specs.Events.{event_place}
 use Rattle.rule_loader.specs.Handlers.{handlers_at}

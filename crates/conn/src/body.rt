@@ -25,8 +25,8 @@ ghost use Rattle.conn.specs.Modes.{is_running, is_asked};
 impl Body {
     ghost use Rattle.std.specs.Prelude.{◌+◌, ◌-◌, ◌<◌, ◌≤◌, false, List, Some, OnOk, IfOk};
     ghost use Rattle.px_bytes.specs.Host.{Effect};
-    ghost use Rattle.tcl_compile.specs.Procedures.{procs_view};
-    ghost use Rattle.tcl_compile.specs.TreeView.{node_view};
+    ghost use Rattle.tcl_trees.specs.Procedures.{procs_view};
+    ghost use Rattle.tcl_trees.specs.TreeView.{node_view};
     ghost use Rattle.frame_machine.specs.Given.{setting};
     ghost use Rattle.frame_machine.specs.Went.{Went, place};
     ghost use Rattle.conn.specs.Bodies.{Fresh, Heard, IsIdle, SaidIs};

@@ -10,7 +10,7 @@ use event_order::EventName;
 use irule_net::Groups;
 use px_bytes::{Seq, Text};
 use rule_loader::Rule;
-use tcl_compile::{Node, Procs};
+use tcl_trees::{Node, Procs};
 use tcl_vars::Vars;
 
 /// Where a body stands that runs at an event: the number of its rule, its own number among those that

@@ -7,9 +7,9 @@ use Rattle.px_bytes.specs.declared.fault.FaultKind.TheVariants.{NoCommand}
 use Rattle.px_bytes.specs.declared.fault.Reply.{Reply}
 use Rattle.px_bytes.specs.declared.fault.Reply.TheVariants as reply
 use Rattle.tcl_vars.specs.Scopes.{Level, no_level}
-use Rattle.tcl_compile.specs.Tree.{Tree, trees_of}
-use Rattle.tcl_compile.specs.Tree as tree
-use Rattle.tcl_compile.specs.declared.node.Verb.TheVariants as verb
+use Rattle.tcl_trees.specs.Tree.{Tree, trees_of}
+use Rattle.tcl_trees.specs.Tree as tree
+use Rattle.tcl_trees.specs.declared.node.Verb.TheVariants as verb
 use Rattle.rule_model.specs.Evaluator.{evaluate}
 use Rattle.event_order.specs.declared.event.EventName.{EventName}
 use Rattle.event_order.specs.declared.event.EventName.TheVariants.{ClientAccepted, ClientData, ClientClosed}

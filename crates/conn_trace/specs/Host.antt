@@ -5,7 +5,7 @@ use Rattle.std.specs.Prelude.{if◌then◌else◌}
 use Rattle.px_bytes.specs.FaultText.{no_command}
 use Rattle.px_bytes.specs.Host.{HostStep, Gives, Faults, Asks}
 use Rattle.px_bytes.specs.declared.addr.Side.{Side}
-use Rattle.tcl_compile.specs.Procedures.{Procedure}
+use Rattle.tcl_trees.specs.Procedures.{Procedure}
 use Rattle.event_order.specs.declared.command.HostCommand.{HostCommand}
 use Rattle.event_order.specs.declared.command.HostCommand.TheVariants.{Log, Class, TcpRespond}
 use Rattle.event_order.specs.declared.command.HostCommand.TheVariants.{IpClientAddr, IpServerAddr}

@@ -2,8 +2,8 @@
 -- bodies logs.
 use Rattle.std.specs.Prelude.{ℕ, List, ◌++◌, codes, Bool}
 use Rattle.px_bytes.specs.declared.addr.Addr.{Addr}
-use Rattle.tcl_compile.specs.Procedures.{Procedure}
-use Rattle.tcl_compile.specs.Tree.{Tree}
+use Rattle.tcl_trees.specs.Procedures.{Procedure}
+use Rattle.tcl_trees.specs.Tree.{Tree}
 use Rattle.tcl_vars.specs.Scopes.{Level}
 use Rattle.event_order.specs.Event.{event_text}
 use Rattle.event_order.specs.declared.event.EventName.{EventName}

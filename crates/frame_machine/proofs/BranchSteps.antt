@@ -1,8 +1,8 @@
 -- The condition of a number, with the body beside it.
 use Rattle.std.proofs.Common.{◌≡◌, refl, ℕ, suc, zero, ◌+◌, List, [], ◌∷◌, drop, Some, None, true, false, arith}
 use Rattle.std.specs.Prelude.{slice_get}
-use Rattle.tcl_compile.specs.TreeView.{node_view, values_view}
-use Rattle.tcl_compile.specs.declared.node.Node.{Node}
+use Rattle.tcl_trees.specs.TreeView.{node_view, values_view}
+use Rattle.tcl_trees.specs.declared.node.Node.{Node}
 use Rattle.frame_machine.specs.Branches.{Choices, condition_move, told_by, value_move}
 use Rattle.frame_machine.specs.Reads.{Known}
 

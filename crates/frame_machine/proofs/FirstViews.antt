@@ -1,10 +1,10 @@
 -- The words of a node from its beginning, by nodes and by trees.
 use Rattle.std.proofs.Common.{◌≡◌, refl, ap, ◌∙◌, sym, ◌+◌, [], ◌∷◌, Option}
 use Rattle.std.specs.Prelude.{codes}
-use Rattle.tcl_compile.specs.TreeView.{node_view, nodes_view}
-use Rattle.tcl_compile.specs.declared.node.Node.{Node, out-Node}
-use Rattle.tcl_compile.specs.declared.node.Node.TheOpen.{Node-F}
-use Rattle.tcl_compile.specs.declared.node.Verb.TheVariants as verb
+use Rattle.tcl_trees.specs.TreeView.{node_view, nodes_view}
+use Rattle.tcl_trees.specs.declared.node.Node.{Node, out-Node}
+use Rattle.tcl_trees.specs.declared.node.Node.TheOpen.{Node-F}
+use Rattle.tcl_trees.specs.declared.node.Verb.TheVariants as verb
 use Rattle.tcl_vars.specs.Scopes.{Level, Scopes}
 use Rattle.frame_machine.specs.AtOnce.{is_script, is_script_in}
 use Rattle.frame_machine.specs.FirstWords.{first_cost, first_cost_in, first_words, first_words_in, has_words, has_words_in, word_verb, word_verb_in}

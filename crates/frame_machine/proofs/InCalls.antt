@@ -6,10 +6,10 @@ use Rattle.std.specs.Str.{bytes_eq}
 use Rattle.std.proofs.lemmas.List.Folds.{find_at}
 use Rattle.std.proofs.lemmas.Bool.{lt-ltb}
 use Rattle.px_bytes.specs.declared.fault.TclFault.{TclFault}
-use Rattle.tcl_compile.specs.Procedures.{Procedure, place_named, procedure_named, values_bound}
-use Rattle.tcl_compile.specs.Tree.{Tree, Trees}
-use Rattle.tcl_compile.specs.Tree as tree
-use Rattle.tcl_compile.specs.declared.node.Verb.TheVariants as verb
+use Rattle.tcl_trees.specs.Procedures.{Procedure, place_named, procedure_named, values_bound}
+use Rattle.tcl_trees.specs.Tree.{Tree, Trees}
+use Rattle.tcl_trees.specs.Tree as tree
+use Rattle.tcl_trees.specs.declared.node.Verb.TheVariants as verb
 use Rattle.tcl_vars.specs.Scopes.{Scopes, in_proc}
 use Rattle.tcl_var_commands.specs.Assigning.{row_assigned}
 use Rattle.rule_model.specs.Commands.{Bound, bound_by, bound_of, called, code_left, deeper, leave, too_deep, values_for}

@@ -1,9 +1,9 @@
 -- What the moves of `catch` come to, and what they owe.
 use Rattle.std.proofs.Common.{◌≡◌, refl, ap, ℕ, ◌+◌, List, [], ◌∷◌, ◌++◌, drop, Bool, true, false, cond, Option, Some, None, arith, add-zero}
 use Rattle.std.specs.Prelude.{slice_get}
-use Rattle.tcl_compile.specs.Procedures.{Procedure}
-use Rattle.tcl_compile.specs.Tree.{Tree}
-use Rattle.tcl_compile.specs.Tree as tree
+use Rattle.tcl_trees.specs.Procedures.{Procedure}
+use Rattle.tcl_trees.specs.Tree.{Tree}
+use Rattle.tcl_trees.specs.Tree as tree
 use Rattle.tcl_vars.specs.Scopes.{Level, Scopes}
 use Rattle.rule_model.specs.Control.{caught, code_number, is_caught, number_changed}
 use Rattle.rule_model.specs.Evaluator.{eval}

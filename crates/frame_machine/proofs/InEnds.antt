@@ -5,13 +5,13 @@ use Rattle.std.specs.declared.alloc.Global.{Global}
 use Rattle.std.proofs.lemmas.List.{length-map}
 use Rattle.px_bytes.specs.FaultText.{syntax_error}
 use Rattle.px_bytes.specs.declared.fault.TclFault.{TclFault}
-use Rattle.tcl_compile.specs.Tree.{Tree, trees_of}
-use Rattle.tcl_compile.specs.Tree as tree
-use Rattle.tcl_compile.specs.TreeView.{node_view, nodes_view}
-use Rattle.tcl_compile.specs.declared.node.Node as code
-use Rattle.tcl_compile.specs.declared.node.Node.{Node, the_lemmas}
-use Rattle.tcl_compile.specs.declared.node.Verb.{Verb}
-use Rattle.tcl_compile.specs.declared.node.Verb.TheVariants as verb
+use Rattle.tcl_trees.specs.Tree.{Tree, trees_of}
+use Rattle.tcl_trees.specs.Tree as tree
+use Rattle.tcl_trees.specs.TreeView.{node_view, nodes_view}
+use Rattle.tcl_trees.specs.declared.node.Node as code
+use Rattle.tcl_trees.specs.declared.node.Node.{Node, the_lemmas}
+use Rattle.tcl_trees.specs.declared.node.Verb.{Verb}
+use Rattle.tcl_trees.specs.declared.node.Verb.TheVariants as verb
 use Rattle.tcl_vars.specs.Scopes.{Level, Scopes, in_proc}
 use Rattle.tcl_var_commands.specs.Assigning.{row_assigned}
 use Rattle.rule_model.specs.Commands.{Bound, bound_of}

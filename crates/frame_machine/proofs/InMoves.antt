@@ -1,7 +1,7 @@
 -- Moves from moves.
 use Rattle.std.proofs.Common.{◌≡◌, refl, ap, ◌∙◌, ℕ, ◌+◌, List, [], Bool, None, append-nil, add_assoc}
 use Rattle.px_bytes.specs.declared.fault.Reply.{Reply}
-use Rattle.tcl_compile.specs.Tree.{Tree}
+use Rattle.tcl_trees.specs.Tree.{Tree}
 use Rattle.tcl_vars.specs.Scopes.{Scopes}
 use Rattle.rule_model.specs.Host.{Effect}
 use Rattle.rule_model.specs.Outcome.{Act, Meaning, heard, state}

@@ -6,10 +6,10 @@ use Rattle.px_bytes.specs.Gives.{with_value as if_ok}
 use Rattle.px_bytes.specs.declared.fault.TclFault.{TclFault}
 use Rattle.tcl_expr.specs.Operators.{operator_value_1}
 use Rattle.tcl_expr.specs.declared.operator.Op1.{Op1}
-use Rattle.tcl_compile.specs.Procedures.{Procedure}
-use Rattle.tcl_compile.specs.Tree.{Tree}
-use Rattle.tcl_compile.specs.Tree as tree
-use Rattle.tcl_compile.specs.WholeResult.{whole_result}
+use Rattle.tcl_trees.specs.Procedures.{Procedure}
+use Rattle.tcl_trees.specs.Tree.{Tree}
+use Rattle.tcl_trees.specs.Tree as tree
+use Rattle.tcl_trees.specs.WholeResult.{whole_result}
 use Rattle.tcl_vars.specs.Scopes.{Scopes}
 use Rattle.rule_model.specs.Children.{alone}
 use Rattle.rule_model.specs.Evaluator.{eval}

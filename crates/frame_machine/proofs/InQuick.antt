@@ -4,8 +4,8 @@ use Rattle.std.proofs.Common.{Option, Some, None, Result, Ok, Err, nat_le, arith
 use Rattle.std.proofs.lemmas.Bool.Decides.{nat_tests}
 use Rattle.px_bytes.specs.declared.fault.TclFault.{TclFault}
 use Rattle.tcl_expr.specs.declared.expr.Joint.{Joint}
-use Rattle.tcl_compile.specs.Tree.{Tree, Operands}
-use Rattle.tcl_compile.specs.Tree as tree
+use Rattle.tcl_trees.specs.Tree.{Tree, Operands}
+use Rattle.tcl_trees.specs.Tree as tree
 use Rattle.rule_model.specs.Children.{alone, child, one}
 use Rattle.rule_model.specs.Evaluator.{eval, joints}
 use Rattle.rule_model.specs.Expressions.{by_value, decided, decided_by, joined_value, joint_value, operands}

@@ -4,9 +4,9 @@ use Rattle.px_bytes.specs.declared.fault.Reply.{Reply}
 use Rattle.px_bytes.specs.declared.fault.TclFault.{TclFault}
 use Rattle.tcl_expr.specs.declared.expr.Joint.{Joint}
 use Rattle.tcl_expr.specs.declared.expr.Joint.TheVariants.{Both, And, Or}
-use Rattle.tcl_compile.specs.Procedures.{Procedure}
-use Rattle.tcl_compile.specs.Tree.{Tree, Operands}
-use Rattle.tcl_compile.specs.Tree as tree
+use Rattle.tcl_trees.specs.Procedures.{Procedure}
+use Rattle.tcl_trees.specs.Tree.{Tree, Operands}
+use Rattle.tcl_trees.specs.Tree as tree
 use Rattle.tcl_vars.specs.Scopes.{Scopes}
 use Rattle.rule_model.specs.Children.{child, one}
 use Rattle.rule_model.specs.Evaluator.{eval, joints}

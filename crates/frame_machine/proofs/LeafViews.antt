@@ -1,11 +1,11 @@
 -- Leafs of the code and of the tree.
 use Rattle.std.proofs.Common.{◌≡◌, refl, ap, ◌∙◌, sym, ℕ, List, [], ◌∷◌, true, Option}
-use Rattle.tcl_compile.specs.Tree.{Tree, trees_of, no_trees, and_tree}
-use Rattle.tcl_compile.specs.Tree as tree
-use Rattle.tcl_compile.specs.TreeView.{node_view, nodes_view}
-use Rattle.tcl_compile.specs.declared.node.Node.{Node, out-Node}
-use Rattle.tcl_compile.specs.declared.node.Node.TheOpen.{Node-F}
-use Rattle.tcl_compile.specs.declared.node.Verb.TheVariants as verb
+use Rattle.tcl_trees.specs.Tree.{Tree, trees_of, no_trees, and_tree}
+use Rattle.tcl_trees.specs.Tree as tree
+use Rattle.tcl_trees.specs.TreeView.{node_view, nodes_view}
+use Rattle.tcl_trees.specs.declared.node.Node.{Node, out-Node}
+use Rattle.tcl_trees.specs.declared.node.Node.TheOpen.{Node-F}
+use Rattle.tcl_trees.specs.declared.node.Verb.TheVariants as verb
 use Rattle.tcl_vars.specs.Scopes.{Level, Scopes}
 use Rattle.rule_model.specs.Evaluator.{eval}
 use Rattle.rule_model.specs.Outcome.{State, Ends}

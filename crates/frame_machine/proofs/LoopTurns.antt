@@ -5,9 +5,9 @@ use Rattle.std.specs.Prelude.{if◌then◌else◌, Option}
 use Rattle.px_bytes.specs.FaultText.{budget_spent}
 use Rattle.px_bytes.specs.declared.fault.Reply.{Reply}
 use Rattle.tcl_expr.specs.Truth.{truth}
-use Rattle.tcl_compile.specs.Procedures.{Procedure}
-use Rattle.tcl_compile.specs.Tree.{Tree, Trees, no_trees, and_tree}
-use Rattle.tcl_compile.specs.Tree as tree
+use Rattle.tcl_trees.specs.Procedures.{Procedure}
+use Rattle.tcl_trees.specs.Tree.{Tree, Trees, no_trees, and_tree}
+use Rattle.tcl_trees.specs.Tree as tree
 use Rattle.tcl_vars.specs.Scopes.{Level, Scopes}
 use Rattle.rule_model.specs.Children.{child, free}
 use Rattle.rule_model.specs.Control.{after_body, after_next, turn}

@@ -5,7 +5,7 @@ use Rattle.std.proofs.lemmas.Bool.Decides.{nat_tests}
 use Rattle.std.proofs.lemmas.Option.{slice_get_read}
 use Rattle.std.proofs.lemmas.List.{get_or_past, length-map}
 use Rattle.tcl_expr.specs.declared.expr.Joint.{Joint}
-use Rattle.tcl_compile.specs.declared.node.Node.{Node}
+use Rattle.tcl_trees.specs.declared.node.Node.{Node}
 use Rattle.frame_machine.specs.Nodes.{both_nodes}
 
 at_both : (vs : List (Node × Node)) (more : List Node) (q : ℕ) (v : Node × Node) (d : Node) → slice_get vs q ≡ Some v

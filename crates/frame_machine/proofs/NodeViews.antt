@@ -2,11 +2,11 @@
 use Rattle.std.proofs.Common.{◌≡◌, refl, ap, ◌∙◌, sym, ℕ, List, [], ◌∷◌, ◌++◌, map, get_or}
 use Rattle.std.proofs.Math.ListN.{get_or-map}
 use Rattle.tcl_expr.specs.declared.expr.Joint.{Joint}
-use Rattle.tcl_compile.specs.Tree.{Tree, trees_of, operands_of, values_of}
-use Rattle.tcl_compile.specs.Tree as tree
-use Rattle.tcl_compile.specs.TreeView.{node_step, node_view, nodes_view, operands_view, values_view}
-use Rattle.tcl_compile.specs.declared.node.Node.{Node, out-Node, map-Node, fold_out-Node}
-use Rattle.tcl_compile.specs.declared.node.Node.TheOpen.{Node-F}
+use Rattle.tcl_trees.specs.Tree.{Tree, trees_of, operands_of, values_of}
+use Rattle.tcl_trees.specs.Tree as tree
+use Rattle.tcl_trees.specs.TreeView.{node_step, node_view, nodes_view, operands_view, values_view}
+use Rattle.tcl_trees.specs.declared.node.Node.{Node, out-Node, map-Node, fold_out-Node}
+use Rattle.tcl_trees.specs.declared.node.Node.TheOpen.{Node-F}
 use Rattle.rule_nodes.specs.Parts.{or_alone, parts_in}
 use Rattle.frame_machine.specs.Children.{all, behind, both, children, child_at, commands_of, parts_of, pieces_of, words_of}
 use Rattle.frame_machine.specs.Nodes.{both_nodes, children_in, commands_in, pieces_in, words_in}

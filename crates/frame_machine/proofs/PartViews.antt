@@ -1,10 +1,10 @@
 -- What a node has, by nodes and by trees.
 use Rattle.std.proofs.Common.{◌≡◌, refl, ap, ◌∙◌, sym, List, [], ◌∷◌, Bool, true, false, Some}
 use Rattle.tcl_expr.specs.declared.expr.Joint.{Joint}
-use Rattle.tcl_compile.specs.Tree.{Tree, operands_of, values_of}
-use Rattle.tcl_compile.specs.TreeView.{node_view, operands_view, values_view}
-use Rattle.tcl_compile.specs.declared.node.Node.{Node, out-Node}
-use Rattle.tcl_compile.specs.declared.node.Node.TheOpen.{Node-F}
+use Rattle.tcl_trees.specs.Tree.{Tree, operands_of, values_of}
+use Rattle.tcl_trees.specs.TreeView.{node_view, operands_view, values_view}
+use Rattle.tcl_trees.specs.declared.node.Node.{Node, out-Node}
+use Rattle.tcl_trees.specs.declared.node.Node.TheOpen.{Node-F}
 use Rattle.frame_machine.specs.Branches.{choices, choices_of, paired}
 use Rattle.frame_machine.specs.Frames.{operators_of}
 use Rattle.frame_machine.specs.NodeParts.{choices_in, joints_in, operators_in}

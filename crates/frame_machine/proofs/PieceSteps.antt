@@ -5,7 +5,7 @@ use Rattle.px_bytes.specs.FaultText.{too_long}
 use Rattle.px_bytes.specs.Limit.{text_limit}
 use Rattle.rule_model.specs.declared.code.Code.{Code}
 use Rattle.rule_model.specs.declared.code.Code.TheVariants.{Value, Raised, Return, Break, Continue}
-use Rattle.tcl_compile.specs.Tree.{Tree}
+use Rattle.tcl_trees.specs.Tree.{Tree}
 use Rattle.tcl_vars.specs.Scopes.{Level, Scopes}
 use Rattle.frame_machine.specs.Children.{parts_of}
 use Rattle.frame_machine.specs.Leafs.{leaf_code}

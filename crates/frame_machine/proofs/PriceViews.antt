@@ -1,8 +1,8 @@
 -- The price of a whole expression, and what stands for the next body, of the code and of the tree.
 use Rattle.std.proofs.Common.{◌≡◌, refl, ap, ◌∙◌, sym}
-use Rattle.tcl_compile.specs.TreeView.{node_view}
-use Rattle.tcl_compile.specs.declared.node.Node.{Node, out-Node}
-use Rattle.tcl_compile.specs.declared.node.Node.TheOpen.{Node-F}
+use Rattle.tcl_trees.specs.TreeView.{node_view}
+use Rattle.tcl_trees.specs.declared.node.Node.{Node, out-Node}
+use Rattle.tcl_trees.specs.declared.node.Node.TheOpen.{Node-F}
 use Rattle.rule_model.specs.Children.{alone, is_next}
 use Rattle.rule_nodes.specs.Choice.{is_next_in}
 use Rattle.frame_machine.specs.Prices.{alone_in}

@@ -2,8 +2,8 @@
 use Rattle.std.proofs.Common.{◌≡◌, ap, ◌∙◌, sym, ℕ, suc, zero, ◌+◌, ◌<◌, List, [], ◌∷◌, length, drop, get_or, add-one}
 use Rattle.std.proofs.Math.ListN.{get_or-map}
 use Rattle.std.proofs.lemmas.List.{drop_more, length-map}
-use Rattle.tcl_compile.specs.TreeView.{node_view, nodes_view}
-use Rattle.tcl_compile.specs.declared.node.Node.{Node}
+use Rattle.tcl_trees.specs.TreeView.{node_view, nodes_view}
+use Rattle.tcl_trees.specs.declared.node.Node.{Node}
 
 pub node_here : (ns : List Node) (i : ℕ) (n : Node) → n ≡ get_or ns i n → i < length ns
     → drop i (nodes_view ns) ≡ node_view n ∷ drop (i + 1) (nodes_view ns)

@@ -3,9 +3,9 @@ use Rattle.std.proofs.Common.{◌≡◌, refl, ap, ◌∙◌, sym, ℕ, suc, ◌
 use Rattle.std.proofs.Math.ListN.{get_or-map}
 use Rattle.std.proofs.lemmas.List.{drop_more, length-drop, length-map}
 use Rattle.tcl_expr.specs.declared.expr.Joint.{Joint}
-use Rattle.tcl_compile.specs.Tree.{Tree}
-use Rattle.tcl_compile.specs.TreeView.{node_view, nodes_view, operands_view}
-use Rattle.tcl_compile.specs.declared.node.Node.{Node}
+use Rattle.tcl_trees.specs.Tree.{Tree}
+use Rattle.tcl_trees.specs.TreeView.{node_view, nodes_view, operands_view}
+use Rattle.tcl_trees.specs.declared.node.Node.{Node}
 use Rattle.rule_model.specs.Children.{is_next}
 use Rattle.frame_machine.specs.Branches.{within}
 use Rattle.frame_machine.specs.Counted.{given, counted_after}

@@ -1,8 +1,8 @@
 -- Where whole runs stand.
 use Rattle.std.proofs.Common.{◌≡◌, refl, sym, ap, subst, ◌∙◌, ℕ, ◌+◌, ◌*◌, ◌≤◌, List, [], ◌∷◌, ◌++◌, Bool, true, false, arith, append_assoc, append-nil, if◌then◌else◌}
 use Rattle.px_bytes.specs.declared.fault.Reply.{Reply}
-use Rattle.tcl_compile.specs.Procedures.{Procedure}
-use Rattle.tcl_compile.specs.Tree.{Tree}
+use Rattle.tcl_trees.specs.Procedures.{Procedure}
+use Rattle.tcl_trees.specs.Tree.{Tree}
 use Rattle.tcl_vars.specs.Scopes.{Scopes}
 use Rattle.rule_model.specs.Control.{is_caught}
 use Rattle.rule_model.specs.Evaluator.{evaluate}

@@ -1,7 +1,7 @@
 -- A script's moves, as its code makes them.
 use Rattle.std.proofs.Common.{◌≡◌, refl, sym, ℕ, ◌+◌, ◌-◌, ◌<◌, ◌≤◌, List, length, drop, Bool, true, false, Option, Some, max, min, nat_le, arith, add-zero}
 use Rattle.std.proofs.lemmas.Bool.Decides.{nat_tests}
-use Rattle.tcl_compile.specs.Tree.{Tree}
+use Rattle.tcl_trees.specs.Tree.{Tree}
 use Rattle.tcl_vars.specs.Scopes.{Level, Scopes}
 use Rattle.rule_model.specs.Setting.{Setting}
 use Rattle.rule_model.specs.declared.code.Code.{Code}

@@ -1,7 +1,7 @@
 -- What is done at once is paid for: each command pays a unit at least.
 use Rattle.std.proofs.Common.{◌≡◌, ℕ, zero, suc, ◌+◌, ◌-◌, ◌≤◌, List, [], ◌∷◌, Bool, true, false, Option, Some, None, nat_eq, arith}
 use Rattle.std.specs.Prelude.{if◌then◌else◌}
-use Rattle.tcl_compile.specs.Tree.{Tree}
+use Rattle.tcl_trees.specs.Tree.{Tree}
 use Rattle.tcl_vars.specs.Scopes.{Level, Scopes}
 use Rattle.rule_model.specs.Evaluator.{inner}
 use Rattle.rule_model.specs.Host.{Gives}

@@ -7,9 +7,9 @@ use Rattle.std.proofs.Common.{of_z, ◌^◌, negsuc}
 use Rattle.std.specs.Int.{w64}
 use Rattle.std.specs.Prelude.{if◌then◌else◌, ℤ, pos}
 use mir.Val.{SFits}
-use Rattle.tcl_compile.specs.Tree.{Tree}
-use Rattle.tcl_compile.specs.TreeView.{node_view, nodes_view}
-use Rattle.tcl_compile.specs.declared.node.Node.{Node}
+use Rattle.tcl_trees.specs.Tree.{Tree}
+use Rattle.tcl_trees.specs.TreeView.{node_view, nodes_view}
+use Rattle.tcl_trees.specs.declared.node.Node.{Node}
 use Rattle.tcl_vars.specs.Scopes.{Level, Scopes}
 use Rattle.rule_model.specs.Children.{alone}
 use Rattle.rule_nodes.specs.AtOnce.{DoesCommand, DoesFront, ReadsWhole}

@@ -1,7 +1,7 @@
 -- Moves that come to what they should, and owe no more than so much.
 use Rattle.std.proofs.Common.{ℕ, List, [], Bool}
-use Rattle.tcl_compile.specs.Procedures.{Procedure}
-use Rattle.tcl_compile.specs.Tree.{Tree}
+use Rattle.tcl_trees.specs.Procedures.{Procedure}
+use Rattle.tcl_trees.specs.Tree.{Tree}
 use Rattle.tcl_vars.specs.Scopes.{Scopes}
 use Rattle.rule_model.specs.Host.{Effect}
 use Rattle.rule_model.specs.Outcome.{Meaning}

@@ -1,8 +1,8 @@
 -- The code of a whole text, by nodes and by trees.
 use Rattle.std.proofs.Common.{◌≡◌, refl, ap, ◌∙◌, sym, ℕ, List, Option}
-use Rattle.tcl_compile.specs.TreeView.{node_view}
-use Rattle.tcl_compile.specs.declared.node.Node.{Node, out-Node}
-use Rattle.tcl_compile.specs.declared.node.Node.TheOpen.{Node-F}
+use Rattle.tcl_trees.specs.TreeView.{node_view}
+use Rattle.tcl_trees.specs.declared.node.Node.{Node, out-Node}
+use Rattle.tcl_trees.specs.declared.node.Node.TheOpen.{Node-F}
 use Rattle.tcl_vars.specs.Scopes.{Level, Scopes}
 use Rattle.frame_machine.specs.WordMoves.{whole_code, whole_in}
 use Rattle.frame_machine.proofs.NodeViews.{step_of, viewed}

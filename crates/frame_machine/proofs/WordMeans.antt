@@ -4,8 +4,8 @@ use Rattle.std.specs.Prelude.{sum_by}
 use Rattle.px_bytes.specs.FaultText.{too_long}
 use Rattle.px_bytes.specs.Limit.{text_limit}
 use Rattle.px_bytes.specs.declared.fault.Reply.{Reply}
-use Rattle.tcl_compile.specs.Tree.{Tree, Trees, no_trees, and_tree}
-use Rattle.tcl_compile.specs.Tree as tree
+use Rattle.tcl_trees.specs.Tree.{Tree, Trees, no_trees, and_tree}
+use Rattle.tcl_trees.specs.Tree as tree
 use Rattle.tcl_vars.specs.Scopes.{Scopes}
 use Rattle.rule_model.specs.Children.{child, free, one}
 use Rattle.rule_model.specs.Evaluator.{eval, evals, parts, words}

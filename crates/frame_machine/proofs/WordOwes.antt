@@ -3,9 +3,9 @@ use Rattle.std.proofs.Common.{◌≡◌, refl, ℕ, ◌+◌, ◌≤◌, List, []
 use Rattle.std.specs.Prelude.{codes, sum_by}
 use Rattle.px_bytes.specs.FaultText.{too_long}
 use Rattle.px_bytes.specs.Limit.{text_limit}
-use Rattle.tcl_compile.specs.Tree.{Tree, Trees, no_trees, and_tree}
-use Rattle.tcl_compile.specs.Tree as tree
-use Rattle.tcl_compile.specs.declared.node.Verb.TheVariants as verb
+use Rattle.tcl_trees.specs.Tree.{Tree, Trees, no_trees, and_tree}
+use Rattle.tcl_trees.specs.Tree as tree
+use Rattle.tcl_trees.specs.declared.node.Verb.TheVariants as verb
 use Rattle.tcl_vars.specs.Scopes.{Level, Scopes}
 use Rattle.rule_model.specs.Setting.{Setting, Inner}
 use Rattle.rule_model.specs.declared.code.Code.{Code}

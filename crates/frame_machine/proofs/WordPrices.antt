@@ -1,10 +1,10 @@
 -- The prices of words, by nodes and by trees.
 use Rattle.std.proofs.Common.{◌≡◌, refl, ap, ◌∙◌, sym, ℕ, List, [], ◌∷◌}
-use Rattle.tcl_compile.specs.Tree.{trees_of}
-use Rattle.tcl_compile.specs.Tree as tree
-use Rattle.tcl_compile.specs.TreeView.{node_view, nodes_view}
-use Rattle.tcl_compile.specs.declared.node.Node.{Node, out-Node}
-use Rattle.tcl_compile.specs.declared.node.Node.TheOpen.{Node-F}
+use Rattle.tcl_trees.specs.Tree.{trees_of}
+use Rattle.tcl_trees.specs.Tree as tree
+use Rattle.tcl_trees.specs.TreeView.{node_view, nodes_view}
+use Rattle.tcl_trees.specs.declared.node.Node.{Node, out-Node}
+use Rattle.tcl_trees.specs.declared.node.Node.TheOpen.{Node-F}
 use Rattle.frame_machine.specs.Words.{part_price, part_price_in, price_of, word_unit, word_unit_in}
 use Rattle.frame_machine.proofs.NodeViews.{step_of, viewed}
 

@@ -1,10 +1,10 @@
 -- What a move does at once: commands of a script, and turns of a loop (Tcl 8.4, while(n), for(n)).
 use Rattle.std.specs.Prelude.{◌≡◌, ℕ, ◌+◌, ◌-◌, ◌<◌, ◌≤◌, List, [], drop, length, nat_eq}
 use Rattle.std.specs.Prelude.{Bool, true, false, ◌&&◌, if◌then◌else◌, Option, Some}
-use Rattle.tcl_compile.specs.Tree.{Tree}
-use Rattle.tcl_compile.specs.Tree as tree
-use Rattle.tcl_compile.specs.declared.node.Node.{Node}
-use Rattle.tcl_compile.specs.declared.node.Node.TheOpen.{Node-F}
+use Rattle.tcl_trees.specs.Tree.{Tree}
+use Rattle.tcl_trees.specs.Tree as tree
+use Rattle.tcl_trees.specs.declared.node.Node.{Node}
+use Rattle.tcl_trees.specs.declared.node.Node.TheOpen.{Node-F}
 use Rattle.tcl_vars.specs.Scopes.{Level, Scopes}
 use Rattle.rule_model.specs.Outcome.{Meaning}
 use Rattle.rule_model.specs.Setting.{Setting, Inner}

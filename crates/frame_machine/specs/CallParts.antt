@@ -1,6 +1,6 @@
 -- What stays over a call, as the code has it.
 use Rattle.std.specs.Prelude.{option_map}
-use Rattle.tcl_compile.specs.Procedures.{procs_view}
+use Rattle.tcl_trees.specs.Procedures.{procs_view}
 use Rattle.frame_machine.specs.Calls.{Caller}
 use Rattle.frame_machine.specs.declared.calls.Caller as code
 

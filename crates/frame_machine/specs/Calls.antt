@@ -2,8 +2,8 @@
 use Rattle.std.specs.Prelude.{ℕ, ◌-◌, List, ◌∷◌, map, nat_eq, Bool, Option}
 use Rattle.std.specs.Prelude.{Result, Ok, Err, if◌then◌else◌, unwrap_or}
 use Rattle.px_bytes.specs.declared.fault.TclFault.{TclFault}
-use Rattle.tcl_compile.specs.Procedures.{Procedure, place_named}
-use Rattle.tcl_compile.specs.Tree.{Tree}
+use Rattle.tcl_trees.specs.Procedures.{Procedure, place_named}
+use Rattle.tcl_trees.specs.Tree.{Tree}
 use Rattle.tcl_vars.specs.Scopes.{Level, Scopes, in_proc, out_of_proc}
 use Rattle.tcl_var_commands.specs.Assigning.{row_assigned}
 use Rattle.tcl_var_commands.specs.Changed.{Changed}

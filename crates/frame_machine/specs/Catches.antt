@@ -1,6 +1,6 @@
 -- The moves of `catch` (Tcl 8.4, catch(n)).
 use Rattle.std.specs.Prelude.{ℕ, List, Option, Some, None, if◌then◌else◌}
-use Rattle.tcl_compile.specs.Tree.{Tree}
+use Rattle.tcl_trees.specs.Tree.{Tree}
 use Rattle.tcl_vars.specs.Scopes.{Level, Scopes}
 use Rattle.tcl_var_commands.specs.Changed.{Changed}
 use Rattle.rule_model.specs.Control.{code_number, is_caught, number_changed}

@@ -1,10 +1,10 @@
 -- The children of a tree by their numbers, and what each kind of tree has, by total readers.
 use Rattle.std.specs.Prelude.{ℕ, List, [], ◌∷◌, ◌++◌, get_or}
-use Rattle.tcl_compile.specs.Tree.{Tree, Trees, Operands, Values, no_trees, and_tree, no_operands}
-use Rattle.tcl_compile.specs.Tree.{and_operand, no_values, and_value, plain}
-use Rattle.tcl_compile.specs.Tree.{variable, element, word}
-use Rattle.tcl_compile.specs.Tree.{script, command, expr, branches, choice, loop, each, switch}
-use Rattle.tcl_compile.specs.Tree.{catch, catch_in, next_body, prefixed, row}
+use Rattle.tcl_trees.specs.Tree.{Tree, Trees, Operands, Values, no_trees, and_tree, no_operands}
+use Rattle.tcl_trees.specs.Tree.{and_operand, no_values, and_value, plain}
+use Rattle.tcl_trees.specs.Tree.{variable, element, word}
+use Rattle.tcl_trees.specs.Tree.{script, command, expr, branches, choice, loop, each, switch}
+use Rattle.tcl_trees.specs.Tree.{catch, catch_in, next_body, prefixed, row}
 
 abbrev pub all : Trees → List Tree
 all no_trees = []

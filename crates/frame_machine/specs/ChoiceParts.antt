@@ -1,6 +1,6 @@
 -- The conditions of `if` and `?:`, as the code has them.
 use Rattle.std.specs.Prelude.{option_map}
-use Rattle.tcl_compile.specs.TreeView.{node_view, values_view}
+use Rattle.tcl_trees.specs.TreeView.{node_view, values_view}
 use Rattle.frame_machine.specs.Branches.{Choices}
 use Rattle.frame_machine.specs.declared.branches.Choices as code
 

@@ -3,10 +3,10 @@ use Rattle.std.specs.Prelude.{◌≡◌, ℕ, List, [], codes, drop, length, Vec
 use Rattle.std.specs.Prelude.{slice_get}
 use Rattle.std.specs.declared.alloc.Global.{Global}
 use Rattle.px_bytes.specs.FaultText.{syntax_error}
-use Rattle.tcl_compile.specs.Tree.{Tree}
-use Rattle.tcl_compile.specs.Tree as tree
-use Rattle.tcl_compile.specs.declared.node.Verb.{Verb}
-use Rattle.tcl_compile.specs.declared.node.Verb.TheVariants as verb
+use Rattle.tcl_trees.specs.Tree.{Tree}
+use Rattle.tcl_trees.specs.Tree as tree
+use Rattle.tcl_trees.specs.declared.node.Verb.{Verb}
+use Rattle.tcl_trees.specs.declared.node.Verb.TheVariants as verb
 use Rattle.tcl_vars.specs.Scopes.{Level, Scopes}
 use Rattle.rule_model.specs.Commands.{expression_of}
 use Rattle.rule_model.specs.Control.{Row, most_turns, rows_of}

@@ -4,10 +4,10 @@ use Rattle.std.specs.Prelude.{Some, None, option_map, unwrap_or}
 use Rattle.px_bytes.specs.declared.fault.Reply.{Reply}
 use Rattle.tcl_expr.specs.declared.expr.Joint.{Joint}
 use Rattle.tcl_expr.specs.declared.operator.Op1.{Op1}
-use Rattle.tcl_compile.specs.Procedures.{Procedure}
-use Rattle.tcl_compile.specs.Tree.{Tree}
-use Rattle.tcl_compile.specs.Tree as tree
-use Rattle.tcl_compile.specs.TreeView.{node_view}
+use Rattle.tcl_trees.specs.Procedures.{Procedure}
+use Rattle.tcl_trees.specs.Tree.{Tree}
+use Rattle.tcl_trees.specs.Tree as tree
+use Rattle.tcl_trees.specs.TreeView.{node_view}
 use Rattle.tcl_vars.specs.Scopes.{Scopes}
 use Rattle.rule_model.specs.Children.{child, free, one, alone, count, places_of}
 use Rattle.rule_model.specs.Commands.{command, leave}

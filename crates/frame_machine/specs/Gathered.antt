@@ -1,6 +1,6 @@
 -- What the words of a node come to, up to the first part that has to run.
 use Rattle.std.specs.Prelude.{◌≡◌, [], ◌∷◌, ◌++◌, false}
-use Rattle.tcl_compile.specs.Tree.{Tree}
+use Rattle.tcl_trees.specs.Tree.{Tree}
 use Rattle.rule_model.specs.Evaluator.{eval}
 use Rattle.rule_model.specs.Outcome.{Ends, Meaning}
 use Rattle.rule_model.specs.Setting.{Setting, Inner}

@@ -1,6 +1,6 @@
 -- What a move is given.
 use Rattle.std.specs.Prelude.{ℕ, List, Option, option_map}
-use Rattle.tcl_compile.specs.Procedures.{Procedure, procs_view}
+use Rattle.tcl_trees.specs.Procedures.{Procedure, procs_view}
 use Rattle.tcl_vars.specs.Scopes.{Level}
 use Rattle.rule_model.specs.Host.{HostStep}
 use Rattle.rule_model.specs.Setting.{Setting}

@@ -1,5 +1,5 @@
 -- The trees of a loop, as the code has them.
-use Rattle.tcl_compile.specs.TreeView.{node_view}
+use Rattle.tcl_trees.specs.TreeView.{node_view}
 use Rattle.frame_machine.specs.Loops.{Parts}
 use Rattle.frame_machine.specs.declared.loops.Loop.{Loop}
 

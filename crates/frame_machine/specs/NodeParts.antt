@@ -2,10 +2,10 @@
 use Rattle.std.specs.Prelude.{List, [], Bool, true, false, Some, None}
 use Rattle.tcl_expr.specs.declared.expr.Joint.{Joint}
 use Rattle.tcl_expr.specs.declared.operator.Op1.{Op1}
-use Rattle.tcl_compile.specs.Tree.{Tree}
-use Rattle.tcl_compile.specs.TreeView.{node_view, values_view}
-use Rattle.tcl_compile.specs.declared.node.Node.{Node}
-use Rattle.tcl_compile.specs.declared.node.Node.TheOpen.{Node-F}
+use Rattle.tcl_trees.specs.Tree.{Tree}
+use Rattle.tcl_trees.specs.TreeView.{node_view, values_view}
+use Rattle.tcl_trees.specs.declared.node.Node.{Node}
+use Rattle.tcl_trees.specs.declared.node.Node.TheOpen.{Node-F}
 use Rattle.frame_machine.specs.Branches.{Choices, choices}
 use Rattle.frame_machine.specs.Children.{child_at}
 use Rattle.frame_machine.specs.Loops.{Parts}

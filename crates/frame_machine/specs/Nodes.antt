@@ -1,7 +1,7 @@
 -- The children of a node of the code.
 use Rattle.std.specs.Prelude.{List, [], ◌∷◌, ◌++◌, map}
-use Rattle.tcl_compile.specs.declared.node.Node.{Node}
-use Rattle.tcl_compile.specs.declared.node.Node.TheOpen.{Node-F}
+use Rattle.tcl_trees.specs.declared.node.Node.{Node}
+use Rattle.tcl_trees.specs.declared.node.Node.TheOpen.{Node-F}
 
 abbrev pub both_nodes : List (Node × Node) → List Node
 both_nodes [] = []

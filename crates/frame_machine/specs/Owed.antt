@@ -2,9 +2,9 @@
 -- pure command and host command in it once more.
 use Rattle.std.specs.Prelude.{◌≡◌, ℕ, ◌+◌, List, [], ◌∷◌, Bool, true, false, sum_by, if◌then◌else◌}
 use Rattle.std.specs.Prelude.{⊤}
-use Rattle.tcl_compile.specs.Procedures.{Procedure}
-use Rattle.tcl_compile.specs.Tree.{Tree, Trees, no_trees, and_tree}
-use Rattle.tcl_compile.specs.Tree as tree
+use Rattle.tcl_trees.specs.Procedures.{Procedure}
+use Rattle.tcl_trees.specs.Tree.{Tree, Trees, no_trees, and_tree}
+use Rattle.tcl_trees.specs.Tree as tree
 use Rattle.rule_model.specs.Control.{is_caught}
 use Rattle.frame_machine.specs.Frames.{tree_above}
 use Rattle.frame_machine.specs.declared.frame.Frame.{Frame}

@@ -1,6 +1,6 @@
 -- What the frames say of the node above them.
 use Rattle.std.specs.Prelude.{List, [], ◌∷◌, Bool}
-use Rattle.tcl_compile.specs.Tree.{Tree}
+use Rattle.tcl_trees.specs.Tree.{Tree}
 use Rattle.frame_machine.specs.Children.{node_at, part_at}
 use Rattle.frame_machine.specs.Frames.{places, wants}
 use Rattle.frame_machine.specs.declared.frame.Frame.{Frame}

@@ -2,7 +2,7 @@
 use Rattle.std.specs.Prelude.{ℕ, ◌+◌, ◌-◌, List, length, nat_eq, nat_le, Bool, ◌&&◌}
 use Rattle.std.specs.Prelude.{if◌then◌else◌, Option}
 use Rattle.px_bytes.specs.FaultText.{budget_spent}
-use Rattle.tcl_compile.specs.Tree.{Tree}
+use Rattle.tcl_trees.specs.Tree.{Tree}
 use Rattle.tcl_vars.specs.Scopes.{Level, Scopes}
 use Rattle.rule_model.specs.declared.code.Code.TheVariants.{Value, Raised}
 use Rattle.frame_machine.specs.Children.{child_at, commands_of}

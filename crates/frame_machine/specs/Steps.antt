@@ -1,7 +1,7 @@
 -- What a step of a machine comes to, before it is told.
 use Rattle.std.specs.Prelude.{◌≡◌, ℕ, List, [], ◌++◌, Option}
 use Rattle.px_bytes.specs.declared.fault.Reply.{Reply}
-use Rattle.tcl_compile.specs.Tree.{Tree}
+use Rattle.tcl_trees.specs.Tree.{Tree}
 use Rattle.rule_model.specs.Host.{Effect}
 use Rattle.rule_model.specs.Outcome.{Act}
 use Rattle.rule_model.specs.Setting.{Setting}

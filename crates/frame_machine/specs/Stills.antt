@@ -2,7 +2,7 @@
 use Rattle.std.specs.Prelude.{◌≡◌, ℕ, ◌+◌, List, Bool, Result, Ok, Err}
 use Rattle.px_bytes.specs.declared.fault.Reply.{Reply}
 use Rattle.px_bytes.specs.declared.fault.TclFault.{TclFault}
-use Rattle.tcl_compile.specs.Tree.{Tree}
+use Rattle.tcl_trees.specs.Tree.{Tree}
 use Rattle.tcl_vars.specs.Scopes.{Scopes}
 use Rattle.rule_model.specs.Outcome.{Act, state, Meaning, heard}
 use Rattle.rule_model.specs.Setting.{Setting}

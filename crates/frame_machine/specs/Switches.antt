@@ -2,7 +2,7 @@
 use Rattle.std.specs.Prelude.{ℕ, ◌+◌, List, [], ◌∷◌, drop, Option, Some, None, Result, Ok, Err}
 use Rattle.std.specs.Prelude.{Bool, if◌then◌else◌}
 use Rattle.px_bytes.specs.declared.fault.TclFault.{TclFault}
-use Rattle.tcl_compile.specs.Tree.{Tree}
+use Rattle.tcl_trees.specs.Tree.{Tree}
 use Rattle.rule_model.specs.Children.{is_next}
 use Rattle.rule_model.specs.Control.{hit_of}
 use Rattle.rule_model.specs.declared.code.Code.TheVariants.{Value, Raised}

@@ -2,7 +2,7 @@
 use Rattle.std.specs.Prelude.{Vec, option_map}
 use Rattle.std.specs.declared.alloc.Global.{Global}
 use Rattle.rule_nodes.specs.declared.rows.Row.{Row}
-use Rattle.tcl_compile.specs.TreeView.{node_view}
+use Rattle.tcl_trees.specs.TreeView.{node_view}
 use Rattle.frame_machine.specs.Turns.{Turns}
 use Rattle.frame_machine.specs.declared.turns.Turns as code
 

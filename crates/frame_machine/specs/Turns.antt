@@ -4,7 +4,7 @@ use Rattle.std.specs.Prelude.{if◌then◌else◌}
 use Rattle.std.specs.declared.alloc.Global.{Global}
 use Rattle.px_bytes.specs.FaultText.{budget_spent}
 use Rattle.px_bytes.specs.declared.fault.TclFault.{TclFault}
-use Rattle.tcl_compile.specs.Tree.{Tree}
+use Rattle.tcl_trees.specs.Tree.{Tree}
 use Rattle.tcl_vars.specs.Scopes.{Level, Scopes}
 use Rattle.tcl_var_commands.specs.Changed.{Changed}
 use Rattle.rule_model.specs.Control.{turn_assigned}

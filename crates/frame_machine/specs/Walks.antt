@@ -1,9 +1,9 @@
 -- The nodes on which a body stands, from its root on.
 use Rattle.std.specs.Prelude.{◌≡◌, ◌-◌, ◌≤◌, List, [], ◌∷◌, ◌++◌}
 use Rattle.std.specs.Prelude.{length, take, drop, Bool, true, false, Option}
-use Rattle.tcl_compile.specs.Procedures.{Procedure}
-use Rattle.tcl_compile.specs.Tree.{Tree}
-use Rattle.tcl_compile.specs.TreeView.{node_view}
+use Rattle.tcl_trees.specs.Procedures.{Procedure}
+use Rattle.tcl_trees.specs.Tree.{Tree}
+use Rattle.tcl_trees.specs.TreeView.{node_view}
 use Rattle.frame_machine.specs.Frames.{full_room, inside, room_in, wants}
 use Rattle.frame_machine.specs.Moves.{list_of}
 use Rattle.frame_machine.specs.declared.frame.Frame.{Frame}

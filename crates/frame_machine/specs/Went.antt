@@ -1,7 +1,7 @@
 -- What a step of a machine promises.
 use Rattle.std.specs.Prelude.{◌≡◌, ℕ, ◌+◌, ◌*◌, ◌≤◌, List, [], ◌∷◌, ◌++◌, map, Option, Some, None}
 use Rattle.px_bytes.specs.declared.fault.Reply.{Reply}
-use Rattle.tcl_compile.specs.Tree.{Tree}
+use Rattle.tcl_trees.specs.Tree.{Tree}
 use Rattle.tcl_vars.specs.Scopes.{Scopes}
 use Rattle.rule_model.specs.Host.{Effect, HostStep, Gives, Faults, Asks}
 use Rattle.rule_model.specs.Outcome.{Act, Did, Called, state, Outcome, Ends, reply_code}

@@ -1,9 +1,9 @@
 // How a node begins.
 
 ghost use Rattle.std.specs.Prelude.{IfOk, List, OnOk, false, option_map, true, ◌+◌, ◌*◌, ◌≡◌, ◌≤◌};
-ghost use Rattle.tcl_compile.specs.Procedures.{procs_view};
-ghost use Rattle.tcl_compile.specs.TreeView.{node_view};
-ghost use Rattle.tcl_compile.specs.declared.node.Node.{out-Node};
+ghost use Rattle.tcl_trees.specs.Procedures.{procs_view};
+ghost use Rattle.tcl_trees.specs.TreeView.{node_view};
+ghost use Rattle.tcl_trees.specs.declared.node.Node.{out-Node};
 ghost use Rattle.rule_model.specs.Host.{Effect};
 ghost use Rattle.frame_machine.specs.FirstWords.{has_words, has_words_in};
 ghost use Rattle.frame_machine.specs.Given.{setting_of};
@@ -23,7 +23,7 @@ use crate::scripts::script_from;
 use crate::stills::begin_still;
 use px_bytes::{M, Steps, Text};
 use std::sync::ledger::Ledger;
-use tcl_compile::Node;
+use tcl_trees::Node;
 use tcl_vars::Vars;
 
 /// Whether a node evaluates words first.

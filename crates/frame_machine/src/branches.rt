@@ -2,7 +2,7 @@
 
 ghost use Rattle.std.specs.Prelude.{IfOk, IfSome, OnOk, drop, length, option_map};
 ghost use Rattle.std.specs.Prelude.{slice_get, ◌+◌, ◌<◌, ◌≡◌, ◌≤◌};
-ghost use Rattle.tcl_compile.specs.TreeView.{node_view};
+ghost use Rattle.tcl_trees.specs.TreeView.{node_view};
 ghost use Rattle.frame_machine.specs.Branches.{asked_move, branches_move};
 ghost use Rattle.frame_machine.specs.Branches.{condition_cost, condition_move};
 ghost use Rattle.frame_machine.specs.Branches.{condition_told, holds_by, last_move, told_by};
@@ -21,7 +21,7 @@ use px_bytes::{M, Memory, Raise, Steps, Text};
 use rule_model::Code;
 use rule_nodes::truth_of;
 use std::sync::ledger::Ledger;
-use tcl_compile::Node;
+use tcl_trees::Node;
 
 /// The conditions of `if` or `?:` with what stands beside each, and the last.
 #[derive(Clone, Copy)]

@@ -1,8 +1,8 @@
 // The moves of a call.
 
 ghost use Rattle.std.specs.Prelude.{IfOk, OnOk, ◌≡◌};
-ghost use Rattle.tcl_compile.specs.Procedures.{procs_view};
-ghost use Rattle.tcl_compile.specs.TreeView.{node_view};
+ghost use Rattle.tcl_trees.specs.Procedures.{procs_view};
+ghost use Rattle.tcl_trees.specs.TreeView.{node_view};
 ghost use Rattle.rule_nodes.specs.Calls.{call_view};
 ghost use Rattle.frame_machine.specs.CallParts.{caller_view};
 ghost use Rattle.frame_machine.specs.Calls.{body_move, bound_move, call_move, called_told};
@@ -15,7 +15,7 @@ use px_bytes::{M, Memory, Raise, Texts};
 use rule_model::Code;
 use rule_nodes::{Call, bound, code_left, set_parameters, too_deep};
 use std::alloc::Global;
-use tcl_compile::{Node, Procs};
+use tcl_trees::{Node, Procs};
 use tcl_vars::Vars;
 
 /// What stays over a call: what may nest where it stands, and whether its value is heard.

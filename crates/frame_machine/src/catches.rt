@@ -2,7 +2,7 @@
 
 ghost use Rattle.std.specs.Prelude.{IfOk, OnOk, option_map, slice_get, ◌+◌, ◌≡◌};
 ghost use Rattle.std.specs.Option.{option_copied};
-ghost use Rattle.tcl_compile.specs.TreeView.{node_view};
+ghost use Rattle.tcl_trees.specs.TreeView.{node_view};
 ghost use Rattle.frame_machine.specs.Catches.{catch_in_move, catch_move, caught_in_told};
 ghost use Rattle.frame_machine.specs.Catches.{catch_frame, caught_told};
 ghost use Rattle.frame_machine.specs.Reads.{known_by};
@@ -16,7 +16,7 @@ use rule_model::Code;
 use rule_nodes::{catch_code, code_number, is_caught};
 use std::alloc::Global;
 use std::sync::ledger::Ledger;
-use tcl_compile::Node;
+use tcl_trees::Node;
 use tcl_vars::Vars;
 
 /// `catch` of a body begins.

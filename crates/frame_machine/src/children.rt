@@ -1,8 +1,8 @@
 // The children of a node.
 
 ghost use Rattle.std.specs.Prelude.{[], get_or, length, map, ◌+◌, ◌∷◌, ◌++◌, ◌≡◌};
-ghost use Rattle.tcl_compile.specs.TreeView.{node_view, nodes_view};
-ghost use Rattle.tcl_compile.specs.declared.node.Node.{out-Node};
+ghost use Rattle.tcl_trees.specs.TreeView.{node_view, nodes_view};
+ghost use Rattle.tcl_trees.specs.declared.node.Node.{out-Node};
 ghost use Rattle.frame_machine.specs.AtOnce.{is_script, is_script_in};
 ghost use Rattle.frame_machine.specs.Children.{child_at, commands_of, parts_of};
 ghost use Rattle.frame_machine.specs.Children.{pieces_of, words_of};
@@ -11,8 +11,8 @@ ghost use Rattle.frame_machine.specs.Nodes.{words_in};
 
 use rule_nodes::parts;
 use std::slice;
-use tcl_compile::Node;
 use tcl_expr::Joint;
+use tcl_trees::Node;
 
 #[inline(always)]
 fn nth<'a>(nodes: &'a [Node], place: usize, other: &'a Node) -> &'a Node

@@ -13,7 +13,7 @@ use px_bytes::{HostAnswer, M, Memory, Steps, Texts};
 use rule_model::Code;
 use rule_nodes::{is_own, own_command};
 use std::sync::ledger::Ledger;
-use tcl_compile::Verb;
+use tcl_trees::Verb;
 use tcl_vars::Vars;
 
 /// How a command ends, or the shared call that it waits for.

@@ -1,7 +1,7 @@
 // What a move is given.
 
 use std::alloc::Global;
-use tcl_compile::Procs;
+use tcl_trees::Procs;
 use tcl_vars::Vars;
 
 /// What stays over a body: the static variables where they are only read, what the host only reads,

@@ -1,7 +1,7 @@
 // What a node does with all its words, where that asks no host.
 
 ghost use Rattle.std.specs.Prelude.{IfOk, drop, option_map, ◌≡◌, ◌+◌, ◌≤◌};
-ghost use Rattle.tcl_compile.specs.TreeView.{node_view};
+ghost use Rattle.tcl_trees.specs.TreeView.{node_view};
 ghost use Rattle.rule_model.specs.Control.{rows_of};
 ghost use Rattle.frame_machine.specs.CallParts.{caller_view};
 ghost use Rattle.frame_machine.specs.Ends.{EachEnds, EndsAs, VerbEnds};
@@ -20,7 +20,7 @@ use rule_model::Code;
 use rule_nodes::{most_turns, rows_of};
 use std::alloc::Global;
 use std::sync::ledger::Ledger;
-use tcl_compile::{Node, Verb};
+use tcl_trees::{Node, Verb};
 use tcl_vars::Vars;
 
 // The words behind the name.

@@ -1,8 +1,8 @@
 // The words of a node, from its beginning.
 
 ghost use Rattle.std.specs.Prelude.{IfOk, OnOk, option_map, ◌+◌, ◌≡◌};
-ghost use Rattle.tcl_compile.specs.TreeView.{node_view};
-ghost use Rattle.tcl_compile.specs.declared.node.Node.{out-Node};
+ghost use Rattle.tcl_trees.specs.TreeView.{node_view};
+ghost use Rattle.tcl_trees.specs.declared.node.Node.{out-Node};
 ghost use Rattle.frame_machine.specs.FirstWords.{first_cost, first_cost_in, first_words};
 ghost use Rattle.frame_machine.specs.FirstWords.{first_words_in};
 
@@ -12,7 +12,7 @@ use px_bytes::{M, Steps, Text};
 use rule_model::Code;
 use std::alloc::Global;
 use std::sync::ledger::Ledger;
-use tcl_compile::Node;
+use tcl_trees::Node;
 use tcl_vars::Vars;
 
 /// The words of a command, of a `foreach`, a `switch` and of a `catch` with a name. The name of a

@@ -4,8 +4,8 @@ use crate::values::Values;
 use px_bytes::{Text, Texts};
 use rule_model::Code;
 use rule_nodes::Row;
-use tcl_compile::Node;
 use tcl_expr::Joint;
+use tcl_trees::Node;
 
 /// How many calls, and how many expressions that are read when they run, may still stand inside one
 /// another.

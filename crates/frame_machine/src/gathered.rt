@@ -1,9 +1,9 @@
 // What a node does with the words that it evaluated first.
 
 ghost use Rattle.std.specs.Prelude.{IfOk, List, OnOk, ◌+◌, ◌*◌, ◌≡◌, ◌≤◌};
-ghost use Rattle.tcl_compile.specs.Procedures.{procs_view};
-ghost use Rattle.tcl_compile.specs.TreeView.{node_view};
-ghost use Rattle.tcl_compile.specs.declared.node.Node.{out-Node};
+ghost use Rattle.tcl_trees.specs.Procedures.{procs_view};
+ghost use Rattle.tcl_trees.specs.TreeView.{node_view};
+ghost use Rattle.tcl_trees.specs.declared.node.Node.{out-Node};
 ghost use Rattle.rule_model.specs.Host.{Effect};
 ghost use Rattle.frame_machine.specs.FirstWords.{word_verb, word_verb_in};
 ghost use Rattle.frame_machine.specs.Frames.{inner_of, words_end};
@@ -21,7 +21,7 @@ use crate::next::Next;
 use crate::words::Gathered;
 use px_bytes::{M, Steps, Texts};
 use std::sync::ledger::Ledger;
-use tcl_compile::{Node, Verb};
+use tcl_trees::{Node, Verb};
 use tcl_vars::Vars;
 
 // What a command is that evaluates nothing more than its words.

@@ -1,8 +1,8 @@
 // How a node goes on with the code of its child.
 
 ghost use Rattle.std.specs.Prelude.{IfOk, List, OnOk, ◌+◌, ◌*◌, ◌≡◌, ◌≤◌};
-ghost use Rattle.tcl_compile.specs.Procedures.{procs_view};
-ghost use Rattle.tcl_compile.specs.TreeView.{node_view};
+ghost use Rattle.tcl_trees.specs.Procedures.{procs_view};
+ghost use Rattle.tcl_trees.specs.TreeView.{node_view};
 ghost use Rattle.rule_model.specs.Host.{Effect};
 ghost use Rattle.frame_machine.specs.Given.{setting_of};
 ghost use Rattle.frame_machine.specs.Moves.{Moved, Ready, due, goes_on, now};
@@ -21,7 +21,7 @@ use crate::words::word_behind;
 use px_bytes::{M, Steps};
 use rule_model::Code;
 use std::sync::ledger::Ledger;
-use tcl_compile::Node;
+use tcl_trees::Node;
 use tcl_vars::Vars;
 
 /// A node goes on with the code of the child that its frame tells.

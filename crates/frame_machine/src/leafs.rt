@@ -1,8 +1,8 @@
 // What has its end at once, and is never begun as a child.
 
 ghost use Rattle.std.specs.Prelude.{IfOk, option_map, ◌≡◌};
-ghost use Rattle.tcl_compile.specs.TreeView.{node_view};
-ghost use Rattle.tcl_compile.specs.declared.node.Node.{out-Node};
+ghost use Rattle.tcl_trees.specs.TreeView.{node_view};
+ghost use Rattle.tcl_trees.specs.declared.node.Node.{out-Node};
 ghost use Rattle.frame_machine.specs.Leafs.{bare_code, bare_name, is_leaf_in, leaf_code, leaf_in};
 ghost use Rattle.frame_machine.specs.Owed.{is_flat};
 
@@ -10,7 +10,7 @@ use px_bytes::{M, TclFault, Text};
 use rule_model::Code;
 use rule_nodes::{coded, element, variable};
 use std::alloc::Global;
-use tcl_compile::{Node, Verb};
+use tcl_trees::{Node, Verb};
 use tcl_vars::Vars;
 
 /// Whether a node has its end at once.

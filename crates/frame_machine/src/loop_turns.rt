@@ -2,8 +2,8 @@
 
 ghost use Rattle.std.specs.Bool.{OnFalse, OnTrue};
 ghost use Rattle.std.specs.Prelude.{IfOk, length, option_map, true, ◌+◌, ◌<◌, ◌≡◌, ◌≤◌};
-ghost use Rattle.tcl_compile.specs.TreeView.{node_view};
-ghost use Rattle.tcl_compile.specs.declared.node.Node.{out-Node};
+ghost use Rattle.tcl_trees.specs.TreeView.{node_view};
+ghost use Rattle.tcl_trees.specs.declared.node.Node.{out-Node};
 ghost use Rattle.rule_nodes.specs.AtOnce.{DoesFront};
 ghost use Rattle.rule_nodes.specs.Goes.{body_goes, next_goes};
 ghost use Rattle.rule_nodes.specs.declared.goes.Goes.TheVariants.{On};
@@ -23,7 +23,7 @@ use rule_model::Code;
 use rule_nodes::{Goes, Work, after_body, after_next, command_at_once, whole_at_once};
 use std::alloc::Global;
 use std::sync::ledger::Ledger;
-use tcl_compile::Node;
+use tcl_trees::Node;
 use tcl_vars::Vars;
 
 /// A turn begins at once as long as fewer ticks were counted: it ticks three times at most, once

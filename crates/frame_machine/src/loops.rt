@@ -1,7 +1,7 @@
 // The moves of a loop.
 
 ghost use Rattle.std.specs.Prelude.{IfOk, ◌≡◌, ◌+◌, ◌≤◌};
-ghost use Rattle.tcl_compile.specs.TreeView.{node_view};
+ghost use Rattle.tcl_trees.specs.TreeView.{node_view};
 ghost use Rattle.frame_machine.specs.LoopParts.{parts_view};
 ghost use Rattle.frame_machine.specs.Loops.{above, loop_move, next_move, next_told, start_told};
 ghost use Rattle.frame_machine.specs.Loops.{test_move, test_told, turn_move};
@@ -18,7 +18,7 @@ use px_bytes::{M, Memory, Raise, Steps, TclFault, Text};
 use rule_model::Code;
 use rule_nodes::{Goes, after_next, truth_of};
 use std::sync::ledger::Ledger;
-use tcl_compile::Node;
+use tcl_trees::Node;
 
 /// What a loop consists of.
 #[derive(Clone, Copy)]

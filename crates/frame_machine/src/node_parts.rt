@@ -1,8 +1,8 @@
 // What a node has, where its kind has it.
 
 ghost use Rattle.std.specs.Prelude.{[], ◌≡◌};
-ghost use Rattle.tcl_compile.specs.TreeView.{node_view, operands_view};
-ghost use Rattle.tcl_compile.specs.declared.node.Node.{out-Node};
+ghost use Rattle.tcl_trees.specs.TreeView.{node_view, operands_view};
+ghost use Rattle.tcl_trees.specs.declared.node.Node.{out-Node};
 ghost use Rattle.frame_machine.specs.Branches.{choices_of};
 ghost use Rattle.frame_machine.specs.ChoiceParts.{choices_view};
 ghost use Rattle.frame_machine.specs.Frames.{operators_of};
@@ -13,8 +13,8 @@ ghost use Rattle.frame_machine.specs.Rows.{row_of};
 use crate::branches::Choices;
 use crate::children::child_at;
 use crate::loops::Loop;
-use tcl_compile::Node;
 use tcl_expr::{Joint, Op1};
+use tcl_trees::Node;
 
 /// The operators before an operand.
 #[tactic(auto, using(crate::proofs::PartViews::operators_view))]

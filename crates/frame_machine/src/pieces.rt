@@ -1,7 +1,7 @@
 // The pieces of a word, up to the first part that has to run.
 
 ghost use Rattle.std.specs.Prelude.{IfOk, OnOk, drop, option_map, ◌+◌, ◌≡◌};
-ghost use Rattle.tcl_compile.specs.TreeView.{node_view, nodes_view};
+ghost use Rattle.tcl_trees.specs.TreeView.{node_view, nodes_view};
 ghost use Rattle.frame_machine.specs.Leafs.{leaf_code};
 ghost use Rattle.frame_machine.specs.Pieces.{added_end, added_text, pieces_behind};
 ghost use Rattle.frame_machine.specs.Pieces.{pieces_behind_cost, pieces_cost, pieces_from};
@@ -11,7 +11,7 @@ use px_bytes::{M, Steps, TEXT_LIMIT, TclFault, Text};
 use rule_model::Code;
 use std::alloc::Global;
 use std::sync::ledger::Ledger;
-use tcl_compile::Node;
+use tcl_trees::Node;
 use tcl_vars::Vars;
 
 /// What is known of a word: its text, the code that ends it, or the part that has to run first,

@@ -1,7 +1,7 @@
 // The moves of operators before an operand, and of `expr`.
 
 ghost use Rattle.std.specs.Prelude.{IfOk, Ok, take, ◌≡◌, ◌+◌, ◌≤◌};
-ghost use Rattle.tcl_compile.specs.TreeView.{node_view};
+ghost use Rattle.tcl_trees.specs.TreeView.{node_view};
 ghost use Rattle.frame_machine.specs.Prefixes.{applied_move, expr_move, operand_told};
 ghost use Rattle.frame_machine.specs.Prefixes.{operators_move, prefixed_move, whole_next};
 ghost use Rattle.frame_machine.specs.Reads.{known_by};
@@ -17,8 +17,8 @@ use px_bytes::{M, Memory, Raise, Steps, Text};
 use rule_model::Code;
 use std::alloc::Global;
 use std::sync::ledger::Ledger;
-use tcl_compile::{Node, expression_result};
 use tcl_expr::{Op1, apply1};
+use tcl_trees::{Node, expression_result};
 
 /// Operators before an operand begin.
 pub(crate) fn begin_prefixed<L: Ledger, K: Ledger>(

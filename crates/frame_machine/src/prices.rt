@@ -1,12 +1,12 @@
 // What a whole expression costs by itself.
 
 ghost use Rattle.std.specs.Prelude.{◌≡◌};
-ghost use Rattle.tcl_compile.specs.TreeView.{node_view};
-ghost use Rattle.tcl_compile.specs.declared.node.Node.{out-Node};
+ghost use Rattle.tcl_trees.specs.TreeView.{node_view};
+ghost use Rattle.tcl_trees.specs.declared.node.Node.{out-Node};
 ghost use Rattle.rule_model.specs.Children.{alone};
 ghost use Rattle.frame_machine.specs.Prices.{alone_in};
 
-use tcl_compile::Node;
+use tcl_trees::Node;
 
 /// One where it is a single operand; operators have operands of their own.
 #[tactic(auto, using(crate::proofs::PriceViews::alone_view))]

@@ -1,7 +1,7 @@
 // Expressions that have their end at once.
 
 ghost use Rattle.std.specs.Prelude.{IfOk, ◌+◌, ◌≡◌, ◌≤◌};
-ghost use Rattle.tcl_compile.specs.TreeView.{node_view, operands_view};
+ghost use Rattle.tcl_trees.specs.TreeView.{node_view, operands_view};
 ghost use Rattle.frame_machine.specs.Counted.{Counts};
 ghost use Rattle.frame_machine.specs.Quick.{all_flat, brief_code, is_brief, quick};
 ghost use Rattle.frame_machine.specs.Reads.{known_by};
@@ -14,8 +14,8 @@ use crate::rows::{MOST_OPERATORS, Rowed, row_from};
 use px_bytes::{M, Steps};
 use rule_model::Code;
 use std::sync::ledger::Ledger;
-use tcl_compile::Node;
 use tcl_expr::Joint;
+use tcl_trees::Node;
 
 /// The code that an expression ends with, where it does so at once: what has nothing inside, and a
 /// row of few operators on such operands.

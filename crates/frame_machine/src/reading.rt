@@ -1,7 +1,7 @@
 // The moves of an expression that is read when it runs.
 
 ghost use Rattle.std.specs.Prelude.{IfOk, OnOk, ◌+◌, ◌≡◌, ◌≤◌};
-ghost use Rattle.tcl_compile.specs.TreeView.{node_view};
+ghost use Rattle.tcl_trees.specs.TreeView.{node_view};
 ghost use Rattle.rule_model.specs.Commands.{expression_of};
 ghost use Rattle.frame_machine.specs.Reading.{IsReading, ReadsFrom, read_cost, read_ticks};
 ghost use Rattle.frame_machine.specs.Reading.{expression_cost, expression_ticks};
@@ -13,11 +13,12 @@ use crate::prefixes::go_whole;
 use crate::prices::alone;
 use crate::quick::quick;
 use crate::reads::Reads;
+use expr_of_words::read_expression;
 use px_bytes::{M, Memory, Raise, Steps, Texts};
 use rule_model::Code;
-use rule_nodes::{read_expression, too_deep};
+use rule_nodes::too_deep;
 use std::sync::ledger::Ledger;
-use tcl_compile::Node;
+use tcl_trees::Node;
 
 /// `expr` with these words, of which the first is the name.
 pub(crate) fn begin_read<L: Ledger, K: Ledger>(

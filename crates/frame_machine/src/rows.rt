@@ -1,7 +1,7 @@
 // The moves of a row of operators.
 
 ghost use Rattle.std.specs.Prelude.{IfOk, drop, ◌+◌, ◌≤◌};
-ghost use Rattle.tcl_compile.specs.TreeView.{node_view, operands_view};
+ghost use Rattle.tcl_trees.specs.TreeView.{node_view, operands_view};
 ghost use Rattle.frame_machine.specs.Counted.{Counts};
 ghost use Rattle.frame_machine.specs.Reads.{known_by};
 ghost use Rattle.frame_machine.specs.Rows.{joined_to, left_told, most_operators, rest_move};
@@ -16,8 +16,8 @@ use px_bytes::{M, Memory, Raise, Steps, Text};
 use rule_model::Code;
 use rule_nodes::{decide, joint_text};
 use std::sync::ledger::Ledger;
-use tcl_compile::Node;
 use tcl_expr::Joint;
+use tcl_trees::Node;
 
 /// As many operators as one move may apply.
 pub(crate) const MOST_OPERATORS: usize = 4;

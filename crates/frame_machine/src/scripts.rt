@@ -2,7 +2,7 @@
 
 ghost use Rattle.std.specs.Prelude.{IfOk, List, OnOk, false, length, option_map};
 ghost use Rattle.std.specs.Prelude.{ℕ, ◌+◌, ◌≡◌, ◌≤◌};
-ghost use Rattle.tcl_compile.specs.TreeView.{node_view};
+ghost use Rattle.tcl_trees.specs.TreeView.{node_view};
 ghost use Rattle.frame_machine.specs.Children.{commands_of};
 ghost use Rattle.frame_machine.specs.Moves.{stop};
 ghost use Rattle.frame_machine.specs.Scripts.{child_next, script_from};
@@ -19,7 +19,7 @@ use rule_model::Code;
 use rule_nodes::commands_at_once;
 use std::alloc::Global;
 use std::sync::ledger::Ledger;
-use tcl_compile::Node;
+use tcl_trees::Node;
 use tcl_vars::Vars;
 
 /// A child under a frame: one that has its end at once is done, and any other begins.

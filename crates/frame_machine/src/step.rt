@@ -2,8 +2,8 @@
 
 ghost use Rattle.std.specs.Prelude.{IfOk, List, OnOk, option_map, ◌+◌, ◌-◌};
 ghost use Rattle.std.specs.Prelude.{◌*◌, ◌++◌, ◌<◌, ◌≡◌, ◌≤◌};
-ghost use Rattle.tcl_compile.specs.Procedures.{procs_view};
-ghost use Rattle.tcl_compile.specs.TreeView.{node_view};
+ghost use Rattle.tcl_trees.specs.Procedures.{procs_view};
+ghost use Rattle.tcl_trees.specs.TreeView.{node_view};
 ghost use Rattle.rule_model.specs.Host.{Effect};
 ghost use Rattle.frame_machine.specs.Given.{setting, setting_of};
 ghost use Rattle.frame_machine.specs.Moves.{list_of, now};
@@ -28,7 +28,7 @@ use std::alloc::Global;
 use std::marker::Brand;
 use std::mem::{self, ManuallyDrop};
 use std::sync::ledger::{Blank, Ledger};
-use tcl_compile::{Node, Procs};
+use tcl_trees::{Node, Procs};
 use tcl_vars::Vars;
 
 impl Machine {

@@ -1,7 +1,7 @@
 // The moves that ask no host, by the kind of a node or of a frame.
 
 ghost use Rattle.std.specs.Prelude.{IfOk, OnOk, option_map, ◌+◌, ◌≡◌, ◌≤◌};
-ghost use Rattle.tcl_compile.specs.TreeView.{node_view};
+ghost use Rattle.tcl_trees.specs.TreeView.{node_view};
 ghost use Rattle.frame_machine.specs.Reads.{known, known_by};
 ghost use Rattle.frame_machine.specs.StillMoves.{reading_goes, still_begin, still_goes};
 
@@ -22,7 +22,7 @@ use px_bytes::{M, Steps, Text};
 use rule_model::Code;
 use std::alloc::Global;
 use std::sync::ledger::Ledger;
-use tcl_compile::Node;
+use tcl_trees::Node;
 use tcl_vars::Vars;
 
 /// A node begins that evaluates no words first.

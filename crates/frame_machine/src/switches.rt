@@ -1,8 +1,8 @@
 // The choice of a `switch`.
 
 ghost use Rattle.std.specs.Prelude.{IfOk, drop, length, ◌+◌, ◌≡◌};
-ghost use Rattle.tcl_compile.specs.TreeView.{node_view, nodes_view};
-ghost use Rattle.tcl_compile.specs.declared.node.Node.{out-Node};
+ghost use Rattle.tcl_trees.specs.TreeView.{node_view, nodes_view};
+ghost use Rattle.tcl_trees.specs.declared.node.Node.{out-Node};
 ghost use Rattle.rule_model.specs.Children.{is_next};
 ghost use Rattle.rule_nodes.specs.Choice.{is_next_in};
 ghost use Rattle.frame_machine.specs.Reads.{known_by};
@@ -14,7 +14,7 @@ use crate::reads::Reads;
 use px_bytes::{M, Memory, Raise, Text};
 use rule_model::Code;
 use rule_nodes::hit_of;
-use tcl_compile::Node;
+use tcl_trees::Node;
 
 /// The body that a `switch` chooses by the values of its words, of which so many are options and
 /// the text. The bodies stand behind the words' nodes.

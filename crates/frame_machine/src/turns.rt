@@ -14,7 +14,7 @@ use rule_model::Code;
 use rule_nodes::{Goes, Row, after_body, set_turn};
 use std::alloc::Global;
 use std::sync::ledger::Ledger;
-use tcl_compile::Node;
+use tcl_trees::Node;
 use tcl_vars::Vars;
 
 /// What stays over the turns of a `foreach`: the body, which is the child of this number.

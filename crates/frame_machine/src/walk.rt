@@ -1,16 +1,16 @@
 // The nodes on which a body stands, from its root on.
 
 ghost use Rattle.std.specs.Prelude.{IfOk, List, OnOk, [], length, take, ◌-◌, ◌≡◌};
-ghost use Rattle.tcl_compile.specs.Procedures.{Procedure, procs_view};
-ghost use Rattle.tcl_compile.specs.Tree.{Tree};
-ghost use Rattle.tcl_compile.specs.TreeView.{node_view};
+ghost use Rattle.tcl_trees.specs.Procedures.{Procedure, procs_view};
+ghost use Rattle.tcl_trees.specs.Tree.{Tree};
+ghost use Rattle.tcl_trees.specs.TreeView.{node_view};
 ghost use Rattle.frame_machine.specs.Walks.{Enters, Follows, root_spot, spot_of, staying};
 
 use crate::frame::{Frame, Mode, Standing};
 use crate::place::{Place, Waypoint, place_in, root_place};
 use px_bytes::M;
 use std::alloc::Global;
-use tcl_compile::{Node, Procs};
+use tcl_trees::{Node, Procs};
 
 /// The nodes on which a body stands, from its root on, up to the first that runs an expression that
 /// was read when it ran. It is made once and follows a machine, so that a step finds its node

@@ -1,8 +1,8 @@
 // The moves of a quoted operand and of an array's element.
 
 ghost use Rattle.std.specs.Prelude.{IfOk, OnOk, option_map, ◌+◌, ◌≡◌};
-ghost use Rattle.tcl_compile.specs.TreeView.{node_view};
-ghost use Rattle.tcl_compile.specs.declared.node.Node.{out-Node};
+ghost use Rattle.tcl_trees.specs.TreeView.{node_view};
+ghost use Rattle.tcl_trees.specs.declared.node.Node.{out-Node};
 ghost use Rattle.frame_machine.specs.WordMoves.{pieces_begin, pieces_goes, pieces_next, whole_code};
 ghost use Rattle.frame_machine.specs.WordMoves.{whole_in};
 
@@ -15,7 +15,7 @@ use rule_model::Code;
 use rule_nodes::{coded, element};
 use std::alloc::Global;
 use std::sync::ledger::Ledger;
-use tcl_compile::Node;
+use tcl_trees::Node;
 use tcl_vars::Vars;
 
 /// What a whole text comes to: the value of the element that it indexes, or itself.

@@ -1,8 +1,8 @@
 // The words that a node evaluates first, up to the first part that has to run.
 
 ghost use Rattle.std.specs.Prelude.{[], IfOk, OnOk, drop, option_map, ◌+◌, ◌∷◌, ◌≡◌};
-ghost use Rattle.tcl_compile.specs.TreeView.{node_view, nodes_view};
-ghost use Rattle.tcl_compile.specs.declared.node.Node.{out-Node};
+ghost use Rattle.tcl_trees.specs.TreeView.{node_view, nodes_view};
+ghost use Rattle.tcl_trees.specs.declared.node.Node.{out-Node};
 ghost use Rattle.frame_machine.specs.Words.{part_price, part_price_in, word_behind};
 ghost use Rattle.frame_machine.specs.Words.{word_behind_cost, word_unit, word_unit_in};
 ghost use Rattle.frame_machine.specs.Words.{words_behind, words_behind_cost, words_cost};
@@ -15,7 +15,7 @@ use px_bytes::{M, Steps, TclFault, Text};
 use rule_model::Code;
 use std::alloc::Global;
 use std::sync::ledger::Ledger;
-use tcl_compile::Node;
+use tcl_trees::Node;
 use tcl_vars::Vars;
 
 /// What is known of words: all of them, the code that ends them, or the part that has to run first,

@@ -10,9 +10,9 @@ use Rattle.event_order.specs.Command.{IsHostCommand, command_row, every_command}
 use Rattle.event_order.specs.declared.command.HostCommand.{HostCommand}
 use Rattle.interim_rules.specs.HostCommands.{NamesBuilt, is_built, is_built_name, is_host_name, may_all_stand, may_stand, names_in}
 use Rattle.interim_rules.specs.HostCommands.{only_text}
-use Rattle.tcl_compile.specs.Tree.{Tree, trees_of}
-use Rattle.tcl_compile.specs.TreeView.{nodes_view}
-use Rattle.tcl_compile.specs.declared.node.Node.{Node}
+use Rattle.tcl_trees.specs.Tree.{Tree, trees_of}
+use Rattle.tcl_trees.specs.TreeView.{nodes_view}
+use Rattle.tcl_trees.specs.declared.node.Node.{Node}
 
 -- a word of several parts tells no name
 pub several_parts : (parts : List Node) → 2 ≤ length parts → may_all_stand (only_text (trees_of (nodes_view parts))) ≡ true

@@ -1,8 +1,8 @@
 -- Bodies and whether they can be run, as it is known from outside.
 use Rattle.std.proofs.Common.{◌≡◌, ℕ, List, [], ◌∷◌, refl, codes, true, false}
-use Rattle.tcl_compile.specs.Tree.{Tree, plain, word, script, command, trees_of}
-use Rattle.tcl_compile.specs.declared.node.Verb.{Verb}
-use Rattle.tcl_compile.specs.declared.node.Verb.TheVariants.{Named, Computed}
+use Rattle.tcl_trees.specs.Tree.{Tree, plain, word, script, command, trees_of}
+use Rattle.tcl_trees.specs.declared.node.Verb.{Verb}
+use Rattle.tcl_trees.specs.declared.node.Verb.TheVariants.{Named, Computed}
 use Rattle.interim_rules.specs.HostCommands.{is_built, is_built_name, is_host_name}
 
 -- a word of this text

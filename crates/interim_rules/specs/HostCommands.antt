@@ -5,12 +5,12 @@ use Rattle.std.specs.Str.{bytes_eq}
 use Rattle.conn_trace.specs.Host.{names_one}
 use Rattle.event_order.specs.Command.{IsHostCommand, command_row, every_command}
 use Rattle.irule_net.specs.Checks.{command_of}
-use Rattle.tcl_compile.specs.Tree.{Tree, plain, variable, element, word, script, command, expr}
-use Rattle.tcl_compile.specs.Tree.{branches, loop, each, switch, catch, catch_in, next_body}
-use Rattle.tcl_compile.specs.Tree.{prefixed, row, choice, Trees, no_trees, and_tree}
-use Rattle.tcl_compile.specs.Tree.{Operands, no_operands, and_operand, Values, no_values, and_value}
-use Rattle.tcl_compile.specs.declared.node.Verb.{Verb}
-use Rattle.tcl_compile.specs.declared.node.Verb.TheVariants.{Named}
+use Rattle.tcl_trees.specs.Tree.{Tree, plain, variable, element, word, script, command, expr}
+use Rattle.tcl_trees.specs.Tree.{branches, loop, each, switch, catch, catch_in, next_body}
+use Rattle.tcl_trees.specs.Tree.{prefixed, row, choice, Trees, no_trees, and_tree}
+use Rattle.tcl_trees.specs.Tree.{Operands, no_operands, and_operand, Values, no_values, and_value}
+use Rattle.tcl_trees.specs.declared.node.Verb.{Verb}
+use Rattle.tcl_trees.specs.declared.node.Verb.TheVariants.{Named}
 
 -- the text of a word of one plain part, and none for any other
 abbrev pub plain_text : Tree → List (List ℕ)

@@ -6,13 +6,13 @@ ghost use Rattle.interim_rules.specs.HostCommands.{is_host_name};
 ghost use Rattle.interim_rules.specs.HostCommands.{names_in_all, names_in_operands, names_in_values};
 ghost use Rattle.interim_rules.specs.HostCommands.{literal, may_all_stand, may_stand, name_of};
 ghost use Rattle.interim_rules.specs.HostCommands.{only_text, plain_text};
-ghost use Rattle.tcl_compile.specs.Tree.{operands_of, trees_of, values_of};
-ghost use Rattle.tcl_compile.specs.TreeView.{node_view, nodes_view, operands_view, values_view};
+ghost use Rattle.tcl_trees.specs.Tree.{operands_of, trees_of, values_of};
+ghost use Rattle.tcl_trees.specs.TreeView.{node_view, nodes_view, operands_view, values_view};
 
 use conn_trace::is_there;
 use event_order::is_host_command;
-use tcl_compile::{Node, Verb};
 use tcl_expr::Joint;
+use tcl_trees::{Node, Verb};
 
 // Whether a host command has this name.
 fn is_host_name(name: &[u8]) -> bool

@@ -6,7 +6,7 @@ use Vocabulary.{out_of_proc, alone, Bound, code_left, command, deeper, entered, 
 use Vocabulary.{leave, named_command, too_deep, eval, inner, Ends, Meaning, Outcome, State, Waits}
 use Vocabulary.{answered, heard_code, paid, then_code, unvalued, Inner, Setting, Code, Raised}
 use Vocabulary.{Value, Is, Leaves, EndsAs, Ran, Stand, from, stand, End, Run}
-use Rattle.tcl_compile.specs.declared.node.Verb.TheVariants as verb
+use Rattle.tcl_trees.specs.declared.node.Verb.TheVariants as verb
 use Rattle.tcl_var_commands.specs.Assigning.{row_assigned}
 use Rattle.rule_nodes.specs.Own.{is_own, is_pure_call}
 use Rattle.plain_eval.specs.declared.run.End.TheVariants as end

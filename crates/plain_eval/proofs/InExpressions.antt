@@ -6,7 +6,7 @@ use Vocabulary.{operands_of, values_of, node_view, operands_view, values_view, N
 use Vocabulary.{one, eval, joints, values, Meaning, Outcome, State, then_value, Inner, Setting}
 use Vocabulary.{Raised, end_of, ended, kept, kept_end, value_in, Gave, GoesOn, Ran, Stand, Went}
 use Vocabulary.{from, End, Halted}
-use Rattle.tcl_compile.specs.Tree as tree
+use Rattle.tcl_trees.specs.Tree as tree
 use Rattle.tcl_expr.specs.OperatorFaults.{not_truth}
 use Rattle.tcl_expr.specs.Truth.{truth}
 use Rattle.rule_model.specs.Expressions.{after_test, by_truth, decided, decided_by, first_true}

@@ -12,7 +12,7 @@ use Rattle.std.proofs.Math.Seq.{drop-append_seam}
 use Rattle.std.proofs.lemmas.List.Sums.{sum_by-append, sum_by_push}
 use Rattle.std.specs.Bool.{MatchBool}
 use Rattle.rule_nodes.specs.Parts.{or_alone, parts_in}
-use Rattle.tcl_compile.specs.Tree as tree
+use Rattle.tcl_trees.specs.Tree as tree
 use Rattle.plain_eval.specs.declared.run.End.TheVariants as end
 use Rattle.plain_eval.proofs.Steps.{at_stand, ends_ran, goes_by, goes_self, goes_then, heard_goes}
 use Rattle.plain_eval.proofs.Steps.{is_code, value_stops, valued}

@@ -15,12 +15,12 @@ pub use Rattle.px_bytes.specs.Limit.{text_limit}
 pub use Rattle.px_bytes.specs.declared.fault.Raise.{Raise}
 pub use Rattle.px_bytes.specs.declared.fault.TclFault.{TclFault}
 pub use Rattle.px_bytes.specs.declared.memory.Memory.{Memory}
-pub use Rattle.tcl_compile.specs.Tree.{Tree, each, operands_of, script, trees_of, values_of}
-pub use Rattle.tcl_compile.specs.TreeView.{node_step, node_view, nodes_view, operands_view}
-pub use Rattle.tcl_compile.specs.TreeView.{values_view}
-pub use Rattle.tcl_compile.specs.declared.node.Node.{Node, fold_out-Node, map-Node, out-Node}
-pub use Rattle.tcl_compile.specs.declared.node.Node.TheOpen.{Node-F}
-pub use Rattle.tcl_compile.specs.declared.node.Verb.{Verb}
+pub use Rattle.tcl_trees.specs.Tree.{Tree, each, operands_of, script, trees_of, values_of}
+pub use Rattle.tcl_trees.specs.TreeView.{node_step, node_view, nodes_view, operands_view}
+pub use Rattle.tcl_trees.specs.TreeView.{values_view}
+pub use Rattle.tcl_trees.specs.declared.node.Node.{Node, fold_out-Node, map-Node, out-Node}
+pub use Rattle.tcl_trees.specs.declared.node.Node.TheOpen.{Node-F}
+pub use Rattle.tcl_trees.specs.declared.node.Verb.{Verb}
 pub use Rattle.tcl_expr.specs.declared.expr.Joint.{Joint}
 pub use Rattle.tcl_var_commands.specs.Changed.{Changed, Does}
 pub use Rattle.tcl_vars.specs.Scopes.{Level, Scopes, in_proc, out_of_proc}

@@ -4,7 +4,7 @@ use Rattle.px_bytes.specs.declared.fault.Reply.{Reply}
 use Rattle.px_bytes.specs.declared.fault.HostAnswer.{HostAnswer}
 use Rattle.px_bytes.specs.declared.fault.HostAnswer.TheVariants as answer
 use Rattle.px_bytes.specs.declared.memory.Memory.{Memory}
-use Rattle.tcl_compile.specs.Procedures.{Procedure}
+use Rattle.tcl_trees.specs.Procedures.{Procedure}
 use Rattle.tcl_vars.specs.Scopes.{Scopes, Level}
 use Rattle.rule_model.specs.Host.{HostStep, Gives, Faults, Asks}
 use Rattle.rule_model.specs.Outcome.{Outcome, Ends, Waits}

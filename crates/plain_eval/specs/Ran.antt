@@ -1,10 +1,10 @@
 -- What the functions of the plain evaluator come to.
 use Rattle.std.specs.Prelude.{ℕ, List, [], length, drop, map, Bool}
-use Rattle.tcl_compile.specs.Procedures.{procedure_view}
-use Rattle.tcl_compile.specs.Tree.{Tree, loop, trees_of, values_of}
-use Rattle.tcl_compile.specs.TreeView.{node_view, nodes_view, values_view}
-use Rattle.tcl_compile.specs.declared.node.Node.{Node}
-use Rattle.tcl_compile.specs.declared.node.Verb.{Verb}
+use Rattle.tcl_trees.specs.Procedures.{procedure_view}
+use Rattle.tcl_trees.specs.Tree.{Tree, loop, trees_of, values_of}
+use Rattle.tcl_trees.specs.TreeView.{node_view, nodes_view, values_view}
+use Rattle.tcl_trees.specs.declared.node.Node.{Node}
+use Rattle.tcl_trees.specs.declared.node.Verb.{Verb}
 use Rattle.tcl_var_commands.specs.Assigning.{row_assigned}
 use Rattle.rule_model.specs.Children.{alone, child, free, places_of}
 use Rattle.rule_model.specs.Commands.{command, deeper}

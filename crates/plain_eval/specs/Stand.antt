@@ -2,7 +2,7 @@
 -- done aren't told.
 use Rattle.std.specs.Prelude.{◌≡◌, ℕ, List, Bool, Result, Ok, Err, option_map}
 use Rattle.px_bytes.specs.declared.fault.Reply.{Reply}
-use Rattle.tcl_compile.specs.Procedures.{procs_view}
+use Rattle.tcl_trees.specs.Procedures.{procs_view}
 use Rattle.tcl_vars.specs.Scopes.{Scopes}
 use Rattle.rule_model.specs.Evaluator.{inner}
 use Rattle.rule_model.specs.Host.{HostStep}

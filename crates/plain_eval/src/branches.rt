@@ -1,7 +1,7 @@
 // `if` and `?:`.
 
 ghost use Rattle.std.specs.Prelude.{ℕ, ◌≡◌};
-ghost use Rattle.tcl_compile.specs.Tree.{Tree};
+ghost use Rattle.tcl_trees.specs.Tree.{Tree};
 ghost use Rattle.plain_eval.specs.End.{ended};
 ghost use Rattle.plain_eval.specs.Ran.{first_of};
 ghost use Rattle.plain_eval.specs.Stand.{Ran, stand};
@@ -11,7 +11,7 @@ use crate::expressions::eval_test;
 use crate::host::PlainHost;
 use crate::run::{Halts, Run};
 use crate::tree::eval_tree;
-use tcl_compile::Node;
+use tcl_trees::Node;
 
 /// The value beside the first condition that holds, or else the last.
 #[inline(never)]

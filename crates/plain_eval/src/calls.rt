@@ -11,8 +11,9 @@ use crate::context::{Context, Room};
 use crate::host::PlainHost;
 use crate::run::{End, Halted, Halts, Run};
 use crate::tree::eval_tree;
+use expr_of_words::read_expression;
 use px_bytes::Texts;
-use rule_nodes::{Call, bound, code_left, read_expression, set_parameters, too_deep, whole_text};
+use rule_nodes::{Call, bound, code_left, set_parameters, too_deep, whole_text};
 use std::alloc::Global;
 use std::mem;
 

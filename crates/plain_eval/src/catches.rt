@@ -2,8 +2,8 @@
 
 ghost use Rattle.std.specs.Prelude.{option_map, true, ◌≡◌};
 ghost use Rattle.std.specs.Option.{option_copied};
-ghost use Rattle.tcl_compile.specs.Tree.{catch, catch_in};
-ghost use Rattle.tcl_compile.specs.TreeView.{node_view};
+ghost use Rattle.tcl_trees.specs.Tree.{catch, catch_in};
+ghost use Rattle.tcl_trees.specs.TreeView.{node_view};
 ghost use Rattle.plain_eval.specs.End.{Caught, caught_code, ended};
 ghost use Rattle.plain_eval.specs.Ran.{Evaluates};
 
@@ -16,7 +16,7 @@ use px_bytes::Text;
 use rule_model::Code;
 use rule_nodes::{catch_code, code_number, is_caught};
 use std::slice;
-use tcl_compile::Node;
+use tcl_trees::Node;
 
 /// The number of the code of a body.
 #[inline(never)]

@@ -1,8 +1,8 @@
 // `switch`.
 
 ghost use Rattle.std.specs.Prelude.{drop, option_and_then, option_map, ◌≡◌};
-ghost use Rattle.tcl_compile.specs.Tree.{switch, trees_of};
-ghost use Rattle.tcl_compile.specs.TreeView.{nodes_view};
+ghost use Rattle.tcl_trees.specs.Tree.{switch, trees_of};
+ghost use Rattle.tcl_trees.specs.TreeView.{nodes_view};
 ghost use Rattle.rule_nodes.specs.Choice.{first_body_of};
 ghost use Rattle.plain_eval.specs.End.{ended};
 ghost use Rattle.plain_eval.specs.Ran.{Evaluates};
@@ -13,7 +13,7 @@ use crate::run::{Halts, Run};
 use crate::tree::eval_tree;
 use crate::words::eval_words;
 use rule_nodes::{first_body, hit_of};
-use tcl_compile::Node;
+use tcl_trees::Node;
 
 /// Options, the text and the patterns, and then the body of the case that is hit.
 #[inline(never)]

@@ -1,8 +1,8 @@
 // Commands that evaluate all their words first.
 
 ghost use Rattle.std.specs.Prelude.{true, ◌≡◌, ◌≢◌};
-ghost use Rattle.tcl_compile.specs.Tree.{command, trees_of};
-ghost use Rattle.tcl_compile.specs.TreeView.{nodes_view};
+ghost use Rattle.tcl_trees.specs.Tree.{command, trees_of};
+ghost use Rattle.tcl_trees.specs.TreeView.{nodes_view};
 ghost use Rattle.rule_model.specs.Outcome.{answered};
 ghost use Rattle.plain_eval.specs.End.{Asked, ended};
 ghost use Rattle.plain_eval.specs.Ran.{Evaluates, command_of};
@@ -17,7 +17,7 @@ use crate::words::eval_words;
 use px_bytes::{HostAnswer, Texts};
 use rule_model::Code;
 use rule_nodes::{code_of_reply, is_own};
-use tcl_compile::{Node, Verb};
+use tcl_trees::{Node, Verb};
 
 /// The words of a command, and then what it does with them.
 #[inline(never)]

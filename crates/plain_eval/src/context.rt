@@ -1,7 +1,7 @@
 // What an evaluation is given.
 
 use std::alloc::Global;
-use tcl_compile::Procs;
+use tcl_trees::Procs;
 use tcl_vars::Vars;
 
 /// How many calls, and how many expressions that are read when they run, may still stand inside one

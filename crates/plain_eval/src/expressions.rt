@@ -1,8 +1,8 @@
 // The evaluation of expressions.
 
 ghost use Rattle.std.specs.Prelude.{Err, IfErr, true, ℕ, ◌≡◌};
-ghost use Rattle.tcl_compile.specs.Tree.{Tree, expr, operands_of, prefixed, row};
-ghost use Rattle.tcl_compile.specs.TreeView.{node_view, operands_view};
+ghost use Rattle.tcl_trees.specs.Tree.{Tree, expr, operands_of, prefixed, row};
+ghost use Rattle.tcl_trees.specs.TreeView.{node_view, operands_view};
 ghost use Rattle.plain_eval.specs.End.{ended};
 ghost use Rattle.plain_eval.specs.Ran.{Evaluates, test_of};
 ghost use Rattle.plain_eval.specs.Stand.{Gave, stand};
@@ -13,8 +13,8 @@ use crate::run::{Halted, Halts, Run};
 use crate::tree::eval_tree;
 use crate::uncounted::{both_text, prefixed_text};
 use rule_nodes::{decide, truth_of, whole_text};
-use tcl_compile::Node;
 use tcl_expr::{Joint, Op1};
+use tcl_trees::Node;
 
 /// Whether a condition holds.
 #[inline(never)]

@@ -1,8 +1,8 @@
 // Loops.
 
 ghost use Rattle.std.specs.Prelude.{suc, true, ℕ, ◌≡◌};
-ghost use Rattle.tcl_compile.specs.Tree.{each, trees_of};
-ghost use Rattle.tcl_compile.specs.TreeView.{node_view, nodes_view};
+ghost use Rattle.tcl_trees.specs.Tree.{each, trees_of};
+ghost use Rattle.tcl_trees.specs.TreeView.{node_view, nodes_view};
 ghost use Rattle.rule_nodes.specs.Goes.{body_goes, next_goes};
 ghost use Rattle.plain_eval.specs.End.{after_end, ended};
 ghost use Rattle.plain_eval.specs.Ran.{Evaluates, body_of, loop_tree, turns_of};
@@ -16,7 +16,7 @@ use crate::tree::eval_tree;
 use crate::words::eval_words;
 use px_bytes::TclFault;
 use rule_nodes::{Goes, after_body, after_next, most_turns, rows_of, set_turn};
-use tcl_compile::Node;
+use tcl_trees::Node;
 
 /// A condition, what comes after each turn, and the body.
 #[derive(Clone, Copy)]

@@ -1,8 +1,8 @@
 // The evaluation of a tree on the replies that have come.
 
 ghost use Rattle.std.specs.Prelude.{◌≡◌, IfOk, option_map};
-ghost use Rattle.tcl_compile.specs.Procedures.{procs_view};
-ghost use Rattle.tcl_compile.specs.TreeView.{node_view};
+ghost use Rattle.tcl_trees.specs.Procedures.{procs_view};
+ghost use Rattle.tcl_trees.specs.TreeView.{node_view};
 ghost use Rattle.rule_model.specs.Evaluator.{evaluate};
 ghost use Rattle.rule_model.specs.Outcome.{uncaught_of};
 ghost use Rattle.plain_eval.specs.Plain.{IsOutcome, IsTold, code_of, setting};
@@ -15,7 +15,7 @@ use px_bytes::{M, Memory, Reply, Seq, TclFault, Text, Texts};
 use rule_model::Code;
 use std::alloc::Global;
 use std::mem;
-use tcl_compile::{Node, Procs};
+use tcl_trees::{Node, Procs};
 use tcl_vars::Vars;
 
 /// How a body ends.

@@ -3,8 +3,8 @@
 // whether its value is wanted, and what changes.
 
 ghost use Rattle.std.specs.Prelude.{◌≡◌};
-ghost use Rattle.tcl_compile.specs.Tree.{script, trees_of};
-ghost use Rattle.tcl_compile.specs.TreeView.{node_view, nodes_view};
+ghost use Rattle.tcl_trees.specs.Tree.{script, trees_of};
+ghost use Rattle.tcl_trees.specs.TreeView.{node_view, nodes_view};
 ghost use Rattle.plain_eval.specs.End.{ended};
 ghost use Rattle.plain_eval.specs.Ran.{Evaluates};
 
@@ -19,7 +19,7 @@ use crate::loops::{Loop, eval_each, eval_loop};
 use crate::run::{Halts, Run};
 use crate::words::{eval_element, eval_word};
 use rule_nodes::{literal, variable};
-use tcl_compile::Node;
+use tcl_trees::Node;
 
 /// Evaluates a tree: whether it has a value.
 #[inline(never)]

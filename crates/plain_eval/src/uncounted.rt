@@ -12,8 +12,8 @@ use rule_nodes::{joint_text, own_command, prefixed};
 use std::alloc::Global;
 use std::marker::Brand;
 use std::sync::ledger::{Blank, Ledger};
-use tcl_compile::Verb;
 use tcl_expr::{Joint, Op1};
+use tcl_trees::Verb;
 use tcl_vars::Vars;
 
 /// What operators before an operand give.

@@ -2,8 +2,8 @@
 
 ghost use Rattle.std.specs.Prelude.{Err, IfErr, List, length, sum_by, true, ℕ, ◌≡◌, ◌≤◌};
 ghost use Rattle.px_bytes.specs.Limit.{text_limit};
-ghost use Rattle.tcl_compile.specs.Tree.{Tree, element, trees_of};
-ghost use Rattle.tcl_compile.specs.TreeView.{nodes_view};
+ghost use Rattle.tcl_trees.specs.Tree.{Tree, element, trees_of};
+ghost use Rattle.tcl_trees.specs.TreeView.{nodes_view};
 ghost use Rattle.plain_eval.specs.End.{ended};
 ghost use Rattle.plain_eval.specs.Ran.{Evaluates, pieces_of, words_of};
 ghost use Rattle.plain_eval.specs.Stand.{Gave, Ran, stand};
@@ -14,7 +14,7 @@ use crate::run::{Halted, Halts, Run};
 use crate::tree::eval_tree;
 use px_bytes::{Text, Texts};
 use rule_nodes::{element, parts};
-use tcl_compile::Node;
+use tcl_trees::Node;
 
 /// The values of words, in order, behind a name of so many bytes.
 #[inline(never)]

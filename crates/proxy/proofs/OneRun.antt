@@ -11,7 +11,7 @@ use Rattle.rule_loader.specs.Loading.{Loaded, rule_of}
 use Rattle.rule_loader.specs.Outcome.{Gives}
 use Rattle.rule_loader.specs.declared.load_fault.RuleFault.{RuleFault}
 use Rattle.rule_loader.specs.declared.rule.Rule.{Rule}
-use Rattle.tcl_compile.specs.Procedures.{procs_view}
+use Rattle.tcl_trees.specs.Procedures.{procs_view}
 use Rattle.toml.specs.Data.{Data, Items, no_items, item, Members}
 use Rattle.toml.specs.Parse.{parse_document}
 use Rattle.config.specs.Documents.{document_fault, items_at}

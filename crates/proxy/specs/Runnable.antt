@@ -18,7 +18,7 @@ use Rattle.proxy_core.specs.declared.config.Config as core
 use Rattle.proxy_core.specs.declared.config.Virtual as served
 use Rattle.rule_loader.specs.Handlers.{Handled, handler_view, handlers_at}
 use Rattle.rule_loader.specs.declared.rule.Rule.{Rule}
-use Rattle.tcl_compile.specs.Procedures.{Procedure, procs_view}
+use Rattle.tcl_trees.specs.Procedures.{Procedure, procs_view}
 use Rattle.proxy.specs.Groups.{made_groups}
 use Rattle.proxy.specs.declared.groups.Made.{Made}
 

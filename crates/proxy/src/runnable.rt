@@ -5,8 +5,8 @@ ghost use Rattle.std.specs.Prelude.{slice_get, true};
 ghost use Rattle.std.specs.List.{list_all, position_from};
 ghost use Rattle.event_order.specs.Event.{every_event};
 ghost use Rattle.interim_rules.specs.HostCommands.{is_built};
-ghost use Rattle.tcl_compile.specs.Procedures.{procs_view};
-ghost use Rattle.tcl_compile.specs.TreeView.{node_view};
+ghost use Rattle.tcl_trees.specs.Procedures.{procs_view};
+ghost use Rattle.tcl_trees.specs.TreeView.{node_view};
 ghost use Rattle.proxy.specs.Runnable.{are_built, can_run, core_of, has_built_bodies, has_few};
 ghost use Rattle.proxy.specs.Runnable.{is_plain, is_rule_built, keeps_none, listed, number_of};
 ghost use Rattle.proxy.specs.Runnable.{numbers_of, pool_of, run_of, server_of};
@@ -19,7 +19,7 @@ use proxy_core::{Config, Virtual as CoreVirtual};
 use px_bytes::{M, Seq, Text};
 use rule_loader::{Handler, Rule};
 use std::alloc::Global;
-use tcl_compile::Procs;
+use tcl_trees::Procs;
 
 /// The most procedures of a rule that can be run today.
 const MOST_PROCEDURES: usize = 65_536;

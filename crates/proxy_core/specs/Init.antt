@@ -8,7 +8,7 @@ use Rattle.std.specs.Prelude.{Option, Some, None}
 use Rattle.px_bytes.specs.Host.{Effect, HostStep, Gives, Faults, Asks, Logged, Sent}
 use Rattle.px_bytes.specs.declared.addr.Addr.{Addr}
 use Rattle.px_bytes.specs.declared.fault.TclFault.{TclFault}
-use Rattle.tcl_compile.specs.Procedures.{Procedure}
+use Rattle.tcl_trees.specs.Procedures.{Procedure}
 use Rattle.tcl_vars.specs.Scopes.{in_proc, no_scopes, out_of_proc}
 use Rattle.event_order.specs.declared.event.EventName.TheVariants.{RuleInit}
 use Rattle.irule_net.specs.State.{new_state}

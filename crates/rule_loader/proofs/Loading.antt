@@ -15,7 +15,7 @@ use Rattle.rule_loader.specs.declared.load_fault.RuleFault.{RuleFault}
 use Rattle.rule_loader.specs.declared.loader.Loader.{Loader}
 use Rattle.rule_loader.specs.declared.told.Told.{Told}
 use Rattle.rule_loader.proofs.Faults.{after_both}
-use Rattle.tcl_compile.specs.Procedures.{Procedure, procs_view}
+use Rattle.tcl_trees.specs.Procedures.{Procedure, procs_view}
 use Rattle.tcl_words.specs.Tree.{Command}
 
 -- one item more

@@ -11,7 +11,7 @@ use Rattle.std.proofs.lemmas.List.Folds.{list_any-append}
 use Rattle.std.proofs.lemmas.Map.Text.{is_eq-slice_cmp}
 use Rattle.std.proofs.lemmas.Slice.Eq.{bytes_eq-Decides}
 use Rattle.rule_loader.specs.Names.{AreNamesOf, has_name, is_procedure}
-use Rattle.tcl_compile.specs.Procedures.{Procedure}
+use Rattle.tcl_trees.specs.Procedures.{Procedure}
 
 or_false : (b : Bool) → (b || false) ≡ b
 or_false true = refl

@@ -2,7 +2,7 @@
 use Rattle.std.proofs.Common.{◌≡◌, ℕ, suc, ◌+◌, ◌<◌, List, [], ◌∷◌, ◌++◌, length, get_or, drop, drop-cons, Option, Some, None, option_map, refl, sym, ap, ◌∙◌, arith}
 use Rattle.std.proofs.lemmas.List.{append_assoc, append-nil}
 use Rattle.rule_loader.specs.Parameters.{all_parameters, before_rest, read_parameter}
-use Rattle.tcl_compile.specs.declared.procs.Parameter.{Parameter}
+use Rattle.tcl_trees.specs.declared.procs.Parameter.{Parameter}
 
 behind : (done : List Parameter) (p : Parameter) (o : Option (List Parameter))
     → option_map (λ ps. done ++ ps) (option_map (λ ps. p ∷ ps) o) ≡ option_map (λ ps. (done ++ p ∷ []) ++ ps) o

@@ -10,8 +10,8 @@ use Rattle.rule_loader.specs.declared.loader.Loader.{Loader}
 use Rattle.rule_loader.specs.declared.rule.Rule.{Rule}
 use Rattle.rule_loader.specs.declared.told.Told.{Told}
 use Rattle.rule_loader.proofs.Faults.{told_twice}
-use Rattle.tcl_compile.specs.Pieces.{all_commands}
-use Rattle.tcl_compile.specs.Procedures.{procs_view}
+use Rattle.tcl_trees.specs.Pieces.{all_commands}
+use Rattle.tcl_trees.specs.Procedures.{procs_view}
 use Rattle.tcl_words.specs.Tree.{Commands}
 use Rattle.tcl_words.specs.declared.parse_fault.Fault.{Fault}
 

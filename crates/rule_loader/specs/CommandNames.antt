@@ -15,7 +15,7 @@ use Rattle.rule_loader.specs.declared.load_fault.RuleFault.{RuleFault}
 use Rattle.tcl_commands.specs.Kind.{is_pure, is_control}
 use Rattle.tcl_commands.specs.declared.kind.Kind.{Kind}
 use Rattle.tcl_commands.specs.declared.kind.Kind.TheVariants.{Pure, Control}
-use Rattle.tcl_compile.specs.declared.findings.CommandName.{CommandName}
+use Rattle.tcl_trees.specs.declared.findings.CommandName.{CommandName}
 
 -- the host command of a name
 abbrev pub host_named : List ℕ → Option HostCommand

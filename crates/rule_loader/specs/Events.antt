@@ -13,7 +13,7 @@ use Rattle.event_order.specs.declared.event.EventName.TheVariants.{LbFailed, Htt
 use Rattle.event_order.specs.declared.event.EventName.TheVariants.{HttpRequestData, HttpResponse}
 use Rattle.event_order.specs.declared.event.EventName.TheVariants.{HttpResponseData}
 use Rattle.px_bytes.specs.Whole.{whole}
-use Rattle.tcl_compile.specs.Texts.{raw_of}
+use Rattle.tcl_trees.specs.Texts.{raw_of}
 use Rattle.tcl_words.specs.Tree.{Word}
 
 -- the event that a name names

@@ -3,9 +3,9 @@
 use Rattle.std.specs.Prelude.{ℕ, List, [], ◌∷◌, codes, Bool, ◌&&◌, ◌||◌, not, Option, Some, None}
 use Rattle.std.specs.Prelude.{if◌then◌else◌}
 use Rattle.rule_loader.specs.Parameters.{parameters_of}
-use Rattle.tcl_compile.specs.Texts.{raw_of, is_text, is_braced, is_substituted}
-use Rattle.tcl_compile.specs.Words.{word_place}
-use Rattle.tcl_compile.specs.declared.procs.Parameter.{Parameter}
+use Rattle.tcl_trees.specs.Texts.{raw_of, is_text, is_braced, is_substituted}
+use Rattle.tcl_trees.specs.Words.{word_place}
+use Rattle.tcl_trees.specs.declared.procs.Parameter.{Parameter}
 use Rattle.tcl_words.specs.Tree.{Word}
 
 -- a handler: the words of its event, its priority and its body

@@ -5,8 +5,8 @@ use Rattle.std.specs.List.{filter}
 use Rattle.event_order.specs.declared.event.EventName.{EventName}
 use Rattle.rule_loader.specs.Events.{event_place, is_event}
 use Rattle.rule_loader.specs.declared.handler.Handler.{Handler}
-use Rattle.tcl_compile.specs.Tree.{Tree}
-use Rattle.tcl_compile.specs.TreeView.{node_view}
+use Rattle.tcl_trees.specs.Tree.{Tree}
+use Rattle.tcl_trees.specs.TreeView.{node_view}
 
 -- a body with its event and its priority
 pub record Handling : Type 0 where

@@ -11,14 +11,14 @@ use Rattle.rule_loader.specs.Handlers.{Handling}
 use Rattle.rule_loader.specs.Names.{is_procedure}
 use Rattle.rule_loader.specs.declared.load_fault.LoadKind.TheVariants as kind
 use Rattle.rule_loader.specs.declared.load_fault.RuleFault.{RuleFault}
-use Rattle.tcl_compile.specs.Compiled.{examined_body, script_within}
-use Rattle.tcl_compile.specs.Flaws.{place_of}
-use Rattle.tcl_compile.specs.Making.{Made}
-use Rattle.tcl_compile.specs.Pieces.{all_commands, all_words}
-use Rattle.tcl_compile.specs.Procedures.{Procedure}
-use Rattle.tcl_compile.specs.Tree.{Tree}
-use Rattle.tcl_compile.specs.Words.{word_place}
-use Rattle.tcl_compile.specs.declared.compile_fault.Flaw.{Flaw}
+use Rattle.tcl_trees.specs.Compiled.{examined_body, script_within}
+use Rattle.tcl_trees.specs.Flaws.{place_of}
+use Rattle.tcl_trees.specs.Making.{Made}
+use Rattle.tcl_trees.specs.Pieces.{all_commands, all_words}
+use Rattle.tcl_trees.specs.Procedures.{Procedure}
+use Rattle.tcl_trees.specs.Tree.{Tree}
+use Rattle.tcl_trees.specs.Words.{word_place}
+use Rattle.tcl_trees.specs.declared.flaw.Flaw.{Flaw}
 use Rattle.tcl_words.specs.Faults as words
 use Rattle.tcl_words.specs.Tree.{Word, Command, command, Commands}
 use Rattle.tcl_words.specs.declared.parse_fault.Fault.{Fault}

@@ -11,7 +11,7 @@ use Rattle.rule_loader.specs.declared.load_fault.RuleFault.{RuleFault}
 use Rattle.rule_loader.specs.declared.loader.Loader.{Loader}
 use Rattle.rule_loader.specs.declared.rule.Rule.{Rule}
 use Rattle.rule_loader.specs.declared.told.Told.{Told}
-use Rattle.tcl_compile.specs.Procedures.{procs_view}
+use Rattle.tcl_trees.specs.Procedures.{procs_view}
 use Rattle.tcl_words.specs.Tree.{Command}
 
 -- the rule has this name, these procedures, and for each event its bodies in the order of places

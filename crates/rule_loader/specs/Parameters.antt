@@ -3,7 +3,7 @@
 use Rattle.std.specs.Prelude.{ℕ, List, [], ◌∷◌, Option, Some, None, option_and_then, option_map}
 use Rattle.std.specs.Result.{result_ok}
 use Rattle.tcl_lists.specs.Read.{list_values}
-use Rattle.tcl_compile.specs.declared.procs.Parameter.{Parameter}
+use Rattle.tcl_trees.specs.declared.procs.Parameter.{Parameter}
 
 -- the elements of a list, where a text is one
 abbrev pub elements_of : List ℕ → Option (List (List ℕ))

@@ -23,7 +23,7 @@ pub struct Bodies {
 impl Model for Bodies {
     ghost use Rattle.std.specs.Coded.{codes};
     ghost use Rattle.std.specs.Prelude.{◌≡◌, List, length};
-    ghost use Rattle.tcl_compile.specs.contracts.node.Node as node;
+    ghost use Rattle.tcl_trees.specs.contracts.node.Node as node;
     ghost use Rattle.rule_loader.specs.declared.handler.Handler.{Handler};
 
     ghost Value = { List (List Handler) };

@@ -4,14 +4,14 @@ ghost use Rattle.std.specs.Prelude.{◌≡◌, IfOk, map, option_map};
 ghost use Rattle.rule_loader.specs.FormView.{definition_view, when_view};
 ghost use Rattle.rule_loader.specs.Forms.{behind_event, is_switched, named_definition};
 ghost use Rattle.rule_loader.specs.Forms.{proc_form, timed_body, when_form, when_with};
-ghost use Rattle.tcl_compile.specs.Texts.{is_braced, is_substituted, is_text, raw_of};
-ghost use Rattle.tcl_compile.specs.Words.{word_place};
+ghost use Rattle.tcl_trees.specs.Texts.{is_braced, is_substituted, is_text, raw_of};
+ghost use Rattle.tcl_trees.specs.Words.{word_place};
 ghost use Rattle.tcl_words.specs.View.{word_view};
 
 use crate::parameters::parameters_of;
 use px_bytes::{M, Text};
 use std::alloc::Global;
-use tcl_compile::Parameter;
+use tcl_trees::Parameter;
 use tcl_words::{Form, Word};
 
 /// A handler: the words of its event, its priority and its body.

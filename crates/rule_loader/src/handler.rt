@@ -1,7 +1,7 @@
 // Handlers of events.
 
 use px_bytes::Seq;
-use tcl_compile::Node;
+use tcl_trees::Node;
 
 /// A body that runs at an event: those of a lower priority run first.
 #[derive(Drop)]

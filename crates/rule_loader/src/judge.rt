@@ -5,7 +5,7 @@ ghost use Rattle.rule_loader.specs.CommandNames.{host_named, is_tcl, kind_is_tcl
 ghost use Rattle.rule_loader.specs.CommandNames.{name_fault, name_faults};
 ghost use Rattle.rule_loader.specs.Faults.{after_faults};
 ghost use Rattle.rule_loader.specs.Loading.{body_faults, flaw_faults, tree_of};
-ghost use Rattle.tcl_compile.specs.TreeView.{node_view};
+ghost use Rattle.tcl_trees.specs.TreeView.{node_view};
 ghost use Rattle.tcl_words.specs.View.{word_view};
 
 use crate::load_fault::LoadKind;
@@ -14,7 +14,8 @@ use event_order::{EventName, HostCommand, read_command};
 use px_bytes::M;
 use std::alloc::Global;
 use tcl_commands::{Kind, kind_of};
-use tcl_compile::{CommandName, Flaw, Node, examine_body};
+use tcl_compile::examine_body;
+use tcl_trees::{CommandName, Flaw, Node};
 use tcl_words::Word;
 
 // The host command of this name.

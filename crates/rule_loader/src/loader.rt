@@ -10,7 +10,7 @@ ghost use Rattle.rule_loader.specs.Loading.{procedure_of, procedures_in, rule_of
 ghost use Rattle.rule_loader.specs.Loading.{text_faults, twice_faults, when_faults, when_handlings};
 ghost use Rattle.rule_loader.specs.Names.{AreNamesOf};
 ghost use Rattle.rule_loader.specs.Outcome.{Gives, Holds};
-ghost use Rattle.tcl_compile.specs.Procedures.{procs_view};
+ghost use Rattle.tcl_trees.specs.Procedures.{procs_view};
 ghost use Rattle.tcl_words.specs.View.{command_view, script_view};
 
 use crate::bodies::Bodies;
@@ -22,7 +22,7 @@ use crate::rule::Rule;
 use crate::told::Told;
 use px_bytes::{M, Text};
 use std::alloc::Global;
-use tcl_compile::{Proc, Procs};
+use tcl_trees::{Proc, Procs};
 use tcl_words::{Command, Fault, LIMIT, Progress, Script};
 
 // What was loaded so far.
@@ -36,7 +36,7 @@ struct Loader {
 }
 
 // The script that the text is, as far as it can be read, and its fault.
-#[tactic(auto, unfolding(crate::specs::Loading::script_of, tcl_compile::specs::Compiled::script_within))]
+#[tactic(auto, unfolding(crate::specs::Loading::script_of, tcl_trees::specs::Compiled::script_within))]
 fn read_script(alloc: Global, text: &[u8]) -> M<(Script, Option<Fault>)>
     ensures { IfOk result (λ r. script_of text.now ≡ (script_view r.0, r.1)) }
 {

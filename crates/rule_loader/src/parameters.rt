@@ -6,8 +6,8 @@ ghost use Rattle.rule_loader.specs.Parameters.{all_parameters, parameters_of, re
 
 use px_bytes::{M, Memory, Text, Texts};
 use std::alloc::Global;
-use tcl_compile::Parameter;
 use tcl_lists::{ListFault, split};
+use tcl_trees::Parameter;
 
 // The elements of a list.
 fn elements(alloc: Global, text: &[u8]) -> M<Option<Texts>>

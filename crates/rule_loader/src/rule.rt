@@ -7,7 +7,7 @@ use crate::bodies::Bodies;
 use crate::handler::Handlers;
 use event_order::EventName;
 use px_bytes::Text;
-use tcl_compile::Procs;
+use tcl_trees::Procs;
 
 /// A rule: its name, its procedures, and the bodies of its events.
 #[derive(Drop)]

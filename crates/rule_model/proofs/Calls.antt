@@ -4,10 +4,10 @@ use Rattle.std.proofs.Common.{Result, Ok, Err, map}
 use Rattle.px_bytes.specs.declared.fault.TclFault.{TclFault}
 use Rattle.tcl_commands.specs.Kind.{is_pure}
 use Rattle.tcl_commands.specs.PureCommand.{pure_value}
-use Rattle.tcl_compile.specs.Procedures.{Procedure}
-use Rattle.tcl_compile.specs.Tree.{Tree}
-use Rattle.tcl_compile.specs.declared.node.Verb.{Verb}
-use Rattle.tcl_compile.specs.declared.node.Verb.TheVariants as verb
+use Rattle.tcl_trees.specs.Procedures.{Procedure}
+use Rattle.tcl_trees.specs.Tree.{Tree}
+use Rattle.tcl_trees.specs.declared.node.Verb.{Verb}
+use Rattle.tcl_trees.specs.declared.node.Verb.TheVariants as verb
 use Rattle.tcl_vars.specs.Scopes.{Level, Scopes, in_proc}
 use Rattle.tcl_var_commands.specs.Append.{append_changed}
 use Rattle.tcl_var_commands.specs.Array.{array_changed}

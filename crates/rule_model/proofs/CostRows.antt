@@ -4,11 +4,11 @@ use Rattle.std.proofs.Common.{◌≡◌, refl, ℕ, List, [], ◌∷◌, Option,
 use Rattle.std.specs.Fmt.{digits}
 use Rattle.px_bytes.specs.declared.fault.Reply.{Reply}
 use Rattle.px_bytes.specs.declared.fault.Reply.TheVariants as reply
-use Rattle.tcl_compile.specs.Procedures.{Procedure, values_bound}
-use Rattle.tcl_compile.specs.Tree.{Tree, trees_of, operands_of, values_of}
-use Rattle.tcl_compile.specs.Tree as tree
-use Rattle.tcl_compile.specs.declared.node.Verb.{Verb}
-use Rattle.tcl_compile.specs.declared.node.Verb.TheVariants as verb
+use Rattle.tcl_trees.specs.Procedures.{Procedure, values_bound}
+use Rattle.tcl_trees.specs.Tree.{Tree, trees_of, operands_of, values_of}
+use Rattle.tcl_trees.specs.Tree as tree
+use Rattle.tcl_trees.specs.declared.node.Verb.{Verb}
+use Rattle.tcl_trees.specs.declared.node.Verb.TheVariants as verb
 use Rattle.tcl_expr.specs.declared.expr.Joint.TheVariants.{Both, Or}
 use Rattle.tcl_expr.specs.declared.operator.Op1.TheVariants.{Neg}
 use Rattle.tcl_expr.specs.declared.operator.Op2.TheVariants.{Less, Greater, TextEq}

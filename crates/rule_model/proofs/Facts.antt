@@ -6,7 +6,7 @@ use Rattle.std.proofs.lemmas.Grind.{flat_map-append}
 use Rattle.std.specs.List.{flat_map}
 use Rattle.px_bytes.specs.declared.fault.Reply.{Reply}
 use Rattle.px_bytes.specs.declared.fault.TclFault.{TclFault}
-use Rattle.tcl_compile.specs.Tree.{Tree}
+use Rattle.tcl_trees.specs.Tree.{Tree}
 use Rattle.tcl_vars.specs.Scopes.{Level, Scopes, no_level, innermost, with_innermost, with_value_in, without_value_in, is_static, in_proc, without_innermost, out_of_proc}
 use Rattle.tcl_var_commands.specs.Assigning.{row_assigned}
 use Rattle.tcl_var_commands.proofs.Kept.{Changing, row_kept}

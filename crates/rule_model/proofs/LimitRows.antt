@@ -5,8 +5,8 @@ use Rattle.std.proofs.lemmas.Bool.{cond-true, cond-false}
 use Rattle.std.specs.Prelude.{nat_lt, sum_by}
 use Rattle.px_bytes.specs.FaultText.{too_long}
 use Rattle.px_bytes.specs.Limit.{text_limit}
-use Rattle.tcl_compile.specs.Tree.{Tree, Trees, trees_of}
-use Rattle.tcl_compile.specs.Tree as tree
+use Rattle.tcl_trees.specs.Tree.{Tree, Trees, trees_of}
+use Rattle.tcl_trees.specs.Tree as tree
 use Rattle.rule_model.specs.Children.{child, free, one, count}
 use Rattle.rule_model.specs.Control.{each_rows, chosen_of, caught_in}
 use Rattle.rule_model.specs.Evaluator.{eval, words, bodies as bodies_of}

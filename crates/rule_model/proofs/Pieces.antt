@@ -9,7 +9,7 @@ use Rattle.tcl_expr.specs.OperatorFaults.{not_truth}
 use Rattle.tcl_expr.specs.Truth.{truth}
 use Rattle.tcl_expr.specs.declared.expr.Joint.{Joint}
 use Rattle.tcl_expr.specs.declared.operator.Op1.{Op1}
-use Rattle.tcl_compile.specs.WholeResult.{whole_result}
+use Rattle.tcl_trees.specs.WholeResult.{whole_result}
 use Rattle.tcl_vars.specs.Scopes.{Scopes}
 use Rattle.rule_model.specs.Host.{HostStep}
 use Rattle.rule_model.specs.Outcome.{State, Outcome, Meaning, then_value, ends, code_of}

@@ -1,8 +1,8 @@
 -- Whole trees: from alike states alike outcomes come.
 use Rattle.std.proofs.Common.{refl, ℕ, zero, suc, ◌+◌, List, [], ◌∷◌, ◌++◌, drop, Option, Some, None, codes}
-use Rattle.tcl_compile.specs.Procedures.{Procedure}
-use Rattle.tcl_compile.specs.Tree.{Tree, Trees, Operands, Values}
-use Rattle.tcl_compile.specs.Tree as tree
+use Rattle.tcl_trees.specs.Procedures.{Procedure}
+use Rattle.tcl_trees.specs.Tree.{Tree, Trees, Operands, Values}
+use Rattle.tcl_trees.specs.Tree as tree
 use Rattle.tcl_vars.specs.Names.{Name}
 use Rattle.tcl_vars.specs.Scopes.{Level, Scopes}
 use Rattle.tcl_var_commands.specs.Reading.{read_value}

@@ -4,7 +4,7 @@ use Rattle.std.proofs.Common.{if◌then◌else◌, nat_eq}
 use Rattle.std.proofs.lemmas.Bool.{cond-true}
 use Rattle.std.proofs.lemmas.Bool.Decides.{nat_tests}
 use Rattle.px_bytes.specs.FaultText.{budget_spent}
-use Rattle.tcl_compile.specs.Tree.{Tree}
+use Rattle.tcl_trees.specs.Tree.{Tree}
 use Rattle.tcl_expr.specs.Truth.{truth}
 use Rattle.rule_model.specs.Children.{child, free, alone}
 use Rattle.rule_model.specs.Control.{after_body, after_next, turn}

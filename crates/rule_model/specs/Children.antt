@@ -1,7 +1,7 @@
 -- The children of a tree: their numbers, and what each costs as it begins.
 use Rattle.std.specs.Prelude.{ℕ, ◌+◌, [], ◌∷◌, ◌++◌, Bool, true, false}
-use Rattle.tcl_compile.specs.Tree.{Tree, Trees, Values}
-use Rattle.tcl_compile.specs.Tree as tree
+use Rattle.tcl_trees.specs.Tree.{Tree, Trees, Values}
+use Rattle.tcl_trees.specs.Tree as tree
 use Rattle.rule_model.specs.Outcome.{Meaning, paid}
 
 -- a child by its number, whose price is paid as it begins

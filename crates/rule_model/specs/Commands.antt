@@ -8,13 +8,13 @@ use Rattle.px_bytes.specs.declared.fault.FaultKind.TheVariants as kind
 use Rattle.px_bytes.specs.declared.fault.TclFault.{TclFault}
 use Rattle.tcl_commands.specs.Kind.{is_pure}
 use Rattle.tcl_commands.specs.PureCommand.{pure_value}
-use Rattle.tcl_compile.specs.Compiled.{compiled_expression}
-use Rattle.tcl_compile.specs.Flaws.{too_deep as is_too_deep}
-use Rattle.tcl_compile.specs.Procedures.{Procedure, procedure_named, values_bound}
-use Rattle.tcl_compile.specs.Tree.{Tree}
-use Rattle.tcl_compile.specs.declared.compile_fault.Flaw.{Flaw}
-use Rattle.tcl_compile.specs.declared.node.Verb.{Verb}
-use Rattle.tcl_compile.specs.declared.node.Verb.TheVariants as verb
+use Rattle.tcl_trees.specs.Compiled.{compiled_expression}
+use Rattle.tcl_trees.specs.Flaws.{too_deep as is_too_deep}
+use Rattle.tcl_trees.specs.Procedures.{Procedure, procedure_named, values_bound}
+use Rattle.tcl_trees.specs.Tree.{Tree}
+use Rattle.tcl_trees.specs.declared.flaw.Flaw.{Flaw}
+use Rattle.tcl_trees.specs.declared.node.Verb.{Verb}
+use Rattle.tcl_trees.specs.declared.node.Verb.TheVariants as verb
 use Rattle.tcl_vars.specs.Scopes.{in_proc, out_of_proc}
 use Rattle.tcl_var_commands.specs.Append.{append_changed}
 use Rattle.tcl_var_commands.specs.Array.{array_changed}

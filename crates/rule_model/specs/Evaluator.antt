@@ -2,8 +2,8 @@
 use Rattle.std.specs.Prelude.{ℕ, zero, suc, ◌+◌, List, [], ◌∷◌, ◌++◌, Option, Some, None, codes}
 use Rattle.px_bytes.specs.declared.fault.Reply.{Reply}
 use Rattle.tcl_expr.specs.declared.expr.Joint.{Joint}
-use Rattle.tcl_compile.specs.Tree.{Tree, Trees, Operands, Values}
-use Rattle.tcl_compile.specs.Tree as tree
+use Rattle.tcl_trees.specs.Tree.{Tree, Trees, Operands, Values}
+use Rattle.tcl_trees.specs.Tree as tree
 use Rattle.tcl_vars.specs.Names.{Name}
 use Rattle.tcl_vars.specs.Scopes.{Scopes}
 use Rattle.tcl_var_commands.specs.Reading.{read_value}

@@ -10,7 +10,7 @@ use Rattle.tcl_expr.specs.Truth.{truth}
 use Rattle.tcl_expr.specs.declared.expr.Joint.{Joint}
 use Rattle.tcl_expr.specs.declared.expr.Joint.TheVariants.{Both, And, Or}
 use Rattle.tcl_expr.specs.declared.operator.Op1.{Op1}
-use Rattle.tcl_compile.specs.WholeResult.{whole_result}
+use Rattle.tcl_trees.specs.WholeResult.{whole_result}
 use Rattle.rule_model.specs.Outcome.{State, Outcome, Ends, Meaning, then_value, ends, paid}
 use Rattle.rule_model.specs.declared.code.Code.TheVariants.{Value, Raised}
 

@@ -6,7 +6,7 @@ use Rattle.px_bytes.specs.FaultText.{budget_spent}
 use Rattle.px_bytes.specs.Limit.{text_limit}
 use Rattle.px_bytes.specs.declared.fault.Reply.{Reply}
 use Rattle.tcl_vars.specs.Scopes.{Level}
-use Rattle.tcl_compile.specs.Tree.{Tree}
+use Rattle.tcl_trees.specs.Tree.{Tree}
 use Rattle.rule_model.specs.Host.{HostStep, Gives, Faults, Asks}
 use Rattle.rule_model.specs.Outcome.{Act, Did, Called, State, state, Outcome, Ends, Waits, Meaning}
 use Rattle.rule_model.specs.declared.code.Code.TheVariants.{Value, Raised}

@@ -1,8 +1,8 @@
 -- What stays over an evaluation.
 use Rattle.std.specs.Prelude.{ℕ, List, Option}
 use Rattle.tcl_vars.specs.Scopes.{Level}
-use Rattle.tcl_compile.specs.Procedures.{Procedure}
-use Rattle.tcl_compile.specs.Tree.{Tree}
+use Rattle.tcl_trees.specs.Procedures.{Procedure}
+use Rattle.tcl_trees.specs.Tree.{Tree}
 use Rattle.rule_model.specs.Host.{HostStep}
 use Rattle.rule_model.specs.Outcome.{Meaning}
 

@@ -2,9 +2,9 @@
 use Rattle.std.proofs.Common.{◌≡◌, ◌≤◌, ◌<◌, refl, ap, subst, sym, ◌∙◌, ℕ, zero, suc, ◌+◌, ◌-◌, List, [], ◌∷◌}
 use Rattle.std.proofs.Common.{Option, Some, None, drop, length, get_or, add-zero, add_assoc, arith}
 use Rattle.std.proofs.lemmas.List.{drop-drop, drop-map}
-use Rattle.tcl_compile.specs.Tree.{Tree}
-use Rattle.tcl_compile.specs.TreeView.{node_view, nodes_view}
-use Rattle.tcl_compile.specs.declared.node.Node.{Node}
+use Rattle.tcl_trees.specs.Tree.{Tree}
+use Rattle.tcl_trees.specs.TreeView.{node_view, nodes_view}
+use Rattle.tcl_trees.specs.declared.node.Node.{Node}
 use Rattle.tcl_vars.specs.Scopes.{Level, Scopes}
 use Rattle.rule_nodes.specs.AtOnce.{DoesCommand, DoesFront}
 use Rattle.rule_nodes.specs.Short.{Purse, Shortly, purse, short_command, short_front, where_some}

@@ -1,7 +1,7 @@
 -- What a command comes to by the body that it chooses.
 use Rattle.std.proofs.Common.{◌≡◌, ◌∙◌, sym, subst, ℕ, Bool, true, false, Option}
 use Rattle.std.specs.Bool.{OnTrue}
-use Rattle.tcl_compile.specs.Tree.{Tree}
+use Rattle.tcl_trees.specs.Tree.{Tree}
 use Rattle.tcl_vars.specs.Scopes.{Level, Scopes}
 use Rattle.rule_nodes.specs.AtOnce.{Chooses, Leaves, chosen_short}
 use Rattle.rule_nodes.specs.Short.{Purse, Shortly, purse, short}

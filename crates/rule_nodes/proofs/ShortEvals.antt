@@ -9,10 +9,10 @@ use Rattle.px_bytes.specs.declared.fault.TclFault.{TclFault}
 use Rattle.tcl_expr.specs.Operators.{operator_value_2}
 use Rattle.tcl_expr.specs.Truth.{truth}
 use Rattle.tcl_expr.specs.declared.expr.Joint.TheVariants.{Both, And, Or}
-use Rattle.tcl_compile.specs.Tree.{Tree, Trees, Operands, Values}
-use Rattle.tcl_compile.specs.Tree as tree
-use Rattle.tcl_compile.specs.declared.node.Verb.{Verb}
-use Rattle.tcl_compile.specs.declared.node.Verb.TheVariants as verb
+use Rattle.tcl_trees.specs.Tree.{Tree, Trees, Operands, Values}
+use Rattle.tcl_trees.specs.Tree as tree
+use Rattle.tcl_trees.specs.declared.node.Verb.{Verb}
+use Rattle.tcl_trees.specs.declared.node.Verb.TheVariants as verb
 use Rattle.tcl_var_commands.specs.Append.{append_changed}
 use Rattle.tcl_var_commands.specs.Changed.{Changed}
 use Rattle.tcl_var_commands.specs.Incr.{incr_changed}

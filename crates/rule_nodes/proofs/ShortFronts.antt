@@ -4,7 +4,7 @@ use Rattle.std.proofs.Common.{Option, Some, None, drop, nat_eq, add-zero, add_as
 use Rattle.std.specs.Prelude.{if◌then◌else◌}
 use Rattle.px_bytes.specs.FaultText.{budget_spent}
 use Rattle.px_bytes.specs.declared.fault.Reply.{Reply}
-use Rattle.tcl_compile.specs.Tree.{Tree}
+use Rattle.tcl_trees.specs.Tree.{Tree}
 use Rattle.rule_model.specs.Children.{child, free}
 use Rattle.rule_model.specs.Evaluator.{eval}
 use Rattle.rule_model.specs.Outcome.{Act, State, Outcome, Ends, Meaning, spend, then_value}

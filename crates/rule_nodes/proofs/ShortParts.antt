@@ -11,15 +11,15 @@ use Rattle.std.specs.Fmt.{signed_decimal}
 use Rattle.px_bytes.specs.Limit.{text_limit}
 use Rattle.px_bytes.specs.Whole.{whole}
 use Rattle.px_bytes.specs.WholeWord.{number_by}
-use Rattle.tcl_compile.specs.Tree.{Tree, Trees, trees_of}
-use Rattle.tcl_compile.specs.Tree as tree
-use Rattle.tcl_compile.specs.TreeView.{node_view, nodes_view}
-use Rattle.tcl_compile.specs.WholeResult.{in_decimal, whole_result}
-use Rattle.tcl_compile.specs.declared.node.Node.{Node, fold-roll-Node}
-use Rattle.tcl_compile.specs.declared.node.Node.TheVariants as node
-use Rattle.tcl_compile.specs.declared.node.Node.TheVariants.{rolls-Plain}
-use Rattle.tcl_compile.specs.declared.node.Verb.{Verb}
-use Rattle.tcl_compile.specs.declared.node.Verb.TheVariants as verb
+use Rattle.tcl_trees.specs.Tree.{Tree, Trees, trees_of}
+use Rattle.tcl_trees.specs.Tree as tree
+use Rattle.tcl_trees.specs.TreeView.{node_view, nodes_view}
+use Rattle.tcl_trees.specs.WholeResult.{in_decimal, whole_result}
+use Rattle.tcl_trees.specs.declared.node.Node.{Node, fold-roll-Node}
+use Rattle.tcl_trees.specs.declared.node.Node.TheVariants as node
+use Rattle.tcl_trees.specs.declared.node.Node.TheVariants.{rolls-Plain}
+use Rattle.tcl_trees.specs.declared.node.Verb.{Verb}
+use Rattle.tcl_trees.specs.declared.node.Verb.TheVariants as verb
 use Rattle.tcl_vars.specs.Changed.{ChangedVars, by_sum, to_bytes, to_number}
 use Rattle.tcl_vars.specs.Scopes.{Level, Scopes, is_static, vars_bytes, vars_limit}
 use Rattle.rule_model.specs.Children.{alone, one}

@@ -1,10 +1,10 @@
 -- Words of one part.
 use Rattle.std.proofs.Common.{◌≡◌, refl, List, [], ◌∷◌, length, Option, Some, None, option_map, option_copied, Bor, arith}
 use Rattle.std.specs.List.{slice_get}
-use Rattle.tcl_compile.specs.Tree.{Tree, trees_of}
-use Rattle.tcl_compile.specs.Tree as tree
-use Rattle.tcl_compile.specs.TreeView.{node_view, nodes_view}
-use Rattle.tcl_compile.specs.declared.node.Node.{Node}
+use Rattle.tcl_trees.specs.Tree.{Tree, trees_of}
+use Rattle.tcl_trees.specs.Tree as tree
+use Rattle.tcl_trees.specs.TreeView.{node_view, nodes_view}
+use Rattle.tcl_trees.specs.declared.node.Node.{Node}
 use Rattle.rule_nodes.specs.AtOnce.{only_part}
 
 pub no_only_part : (t : Tree) (ns : List Node) → t ≡ tree.word (trees_of (nodes_view ns)) → (length ns ≡ 1 → ⊥) → None ≡ only_part t

@@ -4,10 +4,10 @@ use Rattle.std.proofs.Common.{arith, append_assoc}
 use Rattle.std.specs.Prelude.{slice_get}
 use Rattle.std.proofs.Math.Seq.{take-append_seam, drop-append_seam}
 use Rattle.std.proofs.lemmas.List.{length-append}
-use Rattle.tcl_compile.specs.Tree.{Tree, trees_of}
-use Rattle.tcl_compile.specs.TreeView.{node_step, node_view, nodes_view}
-use Rattle.tcl_compile.specs.declared.node.Node.{Node, fold_out-Node, map-Node, out-Node}
-use Rattle.tcl_compile.specs.declared.node.Node.TheOpen.{Node-F}
+use Rattle.tcl_trees.specs.Tree.{Tree, trees_of}
+use Rattle.tcl_trees.specs.TreeView.{node_step, node_view, nodes_view}
+use Rattle.tcl_trees.specs.declared.node.Node.{Node, fold_out-Node, map-Node, out-Node}
+use Rattle.tcl_trees.specs.declared.node.Node.TheOpen.{Node-F}
 use Rattle.tcl_vars.specs.Scopes.{Level}
 use Rattle.rule_model.specs.Children.{is_next}
 use Rattle.rule_model.specs.Control.{first_hit, hit_of, is_glob}

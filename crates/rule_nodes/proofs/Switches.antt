@@ -4,15 +4,15 @@ use Rattle.std.proofs.Common.{Some, None, Ok, option_map, codes, get_or, arith, 
 use Rattle.std.specs.Prelude.{nat_lt, sum_by, if◌then◌else◌}
 use Rattle.std.proofs.lemmas.List.Sums.{sum_by-append, sum_by-cons, sum_by_push}
 use Rattle.std.proofs.lemmas.List.{append-nil, length-drop, length-map, length-take, map-append, take-append-drop, take_all}
-use Rattle.tcl_compile.specs.TreeView.{node_view, nodes_view}
+use Rattle.tcl_trees.specs.TreeView.{node_view, nodes_view}
 use Rattle.rule_nodes.proofs.ShortChoices.{nodes_at}
 use Rattle.std.proofs.lemmas.Bool.Decides.{nat_tests}
 use Rattle.px_bytes.specs.Limit.{text_limit}
-use Rattle.tcl_compile.specs.Tree.{Tree, Trees, trees_of}
-use Rattle.tcl_compile.specs.Tree as tree
+use Rattle.tcl_trees.specs.Tree.{Tree, Trees, trees_of}
+use Rattle.tcl_trees.specs.Tree as tree
 use Rattle.tcl_vars.specs.Scopes.{Level, Scopes}
 use Rattle.rule_model.specs.Children.{free}
-use Rattle.tcl_compile.specs.declared.node.Node.{Node}
+use Rattle.tcl_trees.specs.declared.node.Node.{Node}
 use Rattle.rule_model.specs.Control.{first_hit, hit_of, is_glob}
 use Rattle.rule_nodes.proofs.SwitchHits.{body_short, hit_is}
 use Rattle.rule_nodes.specs.declared.short_choices.Chosen.{Chosen}

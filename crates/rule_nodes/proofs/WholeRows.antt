@@ -9,10 +9,10 @@ use Rattle.tcl_expr.specs.Operators.{operator_value_2}
 use Rattle.tcl_expr.specs.declared.expr.Joint.{Joint}
 use Rattle.tcl_expr.specs.declared.expr.Joint.TheVariants.{Both}
 use Rattle.tcl_expr.specs.declared.operator.Op2.{Op2}
-use Rattle.tcl_compile.specs.Tree.{Tree, Operands, operands_of}
-use Rattle.tcl_compile.specs.Tree as tree
-use Rattle.tcl_compile.specs.TreeView.{node_view, operands_view}
-use Rattle.tcl_compile.specs.declared.node.Node.{Node}
+use Rattle.tcl_trees.specs.Tree.{Tree, Operands, operands_of}
+use Rattle.tcl_trees.specs.Tree as tree
+use Rattle.tcl_trees.specs.TreeView.{node_view, operands_view}
+use Rattle.tcl_trees.specs.declared.node.Node.{Node}
 use Rattle.tcl_vars.specs.Scopes.{Level, Scopes}
 use Rattle.tcl_var_commands.specs.Reading.{value_of}
 use Rattle.rule_nodes.specs.AtOnce.{ReadsWhole, JoinsWhole}

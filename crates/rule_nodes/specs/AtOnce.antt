@@ -5,12 +5,12 @@ use Rattle.std.specs.Prelude.{codes}
 use Rattle.std.specs.Str.{bytes_eq}
 use Rattle.px_bytes.specs.GlobTest.{matches}
 use Rattle.px_bytes.specs.Whole.{whole}
-use Rattle.tcl_compile.specs.Tree.{Tree, Operands, trees_of}
-use Rattle.tcl_compile.specs.Tree as tree
-use Rattle.tcl_compile.specs.TreeView.{node_view}
-use Rattle.tcl_compile.specs.declared.node.Node.{Node}
-use Rattle.tcl_compile.specs.declared.node.Verb.{Verb}
-use Rattle.tcl_compile.specs.declared.node.Verb.TheVariants as verb
+use Rattle.tcl_trees.specs.Tree.{Tree, Operands, trees_of}
+use Rattle.tcl_trees.specs.Tree as tree
+use Rattle.tcl_trees.specs.TreeView.{node_view}
+use Rattle.tcl_trees.specs.declared.node.Node.{Node}
+use Rattle.tcl_trees.specs.declared.node.Verb.{Verb}
+use Rattle.tcl_trees.specs.declared.node.Verb.TheVariants as verb
 use Rattle.tcl_vars.specs.Names.{name_of}
 use Rattle.tcl_vars.specs.Scopes.{Level, Scopes}
 use Rattle.tcl_var_commands.specs.Reading.{value_of}

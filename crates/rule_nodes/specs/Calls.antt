@@ -1,5 +1,5 @@
 -- The call of a procedure, as the code has it.
-use Rattle.tcl_compile.specs.Procedures.{procedure_view}
+use Rattle.tcl_trees.specs.Procedures.{procedure_view}
 use Rattle.rule_model.specs.Commands.{Bound}
 use Rattle.rule_nodes.specs.declared.calls.Call.{Call}
 

@@ -1,7 +1,7 @@
 -- The body that a `switch` chooses (switch(n)): `-` means the next one.
 use Rattle.std.specs.Prelude.{List, [], ◌∷◌, Bool, true, false, Option, Some, None, if◌then◌else◌}
-use Rattle.tcl_compile.specs.declared.node.Node.{Node, out-Node}
-use Rattle.tcl_compile.specs.declared.node.Node.TheOpen.{Node-F}
+use Rattle.tcl_trees.specs.declared.node.Node.{Node, out-Node}
+use Rattle.tcl_trees.specs.declared.node.Node.TheOpen.{Node-F}
 
 abbrev pub is_next_in : Node-F Node → Bool
 is_next_in Node-F.NextBody = true

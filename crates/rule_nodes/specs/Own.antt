@@ -5,8 +5,8 @@ use Rattle.px_bytes.specs.declared.fault.Raise.TheVariants.{Fault, Memory}
 use Rattle.px_bytes.specs.declared.memory.Memory as memory
 use Rattle.tcl_commands.specs.Kind.{is_pure}
 use Rattle.tcl_commands.specs.PureCommand.{pure_value}
-use Rattle.tcl_compile.specs.declared.node.Verb.{Verb}
-use Rattle.tcl_compile.specs.declared.node.Verb.TheVariants as verb
+use Rattle.tcl_trees.specs.declared.node.Verb.{Verb}
+use Rattle.tcl_trees.specs.declared.node.Verb.TheVariants as verb
 use Rattle.tcl_vars.specs.Scopes.{Level, Scopes}
 use Rattle.tcl_var_commands.specs.Append.{append_changed}
 use Rattle.tcl_var_commands.specs.Array.{array_changed}

@@ -1,7 +1,7 @@
 -- The parts of a word (Tcl 8.4, Tcl(n)).
 use Rattle.std.specs.Prelude.{List, [], ◌∷◌}
-use Rattle.tcl_compile.specs.declared.node.Node.{Node}
-use Rattle.tcl_compile.specs.declared.node.Node.TheOpen.{Node-F}
+use Rattle.tcl_trees.specs.declared.node.Node.{Node}
+use Rattle.tcl_trees.specs.declared.node.Node.TheOpen.{Node-F}
 
 abbrev pub or_alone : List Node → Node → List Node
 or_alone [] node = node ∷ []

@@ -10,11 +10,11 @@ use Rattle.px_bytes.specs.declared.fault.TclFault.{TclFault}
 use Rattle.tcl_expr.specs.Operators.{operator_value_2}
 use Rattle.tcl_expr.specs.Truth.{truth}
 use Rattle.tcl_expr.specs.declared.expr.Joint.TheVariants.{Both}
-use Rattle.tcl_compile.specs.Tree.{Tree, Trees, Operands, Values}
-use Rattle.tcl_compile.specs.Tree as tree
-use Rattle.tcl_compile.specs.WholeResult.{whole_result}
-use Rattle.tcl_compile.specs.declared.node.Verb.{Verb}
-use Rattle.tcl_compile.specs.declared.node.Verb.TheVariants as verb
+use Rattle.tcl_trees.specs.Tree.{Tree, Trees, Operands, Values}
+use Rattle.tcl_trees.specs.Tree as tree
+use Rattle.tcl_trees.specs.WholeResult.{whole_result}
+use Rattle.tcl_trees.specs.declared.node.Verb.{Verb}
+use Rattle.tcl_trees.specs.declared.node.Verb.TheVariants as verb
 use Rattle.tcl_vars.specs.Scopes.{Level, Scopes}
 use Rattle.tcl_var_commands.specs.Changed.{Changed}
 use Rattle.tcl_var_commands.specs.Reading.{value_of}

@@ -2,7 +2,7 @@
 -- what comes after a turn, and what a loop comes to from where it is.
 use Rattle.std.specs.Prelude.{ℕ, zero, suc, ◌+◌, ◌-◌, List, [], ◌∷◌, ◌++◌, Bool, true, false}
 use Rattle.std.specs.Prelude.{nat_eq, if◌then◌else◌, Option, Some, None}
-use Rattle.tcl_compile.specs.Tree.{Tree}
+use Rattle.tcl_trees.specs.Tree.{Tree}
 use Rattle.tcl_expr.specs.Truth.{truth}
 use Rattle.tcl_vars.specs.Scopes.{Level}
 use Rattle.rule_model.specs.Children.{alone, child, free}

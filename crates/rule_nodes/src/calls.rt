@@ -1,7 +1,7 @@
 // What the call of a procedure needs before and after its body.
 
 ghost use Rattle.std.specs.Prelude.{IfOk, map, option_map, ◌≡◌};
-ghost use Rattle.tcl_compile.specs.Procedures.{procedure_view, procs_view};
+ghost use Rattle.tcl_trees.specs.Procedures.{procedure_view, procs_view};
 ghost use Rattle.tcl_var_commands.specs.Assigning.{row_assigned};
 ghost use Rattle.tcl_var_commands.specs.Changed.{Does};
 ghost use Rattle.rule_model.specs.Commands.{bound_of, code_left, too_deep};
@@ -11,7 +11,7 @@ ghost use Rattle.rule_nodes.specs.GivesAs.{GivesAs};
 use px_bytes::{FaultKind, M, Raise, TclFault, Text, Texts};
 use rule_model::Code;
 use std::alloc::Global;
-use tcl_compile::{Parameter, Proc, Procs, bound_values};
+use tcl_trees::{Parameter, Proc, Procs, bound_values};
 use tcl_var_commands::assign_row;
 use tcl_vars::Vars;
 

@@ -3,13 +3,13 @@
 ghost use Rattle.std.specs.Prelude.{List, [], drop, false, option_map, slice_get, take};
 ghost use Rattle.std.specs.Prelude.{unwrap_or, ◌-◌, ◌≡◌};
 ghost use Rattle.px_bytes.specs.Gives.{Gives};
-ghost use Rattle.tcl_compile.specs.declared.node.Node.{out-Node};
+ghost use Rattle.tcl_trees.specs.declared.node.Node.{out-Node};
 ghost use Rattle.rule_model.specs.Control.{first_hit, hit_in, hit_of, hits, is_glob};
 ghost use Rattle.rule_nodes.specs.Choice.{first_body_of, is_next_in};
 
 use px_bytes::{Raise, TclFault, Text, glob};
 use std::alloc::Global;
-use tcl_compile::Node;
+use tcl_trees::Node;
 
 /// The number of the case whose pattern is hit, where one is: so many words are options and the
 /// text, and the patterns stand behind them.

@@ -5,7 +5,6 @@
 mod calls;
 mod caught;
 mod choice;
-mod expression;
 mod goes;
 mod operators;
 mod own;
@@ -21,7 +20,6 @@ mod word_parts;
 pub use calls::{Call, bound, code_left, set_parameters, too_deep};
 pub use caught::{catch_code, code_number, code_text, is_caught};
 pub use choice::{first_body, hit_of};
-pub use expression::read_expression;
 pub use goes::{Goes, after_body, after_next};
 pub use operators::{decide, joint_text, prefixed, truth_of, truth_text, whole_text};
 pub use own::{code_of_reply, coded, is_own, own_command};

@@ -3,7 +3,7 @@
 ghost use Rattle.std.specs.Prelude.{IfOk, Ok, length, ◌+◌, ◌≡◌, ◌≤◌};
 ghost use Rattle.px_bytes.specs.Gives.{Gives};
 ghost use Rattle.tcl_expr.specs.OperatorFaults.{not_truth};
-ghost use Rattle.tcl_compile.specs.WholeResult.{whole_result};
+ghost use Rattle.tcl_trees.specs.WholeResult.{whole_result};
 ghost use Rattle.tcl_expr.specs.Truth.{truth};
 ghost use Rattle.rule_model.specs.Expressions.{decided_by, decided_unless, joint_value};
 ghost use Rattle.rule_model.specs.Expressions.{prefixed_value, truth_text};
@@ -12,8 +12,8 @@ ghost use Rattle.rule_nodes.specs.Operators.{joint_ticks, truth_read};
 use px_bytes::{FaultKind, M, Raise, Steps, TclFault, Text};
 use std::alloc::Global;
 use std::sync::ledger::Ledger;
-use tcl_compile::expression_result;
 use tcl_expr::{Joint, Op1, apply1, apply2, read_truth};
+use tcl_trees::expression_result;
 
 /// The truth value of a text; a text that has none is a fault.
 pub fn truth_of(alloc: Global, text: &[u8]) -> Result<bool, Raise>

@@ -12,7 +12,7 @@ use rule_model::Code;
 use std::alloc::Global;
 use std::sync::ledger::Ledger;
 use tcl_commands::{pure, read_pure};
-use tcl_compile::Verb;
+use tcl_trees::Verb;
 use tcl_var_commands::{
     append_command, array_command, incr_command, info_command, lappend_command, set_command,
     unset_command,

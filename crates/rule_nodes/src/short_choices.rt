@@ -4,9 +4,9 @@ ghost use Rattle.std.specs.Prelude.{IfSome, List, Some, [], false, drop, option_
 ghost use Rattle.std.specs.Prelude.{ℕ, ◌∷◌, ◌/◌, ◌≡◌};
 ghost use Rattle.std.specs.Bool.{OnTrue};
 ghost use Rattle.px_bytes.specs.Limit.{text_limit};
-ghost use Rattle.tcl_compile.specs.Tree.{trees_of, values_of};
-ghost use Rattle.tcl_compile.specs.Tree as tree;
-ghost use Rattle.tcl_compile.specs.TreeView.{node_view, nodes_view, values_view};
+ghost use Rattle.tcl_trees.specs.Tree.{trees_of, values_of};
+ghost use Rattle.tcl_trees.specs.Tree as tree;
+ghost use Rattle.tcl_trees.specs.TreeView.{node_view, nodes_view, values_view};
 ghost use Rattle.rule_model.specs.Control.{first_hit, is_glob};
 ghost use Rattle.rule_nodes.specs.AtOnce.{AreLiterals, Chooses, IsKnown, JoinsParts, WordIs};
 ghost use Rattle.rule_nodes.specs.AtOnce.{chosen_node, hits_where, literal, literal_price};
@@ -18,7 +18,7 @@ use crate::short_copy::ShortCopy;
 use crate::short_words::{add_part, literal_word, short_bytes};
 use crate::whole_rows::{Work, whole_at_once};
 use px_bytes::{TEXT_LIMIT, glob};
-use tcl_compile::{Node, Verb};
+use tcl_trees::{Node, Verb};
 use tcl_vars::Vars;
 
 /// How many bytes the words of a `switch` have at most that is done at once.

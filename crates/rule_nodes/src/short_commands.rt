@@ -7,10 +7,10 @@ ghost use Rattle.std.specs.Prelude.{ℕ, ◌-◌, ◌∷◌, ◌≡◌, ◌≤�
 ghost use Rattle.std.specs.Bool.{OnFalse, OnTrue};
 ghost use Rattle.tcl_lists.specs.Write.{spelled};
 ghost use Rattle.tcl_vars.specs.Scopes.{Level};
-ghost use Rattle.tcl_compile.specs.Tree.{trees_of};
-ghost use Rattle.tcl_compile.specs.Tree as tree;
-ghost use Rattle.tcl_compile.specs.TreeView.{node_view, nodes_view};
-ghost use Rattle.tcl_compile.specs.declared.node.Verb.TheVariants as verb;
+ghost use Rattle.tcl_trees.specs.Tree.{trees_of};
+ghost use Rattle.tcl_trees.specs.Tree as tree;
+ghost use Rattle.tcl_trees.specs.TreeView.{node_view, nodes_view};
+ghost use Rattle.tcl_trees.specs.declared.node.Verb.TheVariants as verb;
 ghost use Rattle.rule_nodes.specs.AtOnce.{DoesCommand, DoesFront, DoesVerb, Leaves};
 ghost use Rattle.rule_nodes.specs.AtOnce.{IsPlain, ReadsPart, SetsTo, chosen_short};
 ghost use Rattle.rule_nodes.specs.Short.{purse, short, short_changed};
@@ -21,8 +21,8 @@ use crate::short_words::{add_part, literal_word, only_part, plain_name, short_by
 use crate::whole_rows::{Work, whole_at_once};
 use px_bytes::{Steps, read_whole};
 use std::sync::ledger::Ledger;
-use tcl_compile::{Node, Verb};
 use tcl_lists::stands_bare;
+use tcl_trees::{Node, Verb};
 use tcl_var_commands::value;
 use tcl_vars::Vars;
 

@@ -3,13 +3,13 @@
 ghost use Rattle.std.specs.Prelude.{IfSome, None, Some, length, option_copied, option_map, ◌≡◌};
 ghost use Rattle.std.specs.Prelude.{◌≤◌};
 ghost use Rattle.std.specs.Bool.{OnTrue};
-ghost use Rattle.tcl_compile.specs.TreeView.{node_view};
+ghost use Rattle.tcl_trees.specs.TreeView.{node_view};
 ghost use Rattle.tcl_vars.specs.Names.{ends_with_paren, name_of};
 ghost use Rattle.rule_nodes.specs.AtOnce.{AddsPart, literal_word, only_part, short_text};
 
 use crate::short_copy::ShortCopy;
 use px_bytes::Text;
-use tcl_compile::Node;
+use tcl_trees::Node;
 use tcl_var_commands::value;
 use tcl_vars::Vars;
 

@@ -3,14 +3,14 @@
 ghost use Rattle.std.specs.Prelude.{IfSome, List, Some, option_map, ℕ, ◌+◌, ◌≡◌, ◌≤◌};
 ghost use Rattle.std.specs.Bool.{OnTrue};
 ghost use Rattle.px_bytes.specs.Whole.{whole};
-ghost use Rattle.tcl_compile.specs.Tree.{operands_of};
-ghost use Rattle.tcl_compile.specs.TreeView.{node_view, operands_view};
+ghost use Rattle.tcl_trees.specs.Tree.{operands_of};
+ghost use Rattle.tcl_trees.specs.TreeView.{node_view, operands_view};
 ghost use Rattle.rule_model.specs.Children.{alone};
 ghost use Rattle.rule_nodes.specs.AtOnce.{JoinsWhole, ReadsWhole};
 
 use px_bytes::read_whole;
-use tcl_compile::Node;
 use tcl_expr::{Joint, whole_2};
+use tcl_trees::Node;
 use tcl_var_commands::value;
 use tcl_vars::Vars;
 

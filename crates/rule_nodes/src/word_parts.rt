@@ -1,11 +1,11 @@
 // The parts of a word.
 
 ghost use Rattle.std.specs.Prelude.{◌≡◌};
-ghost use Rattle.tcl_compile.specs.declared.node.Node.{out-Node};
+ghost use Rattle.tcl_trees.specs.declared.node.Node.{out-Node};
 ghost use Rattle.rule_nodes.specs.Parts.{parts_in};
 
 use std::slice;
-use tcl_compile::Node;
+use tcl_trees::Node;
 
 /// The parts of a command's word: those of a word that has any, and else the tree itself alone.
 pub fn parts(word: &Node) -> &[Node]

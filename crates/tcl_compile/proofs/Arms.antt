@@ -5,7 +5,7 @@ use Rattle.std.proofs.lemmas.List.{append_assoc, map-append}
 use Rattle.tcl_words.specs.Tree.{Word}
 use Rattle.tcl_words.specs.View.{word_view}
 use Rattle.tcl_words.specs.declared.script.Word as code
-use Rattle.tcl_compile.specs.Forms.{Conditional, with_arm, branches_in, behind_body, last_apart}
+use Rattle.tcl_trees.specs.Forms.{Conditional, with_arm, branches_in, behind_body, last_apart}
 use Rattle.tcl_compile.specs.IfView.{arm_view, arms_view, behind_arms}
 use Rattle.tcl_compile.specs.declared.if_form.Arm.{Arm}
 

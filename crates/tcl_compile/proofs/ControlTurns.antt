@@ -1,10 +1,10 @@
 -- What control commands come to, from what their words come to.
 use Rattle.std.proofs.Common.{◌≡◌, ℕ, List, [], ◌∷◌, length, get_or, sym, ap, ap₂, ◌∙◌, arith}
 use Rattle.tcl_words.specs.Tree.{Word}
-use Rattle.tcl_compile.specs.Controls.{while_at, for_at}
-use Rattle.tcl_compile.specs.Making.{Made, Level, nothing}
-use Rattle.tcl_compile.specs.Tree.{Tree, loop}
-use Rattle.tcl_compile.specs.declared.findings.Findings.{Findings}
+use Rattle.tcl_trees.specs.Controls.{while_at, for_at}
+use Rattle.tcl_trees.specs.Making.{Made, Level, nothing}
+use Rattle.tcl_trees.specs.Tree.{Tree, loop}
+use Rattle.tcl_trees.specs.declared.findings.Findings.{Findings}
 
 -- lists by their items
 

@@ -10,14 +10,14 @@ use Rattle.tcl_expr.specs.declared.expr.Expr.{Parts, the_lemmas}
 use Rattle.tcl_expr.specs.declared.expr.Joint.{Joint}
 use Rattle.tcl_words.specs.View.{parts_view}
 use Rattle.tcl_words.specs.declared.script.Part as code_part
-use Rattle.tcl_compile.specs.Conditions.{MadeTo, expression_at, operands_at, values_at}
-use Rattle.tcl_compile.specs.Conditions.{operand_of, value_of}
-use Rattle.tcl_compile.specs.Making.{Level}
-use Rattle.tcl_compile.specs.Tree.{Tree}
-use Rattle.tcl_compile.specs.TreeView.{node_view, operands_view, values_view}
-use Rattle.tcl_compile.specs.declared.findings.Findings.{Findings}
-use Rattle.tcl_compile.specs.declared.node.Node.{Node}
-use Rattle.tcl_compile.specs.declared.opened.Opened.{Opened}
+use Rattle.tcl_trees.specs.Conditions.{MadeTo, expression_at, operands_at, values_at}
+use Rattle.tcl_trees.specs.Conditions.{operand_of, value_of}
+use Rattle.tcl_trees.specs.Making.{Level}
+use Rattle.tcl_trees.specs.Tree.{Tree}
+use Rattle.tcl_trees.specs.TreeView.{node_view, operands_view, values_view}
+use Rattle.tcl_trees.specs.declared.findings.Findings.{Findings}
+use Rattle.tcl_trees.specs.declared.node.Node.{Node}
+use Rattle.tcl_trees.specs.declared.opened.Opened.{Opened}
 
 pub view-Parts : (ps : Vec code_part.Part Global) → expr_view (Parts ps) ≡ joined (parts_view ps.items)
 view-Parts ps = search (rules, the_lemmas)

@@ -2,9 +2,10 @@
 use Rattle.std.proofs.Common.{◌≡◌, ℕ, zero, suc, ◌-◌, ◌<◌, ◌≤◌, List, [], ◌∷◌, map, Option, Some}
 use Rattle.std.proofs.Common.{None, Bool, true, false}
 use Rattle.std.proofs.Common.{cond, refl, sym, ap, ap₂, ◌∙◌, arith}
-use Rattle.tcl_compile.specs.Pieces.{all_parts, all_words, all_commands}
+use Rattle.tcl_trees.proofs.PieceLists.{all_parts-of, all_words-of}
+use Rattle.tcl_trees.specs.Pieces.{all_parts, all_words, all_commands}
 use Rattle.tcl_expr.specs.ExpressionReading.{parts_of_word}
-use Rattle.tcl_words.proofs.Views.{word-parts, script-commands, command-words, view-Bracket}
+use Rattle.tcl_words.proofs.Views.{word-parts, command-words, view-Bracket}
 use Rattle.tcl_words.specs.declared.script.Command as code_command
 use Rattle.tcl_words.specs.declared.script.Command.{out-Command}
 use Rattle.tcl_words.specs.declared.script.Part as code_part
@@ -17,40 +18,25 @@ use Rattle.tcl_words.specs.View.{commands_of}
 use Rattle.tcl_words.specs.declared.script.Script.{Script, out-Script}
 use Rattle.tcl_words.specs.declared.script.Word as code_word
 use Rattle.tcl_words.specs.declared.script.Word.{out-Word}
-use Rattle.tcl_compile.specs.CaseList.{case_item, other_item}
-use Rattle.tcl_compile.specs.declared.case_list.Item.{Item}
-use Rattle.tcl_compile.specs.Compiled.{level, body_at, body_of, condition_at, condition_of}
-use Rattle.tcl_compile.specs.Compiled.{cases_at_word, inner_place, text_at}
-use Rattle.tcl_compile.specs.Compiled.{room_inside}
-use Rattle.tcl_compile.specs.Compiled.{expression_text_at}
-use Rattle.tcl_compile.specs.Compiling.{script_at, command_at, words_at, shaped_at}
-use Rattle.tcl_compile.specs.Conditions.{parts_under}
-use Rattle.tcl_compile.specs.Flaws.{place_in, noted}
-use Rattle.tcl_compile.specs.Making.{Level, flawed, unmade, no_cases, one_too_many, word_of}
-use Rattle.tcl_compile.specs.Shapes.{shape_of}
-use Rattle.tcl_compile.specs.Texts.{is_quoted}
-use Rattle.tcl_compile.specs.TreeView.{nodes_view}
-use Rattle.tcl_compile.specs.Words.{parts_at, part_at, word_at, word_place}
-use Rattle.tcl_compile.specs.declared.compile_fault.Flaw.{Flaw}
-use Rattle.tcl_compile.specs.declared.compile_fault.Flaw.TheVariants.{BadBody}
-use Rattle.tcl_compile.specs.declared.findings.Findings.{Findings}
-use Rattle.tcl_compile.specs.declared.node.Node.{Node}
-use Rattle.tcl_compile.specs.declared.shapes.Shape.{Shape}
-
-pub all_parts-of : (ps : List Part) → all_parts (parts_of ps) ≡ ps
-all_parts-of [] = refl
-all_parts-of (p ∷ ps) = ap (λ l. p ∷ l) (all_parts-of ps)
-
-pub all_words-of : (ws : List Word) → all_words (words_of ws) ≡ ws
-all_words-of [] = refl
-all_words-of (w ∷ ws) = ap (λ l. w ∷ l) (all_words-of ws)
-
-pub all_commands-of : (cs : List Command) → all_commands (commands_of cs) ≡ cs
-all_commands-of [] = refl
-all_commands-of (c ∷ cs) = ap (λ l. c ∷ l) (all_commands-of cs)
-
-pub script_commands : (v : Script) → all_commands (script_view v) ≡ map command_view (out-Script v).commands.items
-script_commands v = ap all_commands (script-commands v) ∙ all_commands-of (map command_view (out-Script v).commands.items)
+use Rattle.tcl_trees.specs.CaseList.{case_item, other_item}
+use Rattle.tcl_trees.specs.declared.case_item.CaseItem.{CaseItem}
+use Rattle.tcl_trees.specs.Compiled.{level, body_at, body_of, condition_at, condition_of}
+use Rattle.tcl_trees.specs.Compiled.{cases_at_word, inner_place, text_at}
+use Rattle.tcl_trees.specs.Compiled.{room_inside}
+use Rattle.tcl_trees.specs.Compiled.{expression_text_at}
+use Rattle.tcl_trees.specs.Compiling.{script_at, command_at, words_at, shaped_at}
+use Rattle.tcl_trees.specs.Conditions.{parts_under}
+use Rattle.tcl_trees.specs.Flaws.{place_in, noted}
+use Rattle.tcl_trees.specs.Making.{Level, flawed, unmade, no_cases, one_too_many, word_of}
+use Rattle.tcl_trees.specs.Shapes.{shape_of}
+use Rattle.tcl_trees.specs.Texts.{is_quoted}
+use Rattle.tcl_trees.specs.TreeView.{nodes_view}
+use Rattle.tcl_trees.specs.Words.{parts_at, part_at, word_at, word_place}
+use Rattle.tcl_trees.specs.declared.flaw.Flaw.{Flaw}
+use Rattle.tcl_trees.specs.declared.flaw.Flaw.TheVariants.{BadBody}
+use Rattle.tcl_trees.specs.declared.findings.Findings.{Findings}
+use Rattle.tcl_trees.specs.declared.node.Node.{Node}
+use Rattle.tcl_trees.specs.declared.shapes.Shape.{Shape}
 
 -- the levels
 
@@ -191,7 +177,7 @@ module _ (level : Level) (base : ℕ) (s : Findings) where
       ap (λ x. part_at level base x s) (ap part_view e ∙ view-Bracket span inside)
 
   -- a body in a list
-  pub item_body : (place : ℕ) (last : Bool) (item : Item) → item.braced ≡ true
+  pub item_body : (place : ℕ) (last : Bool) (item : CaseItem) → item.braced ≡ true
       → case_item level place last item s ≡ level.inside (place_in place item.start) item.text s
   item_body place last item braced =
       ap (λ b. cond b (level.inside (place_in place item.start) item.text s) (other_item place last item s)) braced

@@ -1,10 +1,8 @@
 pub mod Arms
-pub mod CompiledRows
 pub mod ControlTurns
 pub mod ExpressionTurns
 pub mod Levels
 pub mod ListItems
-pub mod Named
 pub mod OpenedTurns
 pub mod TreeViews
 pub mod Turns

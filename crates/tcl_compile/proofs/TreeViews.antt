@@ -2,13 +2,13 @@
 use Rattle.std.proofs.Common.{◌≡◌, ℕ, List, rules, Vec, Box}
 use Rattle.std.specs.declared.alloc.Global.{Global}
 use Rattle.tcl_expr.specs.declared.expr.Joint.{Joint}
-use Rattle.tcl_compile.specs.Tree.{plain, word, script, command, branches, row, choice}
-use Rattle.tcl_compile.specs.Tree.{trees_of, operands_of, values_of}
-use Rattle.tcl_compile.specs.TreeView.{node_view, nodes_view, operands_view, values_view}
-use Rattle.tcl_compile.specs.declared.node.Node as code
-use Rattle.tcl_compile.specs.declared.node.Node.{Plain, Word, Script, Command, If, Row, Choice}
-use Rattle.tcl_compile.specs.declared.node.Node.{the_lemmas}
-use Rattle.tcl_compile.specs.declared.node.Verb.{Verb}
+use Rattle.tcl_trees.specs.Tree.{plain, word, script, command, branches, row, choice}
+use Rattle.tcl_trees.specs.Tree.{trees_of, operands_of, values_of}
+use Rattle.tcl_trees.specs.TreeView.{node_view, nodes_view, operands_view, values_view}
+use Rattle.tcl_trees.specs.declared.node.Node as code
+use Rattle.tcl_trees.specs.declared.node.Node.{Plain, Word, Script, Command, If, Row, Choice}
+use Rattle.tcl_trees.specs.declared.node.Node.{the_lemmas}
+use Rattle.tcl_trees.specs.declared.node.Verb.{Verb}
 
 pub view-Plain : (text : List ℕ) → node_view (Plain text) ≡ plain text
 view-Plain text = search (rules, the_lemmas)

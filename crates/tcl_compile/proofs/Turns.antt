@@ -4,11 +4,11 @@ use Rattle.std.proofs.Common.{refl, sym, ap, ap₂, ◌∙◌}
 use Rattle.std.specs.Prelude.{false, ◌==◌}
 use Rattle.std.proofs.lemmas.Bool.Decides.{nat_tests}
 use Rattle.std.proofs.lemmas.List.{append-nil, append_assoc, map_more, map-append}
-use Rattle.tcl_compile.specs.Making.{Made, Cases, gathered, in_turn, is_end}
-use Rattle.tcl_compile.specs.Tree.{Tree}
-use Rattle.tcl_compile.specs.TreeView.{node_view, nodes_view, values_view}
-use Rattle.tcl_compile.specs.declared.findings.Findings.{Findings}
-use Rattle.tcl_compile.specs.declared.node.Node.{Node}
+use Rattle.tcl_trees.specs.Making.{Made, Cases, gathered, in_turn, is_end}
+use Rattle.tcl_trees.specs.Tree.{Tree}
+use Rattle.tcl_trees.specs.TreeView.{node_view, nodes_view, values_view}
+use Rattle.tcl_trees.specs.declared.findings.Findings.{Findings}
+use Rattle.tcl_trees.specs.declared.node.Node.{Node}
 
 module _ {A B : Type 0} (item : A → Findings → Made B) where
   abbrev followed : Made (List B) → Made B → Made (List B)

@@ -1,9 +1,9 @@
 -- Values that were had beside others.
 use Rattle.std.proofs.Common.{◌≡◌, ap, sym, subst, ◌∙◌}
 use Rattle.std.specs.Prelude.{Result, Ok, IfOk, is_ok, if◌then◌else◌}
-use Rattle.tcl_compile.specs.Tree.{Tree}
-use Rattle.tcl_compile.specs.TreeView.{node_view}
-use Rattle.tcl_compile.specs.declared.node.Node.{Node}
+use Rattle.tcl_trees.specs.Tree.{Tree}
+use Rattle.tcl_trees.specs.TreeView.{node_view}
+use Rattle.tcl_trees.specs.declared.node.Node.{Node}
 
 -- what holds of the value that was had
 pub ok_is : {X E : Type 0} (P : X → Type 0) {r : Result X E} {x : X} → IfOk r P → r ≡ Ok x → P x

@@ -4,7 +4,7 @@ use Rattle.std.specs.Borrow.{Bor}
 use Rattle.tcl_words.specs.Tree.{Word}
 use Rattle.tcl_words.specs.View.{word_view}
 use Rattle.tcl_words.specs.declared.script.Word as code
-use Rattle.tcl_compile.specs.Forms.{Conditional, with_arm, branches_in, behind_body, last_body}
+use Rattle.tcl_trees.specs.Forms.{Conditional, with_arm, branches_in, behind_body, last_body}
 use Rattle.tcl_compile.specs.declared.if_form.Arm.{Arm}
 use Rattle.tcl_compile.specs.declared.if_form.Branches.{Branches}
 

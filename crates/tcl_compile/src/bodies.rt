@@ -2,18 +2,16 @@
 
 ghost use Rattle.std.specs.Prelude.{◌≡◌, ◌<◌, ◌≤◌, IfOk};
 ghost use Rattle.tcl_words.specs.View.{word_view};
-ghost use Rattle.tcl_compile.specs.Compiled.{expression_text_at, level, room_inside, text_at};
-ghost use Rattle.tcl_compile.specs.TreeView.{node_view};
+ghost use Rattle.tcl_trees.specs.Compiled.{expression_text_at, level, room_inside, text_at};
+ghost use Rattle.tcl_trees.specs.TreeView.{node_view};
 
-use crate::compile_fault::Flaw;
-use crate::findings::Findings;
-use crate::node::Node;
+use crate::compiler::Compiler;
 use crate::notes::nothing;
-use crate::opened::Opened;
 use crate::places::{moved_misread, place_in};
 use crate::reads::{read_expression, read_script};
 use px_bytes::M;
 use std::alloc::Global;
+use tcl_trees::{Flaw, Node, Opened};
 use tcl_words::{Form, Word};
 
 /// The most rows, prefixes and choices of an expression that stand inside one another; a text with
@@ -31,7 +29,7 @@ fn room_inside(room: usize, form: Form) -> usize
     }
 }
 
-impl Findings {
+impl Compiler {
     /// The script that a text is, which begins at the place of the source. What was read before a
     /// fault is looked at too.
     #[cycle(compiled)]
@@ -44,8 +42,8 @@ impl Findings {
         levels: usize,
     ) -> M<Node>
         requires bounded { levels ≤ 101 }
-        ensures { IfOk result (λ v. text_at (level levels) room place text.now self.old
-            ≡ (node_view v, self.new)) }
+        ensures { IfOk result (λ v. text_at (level levels) room place text.now self.old.findings
+            ≡ (node_view v, self.new.findings)) }
     {
         let (script, fault) = read_script(alloc, text, room)?;
         self.note_fault(place, fault);
@@ -64,8 +62,8 @@ impl Findings {
     ) -> M<Node>
         requires bounded { levels ≤ 101 }
         requires room_bounded { room ≤ 100 }
-        ensures { IfOk result (λ v. expression_text_at (level levels) room place text.now self.old
-            ≡ (node_view v, self.new)) }
+        ensures { IfOk result (λ v. expression_text_at (level levels) room place text.now self.old.findings
+            ≡ (node_view v, self.new.findings)) }
     {
         match read_expression(alloc, text, room)? {
             Ok(expr) => {
@@ -76,7 +74,7 @@ impl Findings {
                 Ok(node)
             }
             Err(fault) => {
-                self.note(Flaw::Expr(moved_misread(place, fault)));
+                self.findings.note(Flaw::Expr(moved_misread(place, fault)));
                 Ok(nothing(alloc))
             }
         }
@@ -86,8 +84,8 @@ impl Findings {
     #[cycle(compiled)]
     pub(crate) fn body(&mut self, alloc: Global, base: usize, word: &Word, levels: usize) -> M<Node>
         requires bounded { levels ≤ 101 }
-        ensures { IfOk result (λ v. (level levels).body base (word_view word.now) self.old
-            ≡ (node_view v, self.new)) }
+        ensures { IfOk result (λ v. (level levels).body base (word_view word.now) self.old.findings
+            ≡ (node_view v, self.new.findings)) }
     {
         if levels == 0 {
             return Ok(self.too_deep(alloc, place_in(base, word.span.start)));
@@ -112,8 +110,8 @@ impl Findings {
         levels: usize,
     ) -> M<Node>
         requires bounded { levels ≤ 101 }
-        ensures { IfOk result (λ v. (level levels).condition base (word_view word.now) self.old
-            ≡ (node_view v, self.new)) }
+        ensures { IfOk result (λ v. (level levels).condition base (word_view word.now) self.old.findings
+            ≡ (node_view v, self.new.findings)) }
     {
         if levels == 0 {
             return Ok(self.too_deep(alloc, place_in(base, word.span.start)));

@@ -2,22 +2,22 @@
 
 ghost use Rattle.std.specs.Prelude.{◌≡◌, ◌≤◌, IfOk, map};
 ghost use Rattle.tcl_words.specs.View.{word_view};
-ghost use Rattle.tcl_compile.specs.Compiled.{level};
-ghost use Rattle.tcl_compile.specs.Controls.{arm_at, branches_at, if_at};
+ghost use Rattle.tcl_trees.specs.Compiled.{level};
+ghost use Rattle.tcl_trees.specs.Controls.{arm_at, branches_at, if_at};
 ghost use Rattle.tcl_compile.specs.IfView.{arms_view, branches_view};
-ghost use Rattle.tcl_compile.specs.Making.{gathered};
-ghost use Rattle.tcl_compile.specs.TreeView.{node_view, values_view};
+ghost use Rattle.tcl_trees.specs.Making.{gathered};
+ghost use Rattle.tcl_trees.specs.TreeView.{node_view, values_view};
 
-use crate::findings::Findings;
+use crate::compiler::Compiler;
 use crate::if_form::{Arm, Branches, if_form};
-use crate::node::Node;
 use crate::notes::nothing;
 use crate::zip::zip;
 use px_bytes::M;
 use std::alloc::Global;
+use tcl_trees::Node;
 use tcl_words::Word;
 
-impl Findings {
+impl Compiler {
     /// Conditions with their bodies.
     #[cycle(compiled)]
     fn arms(
@@ -29,7 +29,7 @@ impl Findings {
     ) -> M<Vec<(Node, Node)>>
         requires bounded { levels ≤ 101 }
         ensures { IfOk result (λ v. gathered (arm_at (level levels) base) (arms_view arms.now)
-            self.old ≡ (values_view v.items, self.new)) }
+            self.old.findings ≡ (values_view v.items, self.new.findings)) }
     {
         let mut values = Vec::new(alloc);
         for arm in arms {
@@ -51,7 +51,7 @@ impl Findings {
     ) -> M<Node>
         requires bounded { levels ≤ 101 }
         ensures { IfOk result (λ v. branches_at (level levels) base (branches_view branches.now)
-            self.old ≡ (node_view v, self.new)) }
+            self.old.findings ≡ (node_view v, self.new.findings)) }
     {
         let arms = self.arms(alloc, base, branches.arms.as_slice(), levels)?;
         let last = match branches.last {
@@ -73,7 +73,7 @@ impl Findings {
     ) -> M<Node>
         requires bounded { levels ≤ 101 }
         ensures { IfOk result (λ v. if_at (level levels) base at (map word_view words.now)
-            self.old ≡ (node_view v, self.new)) }
+            self.old.findings ≡ (node_view v, self.new.findings)) }
     {
         match if_form(alloc, words)? {
             Some(branches) => self.branches(alloc, base, &branches, levels),

@@ -2,28 +2,17 @@
 
 ghost use Rattle.std.specs.Prelude.{◌≡◌, IfOk, option_map};
 ghost use Rattle.tcl_words.specs.View.{word_view};
-ghost use Rattle.tcl_compile.specs.CaseList.{item_from, items, opener_of, other_item, word_items};
-ghost use Rattle.tcl_compile.specs.TreeView.{node_view};
+ghost use Rattle.tcl_trees.specs.CaseList.{item_from, items, opener_of, other_item, word_items};
+ghost use Rattle.tcl_trees.specs.TreeView.{node_view};
 
-use crate::compile_fault::Flaw;
-use crate::findings::Findings;
-use crate::node::Node;
+use crate::compiler::Compiler;
 use crate::notes::nothing;
 use crate::places::place_in;
 use px_bytes::{M, Memory, Text};
 use std::alloc::Global;
 use tcl_lists::{ListFault, Place, places, split};
+use tcl_trees::{CaseItem, Flaw, Node};
 use tcl_words::{Word, stands};
-
-/// An element: its value, the places of its bytes and of its brace or quote, and whether it stands
-/// in braces.
-#[derive(Drop)]
-pub(crate) struct Item {
-    pub text: Text,
-    pub start: usize,
-    pub opener: usize,
-    pub braced: bool,
-}
 
 /// The place of the brace or quote of the element whose bytes begin here.
 fn opener_of(text: &[u8], start: usize) -> usize
@@ -37,10 +26,10 @@ fn opener_of(text: &[u8], start: usize) -> usize
 }
 
 /// The element of the text at its place, with its value.
-fn item_from(text: &[u8], place: &Place, value: &Text) -> M<Item>
+fn item_from(text: &[u8], place: &Place, value: &Text) -> M<CaseItem>
     ensures { IfOk result (λ item. item ≡ item_from text.now place.now value.now) }
 {
-    Ok(Item {
+    Ok(CaseItem {
         text: value.copy()?,
         start: place.start,
         opener: opener_of(text, place.start),
@@ -49,7 +38,7 @@ fn item_from(text: &[u8], place: &Place, value: &Text) -> M<Item>
 }
 
 /// The elements of a list, or none where the text is none.
-pub(crate) fn items(alloc: Global, text: &[u8]) -> M<Option<Vec<Item>>>
+pub(crate) fn items(alloc: Global, text: &[u8]) -> M<Option<Vec<CaseItem>>>
     ensures { IfOk result (λ r. option_map (λ v. v.items) r ≡ items text.now) }
 {
     let places = match places(alloc, text) {
@@ -74,7 +63,7 @@ pub(crate) fn items(alloc: Global, text: &[u8]) -> M<Option<Vec<Item>>>
 }
 
 /// The elements that stand in a word without substitution, or none where it holds no list.
-pub(crate) fn word_items(alloc: Global, word: &Word) -> M<Option<Vec<Item>>>
+pub(crate) fn word_items(alloc: Global, word: &Word) -> M<Option<Vec<CaseItem>>>
     ensures { IfOk result (λ r. option_map (λ v. v.items) r ≡ word_items (word_view word.now)) }
 {
     match &word.raw {
@@ -83,22 +72,22 @@ pub(crate) fn word_items(alloc: Global, word: &Word) -> M<Option<Vec<Item>>>
     }
 }
 
-impl Findings {
+impl Compiler {
     /// What an element that isn't in braces stands for.
     pub(crate) fn other_item(
         &mut self,
         alloc: Global,
         place: usize,
         last: bool,
-        item: &Item,
+        item: &CaseItem,
     ) -> Node
-        ensures { other_item place last item.now self.old ≡ (node_view result, self.new) }
+        ensures { other_item place last item.now self.old.findings ≡ (node_view result, self.new.findings) }
     {
         let at = place_in(place, item.opener);
         if item.text.as_bytes() == b"-".as_slice() {
             return self.next_body(alloc, at, last);
         }
-        self.note(Flaw::BadBody(at));
+        self.findings.note(Flaw::BadBody(at));
         nothing(alloc)
     }
 }

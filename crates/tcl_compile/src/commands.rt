@@ -3,24 +3,23 @@
 
 ghost use Rattle.std.specs.Prelude.{◌≡◌, ◌≤◌, IfOk, map};
 ghost use Rattle.tcl_words.specs.View.{command_view};
-ghost use Rattle.tcl_compile.specs.Compiled.{level};
-ghost use Rattle.tcl_compile.specs.Compiling.{command_at, script_at};
-ghost use Rattle.tcl_compile.specs.TreeView.{node_view};
+ghost use Rattle.tcl_trees.specs.Compiled.{level};
+ghost use Rattle.tcl_trees.specs.Compiling.{command_at, script_at};
+ghost use Rattle.tcl_trees.specs.TreeView.{node_view};
 
-use crate::findings::Findings;
-use crate::node::Node;
-use crate::shapes::{Shape, shape_of};
+use crate::compiler::Compiler;
 use px_bytes::M;
 use std::alloc::Global;
+use tcl_trees::{Node, Shape, shape_of};
 use tcl_words::Command;
 
-impl Findings {
+impl Compiler {
     /// A command.
     #[cycle(compiled)]
     fn command(&mut self, alloc: Global, base: usize, command: &Command, levels: usize) -> M<Node>
         requires bounded { levels ≤ 101 }
         ensures { IfOk result (λ v. command_at (level levels) base (command_view command.now)
-            self.old ≡ (node_view v, self.new)) }
+            self.old.findings ≡ (node_view v, self.new.findings)) }
     {
         let words = command.words.as_slice();
         let at = command.span.start;
@@ -47,7 +46,7 @@ impl Findings {
     ) -> M<Node>
         requires bounded { levels ≤ 101 }
         ensures { IfOk result (λ v. script_at (level levels) base (map command_view commands.now)
-            self.old ≡ (node_view v, self.new)) }
+            self.old.findings ≡ (node_view v, self.new.findings)) }
     {
         let mut nodes = Vec::new(alloc);
         for command in commands {

@@ -2,17 +2,33 @@
 
 ghost use Rattle.std.specs.Prelude.{◌≡◌, IfOk};
 ghost use Rattle.tcl_words.specs.View.{script_view, word_view};
-ghost use Rattle.tcl_compile.specs.Compiled.{compiled, compiled_body, compiled_expression};
-ghost use Rattle.tcl_compile.specs.Compiled.{examined_body};
+ghost use Rattle.tcl_trees.specs.Compiled.{compiled, compiled_body, compiled_expression};
+ghost use Rattle.tcl_trees.specs.Compiled.{beginning, examined_body};
 ghost use Rattle.tcl_compile.specs.Outcome.{Gives};
-ghost use Rattle.tcl_compile.specs.TreeView.{node_view};
+ghost use Rattle.tcl_trees.specs.TreeView.{node_view};
 
 use crate::compile_fault::CompileFault;
-use crate::findings::Findings;
-use crate::node::Node;
 use px_bytes::M;
 use std::alloc::Global;
+use tcl_trees::{Findings, Node};
 use tcl_words::{LIMIT, Script, Word};
+
+/// What compiles a script: it keeps what is found meanwhile.
+#[derive(Drop)]
+pub(crate) struct Compiler {
+    pub findings: Findings,
+}
+
+impl Compiler {
+    /// Nothing is found yet.
+    fn new(alloc: Global) -> Compiler
+        ensures { result.findings ≡ beginning }
+    {
+        Compiler {
+            findings: Findings::new(alloc),
+        }
+    }
+}
 
 /// The tree that the script becomes, or its flaw with the least place.
 ///
@@ -21,9 +37,9 @@ use tcl_words::{LIMIT, Script, Word};
 pub fn compile(alloc: Global, script: &Script) -> Result<Node, CompileFault>
     ensures { Gives result (compiled (script_view script.now)) }
 {
-    let mut findings = Findings::new(alloc);
-    let node = findings.script(alloc, 0, &script.commands, LIMIT + 1)?;
-    match findings.flaw {
+    let mut compiler = Compiler::new(alloc);
+    let node = compiler.script(alloc, 0, &script.commands, LIMIT + 1)?;
+    match compiler.findings.flaw {
         None => Ok(node),
         Some(flaw) => Err(CompileFault::Flaw(flaw)),
     }
@@ -33,9 +49,9 @@ pub fn compile(alloc: Global, script: &Script) -> Result<Node, CompileFault>
 pub fn compile_body(alloc: Global, word: &Word) -> Result<Node, CompileFault>
     ensures { Gives result (compiled_body (word_view word.now)) }
 {
-    let mut findings = Findings::new(alloc);
-    let node = findings.body(alloc, 0, word, LIMIT + 1)?;
-    match findings.flaw {
+    let mut compiler = Compiler::new(alloc);
+    let node = compiler.body(alloc, 0, word, LIMIT + 1)?;
+    match compiler.findings.flaw {
         None => Ok(node),
         Some(flaw) => Err(CompileFault::Flaw(flaw)),
     }
@@ -46,9 +62,9 @@ pub fn compile_body(alloc: Global, word: &Word) -> Result<Node, CompileFault>
 pub fn examine_body(alloc: Global, word: &Word) -> M<(Node, Findings)>
     ensures { IfOk result (λ r. examined_body (word_view word.now) ≡ (node_view r.0, r.1)) }
 {
-    let mut findings = Findings::new(alloc);
-    let node = findings.body(alloc, 0, word, LIMIT + 1)?;
-    Ok((node, findings))
+    let mut compiler = Compiler::new(alloc);
+    let node = compiler.body(alloc, 0, word, LIMIT + 1)?;
+    Ok((node, compiler.findings))
 }
 
 /// The tree of an expression that is a text of its own, made while a script runs, or its flaw with
@@ -60,9 +76,9 @@ pub fn examine_body(alloc: Global, word: &Word) -> M<(Node, Findings)>
 pub fn compile_expression(alloc: Global, text: &[u8]) -> Result<Node, CompileFault>
     ensures { Gives result (compiled_expression text.now) }
 {
-    let mut findings = Findings::new(alloc);
-    let node = findings.expression_text(alloc, 0, text, LIMIT, LIMIT + 1)?;
-    match findings.flaw {
+    let mut compiler = Compiler::new(alloc);
+    let node = compiler.expression_text(alloc, 0, text, LIMIT, LIMIT + 1)?;
+    match compiler.findings.flaw {
         None => Ok(node),
         Some(flaw) => Err(CompileFault::Flaw(flaw)),
     }

@@ -3,18 +3,18 @@
 ghost use Rattle.std.specs.Prelude.{◌≡◌, ◌≤◌, IfOk, map};
 ghost use Rattle.tcl_expr.specs.ExpressionView.{cases_view, expr_view, more_view};
 ghost use Rattle.tcl_words.specs.View.{part_view};
-ghost use Rattle.tcl_compile.specs.Compiled.{level};
-ghost use Rattle.tcl_compile.specs.Conditions.{expression_at, operand, operands_at, parts_under};
-ghost use Rattle.tcl_compile.specs.Conditions.{values_at};
-ghost use Rattle.tcl_compile.specs.TreeView.{node_view, nodes_view, operands_view, values_view};
+ghost use Rattle.tcl_trees.specs.Compiled.{level};
+ghost use Rattle.tcl_trees.specs.Conditions.{expression_at, operand, operands_at, parts_under};
+ghost use Rattle.tcl_trees.specs.Conditions.{values_at};
+ghost use Rattle.tcl_trees.specs.TreeView.{node_view, nodes_view, operands_view, values_view};
 
-use crate::findings::Findings;
-use crate::node::Node;
-use crate::opened::{Opened, scanned};
+use crate::compiler::Compiler;
+use crate::opened::scanned;
 use crate::zip::zip;
 use px_bytes::{M, Memory};
 use std::alloc::Global;
 use tcl_expr::{Expr, Joint};
+use tcl_trees::{Node, Opened};
 use tcl_words::Part;
 
 /// An operand of these parts: one in quotes is a word, and any other its only part.
@@ -30,7 +30,7 @@ fn operand(quoted: bool, mut parts: Vec<Node>) -> Node
     }
 }
 
-impl Findings {
+impl Compiler {
     /// The parts around which so many openers stand.
     #[cycle(compiled)]
     fn under(
@@ -43,7 +43,7 @@ impl Findings {
     ) -> M<Vec<Node>>
         requires bounded { levels ≤ 101 }
         ensures { IfOk result (λ v. parts_under (level levels) base openers
-            (map part_view parts.now) self.old ≡ (nodes_view v.items, self.new)) }
+            (map part_view parts.now) self.old.findings ≡ (nodes_view v.items, self.new.findings)) }
     {
         if openers > levels {
             self.note_deep(base);
@@ -68,7 +68,7 @@ impl Findings {
         requires bounded { levels ≤ 101 }
         requires nesting { nesting ≤ 4000 }
         ensures { IfOk result (λ r. expression_at (level levels) base text.now (expr_view expr.now)
-            opened self.old ≡ ((node_view r.0, r.1), self.new)) }
+            opened self.old.findings ≡ ((node_view r.0, r.1), self.new.findings)) }
     {
         if nesting == 0 {
             return Err(Memory);
@@ -146,7 +146,7 @@ impl Findings {
         requires bounded { levels ≤ 101 }
         requires nesting { nesting ≤ 4000 }
         ensures { IfOk result (λ r. operands_at (level levels) base text.now (more_view rest.now)
-            start self.old ≡ ((operands_view r.0.items, r.1), self.new)) }
+            start self.old.findings ≡ ((operands_view r.0.items, r.1), self.new.findings)) }
     {
         let mut operands = Vec::new(alloc);
         let mut opened = start;
@@ -173,7 +173,7 @@ impl Findings {
         requires bounded { levels ≤ 101 }
         requires nesting { nesting ≤ 4000 }
         ensures { IfOk result (λ r. values_at (level levels) base text.now (cases_view cases.now)
-            start self.old ≡ ((values_view r.0.items, r.1), self.new)) }
+            start self.old.findings ≡ ((values_view r.0.items, r.1), self.new.findings)) }
     {
         let mut values = Vec::new(alloc);
         let mut opened = start;

@@ -2,19 +2,19 @@
 
 ghost use Rattle.std.specs.Prelude.{◌≡◌, ◌≤◌, IfOk, map};
 ghost use Rattle.tcl_words.specs.View.{word_view};
-ghost use Rattle.tcl_compile.specs.Compiled.{level};
-ghost use Rattle.tcl_compile.specs.Controls.{catch_at, each_at, expr_at, for_at, while_at};
-ghost use Rattle.tcl_compile.specs.Tree.{catch_in, loop};
-ghost use Rattle.tcl_compile.specs.TreeView.{node_view};
+ghost use Rattle.tcl_trees.specs.Compiled.{level};
+ghost use Rattle.tcl_trees.specs.Controls.{catch_at, each_at, expr_at, for_at, while_at};
+ghost use Rattle.tcl_trees.specs.Tree.{catch_in, loop};
+ghost use Rattle.tcl_trees.specs.TreeView.{node_view};
 
-use crate::findings::Findings;
+use crate::compiler::Compiler;
 use crate::forms::{catch_form, foreach_form};
-use crate::node::{Node, Verb};
 use crate::notes::nothing;
 use crate::texts::is_substituted;
 use crate::zip::zip;
 use px_bytes::M;
 use std::alloc::Global;
+use tcl_trees::{Node, Verb};
 use tcl_words::Word;
 
 /// Both in boxes.
@@ -49,7 +49,7 @@ fn caught_in(alloc: Global, body: Node, name: Node) -> M<Node>
     Ok(Node::CatchIn { body, name })
 }
 
-impl Findings {
+impl Compiler {
     /// An `expr`: that of one word without substitution is read at once.
     #[cycle(compiled)]
     pub(crate) fn expr(
@@ -62,7 +62,7 @@ impl Findings {
     ) -> M<Node>
         requires bounded { levels ≤ 101 }
         ensures { IfOk result (λ v. expr_at (level levels) base at (map word_view words.now)
-            self.old ≡ (node_view v, self.new)) }
+            self.old.findings ≡ (node_view v, self.new.findings)) }
     {
         match words {
             [_, word] if !is_substituted(word) => {
@@ -85,7 +85,7 @@ impl Findings {
     ) -> M<Node>
         requires bounded { levels ≤ 101 }
         ensures { IfOk result (λ v. while_at (level levels) base at (map word_view words.now)
-            self.old ≡ (node_view v, self.new)) }
+            self.old.findings ≡ (node_view v, self.new.findings)) }
     {
         let [_, test, body] = words else {
             return Ok(self.wrong_number(alloc, base, at));
@@ -107,7 +107,7 @@ impl Findings {
     ) -> M<Node>
         requires bounded { levels ≤ 101 }
         ensures { IfOk result (λ v. for_at (level levels) base at (map word_view words.now)
-            self.old ≡ (node_view v, self.new)) }
+            self.old.findings ≡ (node_view v, self.new.findings)) }
     {
         let [_, start, test, next, body] = words else {
             return Ok(self.wrong_number(alloc, base, at));
@@ -131,7 +131,7 @@ impl Findings {
     ) -> M<Node>
         requires bounded { levels ≤ 101 }
         ensures { IfOk result (λ v. each_at (level levels) base at (map word_view words.now)
-            self.old ≡ (node_view v, self.new)) }
+            self.old.findings ≡ (node_view v, self.new.findings)) }
     {
         let Some((names, body)) = foreach_form(words) else {
             return Ok(self.wrong_number(alloc, base, at));
@@ -154,7 +154,7 @@ impl Findings {
     ) -> M<Node>
         requires bounded { levels ≤ 101 }
         ensures { IfOk result (λ v. catch_at (level levels) base at (map word_view words.now)
-            self.old ≡ (node_view v, self.new)) }
+            self.old.findings ≡ (node_view v, self.new.findings)) }
     {
         let Some((body, name)) = catch_form(words) else {
             return Ok(self.wrong_number(alloc, base, at));

@@ -2,10 +2,10 @@
 
 ghost use Rattle.std.specs.Prelude.{◌≡◌, map};
 ghost use Rattle.tcl_words.specs.View.{word_view};
-ghost use Rattle.tcl_compile.specs.Fits.{at_least, between, fits, unset_names};
+ghost use Rattle.tcl_trees.specs.Fits.{at_least, between, fits, unset_names};
 
-use crate::node::Verb;
 use crate::texts::is_text;
+use tcl_trees::Verb;
 use tcl_words::Word;
 
 fn between(low: usize, high: usize, words: &[Word]) -> bool
@@ -30,7 +30,7 @@ fn unset_names(words: &[Word]) -> bool
     }
 }
 
-#[tactic(auto, unfolding(crate::specs::Fits::fits))]
+#[tactic(auto, unfolding(tcl_trees::specs::Fits::fits))]
 pub(crate) fn fits(verb: Verb, words: &[Word]) -> bool
     ensures { result ≡ fits verb (map word_view words.now) }
 {

@@ -2,8 +2,8 @@
 
 ghost use Rattle.std.specs.Prelude.{◌≡◌, ◌<◌, ◌≤◌, ◌∷◌, MatchOption, length, map, option_map};
 ghost use Rattle.tcl_words.specs.View.{word_view};
-ghost use Rattle.tcl_compile.specs.Forms.{are_cases, catch_form, foreach_form, last_apart};
-ghost use Rattle.tcl_compile.specs.Forms.{option_count, switch_form};
+ghost use Rattle.tcl_trees.specs.Forms.{are_cases, catch_form, foreach_form, last_apart};
+ghost use Rattle.tcl_trees.specs.Forms.{option_count, switch_form};
 
 use crate::texts::{begins_with, is_braced, is_text};
 use tcl_words::Word;

@@ -2,7 +2,7 @@
 
 ghost use Rattle.std.specs.Prelude.{◌≡◌, ◌<◌, IfOk, IfSome, length, map, option_map};
 ghost use Rattle.tcl_words.specs.View.{word_view};
-ghost use Rattle.tcl_compile.specs.Forms.{behind_body, branches_in, if_form, last_body};
+ghost use Rattle.tcl_trees.specs.Forms.{behind_body, branches_in, if_form, last_body};
 ghost use Rattle.tcl_compile.specs.IfView.{arms_view, behind_arms, branches_view, from_arm};
 ghost use Rattle.tcl_compile.specs.IfView.{from_elseif};
 

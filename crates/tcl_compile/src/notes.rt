@@ -2,20 +2,19 @@
 
 ghost use Rattle.std.specs.Prelude.{◌≡◌, OnOk, map};
 ghost use Rattle.tcl_words.specs.View.{word_view};
-ghost use Rattle.tcl_compile.specs.Compiled.{with_fault};
-ghost use Rattle.tcl_compile.specs.Controls.{next_at};
-ghost use Rattle.tcl_compile.specs.Flaws.{noted, place_in};
-ghost use Rattle.tcl_compile.specs.Making.{flawed, nothing, one_too_many};
-ghost use Rattle.tcl_compile.specs.TreeView.{node_view};
-ghost use Rattle.tcl_compile.specs.Words.{is_named, named_at, with_first, word_place, wrong_number};
-ghost use Rattle.tcl_compile.specs.declared.compile_fault.Flaw.TheVariants.{Arity, BadBody};
+ghost use Rattle.tcl_trees.specs.Compiled.{with_fault};
+ghost use Rattle.tcl_trees.specs.Controls.{next_at};
+ghost use Rattle.tcl_trees.specs.Flaws.{noted, place_in};
+ghost use Rattle.tcl_trees.specs.Making.{flawed, nothing, one_too_many};
+ghost use Rattle.tcl_trees.specs.TreeView.{node_view};
+ghost use Rattle.tcl_trees.specs.Words.{is_named, named_at, with_first, word_place, wrong_number};
+ghost use Rattle.tcl_trees.specs.declared.flaw.Flaw.TheVariants.{Arity, BadBody};
 
-use crate::compile_fault::Flaw;
-use crate::findings::{CommandName, Findings};
-use crate::node::{Node, Verb};
+use crate::compiler::Compiler;
 use crate::places::{moved_fault, place_in};
 use px_bytes::M;
 use std::alloc::Global;
+use tcl_trees::{CommandName, Flaw, Node, Verb};
 use tcl_words::{Fault, Word};
 
 /// A script of no command.
@@ -32,23 +31,23 @@ fn is_named(verb: Verb) -> bool
     matches!(verb, Verb::Named)
 }
 
-impl Findings {
+impl Compiler {
     /// Notes the first word as the name of a command at the place, where nothing is substituted in
     /// it.
     fn note_first(&mut self, place: usize, words: &[Word]) -> M<()>
-        ensures { OnOk result (self.new
-            ≡ with_first place (map word_view words.now) self.old) }
+        ensures { OnOk result (self.new.findings
+            ≡ with_first place (map word_view words.now) self.old.findings) }
     {
         if let Some(Word { raw: Some(raw), .. }) = words.first() {
             let name = raw.copy()?;
-            self.names.push(CommandName { place, name })?;
+            self.findings.names.push(CommandName { place, name })?;
         }
         Ok(())
     }
 
     /// Notes the name of a command at the place that evaluates these words.
     pub(crate) fn note_name(&mut self, base: usize, at: usize, verb: Verb, words: &[Word]) -> M<()>
-        ensures { OnOk result (self.new ≡ named_at base at verb (map word_view words.now) self.old) }
+        ensures { OnOk result (self.new.findings ≡ named_at base at verb (map word_view words.now) self.old.findings) }
     {
         if is_named(verb) {
             return self.note_first(place_in(base, at), words);
@@ -58,38 +57,39 @@ impl Findings {
 
     /// Notes an opener at a place of the source that is one too many.
     pub(crate) fn note_deep(&mut self, place: usize)
-        ensures { self.new ≡ noted (one_too_many place) self.old }
+        ensures { self.new.findings ≡ noted (one_too_many place) self.old.findings }
     {
-        self.note(Flaw::Parse(Fault::TooDeep(place)));
+        self.findings.note(Flaw::Parse(Fault::TooDeep(place)));
     }
 
     /// Notes a word that is neither a body nor a condition.
     pub(crate) fn note_body(&mut self, base: usize, word: &Word)
-        ensures { self.new
-            ≡ noted (BadBody (place_in base (word_place (word_view word.now)))) self.old }
+        ensures { self.new.findings
+            ≡ noted (BadBody (place_in base (word_place (word_view word.now)))) self.old.findings }
     {
-        self.note(Flaw::BadBody(place_in(base, word.span.start)));
+        self.findings
+            .note(Flaw::BadBody(place_in(base, word.span.start)));
     }
 
     /// Notes that the command at the place has a wrong number of words.
     pub(crate) fn note_number(&mut self, base: usize, at: usize)
-        ensures { self.new ≡ noted (Arity (place_in base at)) self.old }
+        ensures { self.new.findings ≡ noted (Arity (place_in base at)) self.old.findings }
     {
-        self.note(Flaw::Arity(place_in(base, at)));
+        self.findings.note(Flaw::Arity(place_in(base, at)));
     }
 
     /// Notes the fault of a text that begins at the place, if it has one.
     pub(crate) fn note_fault(&mut self, place: usize, fault: Option<Fault>)
-        ensures { self.new ≡ with_fault place fault self.old }
+        ensures { self.new.findings ≡ with_fault place fault self.old.findings }
     {
         if let Some(fault) = fault {
-            self.note(Flaw::Parse(moved_fault(place, fault)));
+            self.findings.note(Flaw::Parse(moved_fault(place, fault)));
         }
     }
 
     /// What stands for what an opener encloses that is one too many.
     pub(crate) fn too_deep(&mut self, alloc: Global, place: usize) -> Node
-        ensures { flawed (one_too_many place) self.old ≡ (node_view result, self.new) }
+        ensures { flawed (one_too_many place) self.old.findings ≡ (node_view result, self.new.findings) }
     {
         self.note_deep(place);
         nothing(alloc)
@@ -97,8 +97,8 @@ impl Findings {
 
     /// What stands for a word that is neither a body nor a condition.
     pub(crate) fn no_body(&mut self, alloc: Global, base: usize, word: &Word) -> Node
-        ensures { flawed (BadBody (place_in base (word_place (word_view word.now)))) self.old
-            ≡ (node_view result, self.new) }
+        ensures { flawed (BadBody (place_in base (word_place (word_view word.now)))) self.old.findings
+            ≡ (node_view result, self.new.findings) }
     {
         self.note_body(base, word);
         nothing(alloc)
@@ -106,7 +106,7 @@ impl Findings {
 
     /// What stands for a command at the place that has a wrong number of words.
     pub(crate) fn wrong_number(&mut self, alloc: Global, base: usize, at: usize) -> Node
-        ensures { wrong_number base at self.old ≡ (node_view result, self.new) }
+        ensures { wrong_number base at self.old.findings ≡ (node_view result, self.new.findings) }
     {
         self.note_number(base, at);
         nothing(alloc)
@@ -114,10 +114,10 @@ impl Findings {
 
     /// What a `-` at the place stands for.
     pub(crate) fn next_body(&mut self, alloc: Global, place: usize, last: bool) -> Node
-        ensures { next_at place last self.old ≡ (node_view result, self.new) }
+        ensures { next_at place last self.old.findings ≡ (node_view result, self.new.findings) }
     {
         if last {
-            self.note(Flaw::BadBody(place));
+            self.findings.note(Flaw::BadBody(place));
             return nothing(alloc);
         }
         Node::NextBody

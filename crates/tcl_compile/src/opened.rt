@@ -2,29 +2,13 @@
 
 ghost use Rattle.std.specs.Prelude.{◌≡◌, ◌-◌, map};
 ghost use Rattle.tcl_words.specs.View.{part_view};
-ghost use Rattle.tcl_compile.specs.Opened.{counted, first_start, last_end, one_more, part_span};
-ghost use Rattle.tcl_compile.specs.Opened.{scanned, turned};
+ghost use Rattle.tcl_trees.specs.Opened.{counted, first_start, last_end, one_more, part_span};
+ghost use Rattle.tcl_trees.specs.Opened.{scanned, turned};
 
+use tcl_trees::{Enclosure, Opened};
 use tcl_words::{Part, Span, stands};
 
-/// How far an expression has been looked at, and how many parentheses and question marks are open
-/// there.
-#[derive(Clone, Copy, PartialEq, Eq)]
-pub(crate) struct Opened {
-    pub at: usize,
-    pub count: usize,
-}
-
-/// What stands around the parts of an operand: whether quotes, and how many openers; and how far the
-/// expression has been looked at behind them.
-#[derive(Clone, Copy, PartialEq, Eq)]
-pub(crate) struct Enclosure {
-    pub quoted: bool,
-    pub openers: usize,
-    pub behind: Opened,
-}
-
-#[tactic(auto, unfolding(crate::specs::Opened::one_more))]
+#[tactic(auto, unfolding(tcl_trees::specs::Opened::one_more))]
 fn one_more(count: usize) -> usize
     ensures { result ≡ one_more count }
 {
@@ -35,7 +19,7 @@ fn one_more(count: usize) -> usize
 }
 
 /// How many are open behind the byte at the place.
-#[tactic(auto, unfolding(crate::specs::Opened::turned))]
+#[tactic(auto, unfolding(tcl_trees::specs::Opened::turned))]
 fn turned(text: &[u8], at: usize, count: usize) -> usize
     ensures { result ≡ turned text.now at count }
 {
@@ -92,7 +76,7 @@ fn last_end(parts: &[Part], otherwise: usize) -> usize
 }
 
 /// What stands around the parts of the expression's next operand.
-#[tactic(auto, unfolding(crate::specs::Opened::scanned))]
+#[tactic(auto, unfolding(tcl_trees::specs::Opened::scanned))]
 pub(crate) fn scanned(text: &[u8], parts: &[Part], opened: Opened) -> Enclosure
     ensures { result ≡ scanned text.now (map part_view parts.now) opened }
 {

@@ -1,14 +1,14 @@
 // Places in the source of what was read from a piece of it.
 
 ghost use Rattle.std.specs.Prelude.{◌≡◌};
-ghost use Rattle.tcl_compile.specs.Flaws.{moved_fault, moved_misread, place_in};
+ghost use Rattle.tcl_trees.specs.Flaws.{moved_fault, moved_misread, place_in};
 
 use tcl_expr::Misread;
 use tcl_words::Fault;
 
 /// The place in the source of what stands at a place of a text that begins at `base`. A place that
 /// no number tells is the greatest one.
-#[tactic(auto, unfolding(crate::specs::Flaws::place_in))]
+#[tactic(auto, unfolding(tcl_trees::specs::Flaws::place_in))]
 pub(crate) fn place_in(base: usize, at: usize) -> usize
     ensures { result ≡ place_in base at }
 {

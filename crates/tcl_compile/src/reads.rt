@@ -3,7 +3,7 @@
 ghost use Rattle.std.specs.Prelude.{◌≡◌, ◌≤◌, IfOk};
 ghost use Rattle.tcl_expr.specs.ExpressionReading.{expression_within};
 ghost use Rattle.tcl_words.specs.View.{script_view};
-ghost use Rattle.tcl_compile.specs.Compiled.{script_within};
+ghost use Rattle.tcl_trees.specs.Compiled.{script_within};
 ghost use Rattle.tcl_compile.specs.Reads.{seen_expression};
 
 use px_bytes::{M, Memory};
@@ -13,7 +13,7 @@ use tcl_words::{Fault, Progress, Script};
 
 /// The script that the text is, in which so many openers may be open, as far as it can be read, and
 /// its fault.
-#[tactic(auto, unfolding(crate::specs::Compiled::script_within))]
+#[tactic(auto, unfolding(tcl_trees::specs::Compiled::script_within))]
 pub(crate) fn read_script(alloc: Global, text: &[u8], room: usize) -> M<(Script, Option<Fault>)>
     ensures { IfOk result (λ r. script_within room text.now ≡ (script_view r.0, r.1)) }
 {

@@ -2,25 +2,25 @@
 
 ghost use Rattle.std.specs.Prelude.{◌≡◌, ◌≤◌, IfOk, map};
 ghost use Rattle.tcl_words.specs.View.{word_view};
-ghost use Rattle.tcl_compile.specs.CaseList.{case_item, listed};
-ghost use Rattle.tcl_compile.specs.Compiled.{level};
-ghost use Rattle.tcl_compile.specs.Controls.{case_word, cases_at, switch_at};
-ghost use Rattle.tcl_compile.specs.Making.{in_turn};
-ghost use Rattle.tcl_compile.specs.TreeView.{node_view, nodes_view};
-ghost use Rattle.tcl_compile.specs.Words.{word_at};
+ghost use Rattle.tcl_trees.specs.CaseList.{case_item, listed};
+ghost use Rattle.tcl_trees.specs.Compiled.{level};
+ghost use Rattle.tcl_trees.specs.Controls.{case_word, cases_at, switch_at};
+ghost use Rattle.tcl_trees.specs.Making.{in_turn};
+ghost use Rattle.tcl_trees.specs.TreeView.{node_view, nodes_view};
+ghost use Rattle.tcl_trees.specs.Words.{word_at};
 
-use crate::case_list::{Item, word_items};
-use crate::findings::Findings;
+use crate::case_list::word_items;
+use crate::compiler::Compiler;
 use crate::forms::{first_two, switch_form};
-use crate::node::Node;
 use crate::places::place_in;
 use crate::texts::is_text;
 use crate::zip::zip;
 use px_bytes::M;
 use std::alloc::Global;
+use tcl_trees::{CaseItem, Node};
 use tcl_words::Word;
 
-impl Findings {
+impl Compiler {
     /// A body of a `switch` that is a word of its own.
     #[cycle(compiled)]
     fn case_word(
@@ -32,8 +32,8 @@ impl Findings {
         levels: usize,
     ) -> M<Node>
         requires bounded { levels ≤ 101 }
-        ensures { IfOk result (λ v. case_word (level levels) base last (word_view word.now) self.old
-            ≡ (node_view v, self.new)) }
+        ensures { IfOk result (λ v. case_word (level levels) base last (word_view word.now) self.old.findings
+            ≡ (node_view v, self.new.findings)) }
     {
         if is_text(word, b"-") {
             return Ok(self.next_body(alloc, place_in(base, word.span.start), last));
@@ -52,8 +52,8 @@ impl Findings {
     ) -> M<(Vec<Node>, Vec<Node>)>
         requires bounded { levels ≤ 101 }
         ensures { IfOk result (λ r. in_turn (word_at (level levels) base)
-            (case_word (level levels) base) (map word_view words.now) self.old
-            ≡ ((nodes_view r.0.items, nodes_view r.1.items), self.new)) }
+            (case_word (level levels) base) (map word_view words.now) self.old.findings
+            ≡ ((nodes_view r.0.items, nodes_view r.1.items), self.new.findings)) }
     {
         let mut patterns = Vec::new(alloc);
         let mut bodies = Vec::new(alloc);
@@ -76,12 +76,12 @@ impl Findings {
         alloc: Global,
         place: usize,
         last: bool,
-        item: &Item,
+        item: &CaseItem,
         levels: usize,
     ) -> M<Node>
         requires bounded { levels ≤ 101 }
-        ensures { IfOk result (λ v. case_item (level levels) place last item.now self.old
-            ≡ (node_view v, self.new)) }
+        ensures { IfOk result (λ v. case_item (level levels) place last item.now self.old.findings
+            ≡ (node_view v, self.new.findings)) }
     {
         if !item.braced {
             return Ok(self.other_item(alloc, place, last, item));
@@ -100,12 +100,12 @@ impl Findings {
         &mut self,
         alloc: Global,
         place: usize,
-        items: &[Item],
+        items: &[CaseItem],
         levels: usize,
     ) -> M<(Vec<Node>, Vec<Node>)>
         requires bounded { levels ≤ 101 }
-        ensures { IfOk result (λ r. listed (level levels) place items.now self.old
-            ≡ ((nodes_view r.0.items, nodes_view r.1.items), self.new)) }
+        ensures { IfOk result (λ r. listed (level levels) place items.now self.old.findings
+            ≡ ((nodes_view r.0.items, nodes_view r.1.items), self.new.findings)) }
     {
         let mut patterns = Vec::new(alloc);
         let mut bodies = Vec::new(alloc);
@@ -132,8 +132,8 @@ impl Findings {
         levels: usize,
     ) -> M<(Vec<Node>, Vec<Node>)>
         requires bounded { levels ≤ 101 }
-        ensures { IfOk result (λ r. (level levels).cases base at (word_view word.now) self.old
-            ≡ ((nodes_view r.0.items, nodes_view r.1.items), self.new)) }
+        ensures { IfOk result (λ r. (level levels).cases base at (word_view word.now) self.old.findings
+            ≡ ((nodes_view r.0.items, nodes_view r.1.items), self.new.findings)) }
     {
         if levels == 0 {
             self.note_deep(place_in(base, word.span.start));
@@ -162,7 +162,7 @@ impl Findings {
     ) -> M<(Vec<Node>, Vec<Node>)>
         requires bounded { levels ≤ 101 }
         ensures { IfOk result (λ r. cases_at (level levels) base at (map word_view words.now)
-            self.old ≡ ((nodes_view r.0.items, nodes_view r.1.items), self.new)) }
+            self.old.findings ≡ ((nodes_view r.0.items, nodes_view r.1.items), self.new.findings)) }
     {
         match words {
             [word] => self.cases_inside(alloc, base, at, word, levels),
@@ -182,7 +182,7 @@ impl Findings {
     ) -> M<Node>
         requires bounded { levels ≤ 101 }
         ensures { IfOk result (λ v. switch_at (level levels) base at (map word_view words.now)
-            self.old ≡ (node_view v, self.new)) }
+            self.old.findings ≡ (node_view v, self.new.findings)) }
     {
         let Some((front, cases)) = switch_form(words) else {
             return Ok(self.wrong_number(alloc, base, at));

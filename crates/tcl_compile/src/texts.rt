@@ -2,8 +2,8 @@
 
 ghost use Rattle.std.specs.Prelude.{◌≡◌};
 ghost use Rattle.tcl_words.specs.View.{word_view};
-ghost use Rattle.tcl_compile.specs.Texts.{bytes_begin, is_braced, is_quoted, is_substituted};
-ghost use Rattle.tcl_compile.specs.Texts.{is_text, raw_of};
+ghost use Rattle.tcl_trees.specs.Texts.{bytes_begin, is_braced, is_quoted, is_substituted};
+ghost use Rattle.tcl_trees.specs.Texts.{is_text, raw_of};
 
 use tcl_words::{Form, Word};
 

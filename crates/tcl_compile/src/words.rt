@@ -2,20 +2,20 @@
 
 ghost use Rattle.std.specs.Prelude.{◌≡◌, ◌≤◌, IfOk, map};
 ghost use Rattle.tcl_words.specs.View.{part_view, parts_of, word_view};
-ghost use Rattle.tcl_compile.specs.Compiled.{level};
-ghost use Rattle.tcl_compile.specs.TreeView.{node_view, nodes_view};
-ghost use Rattle.tcl_compile.specs.Words.{evaluated_at, part_at, parts_at, word_at, words_at};
+ghost use Rattle.tcl_trees.specs.Compiled.{level};
+ghost use Rattle.tcl_trees.specs.TreeView.{node_view, nodes_view};
+ghost use Rattle.tcl_trees.specs.Words.{evaluated_at, part_at, parts_at, word_at, words_at};
 
-use crate::findings::Findings;
+use crate::compiler::Compiler;
 use crate::fits::fits;
-use crate::node::{Node, Verb};
 use crate::places::place_in;
 use crate::texts::is_quoted;
 use px_bytes::M;
 use std::alloc::Global;
+use tcl_trees::{Node, Verb};
 use tcl_words::{Part, Word};
 
-impl Findings {
+impl Compiler {
     /// The parts of a quoted word or an index, which an opener encloses.
     #[cycle(compiled)]
     fn enclosed(
@@ -28,8 +28,8 @@ impl Findings {
     ) -> M<Vec<Node>>
         requires bounded { levels ≤ 101 }
         ensures { IfOk result (λ v. (level levels).parts base at
-            (parts_of (map part_view parts.now)) self.old
-            ≡ (nodes_view v.items, self.new)) }
+            (parts_of (map part_view parts.now)) self.old.findings
+            ≡ (nodes_view v.items, self.new.findings)) }
     {
         if levels == 0 {
             self.note_deep(place_in(base, at));
@@ -42,8 +42,8 @@ impl Findings {
     #[cycle(compiled)]
     fn part(&mut self, alloc: Global, base: usize, part: &Part, levels: usize) -> M<Node>
         requires bounded { levels ≤ 101 }
-        ensures { IfOk result (λ v. part_at (level levels) base (part_view part.now) self.old
-            ≡ (node_view v, self.new)) }
+        ensures { IfOk result (λ v. part_at (level levels) base (part_view part.now) self.old.findings
+            ≡ (node_view v, self.new.findings)) }
     {
         match part {
             Part::Plain { text, .. } => Ok(Node::Plain(text.copy()?)),
@@ -72,8 +72,8 @@ impl Findings {
         levels: usize,
     ) -> M<Vec<Node>>
         requires bounded { levels ≤ 101 }
-        ensures { IfOk result (λ v. parts_at (level levels) base (map part_view parts.now) self.old
-            ≡ (nodes_view v.items, self.new)) }
+        ensures { IfOk result (λ v. parts_at (level levels) base (map part_view parts.now) self.old.findings
+            ≡ (nodes_view v.items, self.new.findings)) }
     {
         let mut nodes = Vec::new(alloc);
         for part in parts {
@@ -87,8 +87,8 @@ impl Findings {
     #[cycle(compiled)]
     pub(crate) fn word(&mut self, alloc: Global, base: usize, word: &Word, levels: usize) -> M<Node>
         requires bounded { levels ≤ 101 }
-        ensures { IfOk result (λ v. word_at (level levels) base (word_view word.now) self.old
-            ≡ (node_view v, self.new)) }
+        ensures { IfOk result (λ v. word_at (level levels) base (word_view word.now) self.old.findings
+            ≡ (node_view v, self.new.findings)) }
     {
         if is_quoted(word) {
             let parts = self.enclosed(alloc, base, word.span.start, &word.parts, levels)?;
@@ -108,8 +108,8 @@ impl Findings {
         levels: usize,
     ) -> M<Vec<Node>>
         requires bounded { levels ≤ 101 }
-        ensures { IfOk result (λ v. words_at (level levels) base (map word_view words.now) self.old
-            ≡ (nodes_view v.items, self.new)) }
+        ensures { IfOk result (λ v. words_at (level levels) base (map word_view words.now) self.old.findings
+            ≡ (nodes_view v.items, self.new.findings)) }
     {
         let mut nodes = Vec::new(alloc);
         for word in words {
@@ -132,7 +132,7 @@ impl Findings {
     ) -> M<Node>
         requires bounded { levels ≤ 101 }
         ensures { IfOk result (λ v. evaluated_at (level levels) base at verb
-            (map word_view words.now) self.old ≡ (node_view v, self.new)) }
+            (map word_view words.now) self.old.findings ≡ (node_view v, self.new.findings)) }
     {
         if !fits(verb, words) {
             return Ok(self.wrong_number(alloc, base, at));

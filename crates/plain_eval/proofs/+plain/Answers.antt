@@ -5,11 +5,11 @@ use Vocabulary.{nodes_view, alone, child, count, free, one, called, command, exp
 use Vocabulary.{too_deep, after_body, caught_in, chosen, chosen_of, each_rows, turn_assigned, evals}
 use Vocabulary.{read_element, Raised, Value, call_view, body_goes, rows_view, fault_end, value_in}
 use Vocabulary.{meaning_of, inner_of, setting_of, stand}
-use Rattle.tcl_compile.specs.declared.node.Node.{fold-roll-Node, the_lemmas}
-use Rattle.tcl_compile.specs.declared.node.Node.TheVariants.{rolls-Catch, rolls-CatchIn}
-use Rattle.tcl_compile.specs.declared.node.Node.TheVariants.{rolls-Choice}
-use Rattle.tcl_compile.specs.declared.node.Node.TheVariants.{rolls-Expr, rolls-Foreach, rolls-If}
-use Rattle.tcl_compile.specs.declared.node.Node.TheVariants.{rolls-Loop, rolls-Prefixed, rolls-Row}
+use Rattle.tcl_trees.specs.declared.node.Node.{fold-roll-Node, the_lemmas}
+use Rattle.tcl_trees.specs.declared.node.Node.TheVariants.{rolls-Catch, rolls-CatchIn}
+use Rattle.tcl_trees.specs.declared.node.Node.TheVariants.{rolls-Choice}
+use Rattle.tcl_trees.specs.declared.node.Node.TheVariants.{rolls-Expr, rolls-Foreach, rolls-If}
+use Rattle.tcl_trees.specs.declared.node.Node.TheVariants.{rolls-Loop, rolls-Prefixed, rolls-Row}
 use Rattle.plain_eval.proofs.InCommands as commands
 use Rattle.plain_eval.proofs.InControls as controls
 use Rattle.plain_eval.proofs.InExpressions as expressions

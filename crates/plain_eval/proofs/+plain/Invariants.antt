@@ -3,7 +3,7 @@ use Vocabulary.{[], drop, true, ℕ, ◌*◌, ◌++◌, ◌+◌, ◌-◌, ◌∷
 use Vocabulary.{values_of, node_view, nodes_view, operands_view, values_view, child, places_of}
 use Vocabulary.{rows_view, first_of, loop_tree, meaning_of, pieces_of, turns_of, GoesOn, inner_of}
 use Vocabulary.{setting_of, stand}
-use Rattle.tcl_compile.specs.Tree.{each, row}
+use Rattle.tcl_trees.specs.Tree.{each, row}
 use Rattle.plain_eval.proofs.InExpressions.{RowLeft, first_left}
 use Rattle.plain_eval.proofs.InLoops.{rows_left}
 use Rattle.plain_eval.proofs.InScripts.{ScriptLeft}

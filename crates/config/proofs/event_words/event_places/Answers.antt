@@ -1,5 +1,5 @@
 use Rattle.std.proofs.Common.{true, false, map, sym, ap, ◌∙◌}
-use Rattle.tcl_compile.proofs.Levels.{script_commands}
+use Rattle.tcl_trees.proofs.PieceLists.{script_commands}
 use Rattle.tcl_words.specs.View.{command_view, script_view}
 use Rattle.config.proofs.MisplacedWords.{misplaced_found}
 use Rattle.config.proofs.event_words.event_places.Goals as goal

@@ -1,7 +1,7 @@
 use Rattle.std.proofs.Common.{◌≡◌, refl, ◌∙◌, sym, [], arith, true, false}
 use Rattle.std.specs.Prelude.{option_map}
-use Rattle.tcl_compile.specs.Procedures.{procs_view}
-use Rattle.tcl_compile.specs.TreeView.{node_view}
+use Rattle.tcl_trees.specs.Procedures.{procs_view}
+use Rattle.tcl_trees.specs.TreeView.{node_view}
 use Rattle.frame_machine.specs.AtOnce.{is_script}
 use Rattle.frame_machine.specs.FirstWords.{has_words}
 use Rattle.frame_machine.specs.Frames.{inner_of}

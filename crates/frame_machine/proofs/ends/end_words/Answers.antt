@@ -1,6 +1,6 @@
 use Rattle.std.proofs.Common.{◌≡◌, ◌∙◌, ap, sym, length, false, rules, arith}
-use Rattle.tcl_compile.specs.TreeView.{node_view}
-use Rattle.tcl_compile.specs.declared.node.Node.{out-Node}
+use Rattle.tcl_trees.specs.TreeView.{node_view}
+use Rattle.tcl_trees.specs.declared.node.Node.{out-Node}
 use Rattle.frame_machine.specs.CallParts.{caller_view}
 use Rattle.frame_machine.specs.FirstWords.{has_words_in}
 use Rattle.frame_machine.proofs.FirstViews.{has_words_view}

@@ -1,6 +1,6 @@
 use Rattle.std.proofs.Common.{◌∙◌, sym, arith}
-use Rattle.tcl_compile.specs.Procedures.{procs_view}
-use Rattle.tcl_compile.specs.TreeView.{node_view}
+use Rattle.tcl_trees.specs.Procedures.{procs_view}
+use Rattle.tcl_trees.specs.TreeView.{node_view}
 use Rattle.frame_machine.specs.Given.{setting_of}
 use Rattle.frame_machine.proofs.EndMeans.{ends_moved, ends_owe}
 use Rattle.frame_machine.proofs.InBegins.{done_owes, done_ready, not_call, word_verb_moved}

@@ -1,5 +1,5 @@
 use Rattle.std.proofs.Common.{refl, arith}
-use Rattle.tcl_compile.specs.TreeView.{node_view}
+use Rattle.tcl_trees.specs.TreeView.{node_view}
 use Rattle.frame_machine.specs.Given.{setting_of}
 use Rattle.frame_machine.proofs.InBegins.{child_moved, stop_moved}
 use Rattle.frame_machine.proofs.InScripts.{back_owes}

@@ -1,9 +1,9 @@
 use Rattle.std.proofs.Common.{arith}
 use Rattle.std.specs.Prelude.{option_map}
-use Rattle.tcl_compile.specs.TreeView.{node_view}
+use Rattle.tcl_trees.specs.TreeView.{node_view}
 use Rattle.frame_machine.specs.Frames.{inner_of}
 use Rattle.frame_machine.specs.Given.{setting_of}
-use Rattle.tcl_compile.specs.Procedures.{procs_view}
+use Rattle.tcl_trees.specs.Procedures.{procs_view}
 use Rattle.frame_machine.specs.StillMoves.{still_goes}
 use Rattle.frame_machine.proofs.InBegins.{behind_moved, words_moved}
 use Rattle.frame_machine.proofs.InKinds.{not_own, still_goes_on, still_goes_owes}

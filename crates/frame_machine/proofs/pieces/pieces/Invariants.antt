@@ -1,6 +1,6 @@
 use Rattle.std.proofs.Common.{◌≡◌, ◌+◌, drop}
 use Rattle.std.specs.Prelude.{option_map}
-use Rattle.tcl_compile.specs.TreeView.{nodes_view}
+use Rattle.tcl_trees.specs.TreeView.{nodes_view}
 use Rattle.frame_machine.specs.Pieces.{pieces_cost, pieces_from}
 use Rattle.frame_machine.proofs.pieces.pieces.Given as goal
 

@@ -1,5 +1,5 @@
 use Rattle.std.proofs.Common.{◌≡◌, drop}
-use Rattle.tcl_compile.specs.Procedures.{procs_view}
+use Rattle.tcl_trees.specs.Procedures.{procs_view}
 use Rattle.frame_machine.specs.Walks.{spot_above, spot_of}
 use Rattle.frame_machine.proofs.place.climb.Given as goal
 

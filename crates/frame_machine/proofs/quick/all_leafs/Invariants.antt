@@ -1,5 +1,5 @@
 use Rattle.std.proofs.Common.{◌≡◌, drop}
-use Rattle.tcl_compile.specs.TreeView.{operands_view}
+use Rattle.tcl_trees.specs.TreeView.{operands_view}
 use Rattle.frame_machine.specs.Quick.{all_flat}
 use Rattle.frame_machine.proofs.quick.all_leafs.Given as goal
 

@@ -1,5 +1,5 @@
 use Rattle.std.proofs.Common.{◌∙◌, ap, sym, ◌+◌, ◌-◌, arith}
-use Rattle.tcl_compile.specs.TreeView.{node_view}
+use Rattle.tcl_trees.specs.TreeView.{node_view}
 use Rattle.frame_machine.specs.Reads.{known_by}
 use Rattle.frame_machine.specs.Rows.{most_operators}
 use Rattle.frame_machine.proofs.RowSteps.{operand_here, row_ends, row_goes, row_stays}

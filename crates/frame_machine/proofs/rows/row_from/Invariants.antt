@@ -1,5 +1,5 @@
 use Rattle.std.proofs.Common.{◌≡◌, ◌+◌, ◌-◌, ◌≤◌, drop}
-use Rattle.tcl_compile.specs.TreeView.{operands_view}
+use Rattle.tcl_trees.specs.TreeView.{operands_view}
 use Rattle.frame_machine.specs.Reads.{known_by}
 use Rattle.frame_machine.specs.Rows.{most_operators, row_from}
 use Rattle.frame_machine.proofs.rows.row_from.Given as goal

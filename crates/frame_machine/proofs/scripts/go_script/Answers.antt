@@ -1,6 +1,6 @@
 use Rattle.std.proofs.Common.{◌≡◌, ap, ◌∙◌, ◌+◌, ◌≤◌, length, arith}
 use Rattle.std.specs.Prelude.{option_map}
-use Rattle.tcl_compile.specs.TreeView.{node_view}
+use Rattle.tcl_trees.specs.TreeView.{node_view}
 use Rattle.rule_model.specs.declared.code.Code.TheVariants.{Value}
 use Rattle.frame_machine.specs.Children.{commands_of}
 use Rattle.frame_machine.specs.Moves.{stop}

@@ -1,6 +1,6 @@
 use Rattle.std.proofs.Common.{◌≡◌, ap, ◌∙◌, refl, sym, ◌+◌, ◌-◌, ◌≤◌, ◌^◌, length, arith, add-zero}
 use Rattle.std.specs.Prelude.{option_map}
-use Rattle.tcl_compile.specs.TreeView.{node_view}
+use Rattle.tcl_trees.specs.TreeView.{node_view}
 use Rattle.frame_machine.specs.AtOnce.{unheard}
 use Rattle.frame_machine.specs.Children.{commands_of}
 use Rattle.frame_machine.proofs.ScriptMoves.{done_by, goes_at, goes_within, rests_at, two_done, unheard_most}

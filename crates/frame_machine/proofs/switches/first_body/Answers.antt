@@ -1,5 +1,5 @@
 use Rattle.std.proofs.Common.{◌≡◌, ◌∙◌, sym, ◌+◌, length, arith}
-use Rattle.tcl_compile.specs.TreeView.{node_view}
+use Rattle.tcl_trees.specs.TreeView.{node_view}
 use Rattle.frame_machine.specs.Reads.{known_by}
 use Rattle.frame_machine.proofs.RowSteps.{body_here, first_here, first_more}
 use Rattle.frame_machine.proofs.switches.first_body.Goals as goal

@@ -1,5 +1,5 @@
 use Rattle.std.proofs.Common.{◌≡◌, ◌+◌, drop, length}
-use Rattle.tcl_compile.specs.TreeView.{nodes_view}
+use Rattle.tcl_trees.specs.TreeView.{nodes_view}
 use Rattle.frame_machine.specs.Reads.{known_by}
 use Rattle.frame_machine.specs.Switches.{first_within}
 use Rattle.frame_machine.proofs.switches.first_body.Given as goal

@@ -1,6 +1,6 @@
 use Rattle.std.proofs.Common.{◌≡◌, ◌+◌, drop}
 use Rattle.std.specs.Prelude.{option_map}
-use Rattle.tcl_compile.specs.TreeView.{nodes_view}
+use Rattle.tcl_trees.specs.TreeView.{nodes_view}
 use Rattle.frame_machine.specs.Words.{words_cost, words_from}
 use Rattle.frame_machine.proofs.words.words.Given as goal
 

@@ -1,7 +1,7 @@
 use Rattle.std.proofs.Common.{◌≡◌, drop}
 use Rattle.interim_rules.specs.HostCommands.{may_all_stand, names_in_all, names_in_operands, names_in_values}
-use Rattle.tcl_compile.specs.Tree.{operands_of, trees_of, values_of}
-use Rattle.tcl_compile.specs.TreeView.{nodes_view, operands_view, values_view}
+use Rattle.tcl_trees.specs.Tree.{operands_of, trees_of, values_of}
+use Rattle.tcl_trees.specs.TreeView.{nodes_view, operands_view, values_view}
 use Rattle.interim_rules.proofs.host_commands.+built.Given as goal
 
 abbrev pub invariant-nodes_are_built-loop-node : goal.invariant-nodes_are_built-loop-node

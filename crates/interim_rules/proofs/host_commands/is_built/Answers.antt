@@ -1,5 +1,5 @@
 use Rattle.std.proofs.Common.{sym, ◌∙◌}
-use Rattle.tcl_compile.specs.TreeView.{node_view}
+use Rattle.tcl_trees.specs.TreeView.{node_view}
 use Rattle.interim_rules.proofs.Names.{built_if}
 use Rattle.interim_rules.proofs.host_commands.is_built.Goals as goal
 

@@ -1,6 +1,6 @@
 use Rattle.std.specs.Prelude.{option_map}
-use Rattle.tcl_compile.specs.Procedures.{procs_view}
-use Rattle.tcl_compile.specs.TreeView.{node_view}
+use Rattle.tcl_trees.specs.Procedures.{procs_view}
+use Rattle.tcl_trees.specs.TreeView.{node_view}
 use Rattle.plain_eval.specs.Plain.{setting}
 use Rattle.plain_eval.specs.Stand.{stand}
 use Rattle.plain_eval.proofs.Outcomes.{outcome_of}

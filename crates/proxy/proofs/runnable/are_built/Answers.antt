@@ -2,7 +2,7 @@ use Rattle.std.proofs.Common.{◌≡◌, ap, sym, ◌∙◌, true, false, Bool, 
 use Rattle.std.specs.List.{list_all}
 use Rattle.std.specs.Prelude.{slice_get}
 use Rattle.interim_rules.specs.HostCommands.{is_built}
-use Rattle.tcl_compile.specs.Procedures.{Procedure, procs_view}
+use Rattle.tcl_trees.specs.Procedures.{Procedure, procs_view}
 use Rattle.proxy.specs.Runnable.{most_procedures}
 use Rattle.proxy.proofs.ListTests.{all_next, all_past, none_of}
 use Rattle.proxy.proofs.runnable.are_built.Goals as goal

@@ -1,5 +1,5 @@
 use Rattle.std.proofs.Common.{◌≡◌, drop}
-use Rattle.tcl_compile.specs.Procedures.{procs_view}
+use Rattle.tcl_trees.specs.Procedures.{procs_view}
 use Rattle.proxy.specs.Runnable.{are_built}
 use Rattle.proxy.proofs.runnable.are_built.Given as goal
 

@@ -3,7 +3,7 @@ use Rattle.rule_loader.specs.Outcome.{Holds}
 use Rattle.rule_loader.specs.declared.rule.Rule.{Rule}
 use Rattle.rule_loader.proofs.Rules.{fault_given, rule_given}
 use Rattle.rule_loader.proofs.loader.load_rule.Goals as goal
-use Rattle.tcl_compile.proofs.Levels.{script_commands}
+use Rattle.tcl_trees.proofs.PieceLists.{script_commands}
 use Rattle.tcl_words.specs.View.{command_view, script_view}
 
 pub returns-in-Some : goal.returns-in-Some

@@ -1,5 +1,5 @@
 use Rattle.std.proofs.Common.{sym, ap, ◌∙◌, ◌+◌, ◌-◌, drop, subst, arith}
-use Rattle.tcl_compile.specs.TreeView.{node_view, nodes_view}
+use Rattle.tcl_trees.specs.TreeView.{node_view, nodes_view}
 use Rattle.rule_nodes.specs.AtOnce.{AreLiterals}
 use Rattle.rule_nodes.proofs.ShortChoices.{nodes_at, one_is}
 use Rattle.rule_nodes.proofs.short_choices.are_literals.Goals as goal

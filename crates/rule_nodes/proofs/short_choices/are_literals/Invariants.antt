@@ -1,6 +1,6 @@
 use Rattle.std.proofs.Common.{ℕ, ◌-◌, ◌/◌, ◌≤◌, drop}
 use Rattle.px_bytes.specs.Limit.{text_limit}
-use Rattle.tcl_compile.specs.TreeView.{nodes_view}
+use Rattle.tcl_trees.specs.TreeView.{nodes_view}
 use Rattle.rule_nodes.specs.AtOnce.{AreLiterals}
 use Rattle.rule_nodes.proofs.short_choices.are_literals.Given as goal
 

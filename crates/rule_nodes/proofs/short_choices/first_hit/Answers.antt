@@ -1,5 +1,5 @@
 use Rattle.std.proofs.Common.{◌≡◌, ap, sym, ◌∙◌, ◌-◌, suc, length, take, drop, arith}
-use Rattle.tcl_compile.specs.TreeView.{node_view, nodes_view}
+use Rattle.tcl_trees.specs.TreeView.{node_view, nodes_view}
 use Rattle.rule_nodes.proofs.Hits.{one_more}
 use Rattle.rule_nodes.proofs.ShortChoices.{hits_are, no_hit}
 use Rattle.rule_nodes.proofs.short_choices.first_hit.Goals as goal

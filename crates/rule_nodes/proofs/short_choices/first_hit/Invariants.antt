@@ -1,5 +1,5 @@
 use Rattle.std.proofs.Common.{◌≡◌, ◌+◌, List, ℕ, Some, length}
-use Rattle.tcl_compile.specs.TreeView.{nodes_view}
+use Rattle.tcl_trees.specs.TreeView.{nodes_view}
 use Rattle.rule_model.specs.Control.{first_hit}
 use Rattle.rule_nodes.specs.AtOnce.{literals}
 use Rattle.rule_nodes.proofs.ShortChoices.{HitsLeft}

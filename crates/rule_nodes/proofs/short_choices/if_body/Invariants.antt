@@ -1,6 +1,6 @@
 use Rattle.std.proofs.Common.{◌≡◌, ℕ, ◌+◌, drop, option_map}
-use Rattle.tcl_compile.specs.Tree.{values_of}
-use Rattle.tcl_compile.specs.TreeView.{node_view, values_view}
+use Rattle.tcl_trees.specs.Tree.{values_of}
+use Rattle.tcl_trees.specs.TreeView.{node_view, values_view}
 use Rattle.rule_nodes.specs.Short.{purse, short, short_branches}
 use Rattle.rule_nodes.proofs.short_choices.if_body.Given as goal
 

@@ -1,5 +1,5 @@
 use Rattle.std.proofs.Common.{sym, ◌+◌, drop, subst}
-use Rattle.tcl_compile.specs.TreeView.{node_view, nodes_view}
+use Rattle.tcl_trees.specs.TreeView.{node_view, nodes_view}
 use Rattle.rule_nodes.proofs.ShortChoices.{GlobIs, nodes_at, option_is, no_options}
 use Rattle.rule_nodes.proofs.short_choices.is_glob.Goals as goal
 

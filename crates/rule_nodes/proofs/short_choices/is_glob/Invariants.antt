@@ -1,5 +1,5 @@
 use Rattle.std.proofs.Common.{Bool, false, drop}
-use Rattle.tcl_compile.specs.TreeView.{nodes_view}
+use Rattle.tcl_trees.specs.TreeView.{nodes_view}
 use Rattle.rule_nodes.proofs.ShortChoices.{GlobIs}
 use Rattle.rule_nodes.proofs.short_choices.is_glob.Given as goal
 

@@ -1,6 +1,6 @@
 use Rattle.std.proofs.Common.{◌≡◌, ℕ, drop, option_map}
-use Rattle.tcl_compile.specs.Tree.{trees_of}
-use Rattle.tcl_compile.specs.TreeView.{nodes_view}
+use Rattle.tcl_trees.specs.Tree.{trees_of}
+use Rattle.tcl_trees.specs.TreeView.{nodes_view}
 use Rattle.rule_nodes.specs.Short.{purse, short_pieces}
 use Rattle.rule_nodes.proofs.short_choices.joined_parts.Given as goal
 

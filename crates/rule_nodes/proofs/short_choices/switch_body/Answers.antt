@@ -1,7 +1,7 @@
 use Rattle.std.proofs.Common.{◌-◌, ◌≤◌, ◌∙◌, length, take, drop, Some, None, Bor, option_map, arith}
 use Rattle.tcl_vars.specs.declared.vars.Vars.{Vars}
-use Rattle.tcl_compile.specs.Tree.{trees_of}
-use Rattle.tcl_compile.specs.TreeView.{nodes_view}
+use Rattle.tcl_trees.specs.Tree.{trees_of}
+use Rattle.tcl_trees.specs.TreeView.{nodes_view}
 use Rattle.rule_nodes.specs.AtOnce.{AreLiterals}
 use Rattle.rule_nodes.specs.Choice.{first_body_of}
 use Rattle.rule_nodes.proofs.SwitchHits.{body_is}

@@ -1,9 +1,9 @@
 use Rattle.std.proofs.Common.{◌≡◌, refl, option_map}
-use Rattle.tcl_compile.specs.Tree as tree
-use Rattle.tcl_compile.specs.Tree.{trees_of, values_of}
-use Rattle.tcl_compile.specs.TreeView.{node_view, values_view}
-use Rattle.tcl_compile.specs.declared.node.Node.{fold-roll-Node}
-use Rattle.tcl_compile.specs.declared.node.Node.TheVariants.{rolls-If}
+use Rattle.tcl_trees.specs.Tree as tree
+use Rattle.tcl_trees.specs.Tree.{trees_of, values_of}
+use Rattle.tcl_trees.specs.TreeView.{node_view, values_view}
+use Rattle.tcl_trees.specs.declared.node.Node.{fold-roll-Node}
+use Rattle.tcl_trees.specs.declared.node.Node.TheVariants.{rolls-If}
 use Rattle.rule_nodes.specs.Short.{purse}
 use Rattle.rule_nodes.proofs.ShortChosen.{choice_on}
 use Rattle.rule_nodes.proofs.short_commands.+done.Goals as goal

@@ -1,5 +1,5 @@
 use Rattle.std.proofs.Common.{◌<◌, ◌≡◌, ◌+◌, ◌-◌, suc, drop, length, option_map, arith, subst, ℕ}
-use Rattle.tcl_compile.specs.TreeView.{node_view, nodes_view}
+use Rattle.tcl_trees.specs.TreeView.{node_view, nodes_view}
 use Rattle.rule_nodes.specs.AtOnce.{DoesFront}
 use Rattle.rule_nodes.proofs.CommandFronts.{command_there, front_then}
 use Rattle.rule_nodes.proofs.short_commands.commands_at_once.Goals as goal

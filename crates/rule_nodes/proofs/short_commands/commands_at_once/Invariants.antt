@@ -1,5 +1,5 @@
 use Rattle.std.proofs.Common.{◌-◌, ◌≤◌, drop, length, max, option_map}
-use Rattle.tcl_compile.specs.TreeView.{nodes_view}
+use Rattle.tcl_trees.specs.TreeView.{nodes_view}
 use Rattle.rule_nodes.specs.AtOnce.{DoesFront}
 use Rattle.rule_nodes.proofs.short_commands.commands_at_once.Given as goal
 

@@ -1,7 +1,7 @@
 use Rattle.std.proofs.Common.{option_map, arith, length, ◌≡◌}
-use Rattle.tcl_compile.specs.Tree as tree
-use Rattle.tcl_compile.specs.TreeView.{node_view}
-use Rattle.tcl_compile.specs.declared.node.Verb.TheVariants as verb
+use Rattle.tcl_trees.specs.Tree as tree
+use Rattle.tcl_trees.specs.TreeView.{node_view}
+use Rattle.tcl_trees.specs.declared.node.Verb.TheVariants as verb
 use Rattle.rule_nodes.proofs.ShortParts.{OneWord, PartIs, copied_value, literal_value, one_literal, one_word, verb_on}
 use Rattle.rule_nodes.proofs.short_commands.extended.Goals as goal
 

@@ -1,9 +1,9 @@
 use Rattle.std.proofs.Common.{option_map, arith, length, rules, w64, ◌≡◌, FitsSigned}
 use Rattle.std.proofs.lemmas.Int.{to_z-of_z}
-use Rattle.tcl_compile.specs.TreeView.{node_view}
+use Rattle.tcl_trees.specs.TreeView.{node_view}
 use Rattle.rule_nodes.proofs.ShortParts.{incr_ends, incr_one, no_item, one_word, read_value, verb_on}
 use Rattle.rule_nodes.specs.AtOnce.{ReadsPart}
-use Rattle.tcl_compile.specs.declared.node.Verb.TheVariants as verb
+use Rattle.tcl_trees.specs.declared.node.Verb.TheVariants as verb
 use Rattle.rule_nodes.proofs.short_commands.incremented.Goals as goal
 
 pub returns-in-empty-clause-done : goal.returns-in-empty-clause-done

@@ -1,5 +1,5 @@
 use Rattle.std.proofs.Common.{◌-◌, refl, option_map, arith, length, drop, take}
-use Rattle.tcl_compile.specs.declared.node.Verb.TheVariants as verb
+use Rattle.tcl_trees.specs.declared.node.Verb.TheVariants as verb
 use Rattle.rule_nodes.specs.Short.{purse}
 use Rattle.rule_nodes.proofs.ShortParts.{Front, front_each, front_of, front_on}
 use Rattle.rule_nodes.proofs.short_commands.on_words.Goals as goal

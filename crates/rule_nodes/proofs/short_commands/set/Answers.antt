@@ -1,12 +1,12 @@
 use Rattle.std.proofs.Common.{◌≡◌, ◌∙◌, ap, sym, refl, option_map, arith, length, Some}
-use Rattle.tcl_compile.specs.Tree as tree
-use Rattle.tcl_compile.specs.Tree.{trees_of}
-use Rattle.tcl_compile.specs.TreeView.{node_view, nodes_view}
-use Rattle.tcl_compile.specs.declared.node.Node.{fold-roll-Node}
-use Rattle.tcl_compile.specs.declared.node.Node.TheVariants.{rolls-Script}
+use Rattle.tcl_trees.specs.Tree as tree
+use Rattle.tcl_trees.specs.Tree.{trees_of}
+use Rattle.tcl_trees.specs.TreeView.{node_view, nodes_view}
+use Rattle.tcl_trees.specs.declared.node.Node.{fold-roll-Node}
+use Rattle.tcl_trees.specs.declared.node.Node.TheVariants.{rolls-Script}
 use Rattle.rule_nodes.specs.AtOnce.{only_part}
 use Rattle.rule_nodes.proofs.ShortParts.{OneWord, PartIs, copied_value, literal_value, one_literal, one_word, set_bracket, set_ends, verb_at}
-use Rattle.tcl_compile.specs.declared.node.Verb.TheVariants as verb
+use Rattle.tcl_trees.specs.declared.node.Verb.TheVariants as verb
 use Rattle.rule_nodes.proofs.short_commands.set.Goals as goal
 
 pub returns-in-Some-short_bytes-clause-done : goal.returns-in-Some-short_bytes-clause-done

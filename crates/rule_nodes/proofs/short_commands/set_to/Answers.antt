@@ -1,10 +1,10 @@
 use Rattle.std.proofs.Common.{◌≡◌, ◌<◌, refl, option_map, rules, arith, w64, FitsSigned, length, ◌+◌, ◌-◌}
 use Rattle.std.proofs.lemmas.Int.{to_z-of_z}
-use Rattle.tcl_compile.specs.Tree as tree
-use Rattle.tcl_compile.specs.Tree.{trees_of}
-use Rattle.tcl_compile.specs.TreeView.{node_view}
-use Rattle.tcl_compile.specs.declared.node.Node.{fold-roll-Node}
-use Rattle.tcl_compile.specs.declared.node.Node.TheVariants.{rolls-Expr}
+use Rattle.tcl_trees.specs.Tree as tree
+use Rattle.tcl_trees.specs.Tree.{trees_of}
+use Rattle.tcl_trees.specs.TreeView.{node_view}
+use Rattle.tcl_trees.specs.declared.node.Node.{fold-roll-Node}
+use Rattle.tcl_trees.specs.declared.node.Node.TheVariants.{rolls-Expr}
 use Rattle.rule_nodes.proofs.ShortParts.{bracket_set, one_command, only_item}
 use Rattle.rule_nodes.proofs.ShortVerbs.{InPlace}
 use Rattle.rule_nodes.specs.AtOnce.{ReadsWhole}

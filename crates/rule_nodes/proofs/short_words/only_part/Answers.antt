@@ -1,7 +1,7 @@
 use Rattle.std.proofs.Common.{◌≡◌, refl, arith}
-use Rattle.tcl_compile.specs.Tree.{trees_of, word}
-use Rattle.tcl_compile.specs.TreeView.{node_view, nodes_view}
-use Rattle.tcl_compile.specs.declared.node.Node.{the_lemmas}
+use Rattle.tcl_trees.specs.Tree.{trees_of, word}
+use Rattle.tcl_trees.specs.TreeView.{node_view, nodes_view}
+use Rattle.tcl_trees.specs.declared.node.Node.{the_lemmas}
 use Rattle.rule_nodes.proofs.ShortWords.{first_part, no_only_part}
 use Rattle.rule_nodes.proofs.short_words.only_part.Goals as goal
 

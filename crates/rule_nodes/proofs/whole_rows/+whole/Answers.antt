@@ -1,9 +1,9 @@
 use Rattle.std.proofs.Common.{◌≡◌, refl, sym, ap, ◌∙◌, Some, ◌+◌, arith, rules, FitsSigned, to_z, of_z, w64}
 use Rattle.std.proofs.lemmas.Int.{to_z-of_z}
-use Rattle.tcl_compile.specs.Tree.{operands_of, row}
-use Rattle.tcl_compile.specs.TreeView.{node_view, operands_view}
-use Rattle.tcl_compile.specs.declared.node.Node.{fold-roll-Node}
-use Rattle.tcl_compile.specs.declared.node.Node.TheVariants.{rolls-Row}
+use Rattle.tcl_trees.specs.Tree.{operands_of, row}
+use Rattle.tcl_trees.specs.TreeView.{node_view, operands_view}
+use Rattle.tcl_trees.specs.declared.node.Node.{fold-roll-Node}
+use Rattle.tcl_trees.specs.declared.node.Node.TheVariants.{rolls-Row}
 use Rattle.rule_nodes.proofs.WholeRows.{row_reads, none_join, more_joins}
 use Rattle.rule_nodes.proofs.whole_rows.+whole.Goals as goal
 

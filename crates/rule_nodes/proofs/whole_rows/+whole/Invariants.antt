@@ -1,6 +1,6 @@
 use Rattle.std.proofs.Common.{ℕ, ℤ, ◌*◌, ◌+◌, ◌≤◌, drop, option_map}
-use Rattle.tcl_compile.specs.Tree.{operands_of}
-use Rattle.tcl_compile.specs.TreeView.{operands_view}
+use Rattle.tcl_trees.specs.Tree.{operands_of}
+use Rattle.tcl_trees.specs.TreeView.{operands_view}
 use Rattle.rule_nodes.proofs.WholeRows.{Joins}
 use Rattle.rule_nodes.proofs.whole_rows.+whole.Given as goal
 

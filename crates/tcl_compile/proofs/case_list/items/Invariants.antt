@@ -1,5 +1,5 @@
 use Rattle.std.proofs.Common.{◌≡◌, take, map}
-use Rattle.tcl_compile.specs.CaseList.{item_of}
+use Rattle.tcl_trees.specs.CaseList.{item_of}
 use Rattle.tcl_compile.proofs.ListItems.{elements_of}
 use Rattle.tcl_compile.proofs.case_list.items.Given as goal
 

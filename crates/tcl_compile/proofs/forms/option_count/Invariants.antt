@@ -1,6 +1,6 @@
 use Rattle.std.proofs.Common.{◌≡◌, ◌+◌, drop, map}
 use Rattle.tcl_words.specs.View.{word_view}
-use Rattle.tcl_compile.specs.Forms.{option_count}
+use Rattle.tcl_trees.specs.Forms.{option_count}
 use Rattle.tcl_compile.proofs.forms.option_count.Given as goal
 
 abbrev pub invariant-loop-at : goal.invariant-loop-at

@@ -1,7 +1,7 @@
 use Rattle.std.proofs.Common.{map, sym, ap, ◌∙◌}
 use Rattle.std.specs.Prelude.{option_map}
 use Rattle.tcl_words.specs.View.{word_view}
-use Rattle.tcl_compile.specs.Forms.{if_form}
+use Rattle.tcl_trees.specs.Forms.{if_form}
 use Rattle.tcl_compile.specs.IfView.{arms_view, behind_arms}
 use Rattle.tcl_compile.proofs.Arms.{arm_turn}
 use Rattle.tcl_compile.proofs.if_form.if_form.Goals as goal

@@ -1,7 +1,7 @@
 use Rattle.std.proofs.Common.{◌≡◌, length, map}
 use Rattle.std.specs.Prelude.{option_map}
 use Rattle.tcl_words.specs.View.{word_view}
-use Rattle.tcl_compile.specs.Forms.{branches_in, if_form}
+use Rattle.tcl_trees.specs.Forms.{branches_in, if_form}
 use Rattle.tcl_compile.specs.IfView.{arms_view, behind_arms}
 use Rattle.tcl_compile.proofs.if_form.if_form.Given as goal
 

@@ -1,5 +1,5 @@
 use Rattle.std.proofs.Common.{◌+◌, ◌-◌, sym, ap, ◌∙◌, arith}
-use Rattle.tcl_compile.specs.Opened.{counted}
+use Rattle.tcl_trees.specs.Opened.{counted}
 use Rattle.tcl_compile.proofs.OpenedTurns.{counted_more}
 use Rattle.tcl_compile.proofs.opened.counted.Goals as goal
 

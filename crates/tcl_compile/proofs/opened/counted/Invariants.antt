@@ -1,5 +1,5 @@
 use Rattle.std.proofs.Common.{◌≡◌, ◌-◌}
-use Rattle.tcl_compile.specs.Opened.{counted}
+use Rattle.tcl_trees.specs.Opened.{counted}
 use Rattle.tcl_compile.proofs.opened.counted.Given as goal
 
 abbrev pub invariant-loop-at : goal.invariant-loop-at

@@ -1,6 +1,6 @@
 use Rattle.std.proofs.Common.{◌≡◌, drop, map}
 use Rattle.tcl_words.specs.View.{part_view}
-use Rattle.tcl_compile.specs.Opened.{last_end}
+use Rattle.tcl_trees.specs.Opened.{last_end}
 use Rattle.tcl_compile.proofs.opened.last_end.Given as goal
 
 abbrev pub invariant-loop-part : goal.invariant-loop-part

@@ -1,5 +1,5 @@
-use Rattle.tcl_compile.specs.Procedures.{procs_view}
-use Rattle.tcl_compile.specs.TreeView.{node_view}
+use Rattle.tcl_trees.specs.Procedures.{procs_view}
+use Rattle.tcl_trees.specs.TreeView.{node_view}
 use Rattle.frame_machine.proofs.InWalks.{grown_on, on_the_way}
 use Rattle.frame_machine.proofs.machine.Machine.step_along.Goals as goal
 

@@ -1,6 +1,6 @@
 use Rattle.std.proofs.Common.{refl, ap, ◌<◌, sym, length, arith}
-use Rattle.tcl_compile.specs.Procedures.{procs_view}
-use Rattle.tcl_compile.specs.TreeView.{node_view}
+use Rattle.tcl_trees.specs.Procedures.{procs_view}
+use Rattle.tcl_trees.specs.TreeView.{node_view}
 use Rattle.frame_machine.proofs.InWalks.{along_more, along_so_far}
 use Rattle.frame_machine.proofs.walk.Walk.along.Goals as goal
 

@@ -1,5 +1,5 @@
-use Rattle.tcl_compile.specs.Procedures.{procs_view}
-use Rattle.tcl_compile.specs.TreeView.{node_view}
+use Rattle.tcl_trees.specs.Procedures.{procs_view}
+use Rattle.tcl_trees.specs.TreeView.{node_view}
 use Rattle.frame_machine.proofs.InWalks.{Along}
 use Rattle.frame_machine.proofs.walk.Walk.along.Given as goal
 

@@ -1,5 +1,5 @@
 use Rattle.std.proofs.Common.{◌≡◌, length, arith}
-use Rattle.tcl_compile.specs.Procedures.{procs_view}
+use Rattle.tcl_trees.specs.Procedures.{procs_view}
 use Rattle.frame_machine.proofs.InWalks.{caught_up}
 use Rattle.frame_machine.proofs.walk.Walk.catch_up.Goals as goal
 

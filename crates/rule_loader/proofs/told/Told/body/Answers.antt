@@ -4,8 +4,8 @@ use Rattle.rule_loader.specs.Faults.{after_faults}
 use Rattle.rule_loader.specs.Loading.{examined_faults, flaw_faults}
 use Rattle.rule_loader.proofs.Faults.{after_both}
 use Rattle.rule_loader.proofs.told.Told.body.Goals as goal
-use Rattle.tcl_compile.specs.Making.{Made}
-use Rattle.tcl_compile.specs.Tree.{Tree}
+use Rattle.tcl_trees.specs.Making.{Made}
+use Rattle.tcl_trees.specs.Tree.{Tree}
 
 pub returns-clause-tree : goal.returns-clause-tree
 returns-clause-tree c = sym (ap (λ (r : Made Tree). r.0) c.in_ok-node.ensures)

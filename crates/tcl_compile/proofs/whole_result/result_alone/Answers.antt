@@ -1,7 +1,0 @@
-use Rattle.std.proofs.Common.{refl}
-use Rattle.std.specs.Fmt.{digits}
-use Rattle.tcl_compile.proofs.whole_result.result_alone.Goals as goal
-
-pub returns : goal.returns
-unfolding digits
-returns c = record { result = refl; operand = refl }

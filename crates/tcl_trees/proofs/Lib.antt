@@ -1,0 +1,3 @@
+pub mod CompiledRows
+pub mod Named
+pub mod PieceLists
