@@ -3,6 +3,7 @@ mod FirstTold
 mod Firsts
 mod Found
 mod Items
+mod LineEnds
 mod MisplacedWords
 mod OneReading
 mod Readings

@@ -12,6 +12,7 @@ use Rattle.toml.specs.Data.{Data, Items, no_items, item, Members}
 use Rattle.config.specs.Documents.{items_at}
 use Rattle.config.specs.Keys.{rule_text, rules}
 use Rattle.config.specs.Laws.{AreSame, named_text}
+use Rattle.config.specs.LineEnds.{without_returns}
 use Rattle.config.specs.Loading.{AreLoaded, HasText, IsLoaded, file_name, rule_name}
 use Rattle.config.specs.Outcomes.{Configures}
 use Rattle.config.specs.Texts.{text_in}
@@ -24,7 +25,8 @@ same_held None some a b one other = cc
 
 same_text : (told : List ℕ → Option (List ℕ)) (o : Option (List ℕ)) (file a b : List ℕ) → IsSome (told file) → HasText told o file a → HasText told o file b → a ≡ b
 same_text told (Some held) file a b some one other = one ∙ sym other
-same_text told None file a b some one other = same_held (told file) some a b one other
+same_text told None file a b some one other =
+    one.text ∙ ap without_returns (same_held (told file) some one.held other.held one.contents other.contents) ∙ sym other.text
 
 -- the rule's name is the one that it was loaded under
 name_given : (name : List ℕ) (r : Rule) (says : Result Loaded RuleFault) → ((of : Loaded) → says ≡ Ok of → of.name ≡ name) → Gives (Ok r) says → r.name ≡ name

@@ -6,6 +6,7 @@ pub mod GroupView
 pub mod Groups
 pub mod Keys
 pub mod Laws
+pub mod LineEnds
 pub mod Loading
 pub mod Misplaced
 pub mod Names

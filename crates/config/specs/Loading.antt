@@ -10,6 +10,7 @@ use Rattle.toml.specs.Data.{Data, Items, no_items, item}
 use Rattle.config.specs.EventWords.{misplaced_in}
 use Rattle.config.specs.Faults.{fault_at}
 use Rattle.config.specs.Keys.{name_key, rule_file, rule_text}
+use Rattle.config.specs.LineEnds.{without_returns}
 use Rattle.config.specs.Texts.{text_in}
 use Rattle.config.specs.declared.fault.ConfigFault.{ConfigFault}
 use Rattle.config.specs.declared.fault.ConfigFault.TheVariants as refused
@@ -45,9 +46,15 @@ rule_name d = item_text name_key.name d
 abbrev pub file_name : Data → List ℕ
 file_name d = item_text rule_file.name d
 
+-- these are the bytes of a rule's file, in which CR LF ends a line as LF does
+pub record IsFileText (told : List ℕ → Option (List ℕ)) (file bytes : List ℕ) : Type 0 where
+  pub held : List ℕ
+  pub contents : IsContents told file held
+  pub text : bytes ≡ without_returns held
+
 abbrev pub HasText : (List ℕ → Option (List ℕ)) → Option (List ℕ) → List ℕ → List ℕ → Type 0
 HasText told (Some held) file bytes = bytes ≡ held
-HasText told None file bytes = IsContents told file bytes
+HasText told None file bytes = IsFileText told file bytes
 
 -- its text: that of the document, or that of its file
 abbrev pub IsRuleText : (List ℕ → Option (List ℕ)) → Data → List ℕ → Type 0

@@ -13,6 +13,7 @@ mod key;
 mod keys;
 mod known;
 mod laws;
+mod line_ends;
 mod loaded_rules;
 mod loading;
 mod misplaced;

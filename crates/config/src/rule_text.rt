@@ -4,15 +4,16 @@ ghost use Rattle.std.specs.Prelude.{◌≡◌, ◌≤◌, IfOk, IfErr};
 ghost use Rattle.toml.specs.View.{view};
 ghost use Rattle.config.specs.Faults.{fault_at};
 ghost use Rattle.config.specs.Keys.{key_view};
-ghost use Rattle.config.specs.Loading.{CantLoad, CantRead, IsContents, IsLoaded, IsRuleFault};
-ghost use Rattle.config.specs.Loading.{IsRuleOf, IsRuleText, OfFault, file_name, item_text};
-ghost use Rattle.config.specs.Loading.{rule_name, rule_place};
+ghost use Rattle.config.specs.Loading.{CantLoad, CantRead, IsContents, IsFileText, IsLoaded};
+ghost use Rattle.config.specs.Loading.{IsRuleFault, IsRuleOf, IsRuleText, OfFault, file_name};
+ghost use Rattle.config.specs.Loading.{item_text, rule_name, rule_place};
 
 use crate::event_words::{EventPlaces, event_places};
 use crate::fault::{ConfigFault, Fault, FaultKind};
 use crate::index::text_in;
 use crate::key::Key;
 use crate::keys::{FILE, NAME, TEXT};
+use crate::line_ends::without_returns;
 use px_bytes::{M, Text};
 use px_outside::{Failed, Files};
 use rule_loader::{LoadFault, Rule, load_rule};
@@ -67,6 +68,20 @@ fn item_text<'a>(key: &Key, value: &'a Value) -> &'a [u8]
     }
 }
 
+// The text of a rule that stands in a file of its own.
+fn file_text<F: Files>(alloc: Global, files: &mut F, name: &[u8]) -> Result<Text, ConfigFault>
+    ensures text { IfOk result (IsFileText (F.told files.old) name.now) }
+    ensures fault { IfErr result
+        (OfFault (CantRead (F.faults files.old) (F.faults files.new) name.now)) }
+    ensures same_files { F.told files.new ≡ F.told files.old }
+    ensures faults_never_fall { F.faults files.old ≤ F.faults files.new }
+{
+    match read_file(alloc, files, name) {
+        Ok(held) => Ok(without_returns(alloc, held.as_bytes())?),
+        Err(why) => Err(why),
+    }
+}
+
 // The text of a rule, which stands in the document or in a file.
 fn rule_text<F: Files>(alloc: Global, files: &mut F, value: &Value) -> Result<Text, ConfigFault>
     ensures text { IfOk result (IsRuleText (F.told files.old) (view value.now)) }
@@ -78,7 +93,7 @@ fn rule_text<F: Files>(alloc: Global, files: &mut F, value: &Value) -> Result<Te
 {
     match text_in(Some(TEXT.name), value) {
         Some(text) => Ok(Text::new(alloc, text.as_bytes())?),
-        None => read_file(alloc, files, item_text(&FILE, value)),
+        None => file_text(alloc, files, item_text(&FILE, value)),
     }
 }
 

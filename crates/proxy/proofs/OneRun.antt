@@ -18,6 +18,7 @@ use Rattle.config.specs.Documents.{document_fault, items_at}
 use Rattle.config.specs.EventWords.{misplaced_in}
 use Rattle.config.specs.Faults.{fault_at}
 use Rattle.config.specs.Keys.{name_key, rules, rule_text}
+use Rattle.config.specs.LineEnds.{without_returns}
 use Rattle.config.specs.Loading.{AreLoaded, HasText, IsContents, IsLoaded, StopsAt, file_name, rule_name}
 use Rattle.config.specs.Misplaced.{first_misplaced, misplaced_at, place_in, server_misplaced}
 use Rattle.config.specs.Outcomes.{Answers, Configures, EventFault, IsDocument, OfDocument, RulesFault, misplaced_of}
@@ -48,7 +49,8 @@ same_held None some a b one other = cc
 same_text : (told : List ℕ → Option (List ℕ)) (o : Option (List ℕ)) (file a b : List ℕ) → IsSome o ⊎ IsSome (told file) → HasText told o file a → HasText told o file b → a ≡ b
 same_text told (Some held) file a b some one other = one ∙ sym other
 same_text told None file a b (inl some) one other = cc
-same_text told None file a b (inr some) one other = same_held (told file) some a b one other
+same_text told None file a b (inr some) one other =
+    one.text ∙ ap without_returns (same_held (told file) some one.held other.held one.contents other.contents) ∙ sym other.text
 
 -- ---- what is seen of a rule
 
