@@ -209,6 +209,20 @@ def write_hole(room, crate, function):
         out.write(HOLE.format(library=f"Rattle.{crate}.proofs", path=function.path.replace("/", "."), name=function.name))
 
 
+def cite(room, crate, lemmas, gone):
+    """Has the first function of those that are left out cite some files of lemmas, each by a name that is added to it."""
+    for number, file in enumerate(lemmas):
+        name = f"lemmas_are_read_{number}"
+        with open(f"{room}/{file}", "a", encoding="utf-8") as it:
+            it.write(f"\npub {name} : Type 1\n{name} = Type 0\n")
+        proof = f"{room}/proofs/{sorted(gone)[0].replace('::', '/')}/Proof.antt"
+        with open(proof, encoding="utf-8") as it:
+            text = it.read()
+        module = file.removeprefix("proofs/").removesuffix(".antt").replace("/", ".")
+        with open(proof, "w", encoding="utf-8") as it:
+            it.write(f"use Rattle.{crate}.proofs.{module}.{{{name}}}\n{text}")
+
+
 def remove_proofs(room, cycles):
     """Takes the proofs of cycles of calls out."""
     for at, folders, _ in os.walk(f"{room}/proofs"):
