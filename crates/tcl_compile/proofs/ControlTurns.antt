@@ -1,9 +1,12 @@
 -- What control commands come to, from what their words come to.
 use Rattle.std.proofs.Common.{◌≡◌, ℕ, List, [], ◌∷◌, length, get_or, sym, ap, ap₂, ◌∙◌, arith}
+use Rattle.std.specs.Prelude.{Some}
 use Rattle.tcl_words.specs.Tree.{Word}
-use Rattle.tcl_trees.specs.Controls.{while_at, for_at}
+use Rattle.tcl_trees.specs.Controls.{while_at, for_at, catch_at, caught_at, caught_of, formed}
+use Rattle.tcl_trees.specs.Forms.{catch_form}
 use Rattle.tcl_trees.specs.Making.{Made, Level, nothing}
-use Rattle.tcl_trees.specs.Tree.{Tree, loop}
+use Rattle.tcl_trees.specs.Tree.{Tree, loop, catch_in}
+use Rattle.tcl_trees.specs.Words.{word_at}
 use Rattle.tcl_trees.specs.declared.findings.Findings.{Findings}
 
 -- lists by their items
@@ -50,3 +53,12 @@ module _ (level : Level) (base at : ℕ) where
     where
       tested : Made Tree → Made Tree → Made Tree
       tested r q = let m = level.body base next q.1 in looped r q m (level.body base body m.1)
+
+  -- a `catch` with a name
+  pub catch_made : (words : List Word) (body name : Word) (b n : Tree) (s s1 s2 : Findings)
+      → catch_form words ≡ Some (body, Some name) → level.body base body s ≡ (b, s1)
+      → word_at level base name s1 ≡ (n, s2) → catch_at level base at words s ≡ (catch_in b n, s2)
+  catch_made words body name b n s s1 s2 form first second =
+      ap (λ o. formed base at (caught_at level base) o s) form
+      ∙ ap (λ r. caught_of level base r.0 (Some name) r.1) first
+      ∙ ap (λ r. (catch_in b r.0, r.1)) second

@@ -1,5 +1,5 @@
 -- What is compiled at each level, case by case.
-use Rattle.std.proofs.Common.{◌≡◌, ℕ, zero, suc, ◌-◌, ◌<◌, ◌≤◌, List, [], ◌∷◌, map, Option, Some}
+use Rattle.std.proofs.Common.{◌≡◌, ℕ, zero, suc, ◌-◌, ◌<◌, ◌≤◌, List, [], map, Option, Some}
 use Rattle.std.proofs.Common.{None, Bool, true, false}
 use Rattle.std.proofs.Common.{cond, refl, sym, ap, ap₂, ◌∙◌, arith}
 use Rattle.tcl_trees.proofs.PieceLists.{all_parts-of, all_words-of}
@@ -13,9 +13,7 @@ use Rattle.tcl_words.specs.declared.script.Part.{Bracket}
 use Rattle.tcl_words.specs.declared.script.Span.{Span}
 use Rattle.tcl_words.specs.Tree.{Part, Word, Command}
 use Rattle.tcl_words.specs.View.{part_view, word_view, command_view, script_view, parts_of}
-use Rattle.tcl_words.specs.View.{words_of}
-use Rattle.tcl_words.specs.View.{commands_of}
-use Rattle.tcl_words.specs.declared.script.Script.{Script, out-Script}
+use Rattle.tcl_words.specs.declared.script.Script.{Script}
 use Rattle.tcl_words.specs.declared.script.Word as code_word
 use Rattle.tcl_words.specs.declared.script.Word.{out-Word}
 use Rattle.tcl_trees.specs.CaseList.{case_item, other_item}

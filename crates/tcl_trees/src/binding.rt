@@ -1,6 +1,6 @@
 // The values that a call gives a procedure's parameters.
 
-ghost use Rattle.std.specs.Prelude.{◌≡◌, IfOk, OnOk, ◌++◌, ◌∷◌, [], drop};
+ghost use Rattle.std.specs.Prelude.{◌≡◌, IfOk, [], drop};
 ghost use Rattle.tcl_lists.specs.Write.{joined};
 ghost use Rattle.tcl_trees.specs.Procedures.{next_value, takes_rest, values_bound};
 

@@ -11,7 +11,7 @@ unfolding compiled
 returns-in-None c =
     ap judged (ap (λ cs. script_at (level all_levels) 0 cs beginning)
     (script_commands c.args.script.now ∙ ap (map command_view) (sym c.deref.ensures.value))
-    ∙ ap (script_at (level all_levels) 0 (map command_view c.deref.result.now)) (sym c.new.ensures)
+    ∙ ap (script_at (level all_levels) 0 (map command_view c.deref.result.now)) (sym c.new-compiler.ensures)
     ∙ c.in_ok-node.ensures)
     ∙ ap (λ f. unless f (node_view c.in_ok-node.node)) c.in-None.is
 
@@ -20,6 +20,6 @@ unfolding compiled
 returns c =
     ap judged (ap (λ cs. script_at (level all_levels) 0 cs beginning)
     (script_commands c.args.script.now ∙ ap (map command_view) (sym c.deref.ensures.value))
-    ∙ ap (script_at (level all_levels) 0 (map command_view c.deref.result.now)) (sym c.new.ensures)
+    ∙ ap (script_at (level all_levels) 0 (map command_view c.deref.result.now)) (sym c.new-compiler.ensures)
     ∙ c.in_ok-node.ensures)
     ∙ ap (λ f. unless f (node_view c.in_ok-node.node)) c.in-Some.is

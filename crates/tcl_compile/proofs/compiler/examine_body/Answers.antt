@@ -5,4 +5,4 @@ use Rattle.tcl_compile.proofs.compiler.examine_body.Goals as goal
 
 pub returns : goal.returns
 unfolding examined_body
-returns c = ap ((level all_levels).body 0 (word_view c.args.word.now)) (sym c.new.ensures) ∙ c.in_ok-node.ensures
+returns c = ap ((level all_levels).body 0 (word_view c.args.word.now)) (sym c.new-compiler.ensures) ∙ c.in_ok-node.ensures

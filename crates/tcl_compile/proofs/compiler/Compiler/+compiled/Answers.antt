@@ -1,7 +1,7 @@
 use Rattle.std.proofs.Common.{◌≡◌, ◌-◌, ◌<◌, [], ◌∷◌, ◌++◌, length, get_or, map, cond, refl, sym, ap, ap₂, subst, ◌∙◌, arith, true, false, rules}
 use Rattle.std.proofs.lemmas.List.{length-map}
 use Rattle.std.proofs.lemmas.Result.{IfOk-weaker}
-use Rattle.std.specs.Prelude.{option_map, ◌%◌, ◌==◌}
+use Rattle.std.specs.Prelude.{option_map, Some, ◌%◌, ◌==◌}
 use Rattle.tcl_expr.proofs.ExpressionViews as read
 use Rattle.tcl_expr.specs.ExpressionView.{expr_view, more_view, cases_view}
 use Rattle.tcl_words.specs.View.{command_view, part_view, word_view, parts_of, script_view}
@@ -24,7 +24,8 @@ use Rattle.tcl_trees.specs.TreeView.{node_view, nodes_view, operands_view, value
 use Rattle.tcl_trees.specs.Words.{part_at, parts_at, word_at, word_place}
 use Rattle.tcl_trees.specs.declared.flaw.Flaw.TheVariants.{Expr, Arity}
 use Rattle.tcl_trees.specs.declared.shapes.Shape.TheVariants as shape
-use Rattle.tcl_compile.proofs.ControlTurns.{three_items, five_items, while_made, for_made}
+use Rattle.tcl_compile.proofs.ControlTurns.{three_items, five_items, while_made, for_made, catch_made}
+use Rattle.tcl_trees.specs.Forms.{catch_form}
 use Rattle.tcl_compile.proofs.ExpressionTurns.{view-Parts, operands_turn, values_turn}
 use Rattle.tcl_compile.proofs.Levels.{level_none, level_some, shown_none, shown_no_cases, placed_at, body_none}
 use Rattle.tcl_compile.proofs.Levels.{body_some, condition_none, condition_some}
@@ -110,7 +111,7 @@ parts-loop-part-preserved t c =
     let l = c.loop-part in
     gathered_turn (part_at (level c.args.levels) c.args.base) part_view c.args.parts.now l.part-index c.part-item.result (omega arith) c.part-item.is
     c.args.self.now.findings l.self.findings c.part.new.self.findings (nodes_view l.nodes.items) (node_view c.in_ok-node.node) l.invariant c.in_ok-node.ensures
-    ∙ ap (λ x. (x, c.part.new.self.findings)) (nodes_push l.nodes.items c.push.new.self.findings.items c.in_ok-node.node c.in_ok-push.ensures.items)
+    ∙ ap (λ x. (x, c.part.new.self.findings)) (nodes_push l.nodes.items c.push.new.self.items c.in_ok-node.node c.in_ok-push.ensures.items)
 
 pub words-loop-word-init : goal.words-loop-word-init
 words-loop-word-init t c =
@@ -122,7 +123,7 @@ words-loop-word-preserved t c =
     let l = c.loop-word in
     gathered_turn (word_at (level c.args.levels) c.args.base) word_view c.args.words.now l.word-index c.word-item.result (omega arith) c.word-item.is
     c.args.self.now.findings l.self.findings c.word.new.self.findings (nodes_view l.nodes.items) (node_view c.in_ok-node.node) l.invariant c.in_ok-node.ensures
-    ∙ ap (λ x. (x, c.word.new.self.findings)) (nodes_push l.nodes.items c.push.new.self.findings.items c.in_ok-node.node c.in_ok-push.ensures.items)
+    ∙ ap (λ x. (x, c.word.new.self.findings)) (nodes_push l.nodes.items c.push.new.self.items c.in_ok-node.node c.in_ok-push.ensures.items)
 
 pub script-loop-command-init : goal.script-loop-command-init
 script-loop-command-init t c =
@@ -134,7 +135,7 @@ script-loop-command-preserved t c =
     let l = c.loop-command in
     gathered_turn (command_at (level c.args.levels) c.args.base) command_view c.args.commands.now l.command-index c.command-item.result (omega arith) c.command-item.is
     c.args.self.now.findings l.self.findings c.command.new.self.findings (nodes_view l.nodes.items) (node_view c.in_ok-node.node) l.invariant c.in_ok-node.ensures
-    ∙ ap (λ x. (x, c.command.new.self.findings)) (nodes_push l.nodes.items c.push.new.self.findings.items c.in_ok-node.node c.in_ok-push.ensures.items)
+    ∙ ap (λ x. (x, c.command.new.self.findings)) (nodes_push l.nodes.items c.push.new.self.items c.in_ok-node.node c.in_ok-push.ensures.items)
 
 pub arms-loop-arm-init : goal.arms-loop-arm-init
 arms-loop-arm-init t c =
@@ -152,7 +153,7 @@ arms-loop-arm-preserved t c =
     ∙ ap (arm_of (node_view v.0, c.condition.new.self.findings)) (ok_is _ c.body.ensures c.in_ok-value.ensures.1) in
     gathered_turn (arm_at inner base) arm_view c.args.arms.now l.arm-index a (omega arith) c.arm-item.is
     c.args.self.now.findings l.self.findings c.body.new.self.findings (values_view l.values.items) (node_view v.0, node_view v.1) l.invariant now
-    ∙ ap (λ x. (x, c.body.new.self.findings)) (values_push l.values.items c.push.new.self.findings.items v.0 v.1 c.in_ok-push.ensures.items)
+    ∙ ap (λ x. (x, c.body.new.self.findings)) (values_push l.values.items c.push.new.self.items v.0 v.1 c.in_ok-push.ensures.items)
 
 pub text-returns : goal.text-returns
 text-returns t c =
@@ -247,7 +248,7 @@ pub operands-loop-joint-preserved : goal.operands-loop-joint-preserved
 operands-loop-joint-preserved t c =
     let l = c.loop-joint in
     operands_turn (level c.args.levels) c.args.base c.args.text.now c.args.rest.now l.joint-index c.loop-joint-item.result (omega arith) c.loop-joint-item.is
-    c.args.start l.opened c.in_ok-operand.end c.args.self.now.findings l.self.findings c.expression.new.self.findings l.operands.items c.push.new.self.findings.items c.in_ok-operand.operand
+    c.args.start l.opened c.in_ok-operand.end c.args.self.now.findings l.self.findings c.expression.new.self.findings l.operands.items c.push.new.self.items c.in_ok-operand.operand
     l.invariant c.in_ok-operand.ensures c.in_ok-push.ensures.items
 
 pub values-loop-condition-preserved : goal.values-loop-condition-preserved
@@ -256,7 +257,7 @@ values-loop-condition-preserved t c =
     let both = c.in_ok-condition-2 in
     values_turn (level c.args.levels) c.args.base c.args.text.now c.args.cases.now l.condition-index c.loop-condition-item.result (omega arith) c.loop-condition-item.is
     c.args.start l.opened c.in_ok-condition.mid both.end c.args.self.now.findings l.self.findings c.expression.new.self.findings c.expression-value.new.self.findings
-    l.values.items c.push.new.self.findings.items both.condition both.value
+    l.values.items c.push.new.self.items both.condition both.value
     l.invariant (kept_beside c.in_ok-condition.ensures both.ensures.0) (ok_is _ c.expression-value.ensures both.ensures.1) c.in_ok-push.ensures.items
 
 pub under-returns-then-openers-levels : goal.under-returns-then-openers-levels
@@ -438,8 +439,8 @@ case_words-loop-pattern-preserved t c =
     (kept c.in_ok-pattern.ensures both.ensures.0)
     (ap (λ e. body e (word_view b) c.word.new.self.findings) (end_seen word_view behind c.is_empty.result c.is_empty.ensures) ∙ ok_is _ c.case_word-body.ensures both.ensures.1)
     ∙ ap₂ (λ x y. cases_then (x, y) (in_turn pattern body (map word_view behind) c.case_word-body.new.self.findings))
-    (nodes_push l.patterns.items c.push.new.self.findings.items both.pattern (pushed (l.patterns.items ++ both.pattern ∷ []) l.patterns.items c.push.ensures.items c.in_ok-body.ensures.1))
-    (nodes_push l.bodies.items c.push-in-Some.new.self.findings.items both.body (c.in_ok-push.ensures.items ∙ ap (λ n. l.bodies.items ++ n ∷ []) c.in_ok-body.ensures.0))
+    (nodes_push l.patterns.items c.push.new.self.items both.pattern (pushed (l.patterns.items ++ both.pattern ∷ []) l.patterns.items c.push.ensures.items c.in_ok-body.ensures.1))
+    (nodes_push l.bodies.items c.push-in-Some.new.self.items both.body (c.in_ok-push.ensures.items ∙ ap (λ n. l.bodies.items ++ n ∷ []) c.in_ok-body.ensures.0))
 
 pub case_words-returns : goal.case_words-returns
 case_words-returns t c =
@@ -466,8 +467,8 @@ listed-loop-pattern-preserved t c =
     (ap (λ e. body e b l.self.findings) (end_told behind c.is_empty.result c.is_empty.ensures) ∙ ok_is _ c.case_item-body.ensures both.ensures.1)
     ∙ ap₂ (λ x y. cases_then (x, y) (in_turn pattern_item body behind c.case_item-body.new.self.findings))
     (ap (λ x. nodes_view l.patterns.items ++ x ∷ []) (ap plain (sym c.in_ok-copy.ensures) ∙ sym (view-Plain c.in_ok-copy.field-0) ∙ ap node_view (sym both.ensures.0))
-    ∙ nodes_push l.patterns.items c.push.new.self.findings.items both.pattern (pushed (l.patterns.items ++ both.pattern ∷ []) l.patterns.items c.push.ensures.items c.in_ok-body.ensures.1))
-    (nodes_push l.bodies.items c.push-in-Some.new.self.findings.items both.body (c.in_ok-push.ensures.items ∙ ap (λ n. l.bodies.items ++ n ∷ []) c.in_ok-body.ensures.0))
+    ∙ nodes_push l.patterns.items c.push.new.self.items both.pattern (pushed (l.patterns.items ++ both.pattern ∷ []) l.patterns.items c.push.ensures.items c.in_ok-body.ensures.1))
+    (nodes_push l.bodies.items c.push-in-Some.new.self.items both.body (c.in_ok-push.ensures.items ∙ ap (λ n. l.bodies.items ++ n ∷ []) c.in_ok-body.ensures.0))
 
 pub listed-returns : goal.listed-returns
 listed-returns t c =
@@ -475,3 +476,16 @@ listed-returns t c =
     cases_end pattern_item (case_item (level c.args.levels) c.args.place)
     (listed (level c.args.levels) c.args.place c.args.items.now c.args.self.now.findings)
     (nodes_view l.patterns.items, nodes_view l.bodies.items) l.left.now l.self.findings c.in_default.ensures l.invariant
+
+pub catch-returns-in_ok-body-in-Some-name : goal.catch-returns-in_ok-body-in-Some-name
+catch-returns-in_ok-body-in-Some-name t c =
+    let inner = level c.args.levels in
+    let s = c.args.self.now.findings in
+    let both = c.in_ok-body-in-Some-name in
+    let words = map word_view c.args.words.now in
+    let form : catch_form words ≡ Some (word_view c.in-Some.body.now, Some (word_view c.in-Some-name.name.now)) =
+    sym c.catch_form.ensures ∙ ap (option_map (λ r. (word_view r.0.now, option_map (λ w. word_view w.now) r.1))) c.in-Some.is
+    ∙ ap (λ o. Some (word_view c.in-Some.body.now, option_map (λ w. word_view w.now) o)) c.in-Some-name.is in
+    let made = catch_made inner c.args.base c.args.at words (word_view c.in-Some.body.now) (word_view c.in-Some-name.name.now) (node_view both.body) (node_view both.name)
+    s c.body.new.self.findings c.word.new.self.findings form (kept c.in_ok-body.ensures both.ensures.0) (ok_is _ c.word.ensures both.ensures.1) in
+    IfOk-weaker c.caught_in.result _ _ (λ v is. made ∙ ap (λ n. (n, c.word.new.self.findings)) (sym is)) c.caught_in.ensures
