@@ -73,7 +73,7 @@ module _ (text : List ℕ) where
   least_one : (a b : Bool) → 1 ≤ cond a 3 (cond b 2 (cond true 1 0))
   least_one a b = grind arith
 
-  most : (n : ℕ) → n ≤ 3 → AtEnd text n → n ≤ begun text
+  pub most : (n : ℕ) → n ≤ 3 → AtEnd text n → n ≤ begun text
   most zero few at = omega arith
   most (suc zero) few at = subst (λ t. 1 ≤ cond three 3 (cond two 2 (cond t 1 0))) (sym (tested text (13 ∷ []) (10 ∷ 13 ∷ 10 ∷ []) refl at)) (least_one three two)
   most (suc (suc zero)) few at = subst (λ t. 2 ≤ cond three 3 (cond t 2 (cond one 1 0))) (sym (tested text (13 ∷ 10 ∷ []) (13 ∷ 10 ∷ []) refl at)) (least_two three one)

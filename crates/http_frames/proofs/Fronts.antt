@@ -1,8 +1,8 @@
 -- Where nothing is there yet, what is held is the front of a unit.
-use Rattle.std.proofs.Common.{◌≡◌, ℕ, zero, suc, ◌+◌, ◌-◌, ◌<◌, ◌≤◌, Bool, true, false, ◌==◌, cond, List, [], ◌∷◌, ◌++◌, length, drop, min, nat_lt, Option, Some, None, refl, sym, ap, subst, ◌∙◌, arith}
+use Rattle.std.proofs.Common.{◌≡◌, ℕ, zero, suc, ◌+◌, ◌-◌, ◌<◌, ◌≤◌, Bool, true, false, ◌==◌, cond, List, [], ◌∷◌, ◌++◌, length, take, drop, min, nat_lt, Option, Some, None, refl, sym, ap, subst, ◌∙◌, arith}
 use Rattle.std.specs.Prelude.{slice_index}
 use Rattle.std.proofs.lemmas.Bool.{cond-false, eqb-true, false≢true, le-ltb, ltb-false, ltb-true}
-use Rattle.std.proofs.lemmas.List.{drop-append-le, drop-drop, get_or-append_right, get_or-drop, get_or_append_left, length-append, length-drop}
+use Rattle.std.proofs.lemmas.List.{drop-append-le, drop-drop, get_or-append_right, get_or-drop, get_or_append_left, length-append, length-drop, take_all}
 use Rattle.std.proofs.Math.Seq.{drop-append_seam}
 use Rattle.memchr.specs.Find.{FindsNeedle}
 use Rattle.seg_buffer.specs.Bytes.{crlf2}
@@ -10,15 +10,16 @@ use Rattle.px_bytes.specs.declared.fault.HttpFault.TheVariants.{BadChunk}
 use Rattle.http_frames.specs.ChunkLines.{IsWithin, behind_cr, line_of, line_size}
 use Rattle.http_frames.specs.ChunkLines.Crlf.{There, Due, Other}
 use Rattle.http_frames.specs.Cuttings.{IsFound, NotYetMayBecome}
-use Rattle.http_frames.specs.Units.{IsChunkUnit, IsEnd, IsLineUnit, IsNextUnit, IsUnitBehind, IsUnitOf, begun, left_unit, piece, to_end, trailers_by}
+use Rattle.http_frames.specs.Units.{IsChunkUnit, IsEnd, IsLineUnit, IsNextUnit, IsUnitBehind, IsUnitOf, begun, is_paired, left_unit, piece, to_end, trailers_by, whole_trailers}
 use Rattle.http_frames.specs.declared.chunk_line.Line.{Line}
 use Rattle.http_frames.specs.declared.chunk_line.Line.TheVariants as line
 use Rattle.http_frames.specs.declared.state.BodyState.TheVariants as state
 use Rattle.http_frames.specs.declared.unit.Unit.{Unit}
 use Rattle.http_frames.specs.declared.unit.Unit.TheVariants.{Piece, ChunkLine, Finished, NotYet, Fault}
-use Rattle.http_frames.proofs.Begun.{at_begun, begun_few, found_late}
+use Rattle.http_frames.proofs.Begun.{at_begun, begun_few, found_late, most}
 use Rattle.http_frames.proofs.Completions.{Completed, completed, whole_line}
 use Rattle.http_frames.proofs.Lines.{Stays, line_stays, line_within}
+use Rattle.http_frames.proofs.Pairs.{are_lines, paired_more, rest_paired}
 
 -- more bytes, with which there is a unit
 abbrev pub Becomes : (List ℕ → Unit → Type 0) → List ℕ → Type 0
@@ -65,26 +66,39 @@ module _ (text : List ℕ) where
     record { fits = omega (arith, size); reads = reads },
   )
 
-no_fault : (long : Bool) → NotYet ≡ cond long (Fault BadChunk) NotYet → long ≡ false
-no_fault true is = never (Fault BadChunk) is refl
-no_fault false is = refl
+-- the text with that rest is made of lines, if it was
+joined : (text : List ℕ) → is_paired false text ≡ true → is_paired false (take (place text + 4) (text ++ more text)) ≡ true
+joined text lines =
+    ap (is_paired false) (take_all (place text + 4) (text ++ more text) (omega (arith, size text)))
+    ∙ paired_more false text (more text) lines (rest_paired text (begun text) (begun_few text) (at_begun text) (λ one. most text 1 (omega arith) one))
 
-over : (long : Bool) (size : ℕ) → waits (cond long (Fault BadChunk) (Finished size)) ≡ false
-over true size = refl
-over false size = refl
+no_fault : (long lines : Bool) → NotYet ≡ cond long (Fault BadChunk) (cond lines NotYet (Fault BadChunk)) → (long ≡ false) × (lines ≡ true)
+no_fault true lines is = never (Fault BadChunk) is refl
+no_fault false true is = (refl, refl)
+no_fault false false is = never (Fault BadChunk) is refl
+
+over : (long lines : Bool) (end : ℕ) → waits (cond long (Fault BadChunk) (cond lines (Finished end) (Fault BadChunk))) ≡ false
+over true lines end = refl
+over false true end = refl
+over false false end = refl
 
 end_becomes : (at : ℕ) (held : List ℕ) → at ≤ length held → (p : Option ℕ) → FindsNeedle (drop at held) crlf2 0 p → NotYet ≡ trailers_by at (drop at held) p false
     → Becomes (λ h u. IsEnd at h false u) held
-end_becomes at held inside (Some k) found is = never (trailers_by at (drop at held) (Some k) false) is (over (nat_lt 60000 (k + 2)) (at + k + 4))
+end_becomes at held inside (Some k) found is = never (trailers_by at (drop at held) (Some k) false) is (over (nat_lt 60000 (k + 2)) (is_paired false (take (k + 4) (drop at held))) (at + k + 4))
 end_becomes at held inside None found is =
     let text = drop at held in
     let k = place text in
-    let few = ltb-false 60002 (length text + (4 - begun text)) (no_fault (nat_lt 60002 (length text + (4 - begun text))) is) in
+    let none = no_fault (nat_lt 60002 (length text + (4 - begun text))) (is_paired false text) is in
+    let few = ltb-false 60002 (length text + (4 - begun text)) none.0 in
     let short = le-ltb 60000 (k + 2) (omega (arith, few, begun_few text, (at_begun text).fits)) in
     let rest = drop-append-le at held (more text) inside in (
       more text,
       Finished (at + k + 4),
-      (Some k, subst (λ t. FindsNeedle t crlf2 0 (Some k)) (sym rest) (first text found), sym (cond-false (nat_lt 60000 (k + 2)) _ _ short)),
+      (
+        Some k,
+        subst (λ t. FindsNeedle t crlf2 0 (Some k)) (sym rest) (first text found),
+        sym (ap (λ t. whole_trailers at t k) rest ∙ cond-false (nat_lt 60000 (k + 2)) _ _ short ∙ are_lines (take (k + 4) (text ++ more text)) (Finished (at + k + 4)) (joined text none.1)),
+      ),
       tt,
     )
 
@@ -98,7 +112,8 @@ by_size : (before : ℕ) (front long : List ℕ) (at : ℕ) → drop at long ≡
     → (u : Unit) × IsUnitOf before (line.Whole (length front + 2) size) long false u × IsFound u
 by_size before front long at behind is zero = (
   Finished (at + 0 + 4),
-  subst (λ n. IsEnd n long false (Finished (at + 0 + 4))) is (Some 0, subst (λ t. FindsNeedle t crlf2 0 (Some 0)) (sym behind) at_front, refl),
+  subst (λ n. IsEnd n long false (Finished (at + 0 + 4))) is
+      (Some 0, subst (λ t. FindsNeedle t crlf2 0 (Some 0)) (sym behind) at_front, sym (ap (λ t. whole_trailers at t 0) behind)),
   tt,
 )
 by_size before front long at behind is (suc size) = (ChunkLine (before + (length front + 2)) (suc size), refl, tt)

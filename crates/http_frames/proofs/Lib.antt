@@ -3,16 +3,19 @@ mod Completions
 mod EachUnit
 mod Fronts
 mod HexDigits
-mod Lines
-mod Longer
-mod Needles
+pub mod Lines
+pub mod Longer
+pub mod Needles
+mod NextUnits
 mod Numbers
-mod OneUnit
+pub mod OneUnit
+mod Pairs
+pub mod PartsStay
 mod Reaches
+mod Rows
 mod Sizes
 mod Snocs
-mod SomeUnits
+pub mod SomeUnits
 mod SplitPieces
-mod Taken
-mod Trailers
+pub mod Taken
 mod WholeRuns

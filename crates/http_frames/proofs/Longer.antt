@@ -2,13 +2,13 @@
 use Rattle.std.proofs.Common.{◌≡◌, ℕ, zero, suc, ◌+◌, ◌-◌, ◌<◌, ◌≤◌, Bool, true, false, ◌==◌, cond, List, [], ◌∷◌, ◌++◌, length, drop, min, nat_lt, Option, Some, None, refl, sym, ap, subst, ◌∙◌, arith}
 use Rattle.std.specs.Prelude.{⊤}
 use Rattle.std.proofs.lemmas.Bool.{cond-true, lt-ltb, ltb-true}
-use Rattle.std.proofs.lemmas.List.{drop-append-le, length-append, length-drop}
+use Rattle.std.proofs.lemmas.List.{drop-append-le, length-append, length-drop, take-append-le}
 use Rattle.memchr.specs.Find.{FindsNeedle}
 use Rattle.seg_buffer.specs.Bytes.{crlf2}
 use Rattle.px_bytes.specs.declared.fault.HttpFault.TheVariants.{BadChunk}
 use Rattle.http_frames.specs.ChunkLines.{IsWithin, behind_cr, line_of}
 use Rattle.http_frames.specs.ChunkLines.Crlf.{There, Other}
-use Rattle.http_frames.specs.Units.{IsChunkUnit, IsEnd, IsLineUnit, IsNextUnit, IsUnit, IsUnitBehind, IsUnitOf, begun, left_unit, piece, to_end, trailers_by}
+use Rattle.http_frames.specs.Units.{IsChunkUnit, IsEnd, IsLineUnit, IsNextUnit, IsUnit, IsUnitBehind, IsUnitOf, begun, is_paired, left_unit, of_lines, piece, to_end, trailers_by, waits, whole_trailers}
 use Rattle.http_frames.specs.declared.chunk_line.Line.{Line}
 use Rattle.http_frames.specs.declared.chunk_line.Line.TheVariants as line
 use Rattle.http_frames.specs.declared.state.BodyState.{BodyState}
@@ -18,6 +18,7 @@ use Rattle.http_frames.specs.declared.unit.Unit.TheVariants.{Piece, ChunkLine, F
 use Rattle.http_frames.proofs.Begun.{begun_few, begun_more, found_late}
 use Rattle.http_frames.proofs.Lines.{Stays, line_stays, line_within}
 use Rattle.http_frames.proofs.Needles.{a_place, still_found}
+use Rattle.http_frames.proofs.Pairs.{not_lines, refused, still_refused, unpaired}
 
 -- what a longer text has of a unit
 abbrev pub Stands : Unit → (Unit → Type 0) → Type 0
@@ -46,21 +47,44 @@ still_long at text more ended long nowhere None found =
     cond-true (nat_lt 60002 (length (text ++ more) + (4 - begun (text ++ more)))) _ _
     (lt-ltb _ _ (omega (arith, long, begun_few text, begun_few (text ++ more), begun_more text more, length-append text more)))
 
+-- and so do those that aren't lines
+still_no_lines : (at : ℕ) (text more : List ℕ) (ended : Bool) → is_paired false text ≡ false → FindsNeedle text crlf2 0 None
+    → (r : Option ℕ) → FindsNeedle (text ++ more) crlf2 0 r → trailers_by at (text ++ more) r ended ≡ Fault BadChunk
+still_no_lines at text more ended bad nowhere (Some q) found = still_refused at text more q (omega (arith, begun_few text, found_late text more q nowhere found.1)) bad
+still_no_lines at text more ended bad nowhere None found =
+    let long = text ++ more in
+    refused (nat_lt 60002 (length long + (4 - begun long))) (of_lines long (waits ended)) (not_lines long (waits ended) (unpaired false text more bad))
+
+-- where the trailers end they are the same
+same_trailers : (at : ℕ) (text more : List ℕ) (k : ℕ) → k + 4 ≤ length text → whole_trailers at text k ≡ whole_trailers at (text ++ more) k
+same_trailers at text more k fits =
+    ap (λ t. cond (nat_lt 60000 (k + 2)) (Fault BadChunk) (of_lines t (Finished (at + k + 4)))) (sym (take-append-le (k + 4) text more fits))
+
 module _ (held more : List ℕ) (ended : Bool) (u : Unit) where
+  refused_on : (at : ℕ) → drop at (held ++ more) ≡ drop at held ++ more → u ≡ Fault BadChunk
+      → ((r : Option ℕ) → FindsNeedle (drop at held ++ more) crlf2 0 r → trailers_by at (drop at held ++ more) r ended ≡ Fault BadChunk) → Stands u (IsEnd at (held ++ more) ended)
+  refused_on at rest so last =
+      let there = a_place (drop at held ++ more) in
+      standing (IsEnd at (held ++ more) ended) u
+      (subst (λ t. (place : Option ℕ) × FindsNeedle t crlf2 0 place × (u ≡ trailers_by at t place ended)) (sym rest) (there.0, there.1, so ∙ sym (last there.0 there.1)))
+
   end_by : (at : ℕ) → drop at (held ++ more) ≡ drop at held ++ more → (place : Option ℕ) → FindsNeedle (drop at held) crlf2 0 place
       → u ≡ trailers_by at (drop at held) place false → Stands u (IsEnd at (held ++ more) ended)
   end_by at rest (Some k) found is =
-      standing (IsEnd at (held ++ more) ended) u (Some k, subst (λ t. FindsNeedle t crlf2 0 (Some k)) (sym rest) (still_found (drop at held) more k found), is)
+      standing (IsEnd at (held ++ more) ended) u (
+        Some k,
+        subst (λ t. FindsNeedle t crlf2 0 (Some k)) (sym rest) (still_found (drop at held) more k found),
+        is ∙ same_trailers at (drop at held) more k found.1.fits ∙ sym (ap (λ t. whole_trailers at t k) rest),
+      )
   end_by at rest None found is =
       let text = drop at held in
       let size = length text + (4 - begun text) in
-      elim (nat_lt 60002 size) as (λ t. nat_lt 60002 size ≡ t → u ≡ cond t (Fault BadChunk) NotYet → Stands u (IsEnd at (held ++ more) ended)) [
-        | true ↦ λ long so.
-            let there = a_place (text ++ more) in
-            let last = still_long at text more ended (ltb-true 60002 size long) found there.0 there.1 in
-            standing (IsEnd at (held ++ more) ended) u
-            (subst (λ t. (place : Option ℕ) × FindsNeedle t crlf2 0 place × (u ≡ trailers_by at t place ended)) (sym rest) (there.0, there.1, so ∙ sym last))
-        | false ↦ λ few so. waiting (IsEnd at (held ++ more) ended) u so
+      elim (nat_lt 60002 size) as (λ t. nat_lt 60002 size ≡ t → u ≡ cond t (Fault BadChunk) (of_lines text NotYet) → Stands u (IsEnd at (held ++ more) ended)) [
+        | true ↦ λ long so. refused_on at rest so (still_long at text more ended (ltb-true 60002 size long) found)
+        | false ↦ λ few so. elim (is_paired false text) as (λ p. is_paired false text ≡ p → u ≡ cond p NotYet (Fault BadChunk) → Stands u (IsEnd at (held ++ more) ended)) [
+          | true ↦ λ lines is. waiting (IsEnd at (held ++ more) ended) u is
+          | false ↦ λ bad is. refused_on at rest is (still_no_lines at text more ended bad found)
+        ] refl so
       ] refl is
 
   end_stays : (at : ℕ) → at ≤ length held → IsEnd at held false u → Stands u (IsEnd at (held ++ more) ended)

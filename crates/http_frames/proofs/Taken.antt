@@ -1,11 +1,11 @@
 -- What a unit takes of what is held.
-use Rattle.std.proofs.Common.{◌≡◌, ℕ, zero, suc, ◌+◌, ◌-◌, ◌<◌, ◌≤◌, Bool, true, false, cond, ◌==◌, List, [], ◌∷◌, length, drop, nat_lt, Option, Some, None, refl, sym, subst, arith}
+use Rattle.std.proofs.Common.{◌≡◌, ℕ, zero, suc, ◌+◌, ◌-◌, ◌<◌, ◌≤◌, Bool, true, false, cond, ◌==◌, List, [], ◌∷◌, length, take, drop, nat_lt, Option, Some, None, refl, sym, subst, arith}
 use Rattle.std.specs.Prelude.{⊤}
 use Rattle.std.proofs.lemmas.List.{length-drop}
 use Rattle.px_bytes.specs.declared.fault.HttpFault.TheVariants.{BadChunk}
 use Rattle.http_frames.specs.ChunkLines.{IsWithin, behind_cr, line_of}
 use Rattle.http_frames.specs.ChunkLines.Crlf.{There, Other}
-use Rattle.http_frames.specs.Units.{IsChunkUnit, IsLineUnit, IsNextUnit, IsUnit, IsUnitBehind, IsUnitOf, begun, left_unit, piece, to_end, trailers_by, waits}
+use Rattle.http_frames.specs.Units.{IsChunkUnit, IsLineUnit, IsNextUnit, IsUnit, IsUnitBehind, IsUnitOf, begun, is_paired, left_unit, of_lines, piece, to_end, trailers_by, waits}
 use Rattle.http_frames.specs.declared.chunk_line.Line.{Line}
 use Rattle.http_frames.specs.declared.chunk_line.Line.TheVariants as line
 use Rattle.http_frames.specs.declared.state.BodyState.{BodyState}
@@ -47,9 +47,16 @@ fault_if : (held : List ℕ) (long : Bool) (u : Unit) → Whole held u → Whole
 fault_if held true u whole = record { other = refl; inside = record { within = omega arith; some = tt } }
 fault_if held false u whole = whole
 
+lines_if : (held : List ℕ) (lines : Bool) (u : Unit) → Whole held u → Whole held (cond lines u (Fault BadChunk))
+lines_if held true u whole = whole
+lines_if held false u whole = record { other = refl; inside = record { within = omega arith; some = tt } }
+
 trailers_whole : (held : List ℕ) (at : ℕ) (text : List ℕ) (place : Option ℕ) (ended : Bool) → Whole held (trailers_by at text place ended)
-trailers_whole held at text (Some k) ended = fault_if held (nat_lt 60000 (k + 2)) (Finished (at + k + 4)) (record { other = refl; inside = record { within = omega arith; some = tt } })
-trailers_whole held at text None ended = fault_if held (nat_lt 60002 (length text + (4 - begun text))) (waits ended) (waits_whole held ended)
+trailers_whole held at text (Some k) ended =
+    fault_if held (nat_lt 60000 (k + 2)) (of_lines (take (k + 4) text) (Finished (at + k + 4)))
+    (lines_if held (is_paired false (take (k + 4) text)) (Finished (at + k + 4)) (record { other = refl; inside = record { within = omega arith; some = tt } }))
+trailers_whole held at text None ended =
+    fault_if held (nat_lt 60002 (length text + (4 - begun text))) (of_lines text (waits ended)) (lines_if held (is_paired false text) (waits ended) (waits_whole held ended))
 
 module _ (held : List ℕ) (ended : Bool) (u : Unit) where
   are : (v : Unit) → u ≡ v → Whole held v → Whole held u
@@ -58,7 +65,9 @@ module _ (held : List ℕ) (ended : Bool) (u : Unit) where
   of_whole : (before : ℕ) (l : Line) → before ≤ length held → IsWithin (length held - before) l → IsUnitOf before l held ended u → Whole held u
   of_whole before line.Begins inside within is = are (waits ended) is (waits_whole held ended)
   of_whole before line.Never inside within is = are (Fault BadChunk) is (record { other = refl; inside = record { within = omega arith; some = tt } })
-  of_whole before (line.Whole size zero) inside within is = are (trailers_by _ _ is.0 ended) is.2 (trailers_whole held _ _ is.0 ended)
+  of_whole before (line.Whole size zero) inside within is =
+      let at = before + (size - 2) in
+      are (trailers_by at (drop at held) is.0 ended) is.2 (trailers_whole held at (drop at held) is.0 ended)
   of_whole before (line.Whole size (suc n)) inside within is =
       are (ChunkLine (before + size) (suc n)) is (record { other = refl; inside = record { within = omega (arith, inside, within.0, within.2); some = omega (arith, within.0) } })
 

@@ -82,10 +82,12 @@ abbrev pub unless_bodiless : Bool → Result Body HttpFault → Result Body Http
 unless_bodiless true (Ok found) = Ok body.None
 unless_bodiless b found = found
 
--- the faults of a head come before the absence of a body
+-- the faults of a head come before the absence of a body; a status below 100 is of no class (RFC 9110, 15), so how
+-- long the body behind it is isn't known
 abbrev pub response_body : ResponseHead → List ℕ → Version → Result Body HttpFault
 response_body head method asked =
-    unless_bodiless (is_bodiless method head.status)
+    if nat_lt head.status 100 then Err Framing
+    else unless_bodiless (is_bodiless method head.status)
     (fields_body (both head.version asked) head.fields body.ToEnd)
 
 -- what one field more makes of what those before it say

@@ -1,5 +1,7 @@
 pub mod Bodies
 pub mod ChunkLines
 pub mod Cuttings
+pub mod NextUnit
+pub mod Parts
 pub mod States
 pub mod Units

@@ -1,5 +1,6 @@
 -- The next unit of a body: RFC 9112, 6 and 7.1, in this profile.
-use Rattle.std.specs.Prelude.{◌≡◌, ℕ, zero, suc, ◌+◌, ◌-◌, Bool, List, [], ◌∷◌, length, drop, min}
+use Rattle.std.specs.Prelude.{◌≡◌, ℕ, zero, suc, ◌+◌, ◌-◌, Bool, true, false, not, ◌&&◌, ◌==◌}
+use Rattle.std.specs.Prelude.{List, [], ◌∷◌, length, take, drop, min}
 use Rattle.std.specs.Prelude.{Option, Some, None, nat_eq, nat_lt, if◌then◌else◌}
 use Rattle.std.specs.List.{ends_with}
 use Rattle.memchr.specs.Find.{FindsNeedle}
@@ -35,13 +36,37 @@ begun text =
     else (if ends_with nat_eq text (13 ∷ 10 ∷ []) then 2
     else (if ends_with nat_eq text (13 ∷ []) then 1 else 0))
 
+-- behind a CR there is an LF, and an LF nowhere else
+abbrev pub may_follow : (behind_cr : Bool) → ℕ → Bool
+may_follow true byte = byte == 10
+may_follow false byte = not (byte == 10)
+
+-- each CR and each LF of a text belongs to a CRLF, but for a CR at its end: RFC 9112, 2.2 (a CR of its own is
+-- invalid; that an LF of its own may end a line is left out, since not all readers do so)
+abbrev pub is_paired : (behind_cr : Bool) → List ℕ → Bool
+is_paired behind [] = true
+is_paired behind (byte ∷ text) = may_follow behind byte && is_paired (byte == 13) text
+
+-- the lines of the trailers hold neither CR nor LF of their own: RFC 9112, 7.1.2
+abbrev pub of_lines : List ℕ → Unit → Unit
+of_lines text u = if is_paired false text then u else unit.Fault fault.BadChunk
+
 -- the trailers with their empty line have at most 60,000 bytes; `text` begins with the CRLF before them, at
 -- the place `at` of what is held, and `place` is that of the first CR LF CR LF in it
+abbrev pub whole_trailers : (at : ℕ) → (text : List ℕ) → (place : ℕ) → Unit
+whole_trailers at text place =
+    if nat_lt 60000 (place + 2) then unit.Fault fault.BadChunk
+    else of_lines (take (place + 4) text) (unit.Finished (at + place + 4))
+
+-- it stands nowhere in the text
+abbrev pub open_trailers : (text : List ℕ) → Bool → Unit
+open_trailers text ended =
+    if nat_lt 60002 (length text + (4 - begun text)) then unit.Fault fault.BadChunk
+    else of_lines text (waits ended)
+
 abbrev pub trailers_by : (at : ℕ) → (text : List ℕ) → (place : Option ℕ) → Bool → Unit
-trailers_by at text (Some place) ended =
-    if nat_lt 60000 (place + 2) then unit.Fault fault.BadChunk else unit.Finished (at + place + 4)
-trailers_by at text None ended =
-    if nat_lt 60002 (length text + (4 - begun text)) then unit.Fault fault.BadChunk else waits ended
+trailers_by at text (Some place) ended = whole_trailers at text place
+trailers_by at text None ended = open_trailers text ended
 
 -- the end of a body: the trailers behind the last chunk line, whose CRLF stands at `at`
 abbrev pub IsEnd : (at : ℕ) → List ℕ → Bool → Unit → Type 0

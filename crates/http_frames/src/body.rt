@@ -178,10 +178,13 @@ fn both(a: Version, b: Version) -> Version
 }
 
 /// How the length of a response's body is known, by the method and the version of the request that it
-/// answers. The faults of its head come before the absence of a body.
+/// answers. The faults of its head, a status below 100 among them, come before the absence of a body.
 pub fn response_body(head: &ResponseHead, method: &[u8], asked: Version) -> Result<Body, HttpFault>
     ensures { result ≡ response_body head.now method.now asked }
 {
+    if head.status.code() < 100 {
+        return Err(HttpFault::Framing);
+    }
     let version = both(head.version, asked);
     let found = fields_body(version, &head.fields, Body::ToEnd)?;
     if is_bodiless(method, head.status.code()) {

@@ -10,6 +10,9 @@ mod state;
 mod unit;
 
 pub use body::{request_body, response_body};
-pub use laws::{cuts_are_not_seen, cuts_are_read, each_is_read, not_yet_may_become};
+pub use laws::{
+    cuts_are_not_seen, cuts_are_read, each_is_read, not_yet_may_become, parts_are_there,
+    parts_stay, unit_is_one,
+};
 pub use state::{Body, BodyState, go_on, start};
 pub use unit::{Unit, next_unit};
