@@ -6,7 +6,7 @@ mod HexDigits
 pub mod Lines
 pub mod Longer
 pub mod Needles
-mod NextUnits
+pub mod NextUnits
 mod Numbers
 pub mod OneUnit
 mod Pairs

@@ -1,6 +1,11 @@
 pub mod Fields
 pub mod Heads
+pub mod Hosts
 pub mod Laws
 pub mod Lines
 pub mod Passed
+pub mod Readers
+pub mod Reading
+pub mod Received
+pub mod Targets
 pub mod Written

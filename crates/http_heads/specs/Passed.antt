@@ -1,7 +1,8 @@
 -- A head as it is sent on: RFC 9110, 7.6.1 (what an intermediary takes away: the Connection fields, what they
 -- name, and the fields that speak of one connection even where they aren't named), 8.6 (equal lengths are
 -- told once) and 10.1.1 (`Expect` is this proxy's own to answer).
-use Rattle.std.specs.Prelude.{ℕ, Bool, not, ◌&&◌, ◌||◌, ◌==◌, List, [], ◌∷◌, codes, filter, if◌then◌else◌}
+use Rattle.std.specs.Prelude.{ℕ, Bool, not, ◌&&◌, ◌||◌, ◌==◌, List, [], ◌∷◌, codes, filter, nat_lt}
+use Rattle.std.specs.Prelude.{if◌then◌else◌}
 use Rattle.std.specs.List.{list_any, slice_split}
 use Rattle.std.specs.Str.{bytes_eq}
 use Rattle.px_bytes.specs.Letters.{lowered}
@@ -39,10 +40,13 @@ is_of_message name =
     is_same name (codes "host") || is_same name (codes "cookie")
     || is_same name (codes "content-length") || is_same name (codes "transfer-encoding")
 
--- whether fields of a name are sent on, by the values of the Connection fields
+-- whether fields of a name stay, by the values of the Connection fields
+abbrev pub is_kept : List (List ℕ) → List ℕ → Bool
+is_kept connection name = is_of_message name || not (is_option name connection)
+
+-- whether they are sent on
 abbrev pub goes_on : List (List ℕ) → List ℕ → Bool
-goes_on connection name =
-    not (is_of_connection name) && (is_of_message name || not (is_option name connection))
+goes_on connection name = not (is_of_connection name) && is_kept connection name
 
 -- the fields without those of a name, but for the first of these; of a head whose lengths differ nothing is sent
 -- on, since how long its body is isn't known
@@ -54,6 +58,15 @@ first_alone name (f ∷ fields) =
 abbrev pub passed : List (List ℕ) → List Pair → List Pair
 passed connection fields =
     first_alone (codes "content-length") (filter (λ f. goes_on connection f.0) fields)
+
+-- A response 1xx or 204 tells neither length nor coding of a body that it hasn't (RFC 9110, 8.6; RFC 9112, 6.1). A 304
+-- keeps the length, which is that of the body that it stands for, and tells no coding, which would be this
+-- connection's own.
+abbrev pub unframed : (status : ℕ) → List Pair → List Pair
+unframed status fields =
+    if nat_lt status 200 || status == 204
+    then without (codes "transfer-encoding") (without (codes "content-length") fields)
+    else (if status == 304 then without (codes "transfer-encoding") fields else fields)
 
 abbrev pub passed_request : RequestHead → List (List ℕ) → RequestHead
 passed_request head connection = record {
@@ -68,5 +81,5 @@ passed_response head connection = record {
   version = head.version;
   status = head.status;
   reason = head.reason;
-  fields = passed connection head.fields;
+  fields = passed connection (unframed head.status head.fields);
 }

@@ -14,7 +14,7 @@ use std::mem;
 const MOST_BYTES: usize = 65_536;
 
 /// The most fields.
-const MOST_FIELDS: usize = 100;
+pub(crate) const MOST_FIELDS: usize = 100;
 
 // What is left of so many bytes beside the line of a field.
 fn room_beside(room: usize, field: &(Text, Text)) -> Option<usize>

@@ -1,9 +1,9 @@
 // A head as it is sent on.
 
 ghost use Rattle.std.specs.Prelude.{◌≡◌, codes, filter};
-ghost use Rattle.http_heads.specs.Passed.{first_alone, goes_on, has_option, is_of_connection};
+ghost use Rattle.http_heads.specs.Passed.{first_alone, goes_on, has_option, is_kept, is_of_connection};
 ghost use Rattle.http_heads.specs.Passed.{is_of_message, is_option, passed, passed_request};
-ghost use Rattle.http_heads.specs.Passed.{passed_response};
+ghost use Rattle.http_heads.specs.Passed.{passed_response, unframed};
 
 use crate::fields::{Fields, is_named};
 use crate::request::RequestHead;
@@ -48,10 +48,17 @@ fn is_of_message(name: &[u8]) -> bool
         || same_name(name, b"transfer-encoding")
 }
 
+/// Whether fields of a name stay, by the values of the Connection fields.
+pub(crate) fn is_kept(connection: &[Text], name: &[u8]) -> bool
+    ensures { result ≡ is_kept connection.now name.now }
+{
+    is_of_message(name) || !is_option(name, connection)
+}
+
 fn goes_on(connection: &[Text], name: &[u8]) -> bool
     ensures { result ≡ goes_on connection.now name.now }
 {
-    !is_of_connection(name) && (is_of_message(name) || !is_option(name, connection))
+    !is_of_connection(name) && is_kept(connection, name)
 }
 
 impl Fields {
@@ -79,6 +86,18 @@ impl Fields {
         }
     }
 
+    // Takes away what says how long the body of a response is that has none.
+    fn drop_framing(&mut self, status: u16)
+        ensures { self.new ≡ unframed status self.old }
+    {
+        if status < 200 || status == 204 {
+            self.drop_named(b"content-length");
+            self.drop_named(b"transfer-encoding");
+        } else if status == 304 {
+            self.drop_named(b"transfer-encoding");
+        }
+    }
+
     fn pass(&mut self, connection: &[Text])
         ensures { self.new ≡ passed connection.now self.old }
     {
@@ -99,10 +118,12 @@ pub fn passed_request(mut head: RequestHead, connection: &[Text]) -> RequestHead
 }
 
 /// The head of a response as it is sent on, by the values of the Connection fields that came with
-/// it.
+/// it; without a length and a coding where its status has none.
 pub fn passed_response(mut head: ResponseHead, connection: &[Text]) -> ResponseHead
     ensures { result ≡ passed_response head connection.now }
 {
+    let status = head.status.code();
+    head.fields.drop_framing(status);
     head.fields.pass(connection);
     head
 }
