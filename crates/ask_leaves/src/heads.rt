@@ -5,7 +5,7 @@ use crate::question::Question;
 use http_frames::request_body;
 use http_heads::{
     HeadFault, RequestHead, ResponseHead, passed_request, passed_response, read_request,
-    read_response, write_request, write_response,
+    read_response, received_request, received_response, write_request, write_response,
 };
 
 /// What the head of a request is, what is written of it, or the length of its body.
@@ -50,6 +50,18 @@ fn say_passed_request(question: &mut Question<'_>, head: RequestHead) {
     question.say_written(write_request(question.alloc, &head));
 }
 
+/// What is written of the head of a request as rules see it, or its fault.
+pub fn receive_request(question: &mut Question<'_>) {
+    let head = question.text();
+    match read_request(question.alloc, head.as_bytes()) {
+        Ok(head) => {
+            let head = received_request(question.alloc, head);
+            request_answer(question, "received_request", &head);
+        }
+        Err(fault) => say_head_fault(question, fault),
+    }
+}
+
 /// What the head of a response is, or what is written of it.
 pub fn response(question: &mut Question<'_>, call: &str) {
     let head = question.text();
@@ -91,4 +103,20 @@ fn say_passed_response(question: &mut Question<'_>, head: ResponseHead) {
     let connection = question.made_texts(values);
     let head = passed_response(head, connection.as_slice());
     question.say_written(write_response(question.alloc, &head));
+}
+
+/// What is written of the head of a response as rules see it.
+pub fn receive_response(question: &mut Question<'_>) {
+    let head = question.text();
+    match read_response(question.alloc, head.as_bytes()) {
+        Ok(head) => say_received_response(question, head),
+        Err(fault) => say_head_fault(question, fault),
+    }
+}
+
+fn say_received_response(question: &mut Question<'_>, head: ResponseHead) {
+    match received_response(question.alloc, head) {
+        Ok(head) => question.say_written(write_response(question.alloc, &head)),
+        Err(_) => question.refuse(),
+    }
 }

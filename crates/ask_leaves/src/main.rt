@@ -89,6 +89,8 @@ fn head_answer(question: &mut Question<'_>, call: &str) {
         "response_body" => bodies::response(question),
         "passed_request" => heads::pass_request(question),
         "passed_response" => heads::pass_response(question),
+        "received_request" => heads::receive_request(question),
+        "received_response" => heads::receive_response(question),
         _ => groups::answer(question, call),
     }
 }
