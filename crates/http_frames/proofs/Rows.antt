@@ -1,5 +1,6 @@
 -- Rows: what stands at the front of some bytes, and of which statuses a body's length is known.
 use Rattle.std.proofs.Common.{◌≡◌, ℕ, true, false, List, [], ◌∷◌, codes, refl, Result, Ok, Err}
+use Rattle.memchr.specs.Find.{first_of, matches_from}
 use Rattle.px_bytes.specs.declared.fault.HttpFault.{HttpFault}
 use Rattle.px_bytes.specs.declared.fault.HttpFault.TheVariants as fault
 use Rattle.http_heads.specs.declared.line.Version.TheVariants.{Http11}
@@ -15,21 +16,27 @@ use Rattle.http_frames.specs.declared.unit.Unit.TheVariants as unit
 
 -- trailer lines hold neither CR nor LF of their own (RFC 9112, 2.2 and 7.1.2)
 bare_lf : unit_of state.FirstLine (codes "0\r\nX: y\n\n") false ≡ unit.Fault fault.BadChunk
+unfolding first_of matches_from
 bare_lf = refl
 
 bare_cr : unit_of state.FirstLine (codes "0\r\nX: y\rz\r\n\r\n") false ≡ unit.Fault fault.BadChunk
+unfolding first_of matches_from
 bare_cr = refl
 
 lf_at_once : unit_of state.NextLine (codes "\r\n0\r\n\n\r\n\r\n") false ≡ unit.Fault fault.BadChunk
+unfolding first_of matches_from
 lf_at_once = refl
 
 cut_cr : unit_of state.FirstLine (codes "0\r\nX: y\r") false ≡ unit.NotYet
+unfolding first_of matches_from
 cut_cr = refl
 
 no_field : unit_of state.FirstLine (codes "0\r\nX y\r\n\r\n") false ≡ unit.Finished 10
+unfolding first_of matches_from
 no_field = refl
 
 bytes_behind : unit_of state.NextLine (codes "\r\n0\r\nX: y\r\n\r\nGET\n") false ≡ unit.Finished 13
+unfolding first_of matches_from
 bytes_behind = refl
 
 -- byte by byte (RFC 9112, 7.1)
@@ -40,9 +47,11 @@ a_byte : part_of (state.Chunk 5) (codes "hello") false ≡ Byte
 a_byte = refl
 
 an_end : part_of state.NextLine (codes "\r\n0\r\n\r\n") false ≡ End 7
+unfolding first_of matches_from
 an_end = refl
 
 nothing_yet : part_of state.NextLine (codes "\r\n0\r") false ≡ Pending
+unfolding first_of matches_from
 nothing_yet = refl
 
 too_short : part_of (state.Left 3) [] true ≡ Bad fault.ShortBody
