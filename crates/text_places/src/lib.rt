@@ -3,4 +3,4 @@
 
 mod place;
 
-pub use place::{column_of, line_of};
+pub use place::{column_of, line_at, line_of};
