@@ -16,7 +16,10 @@ use Rattle.http_heads.specs.declared.fault.HeadFault.TheVariants.{Fault, Memory}
 use Rattle.http_heads.specs.declared.request.RequestHead.{RequestHead}
 use Rattle.http_heads.specs.declared.response.ResponseHead.{ResponseHead}
 use Rattle.http_heads.proofs.OneHead.{request_one, response_one}
-use Rattle.http_heads.proofs.PartsRead.{Reads, blank_read, both_read, digit_read, line_end_read, lines_read, method_read, none_there, reason_read, same_some, space_read, target_read, version_read}
+use Rattle.http_heads.proofs.Readers.{Reads, both_read, none_there, same_some}
+use Rattle.http_heads.proofs.LineEnds.{blank_read, line_end_read}
+use Rattle.http_heads.proofs.StartLines.{digit_read, method_read, reason_read, space_read, target_read, version_read}
+use Rattle.http_heads.proofs.Sections.{lines_read}
 
 -- nothing stands behind it
 alone_by : {A : Type 0} (a : A) (rest : List ℕ) (b : A) → if_last a rest ≡ Some b → (a ≡ b) × (rest ≡ [])

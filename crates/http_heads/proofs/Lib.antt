@@ -4,11 +4,14 @@ mod FoundHeads
 pub mod HeadsRead
 mod HostFields
 mod LastFields
+mod LineEnds
 mod OneHead
-mod PartsRead
 mod PathsAre
 mod ReadBack
 mod ReadFields
+mod Readers
 mod Rows
+mod Sections
+mod StartLines
 mod Targets
 mod Trims
