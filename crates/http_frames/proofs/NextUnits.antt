@@ -11,6 +11,7 @@ use Rattle.http_frames.specs.declared.chunk_line.Line.{Line}
 use Rattle.http_frames.specs.declared.chunk_line.Line.TheVariants as line
 use Rattle.http_frames.specs.declared.state.BodyState.{BodyState}
 use Rattle.http_frames.specs.declared.state.BodyState.TheVariants as state
+use Rattle.http_frames.specs.declared.unit.Unit.{Unit}
 use Rattle.http_frames.proofs.Needles.{a_place}
 use Rattle.http_frames.proofs.OneUnit.{one_unit}
 
@@ -41,5 +42,8 @@ module _ (held : List ℕ) (ended : Bool) where
   unit_is state.NextLine = behind_is (crlf held)
   unit_is state.ToEnd = refl
 
+pub unit_value : (s : BodyState) (held : List ℕ) (ended : Bool) (u : Unit) → IsUnit s held ended u → u ≡ unit_of s held ended
+unit_value s held ended u is = one_unit held ended u (unit_of s held ended) s is (unit_is held ended s)
+
 pub unit_is_one : UnitIsOne
-unit_is_one s held ended = (unit_is held ended s, λ u is. one_unit held ended u (unit_of s held ended) s is (unit_is held ended s))
+unit_is_one s held ended = (unit_is held ended s, unit_value s held ended)

@@ -1,6 +1,7 @@
 // The next unit of a body.
 
 ghost use Rattle.std.specs.Prelude.{◌≡◌, ◌≤◌, length};
+ghost use Rattle.http_frames.specs.NextUnit.{unit_of};
 ghost use Rattle.http_frames.specs.Units.{IsChunkUnit, IsLineUnit, IsNextUnit, IsUnit, left_unit};
 ghost use Rattle.http_frames.specs.Units.{piece, to_end};
 
@@ -91,7 +92,8 @@ fn chunk_unit(left: u64, held: &[u8], ended: bool) -> Unit
 
 /// The next unit of the bytes that are held; `ended` tells that no more come.
 pub fn next_unit(state: BodyState, held: &[u8], ended: bool) -> Unit
-    ensures { IsUnit state held.now ended result }
+    ensures is_unit { IsUnit state held.now ended result }
+    ensures value { result ≡ unit_of state held.now ended }
 {
     match state {
         BodyState::Left(left) => left_unit(left, held, ended),

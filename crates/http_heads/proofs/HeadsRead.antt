@@ -88,10 +88,11 @@ request_by bytes (Ok a) is (Err (Fault f)) there = absurd (there.1 is.0 is.1)
 request_by bytes (Err g) is (Ok b) there = absurd (is.1 there.0 there.1)
 request_by bytes (Err g) is (Err (Fault f)) there = ap (λ x. Err (Fault x)) (there.0 ∙ sym is.0)
 
+pub request_told : (bytes : List ℕ) (r : Result RequestHead HeadFault) → GivesRequest r bytes → IsTold r (read_request bytes)
+request_told bytes r there = request_by bytes (read_request bytes) (gives_request bytes (alone (request bytes)) refl) r there
+
 pub request_is_read : RequestIsRead
-request_is_read bytes =
-    let gives = gives_request bytes (alone (request bytes)) refl in
-    (gives, λ r there. request_by bytes (read_request bytes) gives r there)
+request_is_read bytes = (gives_request bytes (alone (request bytes)) refl, request_told bytes)
 
 -- ---- responses
 
@@ -154,7 +155,8 @@ response_by bytes (Ok a) is (Err (Fault f)) there = absurd (there.1 is.0 is.1)
 response_by bytes (Err g) is (Ok b) there = absurd (is.1 there.0 there.1)
 response_by bytes (Err g) is (Err (Fault f)) there = ap (λ x. Err (Fault x)) (there.0 ∙ sym is.0)
 
+pub response_told : (bytes : List ℕ) (r : Result ResponseHead HeadFault) → GivesResponse r bytes → IsTold r (read_response bytes)
+response_told bytes r there = response_by bytes (read_response bytes) (gives_response bytes (alone (response bytes)) refl) r there
+
 pub response_is_read : ResponseIsRead
-response_is_read bytes =
-    let gives = gives_response bytes (alone (response bytes)) refl in
-    (gives, λ r there. response_by bytes (read_response bytes) gives r there)
+response_is_read bytes = (gives_response bytes (alone (response bytes)) refl, response_told bytes)

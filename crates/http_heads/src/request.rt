@@ -3,6 +3,7 @@
 ghost use Rattle.std.specs.Prelude.{◌≡◌, ◌≤◌, IfOk, Ok, length};
 ghost use Rattle.httparse.specs.Spans.{IsRequestOf, IsRequestWithin};
 ghost use Rattle.http_heads.specs.Heads.{GivesRequest};
+ghost use Rattle.http_heads.specs.Reading.{IsTold, read_request};
 ghost use Rattle.http_heads.specs.Written.{written_request};
 
 use crate::fault::HeadFault;
@@ -50,7 +51,8 @@ fn request_at(
 
 /// Reads bytes that are the whole head of a request, with at most 100 fields.
 pub fn read_request(alloc: Global, head: &[u8]) -> Result<RequestHead, HeadFault>
-    ensures { GivesRequest result head.now }
+    ensures gives { GivesRequest result head.now }
+    ensures value { IsTold result (read_request head.now) }
 {
     let mut headers = [EMPTY_HEADER_SPAN; 100];
     if let Ok(Status::Complete(found)) = parse_request(head, &mut headers) {

@@ -3,6 +3,7 @@
 ghost use Rattle.std.specs.Prelude.{◌≡◌, ◌≤◌, IfOk, Ok, length};
 ghost use Rattle.httparse.specs.Spans.{IsResponseOf, IsResponseWithin};
 ghost use Rattle.http_heads.specs.Heads.{GivesResponse};
+ghost use Rattle.http_heads.specs.Reading.{IsTold, read_response};
 ghost use Rattle.http_heads.specs.Written.{written_response};
 
 use crate::fault::HeadFault;
@@ -48,7 +49,8 @@ fn response_at(
 
 /// Reads bytes that are the whole head of a response, with at most 100 fields.
 pub fn read_response(alloc: Global, head: &[u8]) -> Result<ResponseHead, HeadFault>
-    ensures { GivesResponse result head.now }
+    ensures gives { GivesResponse result head.now }
+    ensures value { IsTold result (read_response head.now) }
 {
     let mut headers = [EMPTY_HEADER_SPAN; 100];
     if let Ok(httparse::Status::Complete(found)) = parse_response(head, &mut headers) {
