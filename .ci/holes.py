@@ -7,14 +7,14 @@ it would be proved, and that it is not proved where it would not be.
 Left out are free functions and methods of `impl` blocks of a type, with the cycles of calls that they are in. The sources are
 read by the layout that `rt fmt` gives them: what a head opens at some column, the first `}` at that column closes.
 """
-import json
 import os
 import re
 import shutil
 
 HEAD = re.compile(r"( *)(?:pub(?:\([\w:]+\))? )?fn (\w+)")
 # Words that antt keeps, so that no module can be named by them as they stand.
-RESERVED = {"data", "record", "open", "ruleset", "use", "mod", "let", "in", "where", "do", "mutual", "axiom", "abbrev", "unfold", "unfoldable", "unfolding", "pub", "with", "package"}
+RESERVED = set("abbrev axiom data do in let mod mutual open package pub record ruleset unfold unfoldable unfolding use where with".split())
+PARTS = "Answers|Code|Given|Goals|Invariants|Kinds|Lts|Proof|Reads|Tie"
 HOLE = """use {library}.{path}.Statement.{{statement}}
 
 pub {name}_spec : {{M : Type 1}} → statement M
@@ -188,7 +188,7 @@ def cited_parts(room, crate):
         own = os.path.relpath(at, f"{room}/proofs")
         for name in names:
             with open(f"{at}/{name}", encoding="utf-8") as it:
-                cites = re.findall(rf"Rattle\.{crate}\.proofs\.(\S+?)\.(?:Answers|Code|Given|Goals|Invariants|Kinds|Lts|Proof|Reads|Tie)\b", it.read())
+                cites = re.findall(rf"Rattle\.{crate}\.proofs\.(\S+?)\.(?:{PARTS})\b", it.read())
             found |= {it.replace(".", "/") for it in cites if it.replace(".", "/") != own}
     return found
 

@@ -120,8 +120,8 @@ def print_whole(costs):
 
 
 def print_crates(costs):
-    print("| crate | src | specs, proofs | proof, s | for 1,000 lines of src | GB | from minute to minute | tests, s | compilers, s | wrong bodies, s |")
-    print("|---|---:|---:|---:|---:|---:|---:|---:|---:|---:|")
+    heads = "crate|src|specs, proofs|proof, s|for 1,000 lines of src|GB|from minute to minute|tests, s|compilers, s|wrong bodies, s".split("|")
+    print(f"| {' | '.join(heads)} |\n|---{'|---:' * (len(heads) - 1)}|")
     told = lambda kind, it: f"{costs.seconds[kind, it]:.0f}" if (kind, it) in costs.seconds else ""
     others = sorted({it for _, it in costs.seconds} - {*costs.proved()})
     for it in [*costs.proved(), *others]:
@@ -132,14 +132,15 @@ def print_crates(costs):
         held = max((held for (_, crate), held in costs.bytes.items() if crate == it), default=0)
         wrong = [second for kind in ("must-fail", "wrong bodies") for second in costs.each[kind, it]]
         tried = f"{sum(wrong):.0f} in {len(wrong)}" if wrong else ""
-        cells = [f"`{it}`", f"{src:,}", f"{behind:,}", told("proof", it), rate, f"{held / 1e9:.1f}", when, told("tests", it), told("compilers", it), tried]
-        print(f"| {' | '.join(cells)} |")
+        cells = [f"`{it}`", f"{src:,}", f"{behind:,}", told("proof", it), rate, f"{held / 1e9:.1f}", when]
+        print(f"| {' | '.join([*cells, told('tests', it), told('compilers', it), tried])} |")
     print()
 
 
 def print_above(costs):
     """Names what is above the budget."""
-    functions = sorted(((took, low, it["crate"], name) for it, _ in costs.checks for name, took, low in it["functions"] if took > FUNCTION), reverse=True)
+    timed = [(took, low, it["crate"], name) for it, _ in costs.checks for name, took, low in it["functions"]]
+    functions = sorted((it for it in timed if it[0] > FUNCTION), reverse=True)
     print(f"Functions above {FUNCTION} s: {len(functions)}.\n")
     if functions:
         print("| function | s | of which lowering |\n|---|---:|---:|")
@@ -176,7 +177,7 @@ def print_table(root, folder):
                 print(it.read(), end="")
         costs = Costs(root, parts)
         proved = len(costs.proved())
-        print(f"What the gate took, by samples of each second: {proved} of {len(costs.needs)} crates were proved in this run, the others are kept from before.\n")
+        print(f"What the gate took, by samples of each second: {proved} of {len(costs.needs)} crates were proved in this run.\n")
         print_whole(costs)
         print_crates(costs)
         print_above(costs)
