@@ -4,10 +4,9 @@
 mod serve_real;
 
 use crate::serve_real::serve_real;
-use proxy::{Status, offline};
+use proxy::{Status, UsageFault, offline, serve_of};
 use px_bytes::{Text, Texts};
 use px_real::{RealFiles, StdoutSink};
-use serve_words::{UsageFault, serve_of};
 use std::alloc::Global;
 use std::io::{self, ErrorKind};
 use std::process::ExitCode;

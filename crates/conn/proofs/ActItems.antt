@@ -7,7 +7,7 @@ use Rattle.rule_model.specs.Outcome.{Act, Did}
 use Rattle.rule_model.specs.Outcome as act
 use Rattle.event_order.specs.declared.event.EventName.{EventName}
 use Rattle.conn_trace.specs.Item.{Item, Ran, calls_in, client_output, server_output, notes_of, choices_in}
-use Rattle.conn_trace.specs.declared.note.Note.TheVariants as note
+use Rattle.core_events.specs.declared.note.Note.TheVariants as note
 use Rattle.conn_trace.specs.Gates.{Counts, TakenCounts, Met, sent_after, sent_from}
 use Rattle.conn_trace.specs.Bodies.{act_item}
 use Rattle.frame_machine.specs.Went.{effects_in}

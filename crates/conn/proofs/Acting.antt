@@ -4,8 +4,8 @@ use Rattle.px_bytes.specs.declared.addr.Side.TheVariants.{Client, Server}
 use Rattle.px_bytes.specs.Host.{Effect, Logged, Sent}
 use Rattle.rule_model.specs.Outcome.{Act}
 use Rattle.conn_trace.specs.Bodies.{act_item}
-use Rattle.conn_trace.specs.Edges.{edges_noted}
-use Rattle.conn_trace.specs.declared.edges.Edges.{Edges}
+use Rattle.core_events.specs.Edges.{edges_noted}
+use Rattle.core_events.specs.declared.edges.Edges.{Edges}
 use Rattle.conn_trace.specs.Further.{choosing, longer}
 use Rattle.conn_trace.specs.Gates.{sent_from}
 use Rattle.conn_trace.specs.Item.{CutBy, Finished, Item, Reason, cause_of}
@@ -14,10 +14,10 @@ use Rattle.conn_trace.specs.Queries.{is_reset}
 use Rattle.conn_trace.specs.Setup.{Setup}
 use Rattle.conn_trace.specs.State.{ForReply, TraceState, Does, Over, Waits}
 use Rattle.conn_trace.specs.Trace.{finish, next_item, Unfolds, GivesNoMore}
-use Rattle.conn_trace.specs.declared.note.CutReason.{CutReason}
-use Rattle.conn_trace.specs.declared.note.CutReason.TheVariants.{ClientReset, ServerReset, Idle}
-use Rattle.conn_trace.specs.declared.note.Note.{Note}
-use Rattle.conn_trace.specs.declared.note.Note.TheVariants as note
+use Rattle.core_events.specs.declared.note.CutReason.{CutReason}
+use Rattle.core_events.specs.declared.note.CutReason.TheVariants.{ClientReset, ServerReset, Idle}
+use Rattle.core_events.specs.declared.note.Note.{Note}
+use Rattle.core_events.specs.declared.note.Note.TheVariants as note
 use Rattle.conn_trace.proofs.Given.{sent_counted}
 use Rattle.frame_machine.specs.Went.{effects_in}
 use Rattle.conn.specs.Acts.{Rests, RestsBy, cut_of}

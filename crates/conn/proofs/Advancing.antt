@@ -5,12 +5,12 @@ use Rattle.px_bytes.specs.declared.addr.Addr.{Addr}
 use Rattle.px_bytes.specs.declared.addr.Side.{Side}
 use Rattle.px_bytes.specs.declared.addr.Side.TheVariants.{Client, Server}
 use Rattle.px_bytes.specs.declared.fault.FaultKind.{FaultKind}
-use Rattle.conn_trace.specs.Edges.{edges_noted}
+use Rattle.core_events.specs.Edges.{edges_noted}
 use Rattle.conn_trace.specs.Setup.{Handler, Setup}
 use Rattle.conn_trace.specs.State.{TraceState}
-use Rattle.conn_trace.specs.declared.note.CutReason.{CutReason}
-use Rattle.conn_trace.specs.declared.note.Note.{Note}
-use Rattle.conn_trace.specs.declared.note.Note.TheVariants as note
+use Rattle.core_events.specs.declared.note.CutReason.{CutReason}
+use Rattle.core_events.specs.declared.note.Note.{Note}
+use Rattle.core_events.specs.declared.note.Note.TheVariants as note
 use Rattle.conn_trace.specs.Relay.{meets}
 use Rattle.conn.specs.Acts.{ActedAt, Acted, AnswersBy, BehindFault, CollectsBy, PassesGate, PassesReleased, RelaysBy, Rests, RestsBy, cut_of, has_room}
 use Rattle.conn.specs.Changes.{Closes, ClosesClient, ClosesServer, GoesTo, Leaves, NextBody, StartsBody}

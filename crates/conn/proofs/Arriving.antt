@@ -4,8 +4,8 @@ use Rattle.px_bytes.specs.declared.addr.Side.{Side}
 use Rattle.px_bytes.specs.declared.addr.Side.TheVariants.{Client, Server}
 use Rattle.px_bytes.specs.declared.fault.Reply.{Reply}
 use Rattle.event_order.specs.declared.event.EventName.{EventName}
-use Rattle.conn_trace.specs.Edges.{edge_ends, is_connecting}
-use Rattle.conn_trace.specs.declared.edges.Edges.{Edges}
+use Rattle.core_events.specs.Edges.{edge_ends, is_connecting}
+use Rattle.core_events.specs.declared.edges.Edges.{Edges}
 use Rattle.conn_trace.specs.Further.{Coming, nothing_further, nothing_comes, longer_by, longer_stream, longer_server, left_for, on_last, first_cut, longer}
 use Rattle.conn_trace.specs.Heard.{taken_by}
 use Rattle.conn_trace.specs.Item.{Choice}

@@ -25,7 +25,7 @@ use Rattle.conn_trace.specs.State.{Failing, InEvent, TraceState, link_of, with_r
 use Rattle.conn_trace.specs.Trace.{next_item, Unfolds}
 use Rattle.conn_trace.proofs.BodyItems.{running, ended, body_waits}
 use Rattle.conn_trace.proofs.Unfolding.{unfolds_on, unfolds_one}
-use Rattle.conn_trace.specs.declared.note.Note.{Note}
+use Rattle.core_events.specs.declared.note.Note.{Note}
 use Rattle.frame_machine.specs.Frames.{comes_to, path_of}
 use Rattle.frame_machine.specs.Given.{setting}
 use Rattle.frame_machine.specs.Went.{Went, place, comes_by, effects_in, TurnIs}

@@ -10,9 +10,9 @@ use Rattle.conn_trace.specs.Relay.{behind_fires, collect_act, meets, ready, Firi
 use Rattle.conn_trace.specs.Setup.{Setup}
 use Rattle.conn_trace.specs.State.{Collecting, TraceState, Waits, Over, ForRelay, Nothing, IsMet, Ready, link_of, with_choices}
 use Rattle.conn_trace.specs.Trace.{GivesNoMore, collect_next, collecting_next, counted, fired_next, next_item}
-use Rattle.conn_trace.specs.declared.note.CutReason.{CutReason}
-use Rattle.conn_trace.specs.declared.note.Note.{Note}
-use Rattle.conn_trace.specs.declared.note.Note.TheVariants as note
+use Rattle.core_events.specs.declared.note.CutReason.{CutReason}
+use Rattle.core_events.specs.declared.note.Note.{Note}
+use Rattle.core_events.specs.declared.note.Note.TheVariants as note
 use Rattle.conn.specs.Acts.{Collects, CollectsBy, cut_of}
 use Rattle.conn.specs.Ends.{is_sought, is_up}
 use Rattle.conn.specs.Holds.{Around, Holds, Stands}

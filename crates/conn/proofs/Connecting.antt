@@ -1,6 +1,6 @@
 -- Whether the server took the connection is the next of each state that the connection may stand for.
 use Rattle.std.proofs.Common.{◌≡◌, refl, sym, ap, subst, ◌∙◌, ◌+◌, [], ◌∷◌, ◌++◌, length, Bool, true, false, true≢false, ◌&&◌, not, Some, None, arith}
-use Rattle.conn_trace.specs.Edges.{answered_edge, is_connecting}
+use Rattle.core_events.specs.Edges.{answered_edge, is_connecting}
 use Rattle.conn_trace.specs.Further.{nothing_comes, longer_server, left_for, on_last, longer}
 use Rattle.conn_trace.specs.State.{TraceState}
 use Rattle.conn_trace.proofs.Streams.{nothing_stream, nothing_server, nothing_on_last}

@@ -10,7 +10,7 @@ use Rattle.conn_trace.specs.Item.{Item}
 use Rattle.conn_trace.specs.Laws.{AtLeast, TakesMore}
 use Rattle.conn_trace.specs.Setup.{Setup}
 use Rattle.conn_trace.specs.State.{TraceState}
-use Rattle.conn_trace.specs.declared.note.Note.{Note}
+use Rattle.core_events.specs.declared.note.Note.{Note}
 use Rattle.conn_trace.proofs.Furthering.{further_keeps, replies_keep}
 use Rattle.conn_trace.proofs.Given.{sent_counted}
 use Rattle.conn_trace.proofs.Querying.{met_joins}

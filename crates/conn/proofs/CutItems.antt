@@ -1,6 +1,6 @@
 -- How a connection finishes, and a cut at a rest, by the fields of a trace's state.
 use Rattle.std.proofs.Common.{◌≡◌, ap, ◌∙◌, ⊎_elim, [], true, false, Some, None}
-use Rattle.conn_trace.specs.declared.note.CutReason.{CutReason}
+use Rattle.core_events.specs.declared.note.CutReason.{CutReason}
 use Rattle.conn_trace.specs.Further.{choosing, longer}
 use Rattle.conn_trace.specs.Gates.{TakenCounts}
 use Rattle.conn_trace.specs.Item.{CutBy, Finished, Reason}

@@ -13,7 +13,7 @@ use Rattle.irule_net.specs.declared.groups.Groups.{Groups}
 use Rattle.irule_net.specs.declared.state.NetState.{NetState}
 use Rattle.conn_trace.specs.Host.{HostState, commands}
 use Rattle.conn_trace.specs.Setup.{Setup}
-use Rattle.conn_trace.specs.declared.note.Note.{Note}
+use Rattle.core_events.specs.declared.note.Note.{Note}
 use Rattle.frame_machine.specs.Went.{CalledBy, IsCall, Place, Went, effects_in, place}
 use Rattle.frame_machine.specs.declared.turn.Turn.{Turn}
 use Rattle.conn.specs.Bodies.{SaidIs}

@@ -10,8 +10,8 @@ use Rattle.conn_trace.specs.Relay.{fired_host as fires_host}
 use Rattle.conn_trace.specs.Setup.{Setup}
 use Rattle.conn_trace.specs.State.{Link as ModelLink, TraceState, Does, Next, link_of, read, read_server, server_stream, with_choices}
 use Rattle.conn_trace.specs.Trace.{counted, fired_next, next_item}
-use Rattle.conn_trace.specs.declared.note.Note.{Note}
-use Rattle.conn_trace.specs.declared.note.Note.TheVariants as note
+use Rattle.core_events.specs.declared.note.Note.{Note}
+use Rattle.core_events.specs.declared.note.Note.TheVariants as note
 use Rattle.conn.specs.Changes.{Enters}
 use Rattle.conn.specs.Ends.{connects_by, has_stream, is_up, link_by, server_by}
 use Rattle.conn.specs.Events.{event_of, is_closed}

@@ -8,10 +8,10 @@ use Rattle.conn_trace.specs.Places.{Place, at as put, after_fault, is_closing, n
 use Rattle.conn_trace.specs.Setup.{Handler, Setup}
 use Rattle.conn_trace.specs.State.{Draining, Failing, Finishing, Gated, InEvent, Phase, Running, TraceState, Does, Over, link_of}
 use Rattle.conn_trace.specs.Trace.{GivesNoMore, next_item}
-use Rattle.conn_trace.specs.declared.note.CutReason.{CutReason}
-use Rattle.conn_trace.specs.declared.note.CutReason.TheVariants.{ClientReset, ServerReset}
-use Rattle.conn_trace.specs.declared.note.Note.{Note}
-use Rattle.conn_trace.specs.declared.note.Note.TheVariants as note
+use Rattle.core_events.specs.declared.note.CutReason.{CutReason}
+use Rattle.core_events.specs.declared.note.CutReason.TheVariants.{ClientReset, ServerReset}
+use Rattle.core_events.specs.declared.note.Note.{Note}
+use Rattle.core_events.specs.declared.note.Note.TheVariants as note
 use Rattle.conn.specs.Acts.{BehindFault, Finishes, PassesGate, Rests, cut_of, has_room}
 use Rattle.conn.specs.Changes.{GoesTo, NextBody, StartsBody}
 use Rattle.conn.specs.Ends.{link_by}

@@ -1,9 +1,9 @@
 -- Items that were given, one after another.
 use Rattle.std.proofs.Common.{◌≡◌, refl, sym, ap, subst, ◌∙◌, ℕ, List, [], ◌∷◌, ◌++◌, Bool, true, false, append-nil, append_assoc, None}
 use Rattle.std.proofs.lemmas.Grind.{flat_map-append}
-use Rattle.conn_trace.specs.Edges.{edges_by, edges_noted}
-use Rattle.conn_trace.specs.declared.edges.Edges.{Edges}
-use Rattle.conn_trace.specs.declared.note.Note.{Note}
+use Rattle.core_events.specs.Edges.{edges_by, edges_noted}
+use Rattle.core_events.specs.declared.edges.Edges.{Edges}
+use Rattle.core_events.specs.declared.note.Note.{Note}
 use Rattle.conn_trace.specs.Gates.{may_give}
 use Rattle.conn_trace.specs.Item.{Item, listed, shown, calls_in, to_client, client_output, to_server, server_output, note_of, notes_of}
 use Rattle.conn_trace.specs.Setup.{Setup}

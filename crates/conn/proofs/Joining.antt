@@ -2,7 +2,7 @@
 use Rattle.std.proofs.Common.{◌≡◌, refl, sym, ap, subst, ◌∙◌, List, [], ◌∷◌, ◌++◌, Bool, true, false, append-nil, append_assoc, Option, Some, None}
 use Rattle.std.proofs.lemmas.Grind.{flat_map-append}
 use Rattle.px_bytes.specs.declared.fault.Reply.{Reply}
-use Rattle.conn_trace.specs.declared.note.CutReason.{CutReason}
+use Rattle.core_events.specs.declared.note.CutReason.{CutReason}
 use Rattle.conn_trace.specs.Further.{CutMeets, choosing, first_cut, longer, nothing_comes}
 use Rattle.conn_trace.specs.Gates.{Counts, TakenCounts, Met}
 use Rattle.conn_trace.specs.HeardLaws.{cut_for, cut_in, taken_by_items}

@@ -8,9 +8,9 @@ use Rattle.conn_trace.specs.Places.{at as put, enter}
 use Rattle.conn_trace.specs.Setup.{Setup}
 use Rattle.conn_trace.specs.State.{Answering, Connecting, NoServer, Sought, There, TraceState, with_connects}
 use Rattle.conn_trace.specs.Trace.{GivesNoMore}
-use Rattle.conn_trace.specs.declared.note.CutReason.{CutReason}
-use Rattle.conn_trace.specs.declared.note.Note.{Note}
-use Rattle.conn_trace.specs.declared.note.Note.TheVariants as note
+use Rattle.core_events.specs.declared.note.CutReason.{CutReason}
+use Rattle.core_events.specs.declared.note.Note.{Note}
+use Rattle.core_events.specs.declared.note.Note.TheVariants as note
 use Rattle.conn.specs.Acts.{Answers, AnswersBy, Connects, Rests, asked_ends, cut_of, with_link}
 use Rattle.conn.specs.Ends.{arrived, connects_by, has_stream, is_sought, is_up, link_by, number_by, servers_by}
 use Rattle.conn.specs.Events.{event_of}

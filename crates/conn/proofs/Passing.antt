@@ -13,9 +13,9 @@ use Rattle.conn_trace.specs.Item.{Choice, Fires, Item, PassesOn, Passed, ToClien
 use Rattle.conn_trace.specs.Setup.{Setup}
 use Rattle.conn_trace.specs.State.{TraceState, Does, with_choices}
 use Rattle.conn_trace.specs.Trace.{GivesNoMore, may_relay, next_item}
-use Rattle.conn_trace.specs.declared.note.CutReason.{CutReason}
-use Rattle.conn_trace.specs.declared.note.Note.{Note}
-use Rattle.conn_trace.specs.declared.note.Note.TheVariants as note
+use Rattle.core_events.specs.declared.note.CutReason.{CutReason}
+use Rattle.core_events.specs.declared.note.Note.{Note}
+use Rattle.core_events.specs.declared.note.Note.TheVariants as note
 use Rattle.conn.specs.Acts.{Relays, RelaysBy, Rests, cut_of}
 use Rattle.conn.specs.Ends.{arrived, connects_by, end_of, has_stream, is_sought, is_up, number_by, queue_of, server_by}
 use Rattle.conn.specs.Holds.{Around, Between, Holds, HoldsEnds, Stands}

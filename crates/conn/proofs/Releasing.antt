@@ -8,7 +8,7 @@ use Rattle.conn_trace.specs.Item.{Moved, ToServer}
 use Rattle.conn_trace.specs.Setup.{Setup}
 use Rattle.conn_trace.specs.State.{Relaying, Releasing, TraceState, Does}
 use Rattle.conn_trace.specs.Trace.{GivesNoMore, next_item}
-use Rattle.conn_trace.specs.declared.note.Note.{Note}
+use Rattle.core_events.specs.declared.note.Note.{Note}
 use Rattle.conn_trace.proofs.Unfolding.{unfolds_one}
 use Rattle.conn.specs.Acts.{PassesReleased, Rests, cut_of}
 use Rattle.conn.specs.Ends.{connects_by, has_stream, is_up, link_by, number_by, server_by}

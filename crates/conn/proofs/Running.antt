@@ -4,15 +4,15 @@ use Rattle.std.proofs.lemmas.Bool.{and_parts}
 use Rattle.px_bytes.specs.declared.addr.Side.{Side}
 use Rattle.px_bytes.specs.declared.addr.Side.TheVariants.{Client, Server}
 use Rattle.seg_buffer.specs.Bytes.{is_empty}
-use Rattle.conn_trace.specs.Edges.{edges_noted, is_connecting}
+use Rattle.core_events.specs.Edges.{edges_noted, is_connecting}
 use Rattle.conn_trace.specs.Item.{client_output, notes_of, server_output}
 use Rattle.conn_trace.specs.Setup.{Setup}
 use Rattle.conn_trace.specs.State.{TraceState}
 use Rattle.conn_trace.specs.Trace.{GivesNoMore, next_item}
-use Rattle.conn_trace.specs.declared.edges.Edges.{Edges}
-use Rattle.conn_trace.specs.declared.note.Note.{Note}
-use Rattle.conn_trace.specs.declared.note.Note.TheVariants as note
-use Rattle.conn_trace.specs.declared.note.Cause.TheVariants.{Memory}
+use Rattle.core_events.specs.declared.edges.Edges.{Edges}
+use Rattle.core_events.specs.declared.note.Note.{Note}
+use Rattle.core_events.specs.declared.note.Note.TheVariants as note
+use Rattle.core_events.specs.declared.note.Cause.TheVariants.{Memory}
 use Rattle.conn.specs.Acts.{Acted}
 use Rattle.conn.specs.Ends.{lost_at, queued_in}
 use Rattle.conn.specs.Holds.{Around, Holds}

@@ -18,7 +18,7 @@ use Rattle.irule_net.specs.declared.state.Target.TheVariants.{Default, PoolOf, M
 use Rattle.rule_model.specs.Laws.{state_after}
 use Rattle.rule_model.specs.Outcome.{Act, Outcome, Ends, Waits as Stops}
 use Rattle.conn_trace.specs.Bodies.{act_next, bodies_next, ended_next, run_body}
-use Rattle.conn_trace.specs.Edges.{edge_of}
+use Rattle.core_events.specs.Edges.{edge_of}
 use Rattle.conn_trace.specs.Gates.{other, taken_of, to_take}
 use Rattle.conn_trace.specs.Heard.{taken_by}
 use Rattle.conn_trace.specs.Host.{HostState, with_selected}
@@ -35,7 +35,7 @@ use Rattle.conn.specs.Ends.{arrived, end_of, is_done, is_up, lost_at, number_by,
 use Rattle.conn.specs.Events.{event_of, is_data}
 use Rattle.conn.specs.Holds.{Around, Between, GatedBefore, Holds, RunsFirst, Stands}
 use Rattle.conn.specs.Queues.{dropped_at, dropped_by, queue_in}
-use Rattle.conn_trace.specs.declared.note.Note.TheVariants.{HalfClose}
+use Rattle.core_events.specs.declared.note.Note.TheVariants.{HalfClose}
 use Rattle.conn.specs.Settling as settle
 use Rattle.conn.specs.Settling.{DropsReset, RestsWith, Settles, SettlesNotes, half_close, half_due, half_notes, is_drained, is_over, is_spent, lost_by, lost_of, note_if, noted_in, over_in, rest_notes, settle_notes, settling, settling_at}
 use Rattle.conn.specs.Stages.{has_finished, is_draining, is_in_body, is_relaying, reason_for}

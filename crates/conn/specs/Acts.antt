@@ -6,14 +6,14 @@ use Rattle.px_bytes.specs.declared.addr.Addr.{Addr}
 use Rattle.px_bytes.specs.declared.addr.Side.{Side}
 use Rattle.px_bytes.specs.declared.addr.Side.TheVariants.{Client, Server}
 use Rattle.px_bytes.specs.declared.fault.FaultKind.{FaultKind}
-use Rattle.conn_trace.specs.Edges.{edge}
+use Rattle.core_events.specs.Edges.{edge}
 use Rattle.conn_trace.specs.Gates.{room_limit}
 use Rattle.conn_trace.specs.Relay.{meets}
-use Rattle.conn_trace.specs.declared.edges.EdgeState.TheVariants as state
-use Rattle.conn_trace.specs.declared.note.CutReason.{CutReason}
-use Rattle.conn_trace.specs.declared.note.CutReason.TheVariants.{ClientReset, ServerReset}
-use Rattle.conn_trace.specs.declared.note.Note.{Note}
-use Rattle.conn_trace.specs.declared.note.Note.TheVariants as note
+use Rattle.core_events.specs.declared.edges.EdgeState.TheVariants as state
+use Rattle.core_events.specs.declared.note.CutReason.{CutReason}
+use Rattle.core_events.specs.declared.note.CutReason.TheVariants.{ClientReset, ServerReset}
+use Rattle.core_events.specs.declared.note.Note.{Note}
+use Rattle.core_events.specs.declared.note.Note.TheVariants as note
 use Rattle.conn.specs.declared.connection.Conn.{Conn}
 use Rattle.conn.specs.declared.ends.Ends.{Ends}
 use Rattle.conn.specs.declared.ends.Link.{Link}

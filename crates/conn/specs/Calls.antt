@@ -6,7 +6,7 @@ use Rattle.px_bytes.specs.declared.addr.Side.{Side}
 use Rattle.px_bytes.specs.declared.addr.Side.TheVariants.{Client, Server}
 use Rattle.px_bytes.specs.declared.fault.Reply.{Reply}
 use Rattle.irule_net.specs.State.{collected}
-use Rattle.conn_trace.specs.Edges.{answered_edge, edge_ends, edge_resets}
+use Rattle.core_events.specs.Edges.{answered_edge, edge_ends, edge_resets}
 use Rattle.conn_trace.specs.Further.{Coming, Further, nothing_further, longer}
 use Rattle.conn_trace.specs.Further.{replies_only}
 use Rattle.conn_trace.specs.Phases.{Orderly}

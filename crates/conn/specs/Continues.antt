@@ -16,7 +16,7 @@ use Rattle.conn_trace.specs.Laws.{TakesMore}
 use Rattle.conn_trace.specs.Setup.{Handler, Setup}
 use Rattle.conn_trace.specs.State.{Gated, Running, Failing, Phase, InEvent, Stream}
 use Rattle.conn_trace.specs.State.{Cut, Answers, TraceState, Next, no_stream, no_answers}
-use Rattle.conn_trace.specs.declared.note.Note.{Note}
+use Rattle.core_events.specs.declared.note.Note.{Note}
 use Rattle.conn_trace.specs.State as phase
 use Rattle.conn_trace.specs.Trace.{counted, next_item, selected_next, Unfolds, trace_from}
 use Rattle.conn_trace.specs.Trace.{trace, start}

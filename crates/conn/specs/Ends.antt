@@ -5,7 +5,7 @@ use Rattle.std.specs.Prelude.{Option, Some, None, if◌then◌else◌}
 use Rattle.px_bytes.specs.declared.addr.Side.{Side}
 use Rattle.px_bytes.specs.declared.addr.Side.TheVariants.{Client, Server}
 use Rattle.seg_buffer.specs.Bytes.{is_empty}
-use Rattle.conn_trace.specs.Edges.{accepted_edges}
+use Rattle.core_events.specs.Edges.{accepted_edges}
 use Rattle.conn_trace.specs.Further.{Coming}
 use Rattle.conn_trace.specs.Gates.{room_limit}
 use Rattle.conn_trace.specs.Heard.{taken_by}

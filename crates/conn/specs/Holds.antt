@@ -11,7 +11,7 @@ use Rattle.irule_net.specs.declared.state.Target.{Target}
 use Rattle.irule_net.specs.declared.state.Target.TheVariants.{Default, PoolOf, MemberOf, NodeAt}
 use Rattle.rule_model.specs.Evaluator.{evaluate}
 use Rattle.rule_model.specs.Outcome.{Act}
-use Rattle.conn_trace.specs.Edges.{is_connecting}
+use Rattle.core_events.specs.Edges.{is_connecting}
 use Rattle.conn_trace.specs.Gates.{TakenCounts, none_taken}
 use Rattle.conn_trace.specs.Heard.{taken_by}
 use Rattle.conn_trace.specs.Host.{body_setting}

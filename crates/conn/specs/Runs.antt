@@ -1,8 +1,8 @@
 -- What a Run makes of a connection, for each state that its trace may stand at.
 use Rattle.std.specs.Prelude.{◌≡◌, ◌⊎◌, ℕ, ◌+◌, ◌<◌, ◌≤◌, List, [], ◌∷◌, ◌++◌, length, Bool, true, false}
-use Rattle.conn_trace.specs.declared.note.Note.{Note}
-use Rattle.conn_trace.specs.Edges.{edges_noted}
-use Rattle.conn_trace.specs.declared.note.Note.TheVariants.{Ended}
+use Rattle.core_events.specs.declared.note.Note.{Note}
+use Rattle.core_events.specs.Edges.{edges_noted}
+use Rattle.core_events.specs.declared.note.Note.TheVariants.{Ended}
 use Rattle.conn_trace.specs.Item.{Item, calls_in, client_output, server_output}
 use Rattle.conn_trace.specs.Setup as model
 use Rattle.conn_trace.specs.State.{TraceState}

@@ -6,18 +6,18 @@ use Rattle.px_bytes.specs.declared.addr.Side.{Side}
 use Rattle.px_bytes.specs.declared.addr.Side.TheVariants.{Client, Server}
 use Rattle.seg_buffer.specs.Bytes.{is_empty}
 use Rattle.irule_net.specs.State.{collected}
-use Rattle.conn_trace.specs.Edges.{edge_of, edges_noted}
+use Rattle.core_events.specs.Edges.{edge_of, edges_noted}
 use Rattle.conn_trace.specs.Gates.{Counts, TakenCounts, other, taken_of, to_take}
 use Rattle.conn_trace.specs.Queries.{half_close_due}
 use Rattle.conn_trace.specs.Setup as model
 use Rattle.conn_trace.specs.State.{TraceState, Next, Does, Waits, Over}
 use Rattle.conn_trace.specs.Trace.{next_item}
-use Rattle.conn_trace.specs.declared.edges.Edges.{Edges}
-use Rattle.conn_trace.specs.declared.edges.EdgeState.{EdgeState}
-use Rattle.conn_trace.specs.declared.edges.EdgeState.TheVariants as state
-use Rattle.conn_trace.specs.declared.note.Note.{Note}
-use Rattle.conn_trace.specs.declared.note.Note.TheVariants.{CloseClient, CloseServer, Ended}
-use Rattle.conn_trace.specs.declared.note.Note.TheVariants.{HalfClose}
+use Rattle.core_events.specs.declared.edges.Edges.{Edges}
+use Rattle.core_events.specs.declared.edges.EdgeState.{EdgeState}
+use Rattle.core_events.specs.declared.edges.EdgeState.TheVariants as state
+use Rattle.core_events.specs.declared.note.Note.{Note}
+use Rattle.core_events.specs.declared.note.Note.TheVariants.{CloseClient, CloseServer, Ended}
+use Rattle.core_events.specs.declared.note.Note.TheVariants.{HalfClose}
 use Rattle.conn.specs.declared.connection.Conn.{Conn}
 use Rattle.conn.specs.Ends.{end_of, is_done, queued_in}
 use Rattle.conn.specs.Holds.{Around, Holds}

@@ -16,8 +16,8 @@ use Rattle.irule_net.specs.declared.state.Selected.{Selected}
 use Rattle.conn_trace.specs.Item.{Reason}
 use Rattle.conn_trace.specs.Item as reason
 use Rattle.conn_trace.specs.Selected.{addr_of}
-use Rattle.conn_trace.specs.declared.note.Cause.{Cause}
-use Rattle.conn_trace.specs.declared.note.Cause.TheVariants as cause
+use Rattle.core_events.specs.declared.note.Cause.{Cause}
+use Rattle.core_events.specs.declared.note.Cause.TheVariants as cause
 use Rattle.conn.specs.declared.ends.Link.{Link}
 use Rattle.conn.specs.declared.events.At.{At}
 use Rattle.conn.specs.declared.events.At.TheVariants as at

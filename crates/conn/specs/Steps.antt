@@ -5,7 +5,7 @@ use Rattle.px_bytes.specs.declared.fault.TclFault.{TclFault}
 use Rattle.rule_model.specs.Outcome.{uncaught_of}
 use Rattle.conn_trace.specs.Host.{commands}
 use Rattle.conn_trace.specs.Setup.{Handler, uncaught_line}
-use Rattle.conn_trace.specs.declared.note.Note.{Note}
+use Rattle.core_events.specs.declared.note.Note.{Note}
 use Rattle.frame_machine.specs.Given.{setting}
 use Rattle.frame_machine.specs.Went.{Went, place}
 use Rattle.frame_machine.specs.declared.turn.Turn.{Turn}

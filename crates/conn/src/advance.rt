@@ -10,7 +10,7 @@ use crate::events::At;
 use crate::setup::Setup;
 use crate::stage::{Finish, Stage};
 use crate::turn::Act;
-use conn_trace::{CutReason, Note, Notes};
+use core_events::{CutReason, Note, Notes};
 use px_bytes::{FaultKind, M, Steps};
 use std::alloc::Global;
 use std::mem;

@@ -13,7 +13,7 @@ use crate::events::At;
 use crate::setup::Setup;
 use crate::stage::Stage;
 use crate::turn::Act;
-use conn_trace::{Note, Notes};
+use core_events::{Note, Notes};
 use irule_net::Asks;
 use px_bytes::{M, Side};
 use std::alloc::Global;

@@ -9,7 +9,7 @@ use crate::events::At;
 use crate::setup::Setup;
 use crate::stage::Stage;
 use crate::turn::Act;
-use conn_trace::{Edge, EdgeState, Note, Notes};
+use core_events::{Edge, EdgeState, Note, Notes};
 use px_bytes::Addr;
 
 impl Conn {

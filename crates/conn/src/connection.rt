@@ -2,7 +2,7 @@
 
 ghost use Rattle.std.specs.Prelude.{◌≡◌, ◌≤◌, [], true, false, IfOk, OnOk, OnErr};
 ghost use Rattle.std.specs.Prelude.{length, take};
-ghost use Rattle.conn_trace.specs.Edges.{is_connecting};
+ghost use Rattle.core_events.specs.Edges.{is_connecting};
 ghost use Rattle.conn.specs.Calls.{Begins, Connects, Hears, Replies, Resets, Takes, Wants};
 ghost use Rattle.conn.specs.Calls.{connected_ends, ended_ends, heard_ends, reset_ends, took_ends};
 ghost use Rattle.conn.specs.Calls.{counted_held, wanted_in};
@@ -17,7 +17,7 @@ use crate::events::At;
 use crate::host::RuleHost;
 use crate::setup::Setup;
 use crate::stage::Stage;
-use conn_trace::Edges;
+use core_events::Edges;
 use irule_net::{Asks, NetState};
 use px_bytes::{Addr, M, Reply, Side, Text, read_addr};
 use std::alloc::Global;

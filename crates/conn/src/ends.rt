@@ -6,7 +6,7 @@ ghost use Rattle.conn.specs.Ends.{end_of, fresh_end, fresh_ends, has_stream, hea
 ghost use Rattle.conn.specs.Ends.{is_sought, is_up, lost_at, queue_of, queued_in, room_left};
 ghost use Rattle.conn.specs.Relaying.{passes_now, read_ends};
 
-use conn_trace::{Edge, EdgeState, Edges};
+use core_events::{Edge, EdgeState, Edges};
 use px_bytes::{M, Side, Text};
 use seg_buffer::Held;
 use std::alloc::Global;

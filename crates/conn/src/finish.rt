@@ -1,7 +1,7 @@
 // A connection finishes.
 
 ghost use Rattle.std.specs.Prelude.{◌≡◌, ◌+◌, ◌≤◌, ◌∷◌, ◌++◌, [], length};
-ghost use Rattle.conn_trace.specs.declared.note.Note.TheVariants as noted;
+ghost use Rattle.core_events.specs.declared.note.Note.TheVariants as noted;
 ghost use Rattle.conn.specs.Changes.{Closes, ClosesBodies, ClosesClient, ClosesServer, Leaves};
 ghost use Rattle.conn.specs.Stages.{cause_for};
 
@@ -9,7 +9,7 @@ use crate::connection::Conn;
 use crate::events::At;
 use crate::setup::Setup;
 use crate::stage::{Finish, Stage};
-use conn_trace::{Note, Notes};
+use core_events::{Note, Notes};
 
 impl Conn {
     /// Finishes for this reason: the closing events come.

@@ -4,7 +4,7 @@ ghost use Rattle.std.specs.Prelude.{◌≡◌, ◌+◌, ◌≤◌, length, OnErr
 ghost use Rattle.conn.specs.Steps.{DoesMade};
 
 use crate::connection::Conn;
-use conn_trace::{Note, Notes};
+use core_events::{Note, Notes};
 use irule_net::Made;
 use px_bytes::{M, Side};
 

@@ -12,7 +12,7 @@ use crate::ends::{End, Ends};
 use crate::setup::Setup;
 use crate::stage::{Finish, Stage};
 use crate::turn::Act;
-use conn_trace::{Note, Notes};
+use core_events::{Note, Notes};
 use irule_net::Asks;
 use px_bytes::{M, Side};
 use std::mem;

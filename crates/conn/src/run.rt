@@ -1,8 +1,8 @@
 // A slice of a connection.
 
 ghost use Rattle.std.specs.Prelude.{◌+◌, ◌≡◌, ◌-◌, ◌≤◌, ◌++◌, List, length};
-ghost use Rattle.conn_trace.specs.Edges.{edges_noted};
-ghost use Rattle.conn_trace.specs.declared.note.Note.{Note};
+ghost use Rattle.core_events.specs.Edges.{edges_noted};
+ghost use Rattle.core_events.specs.declared.note.Note.{Note};
 ghost use Rattle.conn.specs.Ends.{queued_in};
 ghost use Rattle.conn.specs.Runs.{DropsQueued, IsWhole, Rested, Runs, TellsDropped};
 
@@ -10,7 +10,7 @@ use crate::connection::Conn;
 use crate::setup::Setup;
 use crate::stage::Stage;
 use crate::turn::{Act, ConnTurn};
-use conn_trace::Notes;
+use core_events::Notes;
 use px_bytes::Steps;
 use std::alloc::Global;
 use std::sync::ledger::Ledger;

@@ -4,10 +4,10 @@ ghost use Rattle.std.specs.Prelude.{◌≡◌, ◌+◌, ◌≤◌, ◌++◌, len
 ghost use Rattle.conn.specs.Settling.{Settles, SettlesNotes, half_due, half_notes, noted_in, over_in};
 ghost use Rattle.conn.specs.Settling.{client_notes, close_notes, is_there, rest_notes};
 ghost use Rattle.conn.specs.Settling.{is_spent, server_notes, settle_notes};
-ghost use Rattle.conn_trace.specs.Edges.{edges_noted};
+ghost use Rattle.core_events.specs.Edges.{edges_noted};
 
 use crate::connection::Conn;
-use conn_trace::{EdgeState, Edges, Note, Notes};
+use core_events::{EdgeState, Edges, Note, Notes};
 use px_bytes::Side;
 
 impl Conn {

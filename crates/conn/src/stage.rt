@@ -8,7 +8,7 @@ ghost use Rattle.conn.specs.Stages.{is_draining, is_relaying};
 
 use crate::ends::Link;
 use crate::events::At;
-use conn_trace::{Cause, CutReason};
+use core_events::{Cause, CutReason};
 use irule_net::{Asks, Ending, NetState, Selected};
 use px_bytes::{Addr, FaultKind, Side, Text};
 

@@ -1,8 +1,8 @@
 // A connection to which memory was refused.
 
 ghost use Rattle.std.specs.Prelude.{◌≡◌, ◌≤◌, [], ◌∷◌, ◌++◌};
-ghost use Rattle.conn_trace.specs.declared.note.Note.TheVariants as noted;
-ghost use Rattle.conn_trace.specs.declared.note.Cause.TheVariants as causes;
+ghost use Rattle.core_events.specs.declared.note.Note.TheVariants as noted;
+ghost use Rattle.core_events.specs.declared.note.Cause.TheVariants as causes;
 ghost use Rattle.conn.specs.Settling.{DropsReset};
 ghost use Rattle.conn.specs.Queues.{dropped_by};
 ghost use Rattle.conn.specs.Runs.{DropsQueued};
@@ -12,7 +12,7 @@ use crate::connection::Conn;
 use crate::settle::close;
 use crate::stage::Stage;
 use crate::turn::ConnTurn;
-use conn_trace::{Cause, Note, Notes};
+use core_events::{Cause, Note, Notes};
 
 impl Conn {
     /// Memory was refused to a call on it: no body of it runs any more, no call of it is open, and

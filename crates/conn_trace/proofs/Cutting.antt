@@ -1,6 +1,6 @@
 -- A cut that isn't taken waits; at a rest it is taken.
 use Rattle.std.proofs.Common.{◌≡◌, ◌⊎◌, inl, inr, refl, sym, ap, subst, ◌∙◌, Bool, true, false, ◌||◌, ◌&&◌, not, true≢false, if◌then◌else◌, Some, None}
-use Rattle.conn_trace.specs.declared.note.CutReason.{CutReason}
+use Rattle.core_events.specs.declared.note.CutReason.{CutReason}
 use Rattle.conn_trace.specs.Item.{CutBy}
 use Rattle.conn_trace.specs.Gates.{Counts, TakenCounts, may_give, sent_after}
 use Rattle.conn_trace.specs.Setup.{Setup}

@@ -3,7 +3,7 @@ use Rattle.std.proofs.Common.{◌≡◌, refl, sym, ap, subst, ◌∙◌, ℕ, z
 use Rattle.std.proofs.lemmas.List.{length-append}
 use Rattle.px_bytes.specs.declared.addr.Side.TheVariants.{Client, Server}
 use Rattle.px_bytes.specs.declared.fault.Reply.{Reply}
-use Rattle.conn_trace.specs.declared.note.CutReason.{CutReason}
+use Rattle.core_events.specs.declared.note.CutReason.{CutReason}
 use Rattle.conn_trace.specs.Item.{Item, CutBy, Peer, ToClient, ToServer, Sending, Choice}
 use Rattle.conn_trace.specs.Item.{shown, client_part, bytes_to_client, client_output}
 use Rattle.conn_trace.specs.Gates.{Counts, may_give, renewed, sent_to, sent_part, sent_after}

@@ -3,13 +3,16 @@ use Rattle.std.proofs.Common.{◌≡◌, refl, ℕ, List, [], ◌∷◌, Bool, t
 use Rattle.px_bytes.specs.declared.addr.Addr.{Addr}
 use Rattle.px_bytes.specs.declared.addr.Side.TheVariants.{Client, Server}
 use Rattle.px_bytes.specs.declared.fault.Reply.TheVariants as reply
-use Rattle.conn_trace.specs.declared.note.Cause.TheVariants as cause
-use Rattle.conn_trace.specs.declared.note.CutReason.TheVariants.{ClientReset}
-use Rattle.conn_trace.specs.declared.note.Note.{Note}
-use Rattle.conn_trace.specs.declared.note.Note.TheVariants as note
+use Rattle.core_events.specs.declared.note.Cause.TheVariants as cause
+use Rattle.core_events.specs.declared.note.CutReason.TheVariants.{ClientReset}
+use Rattle.core_events.specs.declared.note.Note.{Note}
+use Rattle.core_events.specs.declared.note.Note.TheVariants as note
 use Rattle.conn_trace.specs.Item.{PassesOn}
 use Rattle.conn_trace.specs.Tellings.{notes_about, end_told}
-use Rattle.conn_trace.specs.Heard.{Input, Bytes, Ends, Resets, Connects, Takes, Accepts, Comes, Runs, SideHeard, Heard, fresh_side, nothing_heard, taken, hears}
+use Rattle.core_events.specs.declared.event_kind.EventKind.TheVariants.{Accepts, Comes, Runs}
+use Rattle.core_events.specs.declared.input.Input.{Input}
+use Rattle.core_events.specs.declared.input.Input.TheVariants.{Bytes, Ends, Resets, Connects, Takes}
+use Rattle.conn_trace.specs.Heard.{SideHeard, Heard, fresh_side, nothing_heard, taken, hears}
 
 abbrev client_at : Addr
 client_at = record { ip = 9; port = 4000 }

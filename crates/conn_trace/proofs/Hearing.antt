@@ -4,7 +4,7 @@ use Rattle.std.proofs.lemmas.List.{map-append}
 use Rattle.px_bytes.specs.declared.addr.Addr.{Addr}
 use Rattle.px_bytes.specs.declared.addr.Side.TheVariants.{Client, Server}
 use Rattle.px_bytes.specs.declared.fault.Reply.{Reply}
-use Rattle.conn_trace.specs.declared.note.Note.{Note}
+use Rattle.core_events.specs.declared.note.Note.{Note}
 use Rattle.conn_trace.specs.Item.{Choice, Item, choices_in, notes_of}
 use Rattle.conn_trace.specs.Gates.{TakenCounts, no_bytes}
 use Rattle.conn_trace.specs.Setup.{Setup}
@@ -12,10 +12,19 @@ use Rattle.conn_trace.specs.State.{Stream, Cut, TraceState}
 use Rattle.conn_trace.specs.Trace.{start, Unfolds}
 use Rattle.conn_trace.specs.Further.{replies_only, Coming, nothing_comes, CutMeets, Further, longer, longer_by, longer_stream, longer_where, left_for, on_last, first_cut}
 use Rattle.conn_trace.specs.Tellings.{tells, own, notes_about, choices_told, replies_told, cut_told, finish_told}
-use Rattle.conn_trace.specs.declared.edges.Edges.{Edges}
-use Rattle.conn_trace.specs.Edges.{accepted_edges, edges_noted}
+use Rattle.core_events.specs.declared.edges.Edges.{Edges}
+use Rattle.core_events.specs.Edges.{accepted_edges, edges_noted}
 use Rattle.conn_trace.specs.Heard.{edges_met, event_edges, edges_after}
-use Rattle.conn_trace.specs.Heard.{Input, Bytes, Ends, Resets, Connects, Takes, EventKind, Accepts, Comes, Ticks, Turns, Runs, Marks, SideHeard, Heard, side_taken, servers_taken, taken, hears_by, hears_more, has_made, at_last, brought_nothing, brings_in, Brought, event_brings, marks, accepts, event_marks, brought, hear_brought, hear_tellings, hear_notes, hears_event, hears, as_stream, as_answer, start_of, further_of}
+use Rattle.core_events.specs.declared.event_kind.EventKind.{EventKind}
+use Rattle.core_events.specs.declared.event_kind.EventKind.TheVariants.{Accepts, Comes, Ticks}
+use Rattle.core_events.specs.declared.event_kind.EventKind.TheVariants.{Turns, Runs, Marks}
+use Rattle.core_events.specs.declared.input.Input.{Input}
+use Rattle.core_events.specs.declared.input.Input.TheVariants.{Bytes, Ends, Resets, Connects, Takes}
+use Rattle.conn_trace.specs.Heard.{SideHeard, Heard, side_taken, servers_taken, taken, hears_by}
+use Rattle.conn_trace.specs.Heard.{hears_more, has_made, at_last, brought_nothing, brings_in}
+use Rattle.conn_trace.specs.Heard.{Brought, event_brings, marks, accepts, event_marks, brought}
+use Rattle.conn_trace.specs.Heard.{hear_brought, hear_tellings, hear_notes, hears_event, hears}
+use Rattle.conn_trace.specs.Heard.{as_stream, as_answer, start_of, further_of}
 use Rattle.conn_trace.specs.HeardLaws.{cut_in, taken_by_items, TellsNothing, concerns}
 use Rattle.conn_trace.proofs.Furthering.{further_keeps, replies_keep}
 use Rattle.conn_trace.proofs.Telling.{run_tells}

@@ -14,7 +14,7 @@ use Rattle.rule_model.specs.Evaluator.{evaluate}
 use Rattle.event_order.specs.declared.event.EventName.{EventName}
 use Rattle.event_order.specs.declared.event.EventName.TheVariants.{ClientAccepted, ClientData, ClientClosed}
 use Rattle.event_order.specs.declared.event.EventName.TheVariants.{ServerData, ServerClosed}
-use Rattle.conn_trace.specs.declared.note.CutReason.TheVariants.{ClientReset}
+use Rattle.core_events.specs.declared.note.CutReason.TheVariants.{ClientReset}
 use Rattle.conn_trace.specs.Item.{Item, BeforeBodies, ToClient, ToServer, Closed, Tcl, Unselected, CutBy, PassesOn, Fires}
 use Rattle.conn_trace.specs.Item.{Opened, Resumed, Answered, Moved, Passed, Fired, Called, Connected, Logged, Sent, Ran, Finished, client_output, server_output}
 use Rattle.conn_trace.specs.Gates.{TakenCounts}

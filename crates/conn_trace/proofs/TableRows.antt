@@ -11,7 +11,7 @@ use Rattle.event_order.specs.declared.phase.Phase.{Phase as Name}
 use Rattle.event_order.specs.declared.phase.Phase.TheVariants as name
 use Rattle.event_order.specs.declared.event.EventName.{EventName}
 use Rattle.event_order.specs.declared.event.EventName.TheVariants.{ClientAccepted, ClientData, ClientClosed, ServerClosed, LbFailed}
-use Rattle.conn_trace.specs.declared.note.CutReason.TheVariants.{ClientReset, ServerReset, Idle}
+use Rattle.core_events.specs.declared.note.CutReason.TheVariants.{ClientReset, ServerReset, Idle}
 use Rattle.conn_trace.specs.Item.{BeforeBodies, BeforePassing, BeforeConnect, ToClient, ToServer, Closed, Rejected, Tcl, PassesOn, cost_in, calls_in}
 use Rattle.conn_trace.specs.Item.{Opened, Resumed, Passed, Fired, Called, Connected, Logged, Sent, Ran, Finished}
 use Rattle.conn_trace.specs.Gates.{Counts, TakenCounts, is_open, may_give}

@@ -1,8 +1,8 @@
 -- What the notes of items tell.
 use Rattle.std.proofs.Common.{◌≡◌, refl, sym, ap, ◌∙◌, ℕ, List, [], ◌∷◌, ◌++◌, append-nil, append_assoc, map, length, Bool, true, false, ◌||◌, Option, Some, None, if◌then◌else◌, eq-eqb}
 use Rattle.std.specs.Prelude.{is_some}
-use Rattle.conn_trace.specs.declared.note.Note.{Note}
-use Rattle.conn_trace.specs.declared.note.Note.TheVariants as note
+use Rattle.core_events.specs.declared.note.Note.{Note}
+use Rattle.core_events.specs.declared.note.Note.TheVariants as note
 use Rattle.conn_trace.specs.Item.{Reason, Closed, Tcl, Unselected, Rejected, CutBy, Item, cause_of, Passed, Fired, Reused, Connected, Logged, Finished, shown, listed, noted, choices_in, notes_of, reasons_in}
 use Rattle.conn_trace.specs.Gates.{TakenCounts}
 use Rattle.conn_trace.specs.State.{Cut}

@@ -5,38 +5,23 @@ use Rattle.px_bytes.specs.declared.addr.Addr.{Addr}
 use Rattle.px_bytes.specs.declared.addr.Side.{Side}
 use Rattle.px_bytes.specs.declared.addr.Side.TheVariants.{Client, Server}
 use Rattle.px_bytes.specs.declared.fault.Reply.{Reply}
-use Rattle.conn_trace.specs.declared.edges.Edges.{Edges}
-use Rattle.conn_trace.specs.declared.note.Note.{Note}
+use Rattle.core_events.specs.declared.edges.Edges.{Edges}
+use Rattle.core_events.specs.declared.note.Note.{Note}
+use Rattle.core_events.specs.declared.event_kind.EventKind.{EventKind}
+use Rattle.core_events.specs.declared.event_kind.EventKind.TheVariants.{Accepts, Comes}
+use Rattle.core_events.specs.declared.input.Input.{Input}
+use Rattle.core_events.specs.declared.input.Input.TheVariants.{Bytes, Ends, Resets}
+use Rattle.core_events.specs.declared.input.Input.TheVariants.{Connects, Takes}
 use Rattle.conn_trace.specs.Item.{Choice}
 use Rattle.conn_trace.specs.Gates.{TakenCounts}
 use Rattle.conn_trace.specs.Setup.{Setup}
 use Rattle.conn_trace.specs.State.{Stream, Cut, TraceState}
 use Rattle.conn_trace.specs.Trace.{start}
 use Rattle.conn_trace.specs.Further.{Coming, nothing_comes, Further, first_cut}
-use Rattle.conn_trace.specs.Edges.{no_edges, accepted_edges, edge_ends, edge_resets}
-use Rattle.conn_trace.specs.Edges.{answered_edge, edges_noted}
+use Rattle.core_events.specs.Edges.{no_edges, accepted_edges, edge_ends, edge_resets}
+use Rattle.core_events.specs.Edges.{answered_edge, edges_noted}
 use Rattle.conn_trace.specs.Tellings.{NoteTells, own, notes_about, replies_told}
 use Rattle.conn_trace.specs.Tellings.{choices_told, cut_told, finish_told, failure_told}
-
--- what comes of a connection from outside
-pub data Input : Type 0 where
-  Bytes : Side → List ℕ → Input
-  Ends : Side → Input
-  Resets : Side → Input
-  -- whether the server connection that it asked for was made
-  Connects : Bool → Input
-  Takes : Side → ℕ → Input
-
--- An event, by what it may mean to a connection: it is accepted by a virtual server, from an
--- address; something comes of it; the moment is set; a shared call is answered; the connection that
--- is ready for the longest time goes on; a member of a pool is marked up or down.
-pub data EventKind : Type 0 where
-  Accepts : ℕ → (virtual : List ℕ) → (from : Addr) → EventKind
-  Comes : ℕ → Input → EventKind
-  Ticks : ℕ → EventKind
-  Turns : EventKind
-  Runs : EventKind
-  Marks : (pool : List ℕ) → (member : Addr) → (up : Bool) → EventKind
 
 -- a side: what came of it, whether it ended or was reset, and how much it took
 pub record SideHeard : Type 0 where

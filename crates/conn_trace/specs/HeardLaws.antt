@@ -1,7 +1,7 @@
 -- What holds of a trace on what was heard.
 use Rattle.std.specs.Prelude.{◌≡◌, ℕ, List, [], ◌∷◌, ◌++◌, Bool, true, false}
 use Rattle.std.specs.Prelude.{Option, Some, None, nat_eq}
-use Rattle.conn_trace.specs.declared.note.Note.{Note}
+use Rattle.core_events.specs.declared.note.Note.{Note}
 use Rattle.conn_trace.specs.Item.{Reason, Closed, Tcl, Unselected, Rejected, CutBy}
 use Rattle.conn_trace.specs.Item.{Item, shown, choices_in, notes_of, reasons_in}
 use Rattle.conn_trace.specs.Gates.{TakenCounts, no_bytes}
@@ -12,7 +12,9 @@ use Rattle.conn_trace.specs.Further.{Further, longer, is_some_of, replies_only, 
 use Rattle.conn_trace.specs.Further.{CutMeets}
 use Rattle.conn_trace.specs.Tellings.{own, notes_about, replies_told, choices_told, cut_told}
 use Rattle.conn_trace.specs.Tellings.{finish_told, failure_told}
-use Rattle.conn_trace.specs.Heard.{EventKind, Accepts, Comes, Runs, Heard, taken, hears}
+use Rattle.core_events.specs.declared.event_kind.EventKind.{EventKind}
+use Rattle.core_events.specs.declared.event_kind.EventKind.TheVariants.{Accepts, Comes, Runs}
+use Rattle.conn_trace.specs.Heard.{Heard, taken, hears}
 use Rattle.conn_trace.specs.Heard.{start_of, further_of}
 
 -- each event lengthens the trace

@@ -12,7 +12,6 @@ pub mod Further
 pub mod Laws
 pub mod Phases
 pub mod Tellings
-pub mod Edges
 pub mod Heard
 pub mod HeardLaws
 pub mod Queries

@@ -7,7 +7,7 @@ use Rattle.px_bytes.specs.declared.fault.FaultKind.{FaultKind}
 use Rattle.px_bytes.specs.declared.fault.Reply.{Reply}
 use Rattle.tcl_vars.specs.Scopes.{Scopes}
 use Rattle.event_order.specs.declared.event.EventName.{EventName}
-use Rattle.conn_trace.specs.declared.note.CutReason.{CutReason}
+use Rattle.core_events.specs.declared.note.CutReason.{CutReason}
 use Rattle.conn_trace.specs.Item.{Reason, Choice, Item, Taking, shown}
 use Rattle.conn_trace.specs.Gates.{Counts, TakenCounts}
 use Rattle.conn_trace.specs.Setup.{Handler}

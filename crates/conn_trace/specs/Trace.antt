@@ -11,8 +11,8 @@ use Rattle.px_bytes.specs.declared.fault.Reply.TheVariants as reply
 use Rattle.tcl_vars.specs.Scopes.{no_scopes}
 use Rattle.event_order.specs.declared.event.EventName.TheVariants.{ClientAccepted, ServerConnected}
 use Rattle.event_order.specs.declared.event.EventName.TheVariants.{LbSelected, LbFailed}
-use Rattle.conn_trace.specs.declared.note.CutReason.{CutReason}
-use Rattle.conn_trace.specs.declared.note.CutReason.TheVariants.{ServerReset}
+use Rattle.core_events.specs.declared.note.CutReason.{CutReason}
+use Rattle.core_events.specs.declared.note.CutReason.TheVariants.{ServerReset}
 use Rattle.conn_trace.specs.Item.{ToServer, Reason, Closed, Rejected, CutBy, Choice, Item}
 use Rattle.conn_trace.specs.Item.{Resumed, Answered, Read, Moved, Passed, Fired, Called}
 use Rattle.conn_trace.specs.Item.{Connected, Finished}

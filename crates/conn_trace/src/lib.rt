@@ -1,13 +1,10 @@
 //! What one connection does, from its streams and recorded answers: the definition and its laws.
 #![tactic(auto)]
 
-mod edges;
 mod host;
 mod laws;
-mod note;
 mod uncaught;
 
-pub use edges::{Edge, EdgeState, Edges};
 pub use host::is_there;
 pub use laws::{
     choices_join, client_is_read, comes_where_it_arrives, cut_ends, cut_keeps_given, cut_waits,
@@ -19,5 +16,4 @@ pub use laws::{
     start_is_orderly, stopped_is_whole, taken_all_opens, trace_is_unfolding, unfoldings_agree,
     unfolds_behind, units_met, units_unfold, unread_stays_within, written_is_selected,
 };
-pub use note::{Cause, CutReason, Note, Notes};
 pub use uncaught::uncaught_line;

@@ -4,7 +4,7 @@ use Rattle.journal_text.specs.Form.{Form, Field, forms, fields, verb_of}
 use Rattle.journal_text.specs.Reading.{ReadAs, Where, AllRead, Fails, at_first, but_bytes, every_form}
 use Rattle.journal_text.specs.Line.{FailsBehind, WordsSpell}
 use Rattle.journal_text.specs.Laws.{FaultSpellsNone}
-use Rattle.journal_text.specs.declared.event.Event.{Event}
+use Rattle.core_events.specs.declared.event.Event.{Event}
 use Rattle.journal_text.specs.declared.line_kind.LineKind.{LineKind}
 use Rattle.journal_text.specs.declared.line_kind.LineKind.TheVariants as kind
 use Rattle.journal_text.proofs.FirstWord.{same_verb}

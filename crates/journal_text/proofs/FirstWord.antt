@@ -6,7 +6,7 @@ use Rattle.journal_text.specs.Form.{forms, fields, verb_of}
 use Rattle.journal_text.specs.Reading.{Answered, ReadAs, Fails}
 use Rattle.journal_text.specs.Line.{NoneEmpty, WordsSpell, WordsFail}
 use Rattle.journal_text.specs.declared.verb.Verb.{Verb}
-use Rattle.journal_text.specs.declared.event.Event.{Event}
+use Rattle.core_events.specs.declared.event.Event.{Event}
 use Rattle.journal_text.specs.declared.line_kind.LineKind.{LineKind}
 use Rattle.journal_text.specs.declared.line_kind.LineKind.TheVariants.{LongLine, NoNewline, NotEvent}
 use Rattle.journal_text.specs.declared.line_kind.LineKind.TheVariants.{BadNumber, BadHex, Memory}

@@ -8,8 +8,8 @@ use Rattle.journal_text.specs.Form.{Field, Numbered, Bytes, Named, From, At, Up}
 use Rattle.journal_text.specs.Form.{forms, fields, verb_of}
 use Rattle.journal_text.specs.Reading.{Reads, ReadAs}
 use Rattle.journal_text.specs.Laws.{OneEvent}
-use Rattle.journal_text.specs.declared.event.Event.{Event}
-use Rattle.journal_text.specs.declared.event.Event.TheVariants as event
+use Rattle.core_events.specs.declared.event.Event.{Event}
+use Rattle.core_events.specs.declared.event.Event.TheVariants as event
 use Rattle.journal_text.specs.declared.verb.Verb.{Verb}
 use Rattle.journal_text.specs.declared.verb.Verb.TheVariants as verb
 use Rattle.journal_text.proofs.FirstWord.{same_verb}

@@ -4,10 +4,10 @@ use Rattle.std.specs.Prelude.{codes}
 use Rattle.std.specs.Fmt.{digits}
 use Rattle.journal_text.specs.Line.{SpellsEvent, event_line, words_of}
 use Rattle.journal_text.specs.Notes.{note_line, note_lines}
-use Rattle.journal_text.specs.declared.event.Event.TheVariants as event
+use Rattle.core_events.specs.declared.event.Event.TheVariants as event
 use Rattle.px_bytes.specs.declared.fault.FaultKind.TheVariants.{NoVariable}
-use Rattle.conn_trace.specs.declared.note.Cause.TheVariants as cause
-use Rattle.conn_trace.specs.declared.note.Note.TheVariants as note
+use Rattle.core_events.specs.declared.note.Cause.TheVariants as cause
+use Rattle.core_events.specs.declared.note.Note.TheVariants as note
 
 took : SpellsEvent (codes "client-took 1 4") (event.ClientTook 1 4)
 unfolding digits

@@ -6,8 +6,8 @@ use Rattle.px_bytes.specs.Hexadecimal.{hex_text}
 use Rattle.px_bytes.specs.declared.addr.Addr.{Addr}
 use Rattle.journal_text.specs.declared.verb.Verb.{Verb}
 use Rattle.journal_text.specs.declared.verb.Verb.TheVariants as verb
-use Rattle.journal_text.specs.declared.event.Event.{Event}
-use Rattle.journal_text.specs.declared.event.Event.TheVariants as event
+use Rattle.core_events.specs.declared.event.Event.{Event}
+use Rattle.core_events.specs.declared.event.Event.TheVariants as event
 
 -- what a word stands for; a number has a greatest one
 pub data Form : Type 0 where

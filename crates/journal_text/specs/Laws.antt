@@ -7,7 +7,7 @@ use Rattle.journal_text.specs.Form.{forms}
 use Rattle.journal_text.specs.Form.{Form, Number, Hex, Name, Ip, Member, Health}
 use Rattle.journal_text.specs.Line.{SpellsEvent, IsSkipped, LineFails, event_text, is_blank}
 use Rattle.journal_text.specs.Line.{longest_line}
-use Rattle.journal_text.specs.declared.event.Event.{Event}
+use Rattle.core_events.specs.declared.event.Event.{Event}
 use Rattle.journal_text.specs.declared.line_kind.LineKind.{LineKind}
 use Rattle.journal_text.specs.declared.line_kind.LineKind.TheVariants.{Memory}
 

@@ -7,7 +7,7 @@ use Rattle.journal_text.specs.Verb.{verb_text}
 use Rattle.journal_text.specs.Form.{forms, verb_of, fields, field_text}
 use Rattle.journal_text.specs.Reading.{ReadAs, Fails}
 use Rattle.journal_text.specs.declared.verb.Verb.{Verb}
-use Rattle.journal_text.specs.declared.event.Event.{Event}
+use Rattle.core_events.specs.declared.event.Event.{Event}
 use Rattle.journal_text.specs.declared.line_kind.LineKind.{LineKind}
 use Rattle.journal_text.specs.declared.line_kind.LineKind.TheVariants.{LongLine, NoNewline}
 use Rattle.journal_text.specs.declared.line_kind.LineKind.TheVariants.{NotEvent}

@@ -11,17 +11,19 @@ use Rattle.px_bytes.specs.declared.fault.FaultKind.TheVariants.{NoVariable, NoCo
 use Rattle.px_bytes.specs.declared.fault.FaultKind.TheVariants.{NotWhole, OutOfRange, DivideByZero}
 use Rattle.px_bytes.specs.declared.fault.FaultKind.TheVariants.{TooLong, TooDeep, Budget, Context}
 use Rattle.px_bytes.specs.declared.fault.FaultKind.TheVariants.{Raised, Syntax, NoSuch, TableFull}
-use Rattle.conn_trace.specs.declared.note.Cause.{Cause}
-use Rattle.conn_trace.specs.declared.note.Cause.TheVariants.{Closed, Tcl, Unselected}
-use Rattle.conn_trace.specs.declared.note.Cause.TheVariants.{Rejected, Cut, Memory}
-use Rattle.conn_trace.specs.declared.note.CutReason.{CutReason}
-use Rattle.conn_trace.specs.declared.note.CutReason.TheVariants.{ClientReset, ServerReset}
-use Rattle.conn_trace.specs.declared.note.CutReason.TheVariants.{Idle}
-use Rattle.conn_trace.specs.declared.note.Note.{Note}
-use Rattle.conn_trace.specs.declared.note.Note.TheVariants.{Connect, Sleep, History, Log}
-use Rattle.conn_trace.specs.declared.note.Note.TheVariants.{Pass, Fired, Reuse, Finish}
-use Rattle.conn_trace.specs.declared.note.Note.TheVariants.{HalfClose}
-use Rattle.conn_trace.specs.declared.note.Note.TheVariants.{CloseServer, CloseClient, Ended}
+use Rattle.px_bytes.specs.declared.fault.HttpFault.{HttpFault}
+use Rattle.px_bytes.specs.declared.fault.HttpFault.TheVariants as http
+use Rattle.core_events.specs.declared.note.Cause.{Cause}
+use Rattle.core_events.specs.declared.note.Cause.TheVariants.{Closed, Tcl, Http, Unselected}
+use Rattle.core_events.specs.declared.note.Cause.TheVariants.{Rejected, Cut, Memory}
+use Rattle.core_events.specs.declared.note.CutReason.{CutReason}
+use Rattle.core_events.specs.declared.note.CutReason.TheVariants.{ClientReset, ServerReset}
+use Rattle.core_events.specs.declared.note.CutReason.TheVariants.{Idle}
+use Rattle.core_events.specs.declared.note.Note.{Note}
+use Rattle.core_events.specs.declared.note.Note.TheVariants.{Connect, Sleep, History, Log}
+use Rattle.core_events.specs.declared.note.Note.TheVariants.{Pass, Fired, Reuse, Finish}
+use Rattle.core_events.specs.declared.note.Note.TheVariants.{HalfClose}
+use Rattle.core_events.specs.declared.note.Note.TheVariants.{CloseServer, CloseClient, Ended}
 use Rattle.px_bytes.specs.declared.fault.Reply.{Reply}
 use Rattle.px_bytes.specs.declared.fault.Reply.TheVariants as reply
 use Rattle.tcl_lists.specs.Write.{joined}
@@ -43,6 +45,17 @@ fault_number Syntax = 12
 fault_number NoSuch = 13
 fault_number TableFull = 14
 
+-- the number of a fault of an HTTP message
+abbrev pub http_number : HttpFault → ℕ
+http_number http.BadHead = 1
+http_number http.LongHead = 2
+http_number http.Host = 3
+http_number http.Framing = 4
+http_number http.BadChunk = 5
+http_number http.ShortBody = 6
+http_number http.Switching = 7
+http_number http.Method = 8
+
 -- why a connection was cut
 abbrev pub cut_text : CutReason → List ℕ
 cut_text ClientReset = codes "client-reset"
@@ -53,6 +66,7 @@ cut_text Idle = codes "idle"
 abbrev pub cause_text : Cause → List ℕ
 cause_text Closed = codes "closed"
 cause_text (Tcl kind) = codes "tcl " ++ decimal (fault_number kind)
+cause_text (Http fault) = codes "http " ++ decimal (http_number fault)
 cause_text Unselected = codes "unselected"
 cause_text Rejected = codes "rejected"
 cause_text (Cut reason) = codes "cut " ++ cut_text reason

@@ -7,7 +7,8 @@ ghost use Rattle.journal_text.specs.Form.{Hex, Numbered, Bytes, conn_form, count
 ghost use Rattle.journal_text.specs.Form.{forms, fields, verb_of};
 ghost use Rattle.journal_text.specs.Reading.{Answered};
 
-use crate::{Event, LineKind, Verb};
+use crate::{LineKind, Verb};
+use core_events::Event;
 use px_bytes::{Addr, Text, read_addr, read_decimal, read_hex, read_ip};
 use std::alloc::Global;
 

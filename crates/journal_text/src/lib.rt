@@ -2,7 +2,6 @@
 //! that it reads back; and the lines of notes.
 #![tactic(auto)]
 
-mod event;
 mod fields;
 mod laws;
 mod line;
@@ -11,7 +10,6 @@ mod note;
 mod verb;
 mod write;
 
-pub use event::Event;
 pub use laws::{fault_spells_none, one_event, written_is_read};
 pub use line::{LONGEST_LINE, line_event};
 pub use line_kind::LineKind;

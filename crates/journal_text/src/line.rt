@@ -6,9 +6,10 @@ ghost use Rattle.journal_text.specs.Line.{IsSkipped, SpellsEvent, LineFails, Wor
 ghost use Rattle.journal_text.specs.Line.{NoneEmpty, is_blank, is_word, words_of};
 ghost use Rattle.std.specs.List.{list_all};
 
+use crate::LineKind;
 use crate::fields::verb_event;
 use crate::verb::read_verb;
-use crate::{Event, LineKind};
+use core_events::Event;
 use std::alloc::{AllocError, Global};
 
 /// The most bytes of a line that isn't skipped, its LF not counted.
@@ -19,6 +20,8 @@ pub const LONGEST_LINE: usize = 135_000;
 pub fn line_event(alloc: Global, line: &[u8]) -> Result<Option<Event>, LineKind>
     ensures skipped { (result ≡ Ok None) ↔ IsSkipped line.now }
     ensures event { IfOk result (λ found. IfSome found (SpellsEvent line.now)) }
+    ensures only_event { IfOk result (λ found. IfSome found (λ event.
+        (other : Event) → SpellsEvent line.now other → other ≡ event)) }
     ensures fault { IfErr result (LineFails line.now) }
 {
     if is_skipped(line) {

@@ -1,10 +1,13 @@
 // Notes as lines.
 
 ghost use Rattle.std.specs.Prelude.{◌≡◌, IfOk, string_bytes};
-ghost use Rattle.journal_text.specs.Notes.{fault_number, note_line, note_lines, reply_text, side_text};
+ghost use Rattle.journal_text.specs.Notes.{fault_number, http_number, note_line, note_lines};
+ghost use Rattle.journal_text.specs.Notes.{reply_text, side_text};
 
-use conn_trace::{Cause, CutReason, Note};
-use px_bytes::{Addr, FaultKind, M, Reply, Side, Text, Texts, escape, print_addr, print_hex};
+use core_events::{Cause, CutReason, Note};
+use px_bytes::{
+    Addr, FaultKind, HttpFault, M, Reply, Side, Text, Texts, escape, print_addr, print_hex,
+};
 use std::alloc::Global;
 use tcl_lists::join_list;
 
@@ -149,16 +152,21 @@ fn finish_text(alloc: Global, conn: u32, cause: Cause) -> M<Text>
     Ok(text_of(match cause {
         Cause::Closed => format!(in alloc; "> finish {conn} closed\n")?,
         Cause::Tcl(kind) => format!(in alloc; "> finish {conn} tcl {}\n", fault_number(kind))?,
+        Cause::Http(fault) => format!(in alloc; "> finish {conn} http {}\n", http_number(fault))?,
         Cause::Unselected => format!(in alloc; "> finish {conn} unselected\n")?,
         Cause::Rejected => format!(in alloc; "> finish {conn} rejected\n")?,
-        Cause::Cut(CutReason::ClientReset) => {
-            format!(in alloc; "> finish {conn} cut client-reset\n")?
-        }
-        Cause::Cut(CutReason::ServerReset) => {
-            format!(in alloc; "> finish {conn} cut server-reset\n")?
-        }
-        Cause::Cut(CutReason::Idle) => format!(in alloc; "> finish {conn} cut idle\n")?,
+        Cause::Cut(reason) => return cut_text(alloc, conn, reason),
         Cause::Memory => format!(in alloc; "> finish {conn} memory\n")?,
+    }))
+}
+
+fn cut_text(alloc: Global, conn: u32, reason: CutReason) -> M<Text>
+    ensures { IfOk result (λ line. line ≡ note_line (Note.Finish conn (Cause.Cut reason))) }
+{
+    Ok(text_of(match reason {
+        CutReason::ClientReset => format!(in alloc; "> finish {conn} cut client-reset\n")?,
+        CutReason::ServerReset => format!(in alloc; "> finish {conn} cut server-reset\n")?,
+        CutReason::Idle => format!(in alloc; "> finish {conn} cut idle\n")?,
     }))
 }
 
@@ -172,6 +180,22 @@ fn fault_number(kind: FaultKind) -> u8
     ensures { result ≡ fault_number kind }
 {
     kind as u8
+}
+
+// The first one is 1.
+fn http_number(fault: HttpFault) -> u8
+    ensures { result ≡ http_number fault }
+{
+    match fault {
+        HttpFault::BadHead => 1,
+        HttpFault::LongHead => 2,
+        HttpFault::Host => 3,
+        HttpFault::Framing => 4,
+        HttpFault::BadChunk => 5,
+        HttpFault::ShortBody => 6,
+        HttpFault::Switching => 7,
+        HttpFault::Method => 8,
+    }
 }
 
 fn text_of(line: String) -> Text

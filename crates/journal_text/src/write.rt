@@ -5,7 +5,8 @@ ghost use Rattle.std.specs.Fmt.{decimal};
 ghost use Rattle.journal_text.specs.Form.{field_text, fields, health_text, verb_of};
 ghost use Rattle.journal_text.specs.Line.{event_line, spaced};
 
-use crate::{Event, Verb};
+use crate::Verb;
+use core_events::Event;
 use px_bytes::{Addr, M, Text, print_addr, print_hex, print_ip};
 use std::alloc::Global;
 

@@ -1,22 +1,17 @@
 -- A journal is read as exactly the events that were served, in one way.
 use Rattle.std.proofs.Common.{◌≡◌, inl, inr, refl, sym, ap, subst, ℕ, suc, List, [], ◌∷◌, ◌++◌, Some, None, append_assoc, append-nil}
-use Rattle.conn_trace.specs.declared.note.Note.{Note}
+use Rattle.core_events.specs.declared.note.Note.{Note}
 use Rattle.journal_text.specs.Line.{IsSkipped, event_text}
-use Rattle.journal_text.specs.Line.{SpellsEvent as Spells}
 use Rattle.journal_text.specs.Notes.{note_line, note_lines}
-use Rattle.journal_text.specs.declared.event.Event.{Event as Told}
-use Rattle.journal_text.specs.declared.event.Event.TheVariants as told
 use Rattle.journal_text.proofs.Written.{written_is_read}
 use Rattle.proxy_core.specs.Past.{Past}
 use Rattle.proxy_core.specs.Setup.{init_notes}
-use Rattle.proxy_core.specs.declared.event.Event.{Event}
+use Rattle.core_events.specs.declared.event.Event.{Event}
 use Rattle.serve_loop.specs.Events.{group_text}
 use Rattle.serve_loop.specs.Walk.{Given, Step, Own, Asked, text_in}
 use Rattle.served_core.specs.Serves.{happened, past_after}
-use Rattle.served_core.specs.Told.{meaning}
 use Rattle.proxy.specs.Journal.{HasLine, HaveLines, JournalHasNoFault, JournalIsRead, JournalReplays, journal_of}
 use Rattle.proxy.specs.Lines.{IsLine, Gives, Reads, events_of}
-use Rattle.proxy.specs.Schedule.{as_lined}
 use Rattle.proxy.proofs.NoteLines.{note_is_skipped}
 use Rattle.proxy.proofs.WholeReading.{read_once, whole_has_no_fault}
 
@@ -46,33 +41,16 @@ notes_read text (n ∷ notes) events r =
 
 -- ---- events are read
 
-lined_meaning : (e : Told) → as_lined (meaning e) ≡ e
-lined_meaning (told.Accept conn vs from) = refl
-lined_meaning (told.FromClient conn bytes) = refl
-lined_meaning (told.ClientEnd conn) = refl
-lined_meaning (told.ClientReset conn) = refl
-lined_meaning (told.Connected conn) = refl
-lined_meaning (told.Refused conn) = refl
-lined_meaning (told.FromServer conn bytes) = refl
-lined_meaning (told.ServerEnd conn) = refl
-lined_meaning (told.ServerReset conn) = refl
-lined_meaning (told.ClientTook conn n) = refl
-lined_meaning (told.ServerTook conn n) = refl
-lined_meaning (told.Tick moment) = refl
-lined_meaning told.Turn = refl
-lined_meaning told.Run = refl
-lined_meaning (told.Mark pool member up) = refl
-
-event_given : (e : Told) → HasLine e → Gives (event_text e) (meaning e)
+event_given : (e : Event) → HasLine e → Gives (event_text e) e
 event_given e h =
     let read = written_is_read e h.writable h.within in
-    record { not_skipped = read.1; spells = subst (Spells (event_text e)) (sym (lined_meaning e)) read.0 }
+    record { not_skipped = read.1; spells = read.0 }
 
-group_read : (text : List ℕ) (g : Given) (events : List Event) → HasLine g.event → IsRead text events → IsRead (text ++ group_text g.event g.group) (meaning g.event ∷ events)
+group_read : (text : List ℕ) (g : Given) (events : List Event) → HasLine g.event → IsRead text events → IsRead (text ++ group_text g.event g.group) (g.event ∷ events)
 group_read text g events h r =
     let line = event_text g.event ++ 10 ∷ [] in
-    let one = gives text (event_text g.event) (meaning g.event) events r h.is_line (event_given g.event h) in
-    subst (λ t. IsRead t (meaning g.event ∷ events)) (append_assoc text line (note_lines g.group)) (notes_read (text ++ line) g.group (meaning g.event ∷ events) one)
+    let one = gives text (event_text g.event) g.event events r h.is_line (event_given g.event h) in
+    subst (λ t. IsRead t (g.event ∷ events)) (append_assoc text line (note_lines g.group)) (notes_read (text ++ line) g.group (g.event ∷ events) one)
 
 steps_read : (text : List ℕ) (steps : List Step) (past : Past) → HaveLines steps → IsRead text (events_of past) → IsRead (text ++ text_in steps) (events_of (past_after steps past))
 steps_read text [] past h r = subst (λ t. IsRead t (events_of past)) (sym (append-nil text)) r

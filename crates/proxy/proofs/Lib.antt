@@ -7,7 +7,6 @@ pub mod TakenCounts
 pub mod TakenRuns
 pub mod LineCuts
 pub mod ConnectionLines
-pub mod OneEvent
 pub mod ReportRows
 pub mod DocumentFaults
 pub mod ConfigAnswers
@@ -23,3 +22,5 @@ pub mod Completing
 pub mod NoteLines
 pub mod JournalRead
 pub mod Serving
+pub mod HostNames
+pub mod HostRows

@@ -4,14 +4,14 @@ use Rattle.std.proofs.Common.{length, Option, Some, None, Result, Ok, Err}
 use Rattle.std.proofs.Common.{IfOk, IfErr, OnOk, IfSome, arith, inl}
 use Rattle.proxy_core.specs.declared.config.Config.{Config}
 use Rattle.proxy_core.specs.declared.core_state.Core.{Core}
-use Rattle.proxy_core.specs.declared.event.Event.{Event}
+use Rattle.core_events.specs.declared.event.Event.{Event}
 use Rattle.proxy.specs.declared.replay.Stop.{Stop}
 use Rattle.proxy.specs.declared.replay.Stop.TheVariants as stop
 use Rattle.journal_text.specs.declared.line_kind.LineKind.{LineKind}
 use Rattle.proxy.specs.declared.taken.Taken.{Taken}
 use Rattle.proxy.specs.Lines.{IsLine, Gives, events_of, Reads}
 use Rattle.journal_text.specs.Line.{IsSkipped}
-use Rattle.proxy.specs.Schedule.{SpellsEvent}
+use Rattle.journal_text.specs.Line.{SpellsEvent}
 use Rattle.proxy.specs.Stops.{with_line, StoppedAtEvent, StoppedAtLine}
 use Rattle.proxy.specs.Written.{Stands}
 

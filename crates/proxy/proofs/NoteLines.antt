@@ -13,14 +13,14 @@ use Rattle.px_bytes.specs.declared.addr.Side.TheVariants.{Client, Server}
 use Rattle.px_bytes.specs.declared.fault.Reply.{Reply}
 use Rattle.px_bytes.specs.declared.fault.Reply.TheVariants as reply
 use Rattle.tcl_lists.specs.Write.{joined}
-use Rattle.conn_trace.specs.declared.note.Cause.{Cause}
-use Rattle.conn_trace.specs.declared.note.Cause.TheVariants.{Closed, Tcl, Unselected, Rejected, Cut, Memory}
-use Rattle.conn_trace.specs.declared.note.CutReason.{CutReason}
-use Rattle.conn_trace.specs.declared.note.CutReason.TheVariants.{ClientReset, ServerReset, Idle}
-use Rattle.conn_trace.specs.declared.note.Note.{Note}
-use Rattle.conn_trace.specs.declared.note.Note.TheVariants as note
+use Rattle.core_events.specs.declared.note.Cause.{Cause}
+use Rattle.core_events.specs.declared.note.Cause.TheVariants.{Closed, Tcl, Http, Unselected, Rejected, Cut, Memory}
+use Rattle.core_events.specs.declared.note.CutReason.{CutReason}
+use Rattle.core_events.specs.declared.note.CutReason.TheVariants.{ClientReset, ServerReset, Idle}
+use Rattle.core_events.specs.declared.note.Note.{Note}
+use Rattle.core_events.specs.declared.note.Note.TheVariants as note
 use Rattle.journal_text.specs.Line.{IsSkipped}
-use Rattle.journal_text.specs.Notes.{cause_text, cut_text, fault_number, kept_text, note_line, reply_text, side_text}
+use Rattle.journal_text.specs.Notes.{cause_text, cut_text, fault_number, http_number, kept_text, note_line, reply_text, side_text}
 use Rattle.proxy.specs.Lines.{IsLine}
 
 pub both_lines : (xs ys : List ℕ) → IsLine xs → IsLine ys → IsLine (xs ++ ys)
@@ -136,6 +136,7 @@ cut_line Idle = plain (codes "idle") refl
 cause_line : (cause : Cause) → IsLine (cause_text cause)
 cause_line Closed = plain (codes "closed") refl
 cause_line (Tcl kind) = both_lines (codes "tcl ") (decimal (fault_number kind)) (plain (codes "tcl ") refl) (decimal_line (fault_number kind))
+cause_line (Http fault) = both_lines (codes "http ") (decimal (http_number fault)) (plain (codes "http ") refl) (decimal_line (http_number fault))
 cause_line Unselected = plain (codes "unselected") refl
 cause_line Rejected = plain (codes "rejected") refl
 cause_line (Cut reason) = both_lines (codes "cut ") (cut_text reason) (plain (codes "cut ") refl) (cut_line reason)

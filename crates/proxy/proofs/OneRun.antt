@@ -6,7 +6,7 @@ use Rattle.std.specs.List.{list_all}
 use Rattle.std.specs.Option.{option_or}
 use Rattle.event_order.specs.Event.{every_event}
 use Rattle.event_order.specs.declared.event.EventName.{EventName}
-use Rattle.interim_rules.specs.HostCommands.{is_built}
+use Rattle.proxy.specs.HostCommands.{is_built}
 use Rattle.rule_loader.specs.Loading.{Loaded, rule_of}
 use Rattle.rule_loader.specs.Outcome.{Gives}
 use Rattle.rule_loader.specs.declared.load_fault.RuleFault.{RuleFault}

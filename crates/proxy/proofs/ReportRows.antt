@@ -3,7 +3,7 @@ use Rattle.std.proofs.Common.{◌≡◌, [], ◌∷◌, refl}
 use Rattle.std.specs.Prelude.{codes}
 use Rattle.std.specs.Fmt.{digits}
 use Rattle.journal_text.specs.declared.line_kind.LineKind.TheVariants.{NotEvent}
-use Rattle.proxy_core.specs.declared.event.BadEvent.TheVariants.{Full}
+use Rattle.core_events.specs.declared.bad_event.BadEvent.TheVariants.{Full}
 use Rattle.proxy.specs.Replay.{servers_text}
 use Rattle.proxy.specs.Report.{client_text, server_text, open_text, end_text, text_fault, event_fault, config_fault}
 

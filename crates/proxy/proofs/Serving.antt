@@ -13,8 +13,8 @@ use Rattle.serve_loop.specs.declared.fault.ServeEnd.{ServeEnd}
 use Rattle.serve_loop.specs.declared.fault.ServeEnd.TheVariants as ending
 use Rattle.serve_loop.specs.declared.fault.ServeFault.{ServeFault}
 use Rattle.serve_loop.specs.declared.fault.ServeFault.TheVariants as fault
-use Rattle.serve_words.specs.Words.{IsServe, fields_of}
-use Rattle.serve_words.specs.declared.serve.Serve.{Serve}
+use Rattle.proxy.specs.ServeWords.{IsServe, fields_of}
+use Rattle.proxy.specs.declared.serve_words.serve.Serve.{Serve}
 use Rattle.served_core.specs.Serves.{ServesConfig, StopsConfig}
 use Rattle.proxy.specs.declared.outcome.Outcome.{Outcome}
 use Rattle.proxy.specs.declared.outcome.Outcome.TheVariants as is

@@ -9,8 +9,9 @@ use Rattle.std.proofs.Math.Seq.{take-length}
 use Rattle.px_outside.specs.Outside.{told_more, AddsPrefix}
 use Rattle.px_outside.specs.declared.failed.Failed.{Failed}
 use Rattle.px_outside.specs.declared.failed.Failed.TheVariants as failed
-use Rattle.conn_trace.specs.declared.note.Note.{Note}
-use Rattle.proxy_core.specs.Past.{Past, kind_of}
+use Rattle.core_events.specs.declared.note.Note.{Note}
+use Rattle.core_events.specs.Kinds.{kind_of}
+use Rattle.proxy_core.specs.Past.{Past}
 use Rattle.proxy_core.specs.Refusal.{refusal, refused}
 use Rattle.proxy_core.specs.Represents.{Represents}
 use Rattle.proxy_core.specs.Scheduler.{State, no_connections}
@@ -18,7 +19,7 @@ use Rattle.proxy_core.specs.Setup.{init_notes}
 use Rattle.proxy_core.specs.Steps.{KeepsStanding, StandsAfter}
 use Rattle.proxy_core.specs.declared.config.Config.{Config}
 use Rattle.proxy_core.specs.declared.core_state.Core.{Core}
-use Rattle.proxy_core.specs.declared.event.Event.{Event}
+use Rattle.core_events.specs.declared.event.Event.{Event}
 use Rattle.proxy_core.proofs.Stepping.{refusal_same}
 use Rattle.proxy.specs.declared.taken.Taken.{Taken}
 use Rattle.proxy.specs.declared.replay.Stop.{Stop}

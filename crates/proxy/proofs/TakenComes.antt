@@ -7,20 +7,25 @@ use Rattle.std.specs.Bool.{MatchBool}
 use Rattle.std.specs.List.{IsDistinct}
 use Rattle.std.proofs.lemmas.Map.Keys.{IsDistinct-head, IsDistinct-tail}
 use Rattle.px_bytes.specs.declared.addr.Side.TheVariants.{Client, Server}
-use Rattle.conn_trace.specs.declared.note.Note.{Note}
-use Rattle.conn_trace.specs.Heard.{Input, Bytes, Ends, Resets, Connects, Takes, EventKind, Comes, Heard, edges_met, hears}
+use Rattle.core_events.specs.declared.note.Note.{Note}
+use Rattle.core_events.specs.declared.event_kind.EventKind.{EventKind}
+use Rattle.core_events.specs.declared.event_kind.EventKind.TheVariants.{Comes}
+use Rattle.core_events.specs.declared.input.Input.{Input}
+use Rattle.core_events.specs.declared.input.Input.TheVariants.{Bytes, Ends, Resets, Connects, Takes}
+use Rattle.conn_trace.specs.Heard.{Heard, edges_met, hears}
 use Rattle.conn_trace.specs.Item.{client_output, server_output}
 use Rattle.conn_trace.specs.Tellings.{finish_told, notes_about}
 use Rattle.conn.specs.Holds.{Around}
 use Rattle.proxy_core.specs.Live.{met_by}
 use Rattle.proxy_core.specs.Moves.{Moves, MovesBy, MovesFailed, MovesLacks, MovesOn}
-use Rattle.proxy_core.specs.Past.{Happened, Past, kind_of, heard}
+use Rattle.core_events.specs.Kinds.{kind_of}
+use Rattle.proxy_core.specs.Past.{Happened, Past, heard}
 use Rattle.proxy_core.specs.Ready.{is_in}
 use Rattle.proxy_core.specs.Represents.{around}
 use Rattle.proxy_core.specs.Scheduler.{State, last_took, seen}
 use Rattle.proxy_core.specs.declared.config.Config.{Config}
-use Rattle.proxy_core.specs.declared.event.Event.{Event}
-use Rattle.proxy_core.specs.declared.event.Event.TheVariants.{Connected}
+use Rattle.core_events.specs.declared.event.Event.{Event}
+use Rattle.core_events.specs.declared.event.Event.TheVariants.{Connected}
 use Rattle.proxy_core.specs.Others.{about}
 use Rattle.proxy_core.proofs.Meeting.{TakesThere, around_met, around_last, none_took}
 use Rattle.proxy_core.proofs.Members.{eq_self, eq_same, eq_turned}

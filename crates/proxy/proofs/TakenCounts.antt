@@ -7,15 +7,18 @@ use Rattle.std.specs.Prelude.{is_none}
 use Rattle.std.proofs.lemmas.Bool.Decides.{nat_tests}
 use Rattle.px_bytes.specs.declared.addr.Side.{Side}
 use Rattle.px_bytes.specs.declared.addr.Side.TheVariants.{Client, Server}
-use Rattle.conn_trace.specs.declared.note.Note.{Note}
-use Rattle.conn_trace.specs.Heard.{Takes, Comes, Heard, has_made}
+use Rattle.core_events.specs.declared.note.Note.{Note}
+use Rattle.core_events.specs.declared.event_kind.EventKind.TheVariants.{Comes}
+use Rattle.core_events.specs.declared.input.Input.TheVariants.{Takes}
+use Rattle.conn_trace.specs.Heard.{Heard, has_made}
 use Rattle.conn_trace.specs.Item.{Item, client_output, server_output}
 use Rattle.conn.specs.declared.connection.Conn.{Conn}
 use Rattle.conn.specs.Holds.{Around}
 use Rattle.conn.specs.Queues.{queue_in}
 use Rattle.proxy_core.specs.Live.{met_by, pending_in}
 use Rattle.proxy_core.specs.Moves.{Moves}
-use Rattle.proxy_core.specs.Past.{Happened, Past, kind_of, heard}
+use Rattle.core_events.specs.Kinds.{kind_of}
+use Rattle.proxy_core.specs.Past.{Happened, Past, heard}
 use Rattle.proxy_core.specs.Queries.{front_of, front_in, queue_on}
 use Rattle.proxy_core.specs.Refusal.{core_standing, core_known, refusal_rows, takes_too_much}
 use Rattle.proxy_core.specs.Refusal.{refusal, refusal_of}
@@ -24,7 +27,7 @@ use Rattle.proxy_core.specs.Represents.{ConnectionContinues, HoldsQueues, Agrees
 use Rattle.proxy_core.specs.Scheduler.{State, Seen, last_took, seen}
 use Rattle.proxy_core.specs.declared.config.Config.{Config}
 use Rattle.proxy_core.specs.declared.core_state.Core.{Core}
-use Rattle.proxy_core.specs.declared.event.Event.{Event}
+use Rattle.core_events.specs.declared.event.Event.{Event}
 use Rattle.proxy_core.specs.declared.live.Live.{Live}
 use Rattle.proxy_core.proofs.Meeting.{TakesThere}
 use Rattle.proxy_core.proofs.SoundPast.{none_holds}

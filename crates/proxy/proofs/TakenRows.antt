@@ -8,21 +8,23 @@ use Rattle.std.specs.List.{IsDistinct}
 use Rattle.std.proofs.lemmas.Bool.Decides.{nat_tests}
 use Rattle.std.proofs.lemmas.List.{map-append}
 use Rattle.px_bytes.specs.declared.addr.Addr.{Addr}
-use Rattle.conn_trace.specs.declared.note.Cause.TheVariants.{Memory}
-use Rattle.conn_trace.specs.declared.note.Note.{Note}
-use Rattle.conn_trace.specs.declared.note.Note.TheVariants.{Finish}
-use Rattle.conn_trace.specs.Heard.{Accepts, Accepted}
+use Rattle.core_events.specs.declared.note.Cause.TheVariants.{Memory}
+use Rattle.core_events.specs.declared.note.Note.{Note}
+use Rattle.core_events.specs.declared.note.Note.TheVariants.{Finish}
+use Rattle.core_events.specs.declared.event_kind.EventKind.TheVariants.{Accepts}
+use Rattle.conn_trace.specs.Heard.{Accepted}
 use Rattle.conn_trace.specs.Item.{client_output, server_output}
 use Rattle.proxy_core.specs.Moves.{Leads, Moves}
-use Rattle.proxy_core.specs.Past.{Happened, Past, kind_of, shared}
+use Rattle.core_events.specs.Kinds.{kind_of}
+use Rattle.proxy_core.specs.Past.{Happened, Past, shared}
 use Rattle.proxy_core.specs.Ready.{is_in}
 use Rattle.proxy_core.specs.Refusal.{known, refusal_rows}
 use Rattle.proxy_core.specs.Refusal.{refused}
 use Rattle.proxy_core.specs.Scheduler.{State, Seen, last_took, seen}
 use Rattle.proxy_core.specs.Sound.{unseen, Sound}
 use Rattle.proxy_core.specs.declared.config.Config.{Config}
-use Rattle.proxy_core.specs.declared.event.Event.{Event}
-use Rattle.proxy_core.specs.declared.event.Event.TheVariants.{Accept}
+use Rattle.core_events.specs.declared.event.Event.{Event}
+use Rattle.core_events.specs.declared.event.Event.TheVariants.{Accept}
 use Rattle.proxy_core.specs.Others.{about}
 use Rattle.proxy_core.proofs.Framing.{touches, only_changed}
 use Rattle.proxy_core.proofs.Members.{eq_same, in_pushed_other}

@@ -8,15 +8,18 @@ use Rattle.std.specs.List.{flat_map}
 use Rattle.std.proofs.lemmas.List.{take-append-le}
 use Rattle.std.proofs.lemmas.Grind.{flat_map-append}
 use Rattle.px_bytes.specs.declared.addr.Side.TheVariants.{Client, Server}
-use Rattle.conn_trace.specs.declared.note.Note.{Note}
-use Rattle.conn_trace.specs.Heard.{Bytes, Ends, Resets, Connects, Runs, Ticks, Turns, Marks, Heard, hears}
+use Rattle.core_events.specs.declared.note.Note.{Note}
+use Rattle.core_events.specs.declared.event_kind.EventKind.TheVariants.{Runs, Ticks, Turns, Marks}
+use Rattle.core_events.specs.declared.input.Input.TheVariants.{Bytes, Ends, Resets, Connects}
+use Rattle.conn_trace.specs.Heard.{Heard, hears}
 use Rattle.conn_trace.specs.Item.{Item, to_client, to_server, client_output, server_output}
 use Rattle.conn_trace.proofs.Hearing.{others_not_heard}
 use Rattle.proxy_core.specs.Calls.{asker}
 use Rattle.proxy_core.specs.History.{store_of}
 use Rattle.proxy_core.specs.Moves.{Leads, Moves, Rests}
 use Rattle.proxy_core.specs.Moves.{MovesRing, MovesQueue, RunsOn, RunsOut, RunsFailed}
-use Rattle.proxy_core.specs.Past.{Happened, Past, kind_of, heard, with_accepted, shared}
+use Rattle.core_events.specs.Kinds.{kind_of}
+use Rattle.proxy_core.specs.Past.{Happened, Past, heard, with_accepted, shared}
 use Rattle.proxy_core.specs.Refusal.{refused, refusal}
 use Rattle.proxy_core.specs.Represents.{Represents}
 use Rattle.proxy_core.specs.Scheduler.{State, last_took, seen}
@@ -24,10 +27,10 @@ use Rattle.proxy_core.specs.Sound.{Served, Sound}
 use Rattle.proxy_core.specs.declared.call.Asked.{Asked}
 use Rattle.proxy_core.specs.declared.config.Config.{Config}
 use Rattle.proxy_core.specs.declared.core_state.Core.{Core}
-use Rattle.proxy_core.specs.declared.event.Event.{Event}
-use Rattle.proxy_core.specs.declared.event.Event.TheVariants.{Accept, FromClient, ClientEnd, ClientReset, Connected, Refused}
-use Rattle.proxy_core.specs.declared.event.Event.TheVariants.{FromServer, ServerEnd, ServerReset, ClientTook, ServerTook}
-use Rattle.proxy_core.specs.declared.event.Event.TheVariants.{Tick, Turn, Run, Mark}
+use Rattle.core_events.specs.declared.event.Event.{Event}
+use Rattle.core_events.specs.declared.event.Event.TheVariants.{Accept, FromClient, ClientEnd, ClientReset, Connected, Refused}
+use Rattle.core_events.specs.declared.event.Event.TheVariants.{FromServer, ServerEnd, ServerReset, ClientTook, ServerTook}
+use Rattle.core_events.specs.declared.event.Event.TheVariants.{Tick, Turn, Run, Mark}
 use Rattle.proxy_core.specs.Others.{front}
 use Rattle.proxy_core.proofs.Hearing.{run_stays, turn_stays}
 use Rattle.proxy_core.proofs.Members.{eq_self, eq_same}

@@ -3,14 +3,13 @@ use Rattle.std.proofs.Common.{◌≡◌, inl, inr, refl, sym, ap, subst, ◌∙�
 use Rattle.std.proofs.Common.{reverse, true, false, nat_eq, append_assoc, append-nil, arith}
 use Rattle.std.proofs.lemmas.Bool.Decides.{nat_tests}
 use Rattle.std.proofs.lemmas.List.{reverse-append, reverse-reverse}
-use Rattle.proxy_core.specs.declared.event.Event.{Event}
+use Rattle.core_events.specs.declared.event.Event.{Event}
 use Rattle.journal_text.specs.Line.{IsSkipped}
 use Rattle.proxy.specs.Lines.{IsEnd, IsLine, AllLines, lines_text, Gives, GivesNone, Spell, Reads, Faulty}
 use Rattle.proxy.specs.Lines.{Unended, NoEvent}
-use Rattle.proxy.specs.Schedule.{as_lined}
 use Rattle.journal_text.specs.declared.line_kind.LineKind.{LineKind}
 use Rattle.journal_text.proofs.FaultSpellsNone.{fault_spells_none}
-use Rattle.proxy.proofs.OneEvent.{one_event}
+use Rattle.journal_text.proofs.OneEvent.{one_event}
 
 -- one line at the front of a text
 not_lf : (n : ℕ) → nat_eq n 10 ≡ false → n ≡ 10 → ⊥
@@ -74,7 +73,7 @@ longer (l ∷ a) (m ∷ b) last rest p q i e =
 
 -- the same lines spell the same events
 same_gives : (line : List ℕ) (a b : Event) → Gives line a → Gives line b → a ≡ b
-same_gives line a b p q = one_event line b a q.spells p.spells
+same_gives line a b p q = one_event line a b p.spells q.spells
 
 same_events : (lines : List (List ℕ)) (a b : List Event) → Spell lines a → Spell lines b → a ≡ b
 same_events [] a b p q = p ∙ sym q
@@ -95,7 +94,7 @@ front_spells (l ∷ newer) lines events (inr s) = front_spells newer lines s.1 s
 -- a line that spells isn't faulty
 line_not_faulty : (kind : LineKind) (line : List ℕ) (lines : List (List ℕ)) (events : List Event) → Spell (line ∷ lines) events → GivesNone line kind → ⊥
 line_not_faulty kind line lines events (inl s) g = g.not_skipped s.0
-line_not_faulty kind line lines events (inr s) g = fault_spells_none line kind g.found_memory g.fails (as_lined s.0) s.3.spells
+line_not_faulty kind line lines events (inr s) g = fault_spells_none line kind g.found_memory g.fails s.0 s.3.spells
 
 -- the oldest of the lines behind a front
 behind : (newer : List (List ℕ)) (line : List ℕ) (lines : List (List ℕ)) (events : List Event) → Spell (reverse (line ∷ newer) ++ lines) events → (before : List Event) × Spell (line ∷ lines) before

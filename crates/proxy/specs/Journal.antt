@@ -4,7 +4,7 @@ use Rattle.journal_text.specs.Form.{fields, forms, verb_of}
 use Rattle.journal_text.specs.Laws.{AllWritable}
 use Rattle.journal_text.specs.Line.{event_text, longest_line}
 use Rattle.journal_text.specs.Notes.{note_lines}
-use Rattle.journal_text.specs.declared.event.Event.{Event}
+use Rattle.core_events.specs.declared.event.Event.{Event}
 use Rattle.proxy_core.specs.Setup.{init_notes}
 use Rattle.proxy_core.specs.declared.config.Config.{Config}
 use Rattle.serve_loop.specs.Walk.{Step, Own, Asked, text_in}

@@ -14,6 +14,7 @@ pub mod Runnable
 pub mod Says
 pub mod Complete
 pub mod Offline
-pub mod Schedule
 pub mod Serving
 pub mod Journal
+pub mod HostCommands
+pub mod ServeWords

@@ -2,16 +2,17 @@
 -- faulty one stands.
 use Rattle.std.specs.Prelude.{◌≡◌, ◌⊎◌, ℕ, List, [], ◌∷◌, ◌++◌, length, false, nat_eq, nat_lt}
 use Rattle.std.specs.Prelude.{Some, if◌then◌else◌}
-use Rattle.proxy_core.specs.Past.{Past, kind_of}
+use Rattle.core_events.specs.Kinds.{kind_of}
+use Rattle.proxy_core.specs.Past.{Past}
 use Rattle.proxy_core.specs.Refusal.{refused}
 use Rattle.proxy_core.specs.Scheduler.{State}
 use Rattle.proxy_core.specs.declared.config.Config.{Config}
-use Rattle.proxy_core.specs.declared.event.Event.{Event}
-use Rattle.proxy_core.specs.declared.event.BadEvent.{BadEvent}
+use Rattle.core_events.specs.declared.event.Event.{Event}
+use Rattle.core_events.specs.declared.bad_event.BadEvent.{BadEvent}
 use Rattle.journal_text.specs.Line.{IsSkipped, LineFails, longest_line}
 use Rattle.journal_text.specs.declared.line_kind.LineKind.{LineKind}
 use Rattle.journal_text.specs.declared.line_kind.LineKind.TheVariants.{LongLine, NoNewline, Memory}
-use Rattle.proxy.specs.Schedule.{SpellsEvent}
+use Rattle.journal_text.specs.Line.{SpellsEvent}
 
 -- a line holds no LF
 abbrev pub IsLine : List ℕ → Type 0

@@ -6,11 +6,11 @@ use Rattle.journal_text.specs.declared.line_kind.LineKind.{LineKind}
 use Rattle.journal_text.specs.declared.line_kind.LineKind.TheVariants.{LongLine, NoNewline}
 use Rattle.journal_text.specs.declared.line_kind.LineKind.TheVariants.{NotEvent, BadNumber, BadHex}
 use Rattle.journal_text.specs.declared.line_kind.LineKind.TheVariants.{Memory}
-use Rattle.proxy_core.specs.declared.event.BadEvent.{BadEvent}
-use Rattle.proxy_core.specs.declared.event.BadEvent.TheVariants.{NoConn, AfterEnd, NotConnecting}
-use Rattle.proxy_core.specs.declared.event.BadEvent.TheVariants.{MomentBack, TooMuch, TookTooMuch}
-use Rattle.proxy_core.specs.declared.event.BadEvent.TheVariants.{Full, NoMember, TwiceConn}
-use Rattle.proxy_core.specs.declared.event.BadEvent.TheVariants.{NoVirtual}
+use Rattle.core_events.specs.declared.bad_event.BadEvent.{BadEvent}
+use Rattle.core_events.specs.declared.bad_event.BadEvent.TheVariants.{NoConn, AfterEnd, NotConnecting}
+use Rattle.core_events.specs.declared.bad_event.BadEvent.TheVariants.{MomentBack, TooMuch, TookTooMuch}
+use Rattle.core_events.specs.declared.bad_event.BadEvent.TheVariants.{Full, NoMember, TwiceConn}
+use Rattle.core_events.specs.declared.bad_event.BadEvent.TheVariants.{NoVirtual}
 
 -- the number of a refusal
 abbrev pub refusal_number : BadEvent → ℕ

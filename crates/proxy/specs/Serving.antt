@@ -10,8 +10,8 @@ use Rattle.serve_loop.specs.declared.fault.ServeEnd.{ServeEnd}
 use Rattle.serve_loop.specs.declared.fault.ServeEnd.TheVariants as ending
 use Rattle.serve_loop.specs.declared.fault.ServeFault.{ServeFault}
 use Rattle.serve_loop.specs.declared.fault.ServeFault.TheVariants as fault
-use Rattle.serve_words.specs.Words.{IsServe}
-use Rattle.serve_words.specs.declared.serve.Serve.{Serve}
+use Rattle.proxy.specs.ServeWords.{IsServe}
+use Rattle.proxy.specs.declared.serve_words.serve.Serve.{Serve}
 use Rattle.served_core.specs.Serves.{ServesConfig, StopsConfig}
 use Rattle.proxy.specs.declared.outcome.Outcome.{Outcome}
 use Rattle.proxy.specs.declared.outcome.Outcome.TheVariants as is
@@ -55,6 +55,17 @@ pub record Outside (S T : Type 0) : Type 0 where
   pub reads : ℕ
   pub net_faults : ℕ
   pub writes : ℕ
+
+abbrev pub outside : {S T : Type 0} → S → T → (written : Option (List ℕ))
+    → (reads net_faults writes : ℕ) → Outside S T
+outside net clock written reads net_faults writes = record {
+  net = net;
+  clock = clock;
+  written = written;
+  reads = reads;
+  net_faults = net_faults;
+  writes = writes;
+}
 
 -- nothing was done on the net, no moment was asked for, and nothing was written
 pub record Untouched {S T : Type 0} (old new : Outside S T) : Type 0 where

@@ -7,7 +7,7 @@ use Rattle.proxy_core.specs.Represents.{Represents}
 use Rattle.proxy_core.specs.Scheduler.{State}
 use Rattle.proxy_core.specs.declared.config.Config.{Config}
 use Rattle.proxy_core.specs.declared.core_state.Core.{Core}
-use Rattle.proxy_core.specs.declared.event.BadEvent.{BadEvent}
+use Rattle.core_events.specs.declared.bad_event.BadEvent.{BadEvent}
 use Rattle.proxy.specs.declared.taken.Taken.{Taken}
 use Rattle.journal_text.specs.declared.line_kind.LineKind.{LineKind}
 use Rattle.proxy.specs.Lines.{Reads, Faulty, IsEnd, Refuses, events_of}

@@ -11,8 +11,7 @@ ghost use Rattle.proxy.specs.Stops.{GoesOnBehind, StopsBehind, Stopped};
 ghost use Rattle.proxy.specs.Written.{Stands, StandsAtEnd};
 
 use crate::replay::{Replay, Stop};
-use crate::schedule::line_event;
-use journal_text::{LONGEST_LINE, LineKind};
+use journal_text::{LONGEST_LINE, LineKind, line_event};
 use px_bytes::Steps;
 use px_outside::Sink;
 use std::alloc::Global;

@@ -4,7 +4,7 @@ ghost use Rattle.std.specs.Prelude.{◌≡◌, ◌<◌, ◌++◌, IfOk, IfSome, 
 ghost use Rattle.std.specs.Prelude.{slice_get, true};
 ghost use Rattle.std.specs.List.{list_all, position_from};
 ghost use Rattle.event_order.specs.Event.{every_event};
-ghost use Rattle.interim_rules.specs.HostCommands.{is_built};
+ghost use Rattle.proxy.specs.HostCommands.{is_built};
 ghost use Rattle.tcl_trees.specs.Procedures.{procs_view};
 ghost use Rattle.tcl_trees.specs.TreeView.{node_view};
 ghost use Rattle.proxy.specs.Runnable.{are_built, can_run, core_of, has_built_bodies, has_few};
@@ -12,9 +12,9 @@ ghost use Rattle.proxy.specs.Runnable.{is_plain, is_rule_built, keeps_none, list
 ghost use Rattle.proxy.specs.Runnable.{numbers_of, pool_of, run_of, server_of};
 
 use crate::groups::{Made, core_groups};
+use crate::interim_rules::is_built;
 use config::{Config as Loaded, LoadedRule, Persist, Virtual};
 use event_order::EventName;
-use interim_rules::is_built;
 use proxy_core::{Config, Virtual as CoreVirtual};
 use px_bytes::{M, Seq, Text};
 use rule_loader::{Handler, Rule};

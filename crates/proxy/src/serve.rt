@@ -1,18 +1,18 @@
 // The command that serves.
 
 ghost use Rattle.std.specs.Prelude.{◌≡◌};
-ghost use Rattle.proxy.specs.Serving.{OfWords, ServeCompletes, ServesTo, end_of, refused_end};
-ghost use Rattle.proxy.specs.Serving.{status_of};
+ghost use Rattle.proxy.specs.Serving.{OfWords, ServeCompletes, ServesTo, end_of, outside};
+ghost use Rattle.proxy.specs.Serving.{refused_end, status_of};
 
 use crate::end::Status;
 use crate::offline_commands::is_read_fault;
 use crate::outcome::Outcome;
 use crate::runnable::core_config;
+use crate::serve_words::{Serve, UsageFault, serve_of};
 use config::{ConfigFault, read_config};
 use px_bytes::Texts;
 use px_outside::{Clock, Files, Net, Sink};
 use serve_loop::{ServeEnd, ServeFault};
-use serve_words::{Serve, UsageFault, serve_of};
 use served_core::serve_config;
 use std::alloc::Global;
 
@@ -25,41 +25,13 @@ pub fn serve_command<F: Files, N: Net, T: Clock, K: Sink>(
     clock: &mut T,
     journal: &mut K,
 ) -> Status
-    ensures { (end : Outcome) × (result.0 ≡ status_of end)
-        × OfWords N.did N.gave T.gave (F.told files.old) words.now
-        (record {
-          net = net.old;
-          clock = clock.old;
-          written = K.written journal.old;
-          reads = F.faults files.old;
-          net_faults = N.faults net.old;
-          writes = K.faults journal.old;
-        })
-        (record {
-          net = net.new;
-          clock = clock.new;
-          written = K.written journal.new;
-          reads = F.faults files.new;
-          net_faults = N.faults net.new;
-          writes = K.faults journal.new;
-        }) end
-        × ServeCompletes (F.told files.old) words.now
-        (record {
-          net = net.old;
-          clock = clock.old;
-          written = K.written journal.old;
-          reads = F.faults files.old;
-          net_faults = N.faults net.old;
-          writes = K.faults journal.old;
-        })
-        (record {
-          net = net.new;
-          clock = clock.new;
-          written = K.written journal.new;
-          reads = F.faults files.new;
-          net_faults = N.faults net.new;
-          writes = K.faults journal.new;
-        }) end }
+    ensures { let before = outside net.old clock.old (K.written journal.old)
+        (F.faults files.old) (N.faults net.old) (K.faults journal.old) in
+        let after = outside net.new clock.new (K.written journal.new)
+        (F.faults files.new) (N.faults net.new) (K.faults journal.new) in
+        (end : Outcome) × (result.0 ≡ status_of end)
+        × OfWords N.did N.gave T.gave (F.told files.old) words.now before after end
+        × ServeCompletes (F.told files.old) words.now before after end }
 {
     run(alloc, words, files, net, clock, journal).status()
 }
@@ -72,23 +44,11 @@ fn run<F: Files, N: Net, T: Clock, K: Sink>(
     clock: &mut T,
     journal: &mut K,
 ) -> Outcome
-    ensures { OfWords N.did N.gave T.gave (F.told files.old) words.now
-        (record {
-          net = net.old;
-          clock = clock.old;
-          written = K.written journal.old;
-          reads = F.faults files.old;
-          net_faults = N.faults net.old;
-          writes = K.faults journal.old;
-        })
-        (record {
-          net = net.new;
-          clock = clock.new;
-          written = K.written journal.new;
-          reads = F.faults files.new;
-          net_faults = N.faults net.new;
-          writes = K.faults journal.new;
-        }) result }
+    ensures { let before = outside net.old clock.old (K.written journal.old)
+        (F.faults files.old) (N.faults net.old) (K.faults journal.old) in
+        let after = outside net.new clock.new (K.written journal.new)
+        (F.faults files.new) (N.faults net.new) (K.faults journal.new) in
+        OfWords N.did N.gave T.gave (F.told files.old) words.now before after result }
 {
     match serve_of(alloc, words) {
         Ok(serve) => serve_file(alloc, &serve, files, net, clock, journal),
@@ -106,23 +66,11 @@ fn serve_file<F: Files, N: Net, T: Clock, K: Sink>(
     clock: &mut T,
     journal: &mut K,
 ) -> Outcome
-    ensures { ServesTo N.did N.gave T.gave (F.told files.old) serve.now
-        (record {
-          net = net.old;
-          clock = clock.old;
-          written = K.written journal.old;
-          reads = F.faults files.old;
-          net_faults = N.faults net.old;
-          writes = K.faults journal.old;
-        })
-        (record {
-          net = net.new;
-          clock = clock.new;
-          written = K.written journal.new;
-          reads = F.faults files.new;
-          net_faults = N.faults net.new;
-          writes = K.faults journal.new;
-        }) result }
+    ensures { let before = outside net.old clock.old (K.written journal.old)
+        (F.faults files.old) (N.faults net.old) (K.faults journal.old) in
+        let after = outside net.new clock.new (K.written journal.new)
+        (F.faults files.new) (N.faults net.new) (K.faults journal.new) in
+        ServesTo N.did N.gave T.gave (F.told files.old) serve.now before after result }
 {
     let loaded = match read_config(alloc, files, serve.config.as_bytes()) {
         Ok(loaded) => loaded,

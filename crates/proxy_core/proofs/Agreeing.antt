@@ -4,8 +4,10 @@ use Rattle.std.specs.Prelude.{slice_get, is_some, option_and_then}
 use Rattle.std.specs.List.{IsDistinct, position_from}
 use Rattle.std.specs.Str.{bytes_eq}
 use Rattle.std.proofs.lemmas.Slice.Eq.{bytes_eq-Decides}
-use Rattle.conn_trace.specs.declared.note.Note.{Note}
-use Rattle.conn_trace.specs.Heard.{EventKind, Accepts, Accepted}
+use Rattle.core_events.specs.declared.note.Note.{Note}
+use Rattle.core_events.specs.declared.event_kind.EventKind.{EventKind}
+use Rattle.core_events.specs.declared.event_kind.EventKind.TheVariants.{Accepts}
+use Rattle.conn_trace.specs.Heard.{Accepted}
 use Rattle.conn_trace.specs.Setup.{Setup}
 use Rattle.conn.specs.declared.connection.Conn.{Conn}
 use Rattle.conn.specs.declared.setup.Place.{Place}
@@ -28,10 +30,10 @@ use Rattle.proxy_core.specs.declared.core_state.Core.{Core}
 use Rattle.proxy_core.specs.declared.live.Live.{Live}
 use Rattle.px_bytes.specs.declared.addr.Addr.{Addr}
 use Rattle.tcl_vars.specs.Scopes.{Level}
-use Rattle.conn_trace.specs.declared.note.Cause.TheVariants.{Memory}
-use Rattle.conn_trace.specs.declared.note.Note.TheVariants.{Finish}
+use Rattle.core_events.specs.declared.note.Cause.TheVariants.{Memory}
+use Rattle.core_events.specs.declared.note.Note.TheVariants.{Finish}
 use Rattle.proxy_core.specs.Refusal.{refused}
-use Rattle.conn_trace.specs.Edges.{accepted_edges}
+use Rattle.core_events.specs.Edges.{accepted_edges}
 use Rattle.proxy_core.specs.Others.{about}
 use Rattle.proxy_core.proofs.Framing.{touches, only_changed, each_by}
 use Rattle.proxy_core.proofs.LiveLookups.{live_absent, live_set_self, live_set_other, live_removed_other, numbers_removed, live_pushed_other, live_pushed_self}

@@ -17,7 +17,7 @@ use Rattle.conn_trace.specs.Queries.{arriving, counted_held, first_some, held_un
 use Rattle.conn_trace.specs.Setup.{Setup}
 use Rattle.conn_trace.specs.State.{Stream, ServerSide, NoServer, Sought, There, Retired, Phase, Answering, TraceState, link_of}
 use Rattle.conn_trace.specs.Trace.{Unfolds}
-use Rattle.conn_trace.specs.declared.edges.EdgeState.{EdgeState}
+use Rattle.core_events.specs.declared.edges.EdgeState.{EdgeState}
 use Rattle.conn_trace.proofs.Lying.{Before, Lies, allowed, item_lies}
 use Rattle.conn_trace.proofs.Streams.{link_same}
 use Rattle.proxy_core.specs.Servers.{Linked, awaits}

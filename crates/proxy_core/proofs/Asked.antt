@@ -3,7 +3,7 @@ use Rattle.std.proofs.Common.{◌≡◌, refl, sym, ap, ◌∙◌, ℕ, List, []
 use Rattle.std.specs.Prelude.{◌↔◌, IsTrue, option_and_then, slice_get}
 use Rattle.std.proofs.lemmas.List.{length-map}
 use Rattle.px_bytes.specs.declared.addr.Side.{Side}
-use Rattle.conn_trace.specs.declared.edges.Edges.{Edges}
+use Rattle.core_events.specs.declared.edges.Edges.{Edges}
 use Rattle.proxy_core.specs.Asked.{is_none_of, settled_of, next_of, live_of, edges_of, wants_of, pending_of, queue_at, queue_of, first_of, copy_of}
 use Rattle.proxy_core.specs.Live.{edges_in, wanted_of}
 use Rattle.proxy_core.specs.Past.{Past, heard, shared}

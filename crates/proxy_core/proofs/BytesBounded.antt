@@ -9,10 +9,17 @@ use Rattle.px_bytes.specs.declared.fault.Reply.{Reply}
 use Rattle.shared_store.specs.Calls.{reply}
 use Rattle.shared_store.specs.Store.{StoreState}
 use Rattle.conn_trace.specs.Bounds.{PassWithin}
-use Rattle.conn_trace.specs.Edges.{edges_noted, is_open}
+use Rattle.core_events.specs.Edges.{edges_noted, is_open}
 use Rattle.conn_trace.specs.Further.{CutMeets, is_some_of, longer, replies_only}
 use Rattle.conn_trace.specs.Gates.{TakenCounts, no_bytes}
-use Rattle.conn_trace.specs.Heard.{Input, Bytes, Ends, Resets, Connects, Takes, EventKind, Accepts, Comes, Ticks, Turns, Runs, Marks, Accepted, Heard, Brought, as_answer, brings_in, brought, brought_nothing, edges_met, event_brings, further_of, hears, marks, nothing_heard, start_of, taken}
+use Rattle.core_events.specs.declared.event_kind.EventKind.{EventKind}
+use Rattle.core_events.specs.declared.event_kind.EventKind.TheVariants.{Accepts, Comes, Ticks}
+use Rattle.core_events.specs.declared.event_kind.EventKind.TheVariants.{Turns, Runs, Marks}
+use Rattle.core_events.specs.declared.input.Input.{Input}
+use Rattle.core_events.specs.declared.input.Input.TheVariants.{Bytes, Ends, Resets, Connects, Takes}
+use Rattle.conn_trace.specs.Heard.{Accepted, Heard, Brought, as_answer, brings_in, brought}
+use Rattle.conn_trace.specs.Heard.{brought_nothing, edges_met, event_brings, further_of, hears}
+use Rattle.conn_trace.specs.Heard.{marks, nothing_heard, start_of, taken}
 use Rattle.conn_trace.specs.HeardLaws.{TellsNothing, taken_by_items}
 use Rattle.conn_trace.specs.Item.{Item, cause_of, notes_of, reasons_in}
 use Rattle.conn_trace.specs.Queries.{arriving, counted_held, held_under, in_event_of, unread_at, unread_limit}
@@ -21,10 +28,10 @@ use Rattle.conn_trace.specs.Setup.{Setup}
 use Rattle.conn_trace.specs.State.{TraceState, no_answers, no_stream}
 use Rattle.conn_trace.specs.Tellings.{choices_told, cut_told, finish_told, notes_about, replies_told, tells}
 use Rattle.conn_trace.specs.Trace.{Unfolds, next_item}
-use Rattle.conn_trace.specs.declared.note.Cause.{Cause}
-use Rattle.conn_trace.specs.declared.note.Cause.TheVariants.{Memory}
-use Rattle.conn_trace.specs.declared.note.Note.{Note}
-use Rattle.conn_trace.specs.declared.note.Note.TheVariants.{Finish}
+use Rattle.core_events.specs.declared.note.Cause.{Cause}
+use Rattle.core_events.specs.declared.note.Cause.TheVariants.{Memory}
+use Rattle.core_events.specs.declared.note.Note.{Note}
+use Rattle.core_events.specs.declared.note.Note.TheVariants.{Finish}
 use Rattle.conn_trace.proofs.Hearing.{event_stands, finished_stands, others_not_heard}
 use Rattle.conn_trace.proofs.PendingFits.{pending_bounded}
 use Rattle.conn_trace.proofs.Lying.{Lies, allowed, start_lies}
@@ -36,7 +43,8 @@ use Rattle.proxy_core.specs.History.{store_of}
 use Rattle.proxy_core.specs.Live.{entry_note}
 use Rattle.proxy_core.specs.Moves.{MovesFailed, MovesLacks, MovesOn, MovesCome, MovesRing, MovesFront, MovesQueue, Rests, TurnNotes, MovesBy, RunsOn, RunsOut, RunsFailed, Leads}
 use Rattle.proxy_core.specs.Others.{about, front}
-use Rattle.proxy_core.specs.Past.{Past, kind_of, heard, shared}
+use Rattle.core_events.specs.Kinds.{kind_of}
+use Rattle.proxy_core.specs.Past.{Past, heard, shared}
 use Rattle.proxy_core.specs.Refusal.{by_edges, comes_too_much, is_late, known, refusal_rows, refused, standing_by}
 use Rattle.proxy_core.specs.Scheduler.{State, Seen, seen, untaken_all}
 use Rattle.proxy_core.specs.Setup.{begins_at, setup_in, setup_of, stand_of}

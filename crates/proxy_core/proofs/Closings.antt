@@ -3,18 +3,20 @@ use Rattle.std.proofs.Common.{◌≡◌, ◌⊎◌, inl, inr, refl, sym, ap, sub
 use Rattle.std.specs.List.{list_any}
 use Rattle.px_bytes.specs.declared.addr.Side.{Side}
 use Rattle.px_bytes.specs.declared.addr.Side.TheVariants.{Client, Server}
-use Rattle.conn_trace.specs.Edges.{edge_of, edges_by, edges_noted}
-use Rattle.conn_trace.specs.Heard.{Input, Bytes, Ends, Resets, Connects, Takes, edges_met}
+use Rattle.core_events.specs.Edges.{edge_of, edges_by, edges_noted}
+use Rattle.core_events.specs.declared.input.Input.{Input}
+use Rattle.core_events.specs.declared.input.Input.TheVariants.{Bytes, Ends, Resets, Connects, Takes}
+use Rattle.conn_trace.specs.Heard.{edges_met}
 use Rattle.conn_trace.specs.Gates.{TakenCounts}
 use Rattle.conn_trace.specs.Queries.{half_close_due}
 use Rattle.conn_trace.specs.Setup.{Setup}
 use Rattle.conn_trace.specs.State.{TraceState}
 use Rattle.conn_trace.specs.Trace.{next_item}
-use Rattle.conn_trace.specs.declared.edges.Edge.{Edge}
-use Rattle.conn_trace.specs.declared.edges.Edges.{Edges}
-use Rattle.conn_trace.specs.declared.edges.EdgeState.TheVariants as state
-use Rattle.conn_trace.specs.declared.note.Note.{Note}
-use Rattle.conn_trace.specs.declared.note.Note.TheVariants as note
+use Rattle.core_events.specs.declared.edges.Edge.{Edge}
+use Rattle.core_events.specs.declared.edges.Edges.{Edges}
+use Rattle.core_events.specs.declared.edges.EdgeState.TheVariants as state
+use Rattle.core_events.specs.declared.note.Note.{Note}
+use Rattle.core_events.specs.declared.note.Note.TheVariants as note
 use Rattle.conn.specs.Settling.{client_notes, close_notes, closing, half_close, is_drained, is_over, is_there, note_if, resting, server_notes, settling, settling_at, took_all}
 use Rattle.proxy_core.specs.Shown.{closes, ends_it}
 use Rattle.proxy_core.specs.Sound.{is_closed}

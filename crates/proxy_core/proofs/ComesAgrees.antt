@@ -1,9 +1,12 @@
 -- Something came of a connection: from what changed in a core to what the core stands for.
 use Rattle.std.proofs.Common.{◌≡◌, refl, sym, ap, ◌∙◌, ℕ, List, [], ◌∷◌, Bool, true, false, not, Option, Some, None, if◌then◌else◌, remove, set, nat_eq}
 use Rattle.std.specs.List.{IsDistinct}
-use Rattle.conn_trace.specs.declared.note.Note.{Note}
-use Rattle.conn_trace.specs.Edges.{edges_noted}
-use Rattle.conn_trace.specs.Heard.{Input, Bytes, Ends, Resets, Connects, Takes, Comes, edges_met}
+use Rattle.core_events.specs.declared.note.Note.{Note}
+use Rattle.core_events.specs.Edges.{edges_noted}
+use Rattle.core_events.specs.declared.event_kind.EventKind.TheVariants.{Comes}
+use Rattle.core_events.specs.declared.input.Input.{Input}
+use Rattle.core_events.specs.declared.input.Input.TheVariants.{Bytes, Ends, Resets, Connects, Takes}
+use Rattle.conn_trace.specs.Heard.{edges_met}
 use Rattle.conn.specs.declared.connection.Conn.{Conn}
 use Rattle.proxy_core.specs.Changes as code
 use Rattle.proxy_core.specs.Live.{MayCome, asks_in}

@@ -7,7 +7,9 @@ use Rattle.std.proofs.lemmas.List.{append_cancel_left}
 use Rattle.px_bytes.specs.declared.addr.Side.{Side}
 use Rattle.px_bytes.specs.declared.addr.Side.TheVariants.{Client, Server}
 use Rattle.conn_trace.specs.Further.{longer, nothing_further}
-use Rattle.conn_trace.specs.Heard.{Input, Bytes, Ends, Resets, Connects, Takes, edges_met}
+use Rattle.core_events.specs.declared.input.Input.{Input}
+use Rattle.core_events.specs.declared.input.Input.TheVariants.{Bytes, Ends, Resets, Connects, Takes}
+use Rattle.conn_trace.specs.Heard.{edges_met}
 use Rattle.conn_trace.specs.State.{TraceState}
 use Rattle.conn.specs.Calls.{Connects as Answers, Hears, Resets as Reset, Takes as Took, connected_ends, ended_ends, heard_ends, reset_ends, reset_in, took_ends, took_more, unless_finished}
 use Rattle.conn.specs.Holds.{Holds}
@@ -20,8 +22,8 @@ use Rattle.conn.specs.declared.ends.Ends.{Ends as BothEnds}
 use Rattle.conn.specs.Ends.{has_stream, heard_end, queued_in}
 use Rattle.conn.specs.Runs.{DropsQueued, Runs}
 use Rattle.conn.specs.Settling.{closing}
-use Rattle.conn_trace.specs.Edges.{edges_noted}
-use Rattle.conn_trace.specs.declared.note.Note.{Note}
+use Rattle.core_events.specs.Edges.{edges_noted}
+use Rattle.core_events.specs.declared.note.Note.{Note}
 use Rattle.conn.proofs.Joining.{longer_nothing}
 use Rattle.proxy_core.specs.Live.{ConnHears, ConnRuns, ends_met}
 

@@ -4,15 +4,20 @@ use Rattle.std.specs.Prelude.{is_some}
 use Rattle.std.proofs.lemmas.Bool.{and_from, and_parts}
 use Rattle.px_bytes.specs.declared.addr.Side.{Side}
 use Rattle.px_bytes.specs.declared.addr.Side.TheVariants.{Client, Server}
-use Rattle.conn_trace.specs.declared.edges.Edge.{Edge}
-use Rattle.conn_trace.specs.declared.edges.Edges.{Edges}
-use Rattle.conn_trace.specs.declared.edges.EdgeState.{EdgeState}
-use Rattle.conn_trace.specs.declared.edges.EdgeState.TheVariants as state
-use Rattle.conn_trace.specs.declared.note.Note.{Note}
-use Rattle.conn_trace.specs.declared.note.Note.TheVariants as note
-use Rattle.conn_trace.specs.Edges.{accepted_edges, edge_of, edges_by, edges_noted}
+use Rattle.core_events.specs.declared.edges.Edge.{Edge}
+use Rattle.core_events.specs.declared.edges.Edges.{Edges}
+use Rattle.core_events.specs.declared.edges.EdgeState.{EdgeState}
+use Rattle.core_events.specs.declared.edges.EdgeState.TheVariants as state
+use Rattle.core_events.specs.declared.note.Note.{Note}
+use Rattle.core_events.specs.declared.note.Note.TheVariants as note
+use Rattle.core_events.specs.Edges.{accepted_edges, edge_of, edges_by, edges_noted}
 use Rattle.conn_trace.specs.Gates.{TakenCounts}
-use Rattle.conn_trace.specs.Heard.{Input, Bytes, Ends, Resets, Connects, Takes, EventKind, Accepts, Comes, Ticks, Turns, Runs, Marks, Heard, accepts, marks, event_marks, edges_met, event_edges}
+use Rattle.core_events.specs.declared.event_kind.EventKind.{EventKind}
+use Rattle.core_events.specs.declared.event_kind.EventKind.TheVariants.{Accepts, Comes, Ticks}
+use Rattle.core_events.specs.declared.event_kind.EventKind.TheVariants.{Turns, Runs, Marks}
+use Rattle.core_events.specs.declared.input.Input.{Input}
+use Rattle.core_events.specs.declared.input.Input.TheVariants.{Bytes, Ends, Resets, Connects, Takes}
+use Rattle.conn_trace.specs.Heard.{Heard, accepts, marks, event_marks, edges_met, event_edges}
 use Rattle.conn_trace.specs.Queries.{half_close_due}
 use Rattle.conn_trace.specs.Setup.{Setup}
 use Rattle.conn_trace.specs.State.{TraceState}
@@ -22,7 +27,8 @@ use Rattle.conn.specs.RunsItems.{is_resting, told_behind}
 use Rattle.conn.specs.Settling.{client_notes, close_notes, closing, half_close, is_over, is_there, note_if, resting, server_notes, settling, settling_at, took_all}
 use Rattle.conn.specs.declared.turn.ConnTurn.{ConnTurn}
 use Rattle.proxy_core.specs.Fitting.{fits, Fit}
-use Rattle.proxy_core.specs.Past.{Past, kind_of, heard}
+use Rattle.core_events.specs.Kinds.{kind_of}
+use Rattle.proxy_core.specs.Past.{Past, heard}
 use Rattle.proxy_core.specs.Servers.{is_used}
 use Rattle.proxy_core.proofs.Closings.{both, halved, half_client, half_server, half_state, is_due, server_edges}
 use Rattle.proxy_core.proofs.GroupNotes.{About, due_about, resting_due}

@@ -1,9 +1,12 @@
 -- Where notes put the ends of a connection.
 use Rattle.std.proofs.Common.{◌≡◌, refl, ap, ◌∙◌, ℕ, List, [], ◌∷◌, ◌++◌, if◌then◌else◌}
-use Rattle.conn_trace.specs.declared.edges.Edges.{Edges}
-use Rattle.conn_trace.specs.declared.note.Note.{Note}
-use Rattle.conn_trace.specs.Edges.{edges_by, edges_noted}
-use Rattle.conn_trace.specs.Heard.{Input, Comes, EventKind, Heard, edges_met, event_edges, hears}
+use Rattle.core_events.specs.declared.edges.Edges.{Edges}
+use Rattle.core_events.specs.declared.note.Note.{Note}
+use Rattle.core_events.specs.Edges.{edges_by, edges_noted}
+use Rattle.core_events.specs.declared.event_kind.EventKind.{EventKind}
+use Rattle.core_events.specs.declared.event_kind.EventKind.TheVariants.{Comes}
+use Rattle.core_events.specs.declared.input.Input.{Input}
+use Rattle.conn_trace.specs.Heard.{Heard, edges_met, event_edges, hears}
 use Rattle.proxy_core.proofs.GroupNotes.{About, own_all}
 use Rattle.proxy_core.proofs.Members.{eq_self}
 

@@ -3,12 +3,18 @@ use Rattle.std.proofs.Common.{◌≡◌, refl, sym, ap, ◌∙◌, ℕ, List, []
 use Rattle.std.proofs.lemmas.List.{map-append}
 use Rattle.px_bytes.specs.declared.addr.Side.TheVariants.{Client, Server}
 use Rattle.conn_trace.specs.Further.{is_some_of}
-use Rattle.conn_trace.specs.Heard.{Input, Bytes, Ends, Resets, Connects, Takes, EventKind, Accepts, Comes, Ticks, Turns, Runs, Marks, Heard, accepts, marks, event_marks}
+use Rattle.core_events.specs.declared.event_kind.EventKind.{EventKind}
+use Rattle.core_events.specs.declared.event_kind.EventKind.TheVariants.{Accepts, Comes, Ticks}
+use Rattle.core_events.specs.declared.event_kind.EventKind.TheVariants.{Turns, Runs, Marks}
+use Rattle.core_events.specs.declared.input.Input.{Input}
+use Rattle.core_events.specs.declared.input.Input.TheVariants.{Bytes, Ends, Resets, Connects, Takes}
+use Rattle.conn_trace.specs.Heard.{Heard, accepts, marks, event_marks}
 use Rattle.conn_trace.specs.Item.{cause_of, reasons_in}
 use Rattle.conn_trace.specs.Phases.{Orderly}
 use Rattle.conn_trace.specs.Tellings.{NoteTells, tells, own, notes_about, finish_told}
 use Rattle.conn_trace.proofs.Stepping.{finishes_once}
-use Rattle.proxy_core.specs.Past.{Past, kind_of, heard}
+use Rattle.core_events.specs.Kinds.{kind_of}
+use Rattle.proxy_core.specs.Past.{Past, heard}
 use Rattle.proxy_core.specs.Scheduler.{Seen}
 use Rattle.proxy_core.specs.Setup.{setup_of, begins_at, stand_of}
 use Rattle.proxy_core.specs.Shown.{causes_behind}

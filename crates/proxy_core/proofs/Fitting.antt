@@ -7,15 +7,19 @@ use Rattle.px_bytes.specs.declared.addr.Side.{Side}
 use Rattle.px_bytes.specs.declared.addr.Side.TheVariants.{Client, Server}
 use Rattle.px_bytes.specs.declared.fault.Reply.{Reply}
 use Rattle.event_order.specs.declared.event.EventName.TheVariants.{ClientData, ServerData}
-use Rattle.conn_trace.specs.declared.edges.Edges.{Edges}
-use Rattle.conn_trace.specs.declared.edges.EdgeState.{EdgeState}
-use Rattle.conn_trace.specs.declared.note.Cause.TheVariants.{Memory}
-use Rattle.conn_trace.specs.declared.note.Note.{Note}
-use Rattle.conn_trace.specs.declared.note.Note.TheVariants as note
-use Rattle.conn_trace.specs.Edges.{edge_of, edges_noted}
+use Rattle.core_events.specs.declared.edges.Edges.{Edges}
+use Rattle.core_events.specs.declared.edges.EdgeState.{EdgeState}
+use Rattle.core_events.specs.declared.note.Cause.TheVariants.{Memory}
+use Rattle.core_events.specs.declared.note.Note.{Note}
+use Rattle.core_events.specs.declared.note.Note.TheVariants as note
+use Rattle.core_events.specs.Edges.{edge_of, edges_noted}
 use Rattle.conn_trace.specs.Further.{longer}
 use Rattle.conn_trace.specs.Gates.{TakenCounts}
-use Rattle.conn_trace.specs.Heard.{Input, EventKind, Accepts, Comes, Ticks, Turns, Runs, Marks, Heard, hears, edges_met, event_edges, taken}
+use Rattle.core_events.specs.declared.event_kind.EventKind.{EventKind}
+use Rattle.core_events.specs.declared.event_kind.EventKind.TheVariants.{Accepts, Comes, Ticks}
+use Rattle.core_events.specs.declared.event_kind.EventKind.TheVariants.{Turns, Runs, Marks}
+use Rattle.core_events.specs.declared.input.Input.{Input}
+use Rattle.conn_trace.specs.Heard.{Heard, hears, edges_met, event_edges, taken}
 use Rattle.conn_trace.specs.HeardLaws.{taken_by_items}
 use Rattle.conn_trace.specs.Item.{Item, Passed, Fired, Reused, Connected, Logged, Finished, note_of, notes_of}
 use Rattle.conn_trace.specs.Phases.{Orderly}
@@ -36,7 +40,8 @@ use Rattle.proxy_core.specs.History.{store_of}
 use Rattle.proxy_core.specs.Live.{entry_note}
 use Rattle.proxy_core.specs.Moves.{MovesFailed, MovesLacks, MovesOn, MovesCome, MovesRing, MovesFront, MovesQueue, TurnNotes, MovesBy, RunsOn, RunsOut, RunsFailed}
 use Rattle.proxy_core.specs.Others.{about, front}
-use Rattle.proxy_core.specs.Past.{Past, kind_of, heard, shared}
+use Rattle.core_events.specs.Kinds.{kind_of}
+use Rattle.proxy_core.specs.Past.{Past, heard, shared}
 use Rattle.proxy_core.specs.Scheduler.{State, Seen, seen, untaken_all}
 use Rattle.proxy_core.specs.Servers.{is_used, awaits, LinkedAt, Linked}
 use Rattle.proxy_core.specs.Setup.{setup_of, stand_of}

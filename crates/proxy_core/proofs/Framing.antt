@@ -1,10 +1,14 @@
 -- An event changes one connection alone: the others see the same.
 use Rattle.std.proofs.Common.{◌≡◌, refl, sym, ap, subst, ◌∙◌, ℕ, List, [], ◌∷◌, ◌++◌, Bool, true, false, nat_eq, inl, inr, ◌⊎◌, if◌then◌else◌}
 use Rattle.std.specs.Bool.{MatchBool}
-use Rattle.conn_trace.specs.declared.note.Cause.TheVariants.{Memory}
-use Rattle.conn_trace.specs.declared.note.Note.{Note}
-use Rattle.conn_trace.specs.declared.note.Note.TheVariants.{Finish}
-use Rattle.conn_trace.specs.Heard.{Input, EventKind, Accepts, Comes, Ticks, Turns, Runs, Marks, Heard, taken, edges_met, hears}
+use Rattle.core_events.specs.declared.note.Cause.TheVariants.{Memory}
+use Rattle.core_events.specs.declared.note.Note.{Note}
+use Rattle.core_events.specs.declared.note.Note.TheVariants.{Finish}
+use Rattle.core_events.specs.declared.event_kind.EventKind.{EventKind}
+use Rattle.core_events.specs.declared.event_kind.EventKind.TheVariants.{Accepts, Comes, Ticks}
+use Rattle.core_events.specs.declared.event_kind.EventKind.TheVariants.{Turns, Runs, Marks}
+use Rattle.core_events.specs.declared.input.Input.{Input}
+use Rattle.conn_trace.specs.Heard.{Heard, taken, edges_met, hears}
 use Rattle.conn_trace.specs.HeardLaws.{concerns}
 use Rattle.px_bytes.specs.declared.fault.Reply.{Reply}
 use Rattle.shared_store.specs.Store.{StoreState}
@@ -21,11 +25,11 @@ use Rattle.proxy_core.specs.Past.{Past, heard, ended_in, without_all, with_accep
 use Rattle.proxy_core.specs.Ready.{is_in, ring_behind, with_ready, without}
 use Rattle.conn.specs.RunsItems.{is_resting, out_of_memory, told_behind}
 use Rattle.conn.specs.Settling.{closing, resting, settling_at}
-use Rattle.conn_trace.specs.Edges.{edges_noted}
+use Rattle.core_events.specs.Edges.{edges_noted}
 use Rattle.conn_trace.specs.Gates.{TakenCounts}
 use Rattle.conn_trace.specs.Setup.{Setup}
 use Rattle.conn_trace.specs.State.{TraceState}
-use Rattle.conn_trace.specs.declared.edges.Edges.{Edges}
+use Rattle.core_events.specs.declared.edges.Edges.{Edges}
 use Rattle.conn.specs.declared.turn.ConnTurn.{ConnTurn}
 use Rattle.proxy_core.specs.Scheduler.{State, entries, Seen, seen, seen_after, untaken_all}
 use Rattle.proxy_core.specs.declared.config.Config.{Config}

@@ -2,11 +2,12 @@
 use Rattle.std.proofs.Common.{◌≡◌, refl, ap, ◌∙◌, ℕ, List, [], ◌∷◌, ◌++◌, Bool, true, false, Some, None, if◌then◌else◌, arith}
 use Rattle.std.proofs.lemmas.Bool.Decides.{nat_tests}
 use Rattle.px_bytes.specs.declared.addr.Addr.{Addr}
-use Rattle.conn_trace.specs.declared.note.Cause.TheVariants.{Memory}
-use Rattle.conn_trace.specs.declared.note.Note.{Note}
-use Rattle.conn_trace.specs.declared.note.Note.TheVariants.{Finish}
-use Rattle.conn_trace.specs.Edges.{accepted_edges}
-use Rattle.conn_trace.specs.Heard.{Accepted, Accepts, nothing_heard, hears}
+use Rattle.core_events.specs.declared.note.Cause.TheVariants.{Memory}
+use Rattle.core_events.specs.declared.note.Note.{Note}
+use Rattle.core_events.specs.declared.note.Note.TheVariants.{Finish}
+use Rattle.core_events.specs.Edges.{accepted_edges}
+use Rattle.core_events.specs.declared.event_kind.EventKind.TheVariants.{Accepts}
+use Rattle.conn_trace.specs.Heard.{Accepted, nothing_heard, hears}
 use Rattle.proxy_core.specs.Calls.{calls_of}
 use Rattle.proxy_core.specs.Past.{Past, ended_in, shared, without_all}
 use Rattle.proxy_core.specs.Ready.{is_in}

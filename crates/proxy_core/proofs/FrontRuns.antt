@@ -6,7 +6,7 @@ use Rattle.conn.specs.declared.turn.ConnTurn.{ConnTurn}
 use Rattle.conn.specs.declared.turn.ConnTurn.TheVariants as turn
 use Rattle.proxy_core.specs.Ready.{ring_behind}
 use Rattle.proxy_core.specs.declared.core_state.Core.{Core}
-use Rattle.conn_trace.specs.declared.note.Note.{Note}
+use Rattle.core_events.specs.declared.note.Note.{Note}
 use Rattle.proxy_core.specs.Calls.{kept_calls}
 use Rattle.proxy_core.specs.Changes.{RunsRing, RunsFront, Idles, TurnsAt, TurnsQueue}
 use Rattle.proxy_core.specs.declared.call.Asked.{Asked}

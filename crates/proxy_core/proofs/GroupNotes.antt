@@ -3,17 +3,17 @@ use Rattle.std.proofs.Common.{◌≡◌, refl, ap, ◌∙◌, ℕ, List, [], ◌
 use Rattle.std.proofs.lemmas.List.{map-append}
 use Rattle.std.proofs.lemmas.Grind.{flat_map-append}
 use Rattle.std.specs.List.{filter, list_any}
-use Rattle.conn_trace.specs.declared.note.Note.{Note}
-use Rattle.conn_trace.specs.declared.note.Note.TheVariants as note
-use Rattle.conn_trace.specs.declared.note.CutReason.{CutReason}
-use Rattle.conn_trace.specs.declared.note.Cause.TheVariants.{Memory}
+use Rattle.core_events.specs.declared.note.Note.{Note}
+use Rattle.core_events.specs.declared.note.Note.TheVariants as note
+use Rattle.core_events.specs.declared.note.CutReason.{CutReason}
+use Rattle.core_events.specs.declared.note.Cause.TheVariants.{Memory}
 use Rattle.conn_trace.specs.Gates.{TakenCounts}
-use Rattle.conn_trace.specs.Edges.{edge_of, edges_by, edges_noted, is_connecting}
+use Rattle.core_events.specs.Edges.{edge_of, edges_by, edges_noted, is_connecting}
 use Rattle.conn_trace.specs.Queries.{half_close_due}
 use Rattle.conn_trace.specs.Setup.{Setup}
 use Rattle.conn_trace.specs.State.{TraceState}
 use Rattle.conn_trace.specs.Trace.{next_item}
-use Rattle.conn_trace.specs.declared.edges.Edges.{Edges}
+use Rattle.core_events.specs.declared.edges.Edges.{Edges}
 use Rattle.conn.specs.Settling.{close_notes, client_notes, closing, half_close, is_drained, is_over, is_there, note_if, resting, server_notes, settling, settling_at, took_all}
 use Rattle.px_bytes.specs.declared.addr.Side.{Side}
 use Rattle.px_bytes.specs.declared.addr.Side.TheVariants.{Client, Server}

@@ -1,10 +1,18 @@
 -- The server connections that are heard are those that were made: all of them while the connection hasn't finished.
 use Rattle.std.proofs.Common.{◌≡◌, refl, sym, ap, ◌∙◌, ℕ, suc, ◌+◌, ◌≤◌, List, [], ◌∷◌, ◌++◌, Bool, true, false, ◌||◌, true≢false, Option, Some, None, nat_eq, if◌then◌else◌, arith}
 use Rattle.px_bytes.specs.declared.addr.Side.TheVariants.{Client, Server}
-use Rattle.conn_trace.specs.declared.note.Note.{Note}
-use Rattle.conn_trace.specs.Heard.{Input, Bytes, Ends, Resets, Connects, Takes, EventKind, Accepts, Comes, Ticks, Turns, Runs, Marks, SideHeard, Heard, hears_more, at_last, Brought, brought_nothing, brings_in, event_brings, accepts, marks, event_marks, brought, hears}
+use Rattle.core_events.specs.declared.note.Note.{Note}
+use Rattle.core_events.specs.declared.event_kind.EventKind.{EventKind}
+use Rattle.core_events.specs.declared.event_kind.EventKind.TheVariants.{Accepts, Comes, Ticks}
+use Rattle.core_events.specs.declared.event_kind.EventKind.TheVariants.{Turns, Runs, Marks}
+use Rattle.core_events.specs.declared.input.Input.{Input}
+use Rattle.core_events.specs.declared.input.Input.TheVariants.{Bytes, Ends, Resets, Connects, Takes}
+use Rattle.conn_trace.specs.Heard.{SideHeard, Heard, hears_more, at_last, Brought, brought_nothing}
+use Rattle.conn_trace.specs.Heard.{brings_in, event_brings, accepts, marks, event_marks, brought}
+use Rattle.conn_trace.specs.Heard.{hears}
 use Rattle.conn_trace.specs.Tellings.{notes_about, finish_told}
-use Rattle.proxy_core.specs.Past.{Past, kind_of, heard}
+use Rattle.core_events.specs.Kinds.{kind_of}
+use Rattle.proxy_core.specs.Past.{Past, heard}
 use Rattle.proxy_core.specs.Servers.{made, makes, servers_made}
 
 last_made : (f : SideHeard → SideHeard) (cs : List (Option SideHeard)) → made (at_last f cs) ≡ made cs

@@ -3,12 +3,19 @@ use Rattle.std.proofs.Common.{◌≡◌, refl, sym, ap, subst, ◌∙◌, ℕ, z
 use Rattle.std.specs.Prelude.{slice_get, unwrap_or}
 use Rattle.px_bytes.specs.declared.addr.Side.TheVariants.{Client, Server}
 use Rattle.px_bytes.specs.declared.fault.Reply.{Reply}
-use Rattle.conn_trace.specs.declared.note.Note.{Note}
+use Rattle.core_events.specs.declared.note.Note.{Note}
 use Rattle.conn_trace.specs.Further.{Coming, Further, nothing_comes, replies_only}
 use Rattle.conn_trace.specs.Item.{Choice}
 use Rattle.conn_trace.specs.State.{Cut}
 use Rattle.conn_trace.specs.Gates.{TakenCounts, taken_of}
-use Rattle.conn_trace.specs.Heard.{Input, Bytes, Ends, Resets, Connects, Takes, EventKind, Comes, Turns, Runs, SideHeard, Heard, taken_by, side_taken, servers_taken, taken, has_made, hears_by, hears_more, at_last, as_answer, Brought, brought_nothing, hear_brought, marks, event_marks, brought, hears_event, hears, further_of}
+use Rattle.core_events.specs.declared.event_kind.EventKind.{EventKind}
+use Rattle.core_events.specs.declared.event_kind.EventKind.TheVariants.{Comes, Turns, Runs}
+use Rattle.core_events.specs.declared.input.Input.{Input}
+use Rattle.core_events.specs.declared.input.Input.TheVariants.{Bytes, Ends, Resets, Connects, Takes}
+use Rattle.conn_trace.specs.Heard.{SideHeard, Heard, taken_by, side_taken, servers_taken, taken}
+use Rattle.conn_trace.specs.Heard.{has_made, hears_by, hears_more, at_last, as_answer, Brought}
+use Rattle.conn_trace.specs.Heard.{brought_nothing, hear_brought, marks, event_marks, brought}
+use Rattle.conn_trace.specs.Heard.{hears_event, hears, further_of}
 use Rattle.conn_trace.specs.Laws.{AtLeast, TakesMore}
 use Rattle.conn_trace.specs.Tellings.{tells, own, notes_about, replies_told, choices_told, cut_told, finish_told, failure_told}
 use Rattle.proxy_core.proofs.GroupNotes.{About, own_all, tells_all}

@@ -65,3 +65,4 @@ pub mod Stepping
 pub mod Asked
 pub mod Arriving
 pub mod BytesBounded
+pub mod Taking

@@ -1,13 +1,20 @@
 -- A cut that was heard was allowed: behind each event what was told still allows it.
 use Rattle.std.proofs.Common.{◌≡◌, inl, inr, refl, sym, ap, ◌∙◌, ℕ, ◌+◌, List, [], ◌∷◌, ◌++◌, append-nil, Bool, true, false, ◌||◌, if◌then◌else◌, Option, Some, None, is_none, zero-add}
 use Rattle.px_bytes.specs.declared.addr.Side.TheVariants.{Client, Server}
-use Rattle.conn_trace.specs.declared.edges.Edges.{Edges}
-use Rattle.conn_trace.specs.declared.note.CutReason.{CutReason}
-use Rattle.conn_trace.specs.declared.note.CutReason.TheVariants.{ClientReset, ServerReset, Idle}
-use Rattle.conn_trace.specs.declared.note.Note.{Note}
+use Rattle.core_events.specs.declared.edges.Edges.{Edges}
+use Rattle.core_events.specs.declared.note.CutReason.{CutReason}
+use Rattle.core_events.specs.declared.note.CutReason.TheVariants.{ClientReset, ServerReset, Idle}
+use Rattle.core_events.specs.declared.note.Note.{Note}
 use Rattle.conn_trace.specs.Further.{Coming, nothing_comes, choosing, longer, first_cut, on_last}
 use Rattle.conn_trace.specs.Gates.{TakenCounts, taken_of}
-use Rattle.conn_trace.specs.Heard.{Input, Bytes, Ends, Resets, Connects, Takes, EventKind, Comes, Runs, SideHeard, Heard, taken, taken_by, servers_taken, has_made, hears_by, hears_more, at_last, brought_nothing, event_brings, brought, hear_brought, marks, event_marks, hears_event, hears, start_of}
+use Rattle.core_events.specs.declared.event_kind.EventKind.{EventKind}
+use Rattle.core_events.specs.declared.event_kind.EventKind.TheVariants.{Comes, Runs}
+use Rattle.core_events.specs.declared.input.Input.{Input}
+use Rattle.core_events.specs.declared.input.Input.TheVariants.{Bytes, Ends, Resets, Connects, Takes}
+use Rattle.conn_trace.specs.Heard.{SideHeard, Heard, taken, taken_by, servers_taken, has_made}
+use Rattle.conn_trace.specs.Heard.{hears_by, hears_more, at_last, brought_nothing, event_brings}
+use Rattle.conn_trace.specs.Heard.{brought, hear_brought, marks, event_marks, hears_event, hears}
+use Rattle.conn_trace.specs.Heard.{start_of}
 use Rattle.conn_trace.specs.HeardLaws.{cut_for, cut_in, TellsNothing}
 use Rattle.conn_trace.specs.Item.{Item, Reason, Closed, Tcl, Unselected, Rejected, CutBy, choices_in, notes_of, shown}
 use Rattle.conn_trace.specs.Setup.{Setup}

@@ -2,12 +2,14 @@
 use Rattle.std.proofs.Common.{◌≡◌, refl, sym, subst, ◌∙◌, ℕ, List, [], ◌∷◌, Bool, true, false, ◌||◌, not, true≢false}
 use Rattle.std.specs.List.{list_any}
 use Rattle.px_bytes.specs.declared.addr.Side.TheVariants.{Client, Server}
-use Rattle.conn_trace.specs.declared.edges.Edges.{Edges}
-use Rattle.conn_trace.specs.declared.note.Note.{Note}
-use Rattle.conn_trace.specs.declared.note.Note.TheVariants as note
-use Rattle.conn_trace.specs.Edges.{edges_by, edges_noted, is_connecting}
+use Rattle.core_events.specs.declared.edges.Edges.{Edges}
+use Rattle.core_events.specs.declared.note.Note.{Note}
+use Rattle.core_events.specs.declared.note.Note.TheVariants as note
+use Rattle.core_events.specs.Edges.{edges_by, edges_noted, is_connecting}
 use Rattle.conn_trace.specs.Further.{Further, longer, nothing_further}
-use Rattle.conn_trace.specs.Heard.{Input, Bytes, Ends, Resets, Connects, Takes, edges_met}
+use Rattle.core_events.specs.declared.input.Input.{Input}
+use Rattle.core_events.specs.declared.input.Input.TheVariants.{Bytes, Ends, Resets, Connects, Takes}
+use Rattle.conn_trace.specs.Heard.{edges_met}
 use Rattle.conn_trace.specs.State.{TraceState}
 use Rattle.conn.specs.Calls.{unless_finished}
 use Rattle.conn.specs.Settling.{close_notes, closing}

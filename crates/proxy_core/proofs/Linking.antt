@@ -1,11 +1,11 @@
 -- Where the server's end stands: along items and their notes, which fit it, and where more comes.
 use Rattle.std.proofs.Common.{◌≡◌, refl, sym, ap, subst, ◌∙◌, ℕ, suc, ◌≤◌, List, [], ◌∷◌, ◌++◌, append-nil, length, map, Bool, true, false, true≢false, Option, Some, None, is_some, arith}
 use Rattle.std.specs.Bool.{MatchBool}
-use Rattle.conn_trace.specs.declared.edges.Edges.{Edges}
-use Rattle.conn_trace.specs.declared.edges.EdgeState.{EdgeState}
-use Rattle.conn_trace.specs.declared.edges.EdgeState.TheVariants as state
-use Rattle.conn_trace.specs.declared.note.Note.{Note}
-use Rattle.conn_trace.specs.Edges.{edges_by, edges_noted, answered_edge, is_connecting}
+use Rattle.core_events.specs.declared.edges.Edges.{Edges}
+use Rattle.core_events.specs.declared.edges.EdgeState.{EdgeState}
+use Rattle.core_events.specs.declared.edges.EdgeState.TheVariants as state
+use Rattle.core_events.specs.declared.note.Note.{Note}
+use Rattle.core_events.specs.Edges.{edges_by, edges_noted, answered_edge, is_connecting}
 use Rattle.conn_trace.specs.Further.{Coming, Further, longer, on_last}
 use Rattle.conn_trace.specs.Heard.{answer, as_answer}
 use Rattle.conn_trace.specs.Item.{Item, Answered, Connected, Passed, Fired, Reused, Logged, Finished, note_of, notes_of}

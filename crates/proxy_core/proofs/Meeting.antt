@@ -4,12 +4,20 @@ use Rattle.std.proofs.lemmas.List.{drop-drop}
 use Rattle.px_bytes.specs.declared.addr.Side.TheVariants.{Client, Server}
 use Rattle.px_bytes.specs.declared.fault.Reply.{Reply}
 use Rattle.conn_trace.specs.Further.{Coming, Further, nothing_comes, nothing_further}
-use Rattle.conn_trace.specs.Heard.{Input, Bytes, Ends, Resets, Connects, Takes, Comes, EventKind, SideHeard, fresh_side, Heard, taken_by, side_taken, servers_taken, taken, hears_by, hears_more, has_made, at_last, answer, as_answer, Brought, brought_nothing, brings_in, event_brings, marks, event_marks, brought, hears_event, hears, further_of}
+use Rattle.core_events.specs.declared.event_kind.EventKind.{EventKind}
+use Rattle.core_events.specs.declared.event_kind.EventKind.TheVariants.{Comes}
+use Rattle.core_events.specs.declared.input.Input.{Input}
+use Rattle.core_events.specs.declared.input.Input.TheVariants.{Bytes, Ends, Resets, Connects, Takes}
+use Rattle.conn_trace.specs.Heard.{SideHeard, fresh_side, Heard, taken_by, side_taken}
+use Rattle.conn_trace.specs.Heard.{servers_taken, taken, hears_by, hears_more, has_made, at_last}
+use Rattle.conn_trace.specs.Heard.{answer, as_answer, Brought, brought_nothing, brings_in}
+use Rattle.conn_trace.specs.Heard.{event_brings, marks, event_marks, brought, hears_event, hears}
+use Rattle.conn_trace.specs.Heard.{further_of}
 use Rattle.conn_trace.specs.HeardLaws.{TellsNothing}
 use Rattle.conn_trace.specs.Item.{Choice, Item, client_output, server_output}
 use Rattle.conn_trace.specs.State.{Cut}
 use Rattle.conn_trace.specs.Tellings.{notes_about, replies_told, choices_told, cut_told, finish_told, failure_told}
-use Rattle.conn_trace.specs.declared.note.Note.{Note}
+use Rattle.core_events.specs.declared.note.Note.{Note}
 use Rattle.conn.specs.Calls.{answered_by, more_at_last, none_at_last, unless_finished}
 use Rattle.conn.specs.Ends.{has_stream, heard_by, heard_end}
 use Rattle.conn.specs.Holds.{Around}

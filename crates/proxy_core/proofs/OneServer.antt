@@ -4,13 +4,18 @@ use Rattle.std.specs.Prelude.{is_some}
 use Rattle.std.specs.Bool.{MatchBool}
 use Rattle.px_bytes.specs.declared.addr.Side.TheVariants.{Client, Server}
 use Rattle.px_bytes.specs.declared.fault.Reply.{Reply}
-use Rattle.conn_trace.specs.declared.edges.Edges.{Edges}
-use Rattle.conn_trace.specs.declared.note.Cause.TheVariants.{Memory}
-use Rattle.conn_trace.specs.declared.note.Note.{Note}
-use Rattle.conn_trace.specs.declared.note.Note.TheVariants.{Finish}
-use Rattle.conn_trace.specs.Edges.{accepted_edges, edges_noted, is_connecting}
+use Rattle.core_events.specs.declared.edges.Edges.{Edges}
+use Rattle.core_events.specs.declared.note.Cause.TheVariants.{Memory}
+use Rattle.core_events.specs.declared.note.Note.{Note}
+use Rattle.core_events.specs.declared.note.Note.TheVariants.{Finish}
+use Rattle.core_events.specs.Edges.{accepted_edges, edges_noted, is_connecting}
 use Rattle.conn_trace.specs.Further.{nothing_comes, longer, on_last}
-use Rattle.conn_trace.specs.Heard.{Input, Bytes, Ends, Resets, Connects, Takes, EventKind, Accepts, Comes, Ticks, Turns, Runs, Marks, Heard, hears, edges_met, event_edges, start_of, taken}
+use Rattle.core_events.specs.declared.event_kind.EventKind.{EventKind}
+use Rattle.core_events.specs.declared.event_kind.EventKind.TheVariants.{Accepts, Comes, Ticks}
+use Rattle.core_events.specs.declared.event_kind.EventKind.TheVariants.{Turns, Runs, Marks}
+use Rattle.core_events.specs.declared.input.Input.{Input}
+use Rattle.core_events.specs.declared.input.Input.TheVariants.{Bytes, Ends, Resets, Connects, Takes}
+use Rattle.conn_trace.specs.Heard.{Heard, hears, edges_met, event_edges, start_of, taken}
 use Rattle.conn_trace.specs.HeardLaws.{taken_by_items}
 use Rattle.conn_trace.specs.Item.{Item, Answered, Connected, note_of, notes_of, server_output}
 use Rattle.conn_trace.specs.Phases.{OrderlyIn}
@@ -30,7 +35,8 @@ use Rattle.proxy_core.specs.History.{store_of}
 use Rattle.proxy_core.specs.Live.{entry_note}
 use Rattle.proxy_core.specs.Moves.{MovesFailed, MovesLacks, MovesOn, MovesCome, MovesRing, MovesFront, MovesQueue, TurnNotes, MovesBy, RunsOn, RunsOut, RunsFailed, Leads}
 use Rattle.proxy_core.specs.Others.{about, front}
-use Rattle.proxy_core.specs.Past.{Past, kind_of, heard, shared}
+use Rattle.core_events.specs.Kinds.{kind_of}
+use Rattle.proxy_core.specs.Past.{Past, heard, shared}
 use Rattle.proxy_core.specs.Refusal.{answers_nothing, refused}
 use Rattle.proxy_core.specs.Scheduler.{State, last_took, seen, untaken_all}
 use Rattle.proxy_core.specs.OneServer.{OneServer, OneServerIsMade}

@@ -2,7 +2,7 @@
 use Rattle.std.proofs.Common.{ap, Some, None, if◌then◌else◌}
 use Rattle.proxy_core.specs.Asked.{queue_at}
 use Rattle.proxy_core.specs.Others.{OnlyItsOwnChanges}
-use Rattle.proxy_core.specs.Past.{kind_of}
+use Rattle.core_events.specs.Kinds.{kind_of}
 use Rattle.proxy_core.specs.Refusal.{wants_at}
 use Rattle.proxy_core.specs.Scheduler.{untaken_of}
 use Rattle.proxy_core.proofs.Framing.{only_changed, touches}

@@ -5,10 +5,10 @@ use Rattle.std.proofs.lemmas.List.{take-append-le}
 use Rattle.std.proofs.lemmas.Grind.{flat_map-append}
 use Rattle.px_bytes.specs.declared.addr.Side.{Side}
 use Rattle.px_bytes.specs.declared.addr.Side.TheVariants.{Client, Server}
-use Rattle.conn_trace.specs.declared.edges.Edges.{Edges}
-use Rattle.conn_trace.specs.declared.note.Cause.{Cause}
-use Rattle.conn_trace.specs.declared.note.Cause.TheVariants.{Memory}
-use Rattle.conn_trace.specs.declared.note.Note.{Note}
+use Rattle.core_events.specs.declared.edges.Edges.{Edges}
+use Rattle.core_events.specs.declared.note.Cause.{Cause}
+use Rattle.core_events.specs.declared.note.Cause.TheVariants.{Memory}
+use Rattle.core_events.specs.declared.note.Note.{Note}
 use Rattle.conn_trace.specs.Further.{is_some_of}
 use Rattle.conn_trace.specs.Gates.{Counts, TakenCounts, no_bytes, to_take, untaken}
 use Rattle.conn_trace.specs.Heard.{Heard, taken, taken_by}
@@ -22,12 +22,12 @@ use Rattle.conn_trace.proofs.Stepping.{finishes_once}
 use Rattle.conn_trace.proofs.Taking.{taken_all_opens}
 use Rattle.conn_trace.proofs.Telling.{items_tell}
 use Rattle.conn_trace.proofs.Unfolding.{trace_unfolds, stopped_is_whole}
-use Rattle.conn_trace.specs.Edges.{edge_of}
+use Rattle.core_events.specs.Edges.{edge_of}
 use Rattle.conn_trace.specs.Queries.{half_close_due}
 use Rattle.conn_trace.specs.Tellings.{failure_told, notes_about}
-use Rattle.conn_trace.specs.declared.note.Note.TheVariants.{HalfClose}
-use Rattle.conn_trace.specs.declared.note.CutReason.{CutReason}
-use Rattle.conn_trace.specs.declared.note.CutReason.TheVariants.{ClientReset, ServerReset, Idle}
+use Rattle.core_events.specs.declared.note.Note.TheVariants.{HalfClose}
+use Rattle.core_events.specs.declared.note.CutReason.{CutReason}
+use Rattle.core_events.specs.declared.note.CutReason.TheVariants.{ClientReset, ServerReset, Idle}
 use Rattle.conn.specs.RunsItems.{is_cut, licenses}
 use Rattle.conn.specs.Settling.{half_close, is_drained, is_over, note_if, settling_at}
 use Rattle.proxy_core.specs.Calls.{calls_of}

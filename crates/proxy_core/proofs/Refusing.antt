@@ -2,11 +2,13 @@
 use Rattle.std.proofs.Common.{◌≡◌, refl, ap, ◌∙◌, ℕ, ◌≤◌, length, Bool, true, false, not, Option, Some, None, nat_lt, if◌then◌else◌, arith}
 use Rattle.std.proofs.lemmas.Bool.Decides.{nat_tests}
 use Rattle.px_bytes.specs.declared.addr.Side.TheVariants.{Client, Server}
-use Rattle.conn_trace.specs.Edges.{is_connecting, may_take}
+use Rattle.core_events.specs.Edges.{is_connecting, may_take}
 use Rattle.proxy_core.specs.Live.{MayCome, edges_in, pending_in}
-use Rattle.proxy_core.specs.declared.event.BadEvent.{BadEvent}
-use Rattle.proxy_core.specs.declared.event.BadEvent.TheVariants.{AfterEnd, NotConnecting, TookTooMuch}
-use Rattle.conn_trace.specs.Heard.{Input, Bytes, Ends, Resets, Connects, Takes, Comes}
+use Rattle.core_events.specs.declared.bad_event.BadEvent.{BadEvent}
+use Rattle.core_events.specs.declared.bad_event.BadEvent.TheVariants.{AfterEnd, NotConnecting, TookTooMuch}
+use Rattle.core_events.specs.declared.event_kind.EventKind.TheVariants.{Comes}
+use Rattle.core_events.specs.declared.input.Input.{Input}
+use Rattle.core_events.specs.declared.input.Input.TheVariants.{Bytes, Ends, Resets, Connects, Takes}
 use Rattle.proxy_core.specs.Refusal.{core_standing, input_refusal, refusal_by, refusal_of}
 use Rattle.proxy_core.specs.Refusals.{live_at}
 use Rattle.proxy_core.specs.declared.config.Config.{Config}

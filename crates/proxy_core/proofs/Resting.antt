@@ -1,8 +1,10 @@
 -- A Tick, a Mark, and a Turn on an empty queue: from what changed in a core to what the core stands for.
 use Rattle.std.proofs.Common.{◌≡◌, refl, sym, ap, subst, ◌∙◌, ℕ, List, [], Bool}
 use Rattle.px_bytes.specs.declared.addr.Addr.{Addr}
-use Rattle.conn_trace.specs.declared.note.Note.{Note}
-use Rattle.conn_trace.specs.Heard.{Heard, EventKind, Ticks, Turns, Marks, hears}
+use Rattle.core_events.specs.declared.note.Note.{Note}
+use Rattle.core_events.specs.declared.event_kind.EventKind.{EventKind}
+use Rattle.core_events.specs.declared.event_kind.EventKind.TheVariants.{Ticks, Turns, Marks}
+use Rattle.conn_trace.specs.Heard.{Heard, hears}
 use Rattle.conn_trace.proofs.Hearing.{others_not_heard}
 use Rattle.proxy_core.specs.Changes as code
 use Rattle.shared_store.specs.Store.{marked}

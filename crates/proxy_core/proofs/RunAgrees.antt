@@ -1,11 +1,12 @@
 -- A Run: from what changed in a core to what the core stands for.
 use Rattle.std.proofs.Common.{◌≡◌, refl, sym, ap, subst, ◌∙◌, ℕ, ◌<◌, List, [], ◌∷◌, length, Bool, true, false, not, nat_eq, if◌then◌else◌, remove, set}
 use Rattle.tcl_vars.specs.Scopes.{Level}
-use Rattle.conn_trace.specs.declared.edges.Edges.{Edges}
-use Rattle.conn_trace.specs.declared.note.Note.{Note}
-use Rattle.conn_trace.specs.Edges.{edges_noted}
+use Rattle.core_events.specs.declared.edges.Edges.{Edges}
+use Rattle.core_events.specs.declared.note.Note.{Note}
+use Rattle.core_events.specs.Edges.{edges_noted}
 use Rattle.conn_trace.specs.Gates.{TakenCounts}
-use Rattle.conn_trace.specs.Heard.{Runs, taken}
+use Rattle.core_events.specs.declared.event_kind.EventKind.TheVariants.{Runs}
+use Rattle.conn_trace.specs.Heard.{taken}
 use Rattle.conn_trace.specs.Setup.{Setup}
 use Rattle.conn_trace.specs.State.{TraceState}
 use Rattle.conn_trace.proofs.Hearing.{others_not_heard}

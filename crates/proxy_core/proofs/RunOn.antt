@@ -3,14 +3,15 @@ use Rattle.std.proofs.Common.{◌≡◌, ◌⊎◌, inl, inr, refl, sym, ap, sub
 use Rattle.std.specs.Bool.{MatchBool}
 use Rattle.std.proofs.lemmas.List.{length-drop, drop-append-le}
 use Rattle.std.proofs.lemmas.Grind.{flat_map-append}
-use Rattle.conn_trace.specs.declared.edges.Edges.{Edges}
-use Rattle.conn_trace.specs.declared.note.Cause.TheVariants.{Memory}
-use Rattle.conn_trace.specs.declared.note.Note.{Note}
-use Rattle.conn_trace.specs.declared.note.Note.TheVariants.{Finish}
-use Rattle.conn_trace.specs.Edges.{edges_noted}
+use Rattle.core_events.specs.declared.edges.Edges.{Edges}
+use Rattle.core_events.specs.declared.note.Cause.TheVariants.{Memory}
+use Rattle.core_events.specs.declared.note.Note.{Note}
+use Rattle.core_events.specs.declared.note.Note.TheVariants.{Finish}
+use Rattle.core_events.specs.Edges.{edges_noted}
 use Rattle.conn_trace.specs.Further.{longer}
 use Rattle.conn_trace.specs.Gates.{Counts, TakenCounts, no_bytes, sent_after, sent_from}
-use Rattle.conn_trace.specs.Heard.{Runs, Heard, taken, hears, start_of}
+use Rattle.core_events.specs.declared.event_kind.EventKind.TheVariants.{Runs}
+use Rattle.conn_trace.specs.Heard.{Heard, taken, hears, start_of}
 use Rattle.conn_trace.specs.HeardLaws.{TellsNothing, taken_by_items}
 use Rattle.conn_trace.specs.Item.{Item, to_client, to_server, client_output, server_output, notes_of}
 use Rattle.conn_trace.specs.Setup.{Setup}

@@ -2,9 +2,15 @@
 use Rattle.std.proofs.Common.{◌≡◌, ◌⊎◌, inl, inr, refl, sym, ap, ◌∙◌, ℕ, zero, suc, ◌+◌, ◌-◌, ◌≤◌, List, [], ◌∷◌, ◌++◌, map, Bool, true, false, true≢false, if◌then◌else◌, Option, Some, None, nat_eq, arith}
 use Rattle.std.specs.Prelude.{slice_get, unwrap_or}
 use Rattle.px_bytes.specs.declared.addr.Side.TheVariants.{Client, Server}
-use Rattle.conn_trace.specs.declared.note.Note.{Note}
+use Rattle.core_events.specs.declared.note.Note.{Note}
 use Rattle.conn_trace.specs.Gates.{untaken, taken_of}
-use Rattle.conn_trace.specs.Heard.{Input, Bytes, Ends, Resets, Connects, Takes, Comes, SideHeard, Heard, taken_by, side_taken, servers_taken, has_made, hears_by, hears_more, at_last, answer, as_answer, Brought, brought_nothing, brings_in, marks, event_brings, event_marks, brought, hears}
+use Rattle.core_events.specs.declared.event_kind.EventKind.TheVariants.{Comes}
+use Rattle.core_events.specs.declared.input.Input.{Input}
+use Rattle.core_events.specs.declared.input.Input.TheVariants.{Bytes, Ends, Resets, Connects, Takes}
+use Rattle.conn_trace.specs.Heard.{SideHeard, Heard, taken_by, side_taken, servers_taken, has_made}
+use Rattle.conn_trace.specs.Heard.{hears_by, hears_more, at_last, answer, as_answer, Brought}
+use Rattle.conn_trace.specs.Heard.{brought_nothing, brings_in, marks, event_brings, event_marks}
+use Rattle.conn_trace.specs.Heard.{brought, hears}
 use Rattle.conn_trace.specs.Further.{Coming}
 use Rattle.proxy_core.specs.Scheduler.{last_took}
 use Rattle.proxy_core.specs.Servers.{made, took_behind, took_of, last_reset}

@@ -1,7 +1,7 @@
 -- What was told of a server connection agrees with what was sent to it: what it took, what is pending, and its reset.
 use Rattle.std.proofs.Common.{◌≡◌, refl, sym, ap, subst, ◌∙◌, ℕ, zero, suc, ◌+◌, ◌-◌, ◌≤◌, ◌<◌, List, [], ◌∷◌, length, map, Bool, true, false, Option, is_none, arith, zero-add}
 use Rattle.px_bytes.specs.declared.addr.Side.TheVariants.{Server}
-use Rattle.conn_trace.specs.declared.note.CutReason.TheVariants.{ServerReset}
+use Rattle.core_events.specs.declared.note.CutReason.TheVariants.{ServerReset}
 use Rattle.conn_trace.specs.Gates.{no_bytes, sent_from, to_take, taken_of, untaken}
 use Rattle.conn_trace.specs.Heard.{Heard, taken, taken_by, servers_taken, as_answer, start_of}
 use Rattle.conn_trace.specs.Item.{Item, server_output}

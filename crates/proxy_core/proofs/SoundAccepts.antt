@@ -2,13 +2,14 @@
 use Rattle.std.proofs.Common.{◌≡◌, refl, sym, ap, ◌∙◌, ℕ, zero, suc, ◌≤◌, List, [], ◌∷◌, ◌++◌, length, map, Bool, true, false, ◌||◌, Some, None, arith, if◌then◌else◌}
 use Rattle.px_bytes.specs.declared.addr.Side.{Side}
 use Rattle.px_bytes.specs.declared.addr.Side.TheVariants.{Client, Server}
-use Rattle.conn_trace.specs.declared.note.Cause.TheVariants.{Memory}
-use Rattle.conn_trace.specs.declared.note.Note.{Note}
-use Rattle.conn_trace.specs.declared.note.Note.TheVariants.{Finish}
-use Rattle.conn_trace.specs.Edges.{accepted_edges, edge_of}
-use Rattle.conn_trace.specs.Heard.{Accepts, Accepted, nothing_heard, hears}
+use Rattle.core_events.specs.declared.note.Cause.TheVariants.{Memory}
+use Rattle.core_events.specs.declared.note.Note.{Note}
+use Rattle.core_events.specs.declared.note.Note.TheVariants.{Finish}
+use Rattle.core_events.specs.Edges.{accepted_edges, edge_of}
+use Rattle.core_events.specs.declared.event_kind.EventKind.TheVariants.{Accepts}
+use Rattle.conn_trace.specs.Heard.{Accepted, nothing_heard, hears}
 use Rattle.conn_trace.specs.Host.{first_host}
-use Rattle.conn_trace.specs.declared.edges.EdgeState.TheVariants as state
+use Rattle.core_events.specs.declared.edges.EdgeState.TheVariants as state
 use Rattle.event_order.specs.declared.event.EventName.TheVariants.{ClientAccepted}
 use Rattle.conn_trace.specs.Item.{server_output}
 use Rattle.conn_trace.specs.Setup.{Setup}

@@ -6,17 +6,23 @@ use Rattle.std.specs.List.{IsDistinct}
 use Rattle.std.proofs.lemmas.Bool.Decides.{nat_tests}
 use Rattle.px_bytes.specs.declared.addr.Addr.{Addr}
 use Rattle.px_bytes.specs.declared.addr.Side.TheVariants.{Client, Server}
-use Rattle.conn_trace.specs.declared.note.Cause.TheVariants.{Memory}
-use Rattle.conn_trace.specs.declared.note.Note.{Note}
-use Rattle.conn_trace.specs.declared.note.Note.TheVariants.{Finish}
+use Rattle.core_events.specs.declared.note.Cause.TheVariants.{Memory}
+use Rattle.core_events.specs.declared.note.Note.{Note}
+use Rattle.core_events.specs.declared.note.Note.TheVariants.{Finish}
 use Rattle.conn_trace.specs.Gates.{TakenCounts, no_bytes, untaken}
-use Rattle.conn_trace.specs.Edges.{edges_noted}
+use Rattle.core_events.specs.Edges.{edges_noted}
 use Rattle.conn_trace.specs.Further.{longer}
 use Rattle.conn_trace.specs.Tellings.{finish_told}
 use Rattle.conn_trace.specs.Trace.{next_item}
 use Rattle.conn_trace.proofs.Given.{sent_output}
-use Rattle.conn_trace.specs.Heard.{Input, Bytes, Ends, Resets, Connects, Takes, EventKind, Accepts, Comes, Ticks, Turns, Runs, Marks, Accepted, Heard, taken, taken_by, event_marks, marks, brought, edges_met, further_of, hears}
-use Rattle.conn_trace.specs.declared.edges.Edges.{Edges}
+use Rattle.core_events.specs.declared.event_kind.EventKind.{EventKind}
+use Rattle.core_events.specs.declared.event_kind.EventKind.TheVariants.{Accepts, Comes, Ticks}
+use Rattle.core_events.specs.declared.event_kind.EventKind.TheVariants.{Turns, Runs, Marks}
+use Rattle.core_events.specs.declared.input.Input.{Input}
+use Rattle.core_events.specs.declared.input.Input.TheVariants.{Bytes, Ends, Resets, Connects, Takes}
+use Rattle.conn_trace.specs.Heard.{Accepted, Heard, taken, taken_by, event_marks, marks, brought}
+use Rattle.conn_trace.specs.Heard.{edges_met, further_of, hears}
+use Rattle.core_events.specs.declared.edges.Edges.{Edges}
 use Rattle.conn_trace.specs.Item.{Item, client_output, notes_of, server_output}
 use Rattle.conn_trace.specs.State.{TraceState}
 use Rattle.conn_trace.specs.Setup.{Setup}
@@ -29,7 +35,8 @@ use Rattle.proxy_core.specs.History.{called_in, entries_in, store_of}
 use Rattle.proxy_core.specs.Live.{entry_note}
 use Rattle.proxy_core.specs.Moves.{Rests, MovesFailed, MovesLacks, MovesOn, MovesCome, MovesRing, MovesFront, MovesBy, Moves, RunsOn, RunsOut, RunsFailed, TurnNotes, MovesQueue, is_drained_at, came, lacked, ran, Leads}
 use Rattle.proxy_core.specs.declared.call.Asked.{Asked}
-use Rattle.proxy_core.specs.Past.{Happened, Past, kind_of, heard, ended_in, without_all, with_accepted, shared, shared_after}
+use Rattle.core_events.specs.Kinds.{kind_of}
+use Rattle.proxy_core.specs.Past.{Happened, Past, heard, ended_in, without_all, with_accepted, shared, shared_after}
 use Rattle.proxy_core.specs.Ready.{is_in, ring_behind, without}
 use Rattle.proxy_core.specs.Refusal.{Row, answers_nothing, by_edges, wants_at, standing_by, known, takes_too_much, refusal_rows, first_of, refused}
 use Rattle.proxy_core.specs.Servers.{took_of}

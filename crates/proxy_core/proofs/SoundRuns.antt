@@ -4,13 +4,14 @@ use Rattle.std.specs.List.{IsDistinct, filter, list_any}
 use Rattle.std.proofs.lemmas.Grind.{flat_map-append}
 use Rattle.px_bytes.specs.declared.addr.Side.{Side}
 use Rattle.px_bytes.specs.declared.fault.Reply.{Reply}
-use Rattle.conn_trace.specs.declared.edges.Edges.{Edges}
-use Rattle.conn_trace.specs.declared.note.Note.{Note}
-use Rattle.conn_trace.specs.Edges.{edge_of, edges_noted}
+use Rattle.core_events.specs.declared.edges.Edges.{Edges}
+use Rattle.core_events.specs.declared.note.Note.{Note}
+use Rattle.core_events.specs.Edges.{edge_of, edges_noted}
 use Rattle.conn_trace.specs.Further.{Further, Same, longer, first_cut, replies_only, choosing, CutMeets, nothing_further}
 use Rattle.conn_trace.specs.Further as further
 use Rattle.conn_trace.specs.Gates.{Counts, TakenCounts, no_bytes, sent_from, to_take, Met}
-use Rattle.conn_trace.specs.Heard.{Runs, Heard, taken, hears, start_of}
+use Rattle.core_events.specs.declared.event_kind.EventKind.TheVariants.{Runs}
+use Rattle.conn_trace.specs.Heard.{Heard, taken, hears, start_of}
 use Rattle.conn_trace.specs.HeardLaws.{cut_in, cut_for, taken_by_items, TellsNothing}
 use Rattle.conn_trace.specs.Item.{Item, Reason, Closed, Tcl, Unselected, Rejected, CutBy, Choice, note_of, shown, listed, calls_in, cause_of, notes_of, reasons_in}
 use Rattle.conn_trace.specs.Phases.{Orderly}

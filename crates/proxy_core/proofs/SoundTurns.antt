@@ -3,12 +3,13 @@ use Rattle.std.proofs.Common.{◌≡◌, refl, sym, ap, subst, ◌∙◌, ℕ, �
 use Rattle.std.specs.List.{filter, list_any}
 use Rattle.std.proofs.lemmas.Grind.{flat_map-append}
 use Rattle.px_bytes.specs.declared.addr.Side.{Side}
-use Rattle.conn_trace.specs.declared.edges.Edges.{Edges}
-use Rattle.conn_trace.specs.declared.note.Note.{Note}
-use Rattle.conn_trace.specs.Edges.{edge_of, edges_noted}
+use Rattle.core_events.specs.declared.edges.Edges.{Edges}
+use Rattle.core_events.specs.declared.note.Note.{Note}
+use Rattle.core_events.specs.Edges.{edge_of, edges_noted}
 use Rattle.conn_trace.specs.Further.{Further, longer, replies_only, CutMeets}
 use Rattle.conn_trace.specs.Gates.{TakenCounts, no_bytes, sent_from, Met}
-use Rattle.conn_trace.specs.Heard.{Turns, SideHeard, Heard, taken, hears, start_of}
+use Rattle.core_events.specs.declared.event_kind.EventKind.TheVariants.{Turns}
+use Rattle.conn_trace.specs.Heard.{SideHeard, Heard, taken, hears, start_of}
 use Rattle.conn_trace.specs.Item.{Item, to_client, to_server, cause_of, client_output, server_output, reasons_in}
 use Rattle.conn_trace.specs.Setup.{Setup}
 use Rattle.conn_trace.specs.State.{Cut, TraceState, ForReply, Waits}

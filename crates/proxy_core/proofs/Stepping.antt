@@ -1,15 +1,17 @@
 -- What a step did.
-use Rattle.std.proofs.Common.{◌≡◌, refl, sym, ap, ◌∙◌, ℕ, ◌+◌, ◌≤◌, arith, List, [], ◌++◌, length, map, Bool, true, false, Option, Some, None, Result, Ok, Err, OnOk, IfErr}
+use Rattle.std.proofs.Common.{◌≡◌, refl, sym, ap, subst, ◌∙◌, ℕ, ◌+◌, ◌≤◌, arith, List, [], ◌++◌, length, map, Bool, true, false, Option, Some, None, Result, Ok, Err, OnOk, IfErr}
 use Rattle.std.proofs.lemmas.List.{length-append, length-map}
 use Rattle.px_bytes.specs.declared.addr.Side.{Side}
 use Rattle.px_bytes.specs.declared.addr.Side.TheVariants.{Client, Server}
-use Rattle.conn_trace.specs.declared.edges.Edges.{Edges}
-use Rattle.conn_trace.specs.declared.note.Note.{Note}
-use Rattle.conn_trace.specs.Heard.{Bytes, Connects, Ends, Takes, EventKind, Resets}
+use Rattle.core_events.specs.declared.edges.Edges.{Edges}
+use Rattle.core_events.specs.declared.note.Note.{Note}
+use Rattle.core_events.specs.declared.event_kind.EventKind.{EventKind}
+use Rattle.core_events.specs.declared.event_kind.EventKind.TheVariants as kind
 use Rattle.conn_trace.specs.Tellings.{tells, finish_told}
-use Rattle.proxy_core.specs.Changes.{Changes}
+use Rattle.proxy_core.specs.Changes.{Changes, ChangesBy}
 use Rattle.proxy_core.specs.Live.{pending_in, wanted_of}
-use Rattle.proxy_core.specs.Past.{Past, kind_of, Shared, shared}
+use Rattle.core_events.specs.Kinds.{kind_of}
+use Rattle.proxy_core.specs.Past.{Past, Shared, shared}
 use Rattle.proxy_core.specs.Ready.{numbers}
 use Rattle.proxy_core.specs.Refusal.{Standing, Known, wants_at, standing_by, standing_of, named, has_marked, known, refused, refusal_by, core_standing, core_known, refusal_of, refusal}
 use Rattle.proxy_core.specs.Refusals.{live_at}
@@ -20,9 +22,8 @@ use Rattle.proxy_core.specs.Start.{IsStart}
 use Rattle.proxy_core.specs.Steps.{KeepsStanding, Steps, IsRefused}
 use Rattle.proxy_core.specs.declared.config.Config.{Config}
 use Rattle.proxy_core.specs.declared.core_state.Core.{Core}
-use Rattle.proxy_core.specs.declared.event.BadEvent.{BadEvent}
-use Rattle.proxy_core.specs.declared.event.Event.{Event}
-use Rattle.proxy_core.specs.declared.event.Event.TheVariants as event
+use Rattle.core_events.specs.declared.bad_event.BadEvent.{BadEvent}
+use Rattle.core_events.specs.declared.event.Event.{Event}
 use Rattle.proxy_core.specs.declared.live.Live.{Live}
 use Rattle.proxy_core.proofs.Agreeing.{After, accepts}
 use Rattle.proxy_core.proofs.ComesAgrees.{comes}
@@ -64,27 +65,18 @@ known_same C past s core v r =
 pub refusal_same : (C : Config) (past : Past) (s : State) (core : Core) (v : EventKind) → Represents C past s core → refusal_of core v ≡ refused C past s v
 refusal_same C past s core v r = ap (λ D. refusal_by D (core_known core v) v) r.agrees.config ∙ ap (λ k. refusal_by C k v) (known_same C past s core v r)
 
-by_event : (C : Config) (past : Past) (s : State) (old new : Core) (e : Event) (group : List Note) (steps : ℕ) → Represents C past s old → refused C past s (kind_of e) ≡ None → Changes old new e group steps → After C past s (kind_of e) group new
-by_event C past s old new (event.Accept conn vs from) group steps r h k = accepts C past s old new conn vs from group r h k.0
-by_event C past s old new (event.FromClient conn bytes) group steps r h k = comes C past s old new conn (Bytes Client bytes) group r k.0
-by_event C past s old new (event.ClientEnd conn) group steps r h k = comes C past s old new conn (Ends Client) group r k.0
-by_event C past s old new (event.ClientReset conn) group steps r h k = comes C past s old new conn (Resets Client) group r k.0
-by_event C past s old new (event.ClientTook conn n) group steps r h k = comes C past s old new conn (Takes Client n) group r k.0
-by_event C past s old new (event.Connected conn) group steps r h k = comes C past s old new conn (Connects true) group r k.0
-by_event C past s old new (event.Refused conn) group steps r h k = comes C past s old new conn (Connects false) group r k.0
-by_event C past s old new (event.FromServer conn bytes) group steps r h k = comes C past s old new conn (Bytes Server bytes) group r k.0
-by_event C past s old new (event.ServerEnd conn) group steps r h k = comes C past s old new conn (Ends Server) group r k.0
-by_event C past s old new (event.ServerReset conn) group steps r h k = comes C past s old new conn (Resets Server) group r k.0
-by_event C past s old new (event.ServerTook conn n) group steps r h k = comes C past s old new conn (Takes Server n) group r k.0
-by_event C past s old new (event.Tick moment) group steps r h k = ticks C past s old new moment group steps r k
-by_event C past s old new event.Turn group steps r h k = turns C past s old new old.queue.items group r (sym r.agrees.queue) k.0
-by_event C past s old new (event.Mark pool member up) group steps r h k = marked_now C past s old new pool member up group steps r k
-by_event C past s old new event.Run group steps r h k = runs C past s old new old.live.ring group steps r (sym r.agrees.ring) k
+by_kind : (C : Config) (past : Past) (s : State) (old new : Core) (v : EventKind) (group : List Note) (steps : ℕ) → Represents C past s old → refused C past s v ≡ None → ChangesBy old new v group steps → After C past s v group new
+by_kind C past s old new (kind.Accepts number vs from) group steps r h k = accepts C past s old new number vs from group r h k.0
+by_kind C past s old new (kind.Comes number input) group steps r h k = comes C past s old new number input group r k.0
+by_kind C past s old new (kind.Ticks moment) group steps r h k = ticks C past s old new moment group steps r k
+by_kind C past s old new kind.Turns group steps r h k = turns C past s old new old.queue.items group r (sym r.agrees.queue) k.0
+by_kind C past s old new kind.Runs group steps r h k = runs C past s old new old.live.ring group steps r (sym r.agrees.ring) k
+by_kind C past s old new (kind.Marks pool member up) group steps r h k = marked_now C past s old new pool member up group steps r k
 
 pub keeps_standing : (old new : Core) (e : Event) (group : List Note) (steps : ℕ) → refusal old e ≡ None → Changes old new e group steps → KeepsStanding old new (record { event = e; group = group })
 keeps_standing old new e group steps h k C past s r =
     let accepted = sym (refusal_same C past s old (kind_of e) r) ∙ h in
-    let a = by_event C past s old new e group steps r accepted k in
+    let a = by_kind C past s old new (kind_of e) group steps r accepted k in
     record { next = a.next; moves = a.moves; represents = record { sound = sound_step C past (record { event = e; group = group }) s a.next r.sound accepted a.moves; agrees = a.agrees } }
 
 pub is_refused : (core : Core) (e : Event) (why : BadEvent) → refusal core e ≡ Some why → IsRefused core e why
@@ -113,11 +105,14 @@ start_represents C core k = record {
 at_most : (before after group : List Note) (n : ℕ) → after ≡ before ++ group → length after ≤ length before + n → length group ≤ n
 at_most before after group n e few = omega (arith, ap length e ∙ length-append before group, few)
 
--- by the answer of the step
-pub steps_of : (old new : Core) (e : Event) (before after : List Note) (steps : ℕ) (res : Result (Unit {0}) BadEvent) → OnOk res (refusal old e ≡ None) → OnOk res ((group : List Note) × (after ≡ before ++ group) × Changes old new e group steps) → OnOk res (length after ≤ length before + 68) → OnOk res (Steps old new e before after steps)
-steps_of old new e before after steps (Ok u) h k few = record { group = k.0; notes = k.1; few = at_most before after k.0 68 k.1 few; changes = k.2; stands = keeps_standing old new e k.0 steps h k.2 }
-steps_of old new e before after steps (Err why) h k few = tt
+-- by the answer of the step, which goes by what the event may mean
+pub steps_of : (old new : Core) (e : Event) (v : EventKind) → v ≡ kind_of e → (before after : List Note) (steps : ℕ) (res : Result (Unit {0}) BadEvent) → OnOk res (refusal_of old v ≡ None) → OnOk res ((group : List Note) × (after ≡ before ++ group) × ChangesBy old new v group steps) → OnOk res (length after ≤ length before + 68) → OnOk res (Steps old new e before after steps)
+steps_of old new e v is before after steps (Ok u) h k few =
+    let fine : refusal old e ≡ None = ap (refusal_of old) (sym is) ∙ h in
+    let changes : Changes old new e k.0 steps = subst (λ w. ChangesBy old new w k.0 steps) is k.2 in
+    record { group = k.0; notes = k.1; few = at_most before after k.0 68 k.1 few; changes = changes; stands = keeps_standing old new e k.0 steps fine changes }
+steps_of old new e v is before after steps (Err why) h k few = tt
 
-pub refused_of : (core : Core) (e : Event) (res : Result (Unit {0}) BadEvent) → IfErr res (λ why. refusal core e ≡ Some why) → IfErr res (λ why. IsRefused core e why)
-refused_of core e (Ok u) h = tt
-refused_of core e (Err why) h = is_refused core e why h
+pub refused_of : (core : Core) (e : Event) (v : EventKind) → v ≡ kind_of e → (res : Result (Unit {0}) BadEvent) → IfErr res (λ why. refusal_of core v ≡ Some why) → IfErr res (λ why. IsRefused core e why)
+refused_of core e v is (Ok u) h = tt
+refused_of core e v is (Err why) h = is_refused core e why (ap (refusal_of core) (sym is) ∙ h)

@@ -2,10 +2,11 @@
 use Rattle.std.proofs.Common.{◌≡◌, inl, inr, refl, sym, ap, subst, ◌∙◌, ℕ, List, [], ◌∷◌, Bool, true, false, Option, Some, None, nat_eq}
 use Rattle.std.specs.Prelude.{slice_get, option_and_then}
 use Rattle.px_bytes.specs.declared.fault.Reply.{Reply}
-use Rattle.conn_trace.specs.declared.edges.Edges.{Edges}
-use Rattle.conn_trace.specs.declared.note.Note.{Note}
+use Rattle.core_events.specs.declared.edges.Edges.{Edges}
+use Rattle.core_events.specs.declared.note.Note.{Note}
 use Rattle.conn_trace.specs.Gates.{TakenCounts}
-use Rattle.conn_trace.specs.Heard.{Turns, hears, taken}
+use Rattle.core_events.specs.declared.event_kind.EventKind.TheVariants.{Turns}
+use Rattle.conn_trace.specs.Heard.{hears, taken}
 use Rattle.conn_trace.specs.Setup.{Setup}
 use Rattle.conn_trace.specs.State.{TraceState}
 use Rattle.conn.specs.declared.connection.Conn.{Conn}

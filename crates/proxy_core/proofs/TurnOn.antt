@@ -1,14 +1,16 @@
 -- A connection of the code whose shared call is answered: what it goes on with, for what was heard then.
 use Rattle.std.proofs.Common.{◌≡◌, ◌⊎◌, inl, inr, refl, sym, ap, subst, ◌∙◌, ℕ, List, [], ◌∷◌, drop, map, append-nil, Bool, true, false, ◌||◌, Option, Some, None, if◌then◌else◌}
 use Rattle.px_bytes.specs.declared.fault.Reply.{Reply}
-use Rattle.conn_trace.specs.declared.edges.Edges.{Edges}
-use Rattle.conn_trace.specs.declared.note.Cause.TheVariants.{Memory}
-use Rattle.conn_trace.specs.declared.note.Note.{Note}
-use Rattle.conn_trace.specs.declared.note.Note.TheVariants.{Finish}
-use Rattle.conn_trace.specs.Edges.{edges_noted}
+use Rattle.core_events.specs.declared.edges.Edges.{Edges}
+use Rattle.core_events.specs.declared.note.Cause.TheVariants.{Memory}
+use Rattle.core_events.specs.declared.note.Note.{Note}
+use Rattle.core_events.specs.declared.note.Note.TheVariants.{Finish}
+use Rattle.core_events.specs.Edges.{edges_noted}
 use Rattle.conn_trace.specs.Further.{CutMeets, Further, longer, nothing_comes, replies_only}
 use Rattle.conn_trace.specs.Gates.{TakenCounts, no_bytes}
-use Rattle.conn_trace.specs.Heard.{Turns, Heard, as_answer, Brought, brought_nothing, hears, hears_event, further_of, start_of, taken}
+use Rattle.core_events.specs.declared.event_kind.EventKind.TheVariants.{Turns}
+use Rattle.conn_trace.specs.Heard.{Heard, as_answer, Brought, brought_nothing, hears, hears_event}
+use Rattle.conn_trace.specs.Heard.{further_of, start_of, taken}
 use Rattle.conn_trace.specs.Item.{Choice, Item, client_output, server_output}
 use Rattle.conn_trace.specs.Setup.{Setup}
 use Rattle.conn_trace.specs.State.{Cut, TraceState}

@@ -3,15 +3,15 @@ use Rattle.std.proofs.Common.{◌≡◌, inl, inr, refl, sym, ap, subst, ◌∙�
 use Rattle.std.specs.Bool.{MatchBool}
 use Rattle.px_bytes.specs.declared.addr.Side.{Side}
 use Rattle.px_bytes.specs.declared.addr.Side.TheVariants.{Client, Server}
-use Rattle.conn_trace.specs.Edges.{is_connecting, is_open}
+use Rattle.core_events.specs.Edges.{is_connecting, is_open}
 use Rattle.conn_trace.specs.Places.{is_up}
 use Rattle.conn_trace.specs.Queries as query
 use Rattle.conn_trace.specs.Queries.{unread_limit}
 use Rattle.conn_trace.specs.State.{Stream, ServerSide, TraceState, link_of}
 use Rattle.conn_trace.specs.Tellings.{tells, finish_told}
-use Rattle.conn_trace.specs.declared.edges.Edges.{Edges}
-use Rattle.conn_trace.specs.declared.edges.EdgeState.{EdgeState}
-use Rattle.conn_trace.specs.declared.edges.EdgeState.TheVariants as state
+use Rattle.core_events.specs.declared.edges.Edges.{Edges}
+use Rattle.core_events.specs.declared.edges.EdgeState.{EdgeState}
+use Rattle.core_events.specs.declared.edges.EdgeState.TheVariants as state
 use Rattle.conn.specs.Calls.{counted_held, wanted_in}
 use Rattle.conn.specs.Ends.{arrived, connects_by, end_of, fresh_end, has_stream, server_by}
 use Rattle.conn.specs.Stages.{has_finished}

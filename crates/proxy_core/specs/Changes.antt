@@ -2,13 +2,17 @@
 use Rattle.std.specs.Prelude.{◌≡◌, ◌⊎◌, ℕ, ◌<◌, ◌≤◌, List, [], ◌∷◌, ◌++◌, length, Bool, true, false}
 use Rattle.std.specs.Prelude.{Option, Some, None, slice_get, slice_set, remove}
 use Rattle.px_bytes.specs.declared.addr.Addr.{Addr}
-use Rattle.px_bytes.specs.declared.addr.Side.TheVariants.{Client, Server}
 use Rattle.tcl_vars.specs.Scopes.{Level}
-use Rattle.conn_trace.specs.declared.note.Cause.TheVariants.{Memory}
-use Rattle.conn_trace.specs.declared.note.Note.{Note}
-use Rattle.conn_trace.specs.declared.note.Note.TheVariants.{Finish}
-use Rattle.conn_trace.specs.Edges.{accepted_edges, edges_noted}
-use Rattle.conn_trace.specs.Heard.{Input, Bytes, Ends, Takes, Resets, Connects, edges_met}
+use Rattle.core_events.specs.declared.note.Cause.TheVariants.{Memory}
+use Rattle.core_events.specs.declared.note.Note.{Note}
+use Rattle.core_events.specs.declared.note.Note.TheVariants.{Finish}
+use Rattle.core_events.specs.Edges.{accepted_edges, edges_noted}
+use Rattle.core_events.specs.declared.event.Event.{Event}
+use Rattle.core_events.specs.declared.event_kind.EventKind.{EventKind}
+use Rattle.core_events.specs.declared.event_kind.EventKind.TheVariants as kind
+use Rattle.core_events.specs.declared.input.Input.{Input}
+use Rattle.core_events.specs.Kinds.{kind_of}
+use Rattle.conn_trace.specs.Heard.{edges_met}
 use Rattle.conn.specs.Calls.{Begins}
 use Rattle.conn.specs.Ends.{fresh_ends}
 use Rattle.conn.specs.Runs.{IsWhole}
@@ -28,8 +32,6 @@ use Rattle.proxy_core.specs.Serving.{IsSetup}
 use Rattle.proxy_core.specs.declared.call.Asked.{Asked}
 use Rattle.proxy_core.specs.declared.config.Config.{Config}
 use Rattle.proxy_core.specs.declared.core_state.Core.{Core}
-use Rattle.proxy_core.specs.declared.event.Event.{Event}
-use Rattle.proxy_core.specs.declared.event.Event.TheVariants as event
 use Rattle.proxy_core.specs.declared.live.Live.{Live}
 
 -- the configuration, the static variables and where bodies stand never change
@@ -191,34 +193,19 @@ pub record Becomes (new after : Core) (group : List Note) (steps : ℕ) : Type 0
   pub notes : group ≡ []
   pub no_step : steps ≡ 0
 
--- What an event that isn't refused changes, and how many steps it counts.
-abbrev pub Changes : Core → Core → Event → List Note → (steps : ℕ) → Type 0
-Changes old new (event.Accept conn vs from) group steps =
-    Accepts old new conn vs from group × (steps ≡ 0)
-Changes old new (event.FromClient conn bytes) group steps =
-    ComesOf old new conn (Bytes Client bytes) group × (steps ≡ 0)
-Changes old new (event.ClientEnd conn) group steps =
-    ComesOf old new conn (Ends Client) group × (steps ≡ 0)
-Changes old new (event.ClientReset conn) group steps =
-    ComesOf old new conn (Resets Client) group × (steps ≡ 0)
-Changes old new (event.Connected conn) group steps =
-    ComesOf old new conn (Connects true) group × (steps ≡ 0)
-Changes old new (event.Refused conn) group steps =
-    ComesOf old new conn (Connects false) group × (steps ≡ 0)
-Changes old new (event.FromServer conn bytes) group steps =
-    ComesOf old new conn (Bytes Server bytes) group × (steps ≡ 0)
-Changes old new (event.ServerEnd conn) group steps =
-    ComesOf old new conn (Ends Server) group × (steps ≡ 0)
-Changes old new (event.ServerReset conn) group steps =
-    ComesOf old new conn (Resets Server) group × (steps ≡ 0)
-Changes old new (event.ClientTook conn n) group steps =
-    ComesOf old new conn (Takes Client n) group × (steps ≡ 0)
-Changes old new (event.ServerTook conn n) group steps =
-    ComesOf old new conn (Takes Server n) group × (steps ≡ 0)
-Changes old new (event.Tick moment) group steps =
+-- What an event that isn't refused changes, and how many steps it counts: by what it may mean.
+abbrev pub ChangesBy : Core → Core → EventKind → List Note → (steps : ℕ) → Type 0
+ChangesBy old new (kind.Accepts number vs from) group steps =
+    Accepts old new number vs from group × (steps ≡ 0)
+ChangesBy old new (kind.Comes number input) group steps =
+    ComesOf old new number input group × (steps ≡ 0)
+ChangesBy old new (kind.Ticks moment) group steps =
     Becomes new (record old { moment = moment }) group steps
-Changes old new event.Turn group steps =
+ChangesBy old new kind.Turns group steps =
     TurnsQueue old new old.queue.items group × (steps ≡ 0)
-Changes old new event.Run group steps = RunsRing old new old.live.ring group steps
-Changes old new (event.Mark pool member up) group steps =
+ChangesBy old new kind.Runs group steps = RunsRing old new old.live.ring group steps
+ChangesBy old new (kind.Marks pool member up) group steps =
     Becomes new (record old { store = marked pool member up old.store }) group steps
+
+abbrev pub Changes : Core → Core → Event → List Note → (steps : ℕ) → Type 0
+Changes old new event group steps = ChangesBy old new (kind_of event) group steps

@@ -5,12 +5,12 @@ use Rattle.std.specs.Prelude.{Bool, true, false, Some, is_some}
 use Rattle.std.specs.List.{filter}
 use Rattle.px_bytes.specs.declared.addr.Side.{Side}
 use Rattle.px_bytes.specs.declared.addr.Side.TheVariants.{Client, Server}
-use Rattle.conn_trace.specs.declared.note.Cause.{Cause}
-use Rattle.conn_trace.specs.declared.note.Cause.TheVariants.{Memory}
-use Rattle.conn_trace.specs.declared.note.CutReason.{CutReason}
+use Rattle.core_events.specs.declared.note.Cause.{Cause}
+use Rattle.core_events.specs.declared.note.Cause.TheVariants.{Memory}
+use Rattle.core_events.specs.declared.note.CutReason.{CutReason}
 use Rattle.conn_trace.specs.Gates.{no_bytes, sent_from}
 use Rattle.conn_trace.specs.Heard.{Heard, taken}
-use Rattle.conn_trace.specs.Edges.{edge_of}
+use Rattle.core_events.specs.Edges.{edge_of}
 use Rattle.conn_trace.specs.Queries.{half_close_due}
 use Rattle.conn_trace.specs.State.{Cut}
 use Rattle.conn_trace.specs.Item.{Item, calls_in, cause_of, client_output, notes_of}

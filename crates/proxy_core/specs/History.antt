@@ -3,12 +3,14 @@
 use Rattle.std.specs.Prelude.{◌≡◌, ℕ, List, [], ◌∷◌, ◌++◌, map}
 use Rattle.std.specs.List.{flat_map}
 use Rattle.px_bytes.specs.declared.fault.Reply.{Reply}
-use Rattle.conn_trace.specs.declared.note.Note.{Note}
-use Rattle.conn_trace.specs.declared.note.Note.TheVariants as note
-use Rattle.conn_trace.specs.Heard.{EventKind, Turns, Marks}
+use Rattle.core_events.specs.declared.note.Note.{Note}
+use Rattle.core_events.specs.declared.note.Note.TheVariants as note
+use Rattle.core_events.specs.declared.event_kind.EventKind.{EventKind}
+use Rattle.core_events.specs.declared.event_kind.EventKind.TheVariants.{Turns, Marks}
 use Rattle.shared_store.specs.Calls.{live_reply, reply}
 use Rattle.shared_store.specs.Store.{StoreState, at_moment, marked, new_store}
-use Rattle.proxy_core.specs.Past.{Past, kind_of, shared}
+use Rattle.core_events.specs.Kinds.{kind_of}
+use Rattle.proxy_core.specs.Past.{Past, shared}
 use Rattle.proxy_core.specs.declared.config.Config.{Config}
 
 -- an entry: whose call it answers, at which moment, its words, and the reply

@@ -28,4 +28,6 @@ pub mod Bounds
 pub mod Represents
 pub mod Steps
 pub mod Headline
+pub mod Questions
+pub mod Face
 pub mod Laws

@@ -3,13 +3,15 @@ use Rattle.std.specs.Prelude.{◌≡◌, ◌⊎◌, ◌≤◌, ℕ, List, [], �
 use Rattle.std.specs.Prelude.{Option, Some, None}
 use Rattle.px_bytes.specs.declared.addr.Side.{Side}
 use Rattle.px_bytes.specs.declared.fault.Reply.{Reply}
-use Rattle.conn_trace.specs.declared.edges.Edges.{Edges}
-use Rattle.conn_trace.specs.declared.note.Cause.TheVariants.{Memory}
-use Rattle.conn_trace.specs.declared.note.Note.{Note}
-use Rattle.conn_trace.specs.declared.note.Note.TheVariants.{Finish, History}
-use Rattle.conn_trace.specs.Edges.{edges_noted, is_connecting}
+use Rattle.core_events.specs.declared.edges.Edges.{Edges}
+use Rattle.core_events.specs.declared.note.Cause.TheVariants.{Memory}
+use Rattle.core_events.specs.declared.note.Note.{Note}
+use Rattle.core_events.specs.declared.note.Note.TheVariants.{Finish, History}
+use Rattle.core_events.specs.Edges.{edges_noted, is_connecting}
 use Rattle.conn_trace.specs.Further.{Further, longer, nothing_further}
-use Rattle.conn_trace.specs.Heard.{Input, Bytes, Ends, Resets, Connects, Takes, as_answer}
+use Rattle.core_events.specs.declared.input.Input.{Input}
+use Rattle.core_events.specs.declared.input.Input.TheVariants.{Bytes, Ends, Resets, Connects, Takes}
+use Rattle.conn_trace.specs.Heard.{as_answer}
 use Rattle.conn_trace.specs.Heard.{brings_in}
 use Rattle.conn_trace.specs.Phases.{Orderly}
 use Rattle.conn_trace.specs.Queries.{unread_limit}
@@ -33,8 +35,6 @@ use Rattle.conn.specs.declared.turn.ConnTurn.TheVariants as turn
 use Rattle.shared_store.specs.Calls.{reply}
 use Rattle.shared_store.specs.Store.{StoreState, at_moment}
 use Rattle.proxy_core.specs.declared.call.Asked.{Asked}
-use Rattle.proxy_core.specs.declared.input.Incoming.{Incoming}
-use Rattle.proxy_core.specs.declared.input.Incoming.TheVariants as input
 use Rattle.proxy_core.specs.declared.live.Live.{Live}
 
 -- the bytes that its sides haven't taken, also behind a reset
@@ -75,14 +75,6 @@ pub record SamePlace (old new : Live) : Type 0 where
   pub number : new.number ≡ old.number
   pub vs : new.vs ≡ old.vs
   pub edges : edges_in new ≡ edges_in old
-
--- what may come of a connection
-abbrev pub input_of : Incoming → Input
-input_of (input.Bytes side bytes) = Bytes side bytes.now
-input_of (input.End side) = Ends side
-input_of (input.Reset side) = Resets side
-input_of (input.Took side n) = Takes side n
-input_of (input.Connected made) = Connects made
 
 -- no more is taken than is pending, and an answer comes where a server was asked for
 abbrev pub ConnMay : Input → Conn → Type 0

@@ -1,11 +1,13 @@
 -- One event changes what may be asked of one connection alone.
 use Rattle.std.specs.Prelude.{◌≡◌, ℕ, List, [], ◌∷◌, false, nat_eq}
 use Rattle.px_bytes.specs.declared.addr.Side.{Side}
-use Rattle.conn_trace.specs.Heard.{EventKind, Accepts, Comes, Turns, Runs}
+use Rattle.core_events.specs.declared.event_kind.EventKind.{EventKind}
+use Rattle.core_events.specs.declared.event_kind.EventKind.TheVariants.{Accepts, Comes, Turns, Runs}
 use Rattle.proxy_core.specs.Asked.{edges_of, wants_of, pending_of, queue_of}
 use Rattle.proxy_core.specs.Calls.{asker}
 use Rattle.proxy_core.specs.Moves.{Moves}
-use Rattle.proxy_core.specs.Past.{Happened, Past, kind_of}
+use Rattle.core_events.specs.Kinds.{kind_of}
+use Rattle.proxy_core.specs.Past.{Happened, Past}
 use Rattle.proxy_core.specs.Scheduler.{State}
 use Rattle.proxy_core.specs.declared.config.Config.{Config}
 

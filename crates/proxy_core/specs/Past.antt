@@ -1,14 +1,13 @@
 -- All that happened so far, as one list of events with their groups of notes, the newest first, and
 -- what it tells of one connection and of all.
-use Rattle.std.specs.Prelude.{ℕ, List, [], ◌∷◌, ◌++◌, true, false, if◌then◌else◌}
-use Rattle.px_bytes.specs.declared.addr.Side.TheVariants.{Client, Server}
-use Rattle.conn_trace.specs.declared.note.Note.{Note}
-use Rattle.conn_trace.specs.Heard.{Bytes, Ends, Resets, Connects, Takes, EventKind, Accepts}
-use Rattle.conn_trace.specs.Heard.{Comes, Ticks, Turns, Runs, Marks, Heard, nothing_heard}
-use Rattle.conn_trace.specs.Heard.{hears}
+use Rattle.std.specs.Prelude.{ℕ, List, [], ◌∷◌, ◌++◌, if◌then◌else◌}
+use Rattle.core_events.specs.declared.note.Note.{Note}
+use Rattle.core_events.specs.declared.event_kind.EventKind.{EventKind}
+use Rattle.core_events.specs.declared.event_kind.EventKind.TheVariants.{Accepts, Ticks}
+use Rattle.core_events.specs.Kinds.{kind_of}
+use Rattle.conn_trace.specs.Heard.{Heard, hears, nothing_heard}
 use Rattle.conn_trace.specs.Tellings.{tells, conn_of}
-use Rattle.proxy_core.specs.declared.event.Event.{Event}
-use Rattle.proxy_core.specs.declared.event.Event.TheVariants as event
+use Rattle.core_events.specs.declared.event.Event.{Event}
 use Rattle.proxy_core.specs.Ready.{without}
 
 -- an event that was accepted, with the notes that came of it
@@ -18,24 +17,6 @@ pub record Happened : Type 0 where
 
 abbrev pub Past : Type 0
 Past = List Happened
-
--- what an event may mean to a connection
-abbrev pub kind_of : Event → EventKind
-kind_of (event.Accept c vs from) = Accepts c vs from
-kind_of (event.FromClient c bytes) = Comes c (Bytes Client bytes)
-kind_of (event.ClientEnd c) = Comes c (Ends Client)
-kind_of (event.ClientReset c) = Comes c (Resets Client)
-kind_of (event.Connected c) = Comes c (Connects true)
-kind_of (event.Refused c) = Comes c (Connects false)
-kind_of (event.FromServer c bytes) = Comes c (Bytes Server bytes)
-kind_of (event.ServerEnd c) = Comes c (Ends Server)
-kind_of (event.ServerReset c) = Comes c (Resets Server)
-kind_of (event.ClientTook c n) = Comes c (Takes Client n)
-kind_of (event.ServerTook c n) = Comes c (Takes Server n)
-kind_of (event.Tick moment) = Ticks moment
-kind_of event.Turn = Turns
-kind_of event.Run = Runs
-kind_of (event.Mark pool member up) = Marks pool member up
 
 -- what was heard of a connection
 abbrev pub heard : ℕ → Past → Heard

@@ -4,30 +4,34 @@ use Rattle.std.specs.Prelude.{ℕ, List, [], ◌∷◌, length, Bool, true, fals
 use Rattle.std.specs.Prelude.{is_none, nat_le, nat_lt, not, ◌||◌, option_map, if◌then◌else◌}
 use Rattle.px_bytes.specs.declared.addr.Side.{Side}
 use Rattle.px_bytes.specs.declared.addr.Side.TheVariants.{Client, Server}
-use Rattle.conn_trace.specs.declared.edges.Edges.{Edges}
-use Rattle.conn_trace.specs.Edges.{edge_of, is_connecting, is_open, may_send}
-use Rattle.conn_trace.specs.Edges.{may_take}
-use Rattle.conn_trace.specs.Heard.{Input, Bytes, Ends, Resets, Connects, Takes, EventKind}
-use Rattle.conn_trace.specs.Heard.{Accepts, Comes, Ticks, Marks}
+use Rattle.core_events.specs.declared.edges.Edges.{Edges}
+use Rattle.core_events.specs.Edges.{edge_of, is_connecting, is_open, may_send}
+use Rattle.core_events.specs.Edges.{may_take}
+use Rattle.core_events.specs.declared.event_kind.EventKind.{EventKind}
+use Rattle.core_events.specs.declared.input.Input.{Input}
+use Rattle.core_events.specs.declared.input.Input.TheVariants.{Bytes, Ends, Resets, Connects, Takes}
+use Rattle.core_events.specs.declared.event_kind.EventKind.TheVariants.{Accepts, Comes, Ticks}
+use Rattle.core_events.specs.declared.event_kind.EventKind.TheVariants.{Marks}
 use Rattle.conn_trace.specs.Queries as query
 use Rattle.conn_trace.specs.Queries.{unread_limit}
 use Rattle.shared_store.specs.Store.{StoreState, pool_of}
 use Rattle.shared_store.specs.Store as store
 use Rattle.proxy_core.specs.History.{store_of}
 use Rattle.proxy_core.specs.Live.{edges_in, pending_in, wanted_of}
-use Rattle.proxy_core.specs.Past.{Past, kind_of, shared}
+use Rattle.core_events.specs.Kinds.{kind_of}
+use Rattle.proxy_core.specs.Past.{Past, shared}
 use Rattle.proxy_core.specs.Refusals.{virtual_place, live_at}
 use Rattle.proxy_core.specs.Scheduler.{State, Seen, seen, untaken_of}
 use Rattle.proxy_core.specs.Setup.{stand_of}
 use Rattle.proxy_core.specs.declared.config.Config.{Config}
 use Rattle.proxy_core.specs.declared.core_state.Core.{Core}
-use Rattle.proxy_core.specs.declared.event.Event.{Event}
+use Rattle.core_events.specs.declared.event.Event.{Event}
 use Rattle.proxy_core.specs.declared.live.Live.{Live}
-use Rattle.proxy_core.specs.declared.event.BadEvent.{BadEvent}
-use Rattle.proxy_core.specs.declared.event.BadEvent.TheVariants.{NoConn, AfterEnd, NotConnecting}
-use Rattle.proxy_core.specs.declared.event.BadEvent.TheVariants.{MomentBack, TooMuch, TookTooMuch}
-use Rattle.proxy_core.specs.declared.event.BadEvent.TheVariants.{Full, NoMember, TwiceConn}
-use Rattle.proxy_core.specs.declared.event.BadEvent.TheVariants.{NoVirtual}
+use Rattle.core_events.specs.declared.bad_event.BadEvent.{BadEvent}
+use Rattle.core_events.specs.declared.bad_event.BadEvent.TheVariants.{NoConn, AfterEnd, NotConnecting}
+use Rattle.core_events.specs.declared.bad_event.BadEvent.TheVariants.{MomentBack, TooMuch, TookTooMuch}
+use Rattle.core_events.specs.declared.bad_event.BadEvent.TheVariants.{Full, NoMember, TwiceConn}
+use Rattle.core_events.specs.declared.bad_event.BadEvent.TheVariants.{NoVirtual}
 
 -- how a live connection stands: its ends, how many bytes of its sides may come, and how many are
 -- pending to them

@@ -4,9 +4,10 @@ use Rattle.std.specs.Prelude.{ℕ, ◌+◌, ◌-◌, length, List, [], ◌∷◌
 use Rattle.std.specs.Prelude.{if◌then◌else◌}
 use Rattle.std.specs.List.{filter}
 use Rattle.px_bytes.specs.declared.addr.Side.{Side}
-use Rattle.conn_trace.specs.declared.note.Note.{Note}
+use Rattle.core_events.specs.declared.note.Note.{Note}
 use Rattle.conn_trace.specs.Gates.{no_bytes, sent_from, to_take}
-use Rattle.conn_trace.specs.Heard.{EventKind, SideHeard, Heard, has_made, taken, hears}
+use Rattle.core_events.specs.declared.event_kind.EventKind.{EventKind}
+use Rattle.conn_trace.specs.Heard.{SideHeard, Heard, has_made, taken, hears}
 use Rattle.conn_trace.specs.Item.{Item, client_output}
 use Rattle.proxy_core.specs.Calls.{calls_of}
 use Rattle.proxy_core.specs.Past.{Past, heard, shared, shared_after}

@@ -3,16 +3,20 @@
 use Rattle.std.specs.Prelude.{◌≡◌, ◌≤◌, ℕ, zero, suc, List, [], ◌∷◌, length, Bool, true, false}
 use Rattle.std.specs.Prelude.{◌+◌, Option, Some, None, nat_eq, if◌then◌else◌}
 use Rattle.std.specs.Bool.{MatchBool}
-use Rattle.conn_trace.specs.declared.edges.EdgeState.{EdgeState}
-use Rattle.conn_trace.specs.declared.edges.EdgeState.TheVariants.{Absent, Connecting}
-use Rattle.conn_trace.specs.declared.edges.EdgeState.TheVariants.{Open, Closed}
-use Rattle.conn_trace.specs.declared.note.CutReason.{CutReason}
-use Rattle.conn_trace.specs.declared.note.CutReason.TheVariants.{ClientReset, ServerReset}
-use Rattle.conn_trace.specs.declared.note.CutReason.TheVariants.{Idle}
-use Rattle.conn_trace.specs.Heard.{Connects, EventKind, Comes, SideHeard, Heard, has_made}
+use Rattle.core_events.specs.declared.edges.EdgeState.{EdgeState}
+use Rattle.core_events.specs.declared.edges.EdgeState.TheVariants.{Absent, Connecting}
+use Rattle.core_events.specs.declared.edges.EdgeState.TheVariants.{Open, Closed}
+use Rattle.core_events.specs.declared.note.CutReason.{CutReason}
+use Rattle.core_events.specs.declared.note.CutReason.TheVariants.{ClientReset, ServerReset}
+use Rattle.core_events.specs.declared.note.CutReason.TheVariants.{Idle}
+use Rattle.core_events.specs.declared.event_kind.EventKind.{EventKind}
+use Rattle.core_events.specs.declared.event_kind.EventKind.TheVariants.{Comes}
+use Rattle.core_events.specs.declared.input.Input.TheVariants.{Connects}
+use Rattle.conn_trace.specs.Heard.{SideHeard, Heard, has_made}
 use Rattle.conn_trace.specs.Places.{is_up}
 use Rattle.conn_trace.specs.State.{Stream, Phase, Answering, TraceState, link_of}
-use Rattle.proxy_core.specs.Past.{Past, kind_of}
+use Rattle.core_events.specs.Kinds.{kind_of}
+use Rattle.proxy_core.specs.Past.{Past}
 
 -- how many of these answers are connections that were made
 abbrev pub made : {A : Type 0} → List (Option A) → ℕ

@@ -5,17 +5,17 @@ use Rattle.std.specs.Bool.{MatchBool}
 use Rattle.std.specs.List.{IsDistinct, filter, list_any}
 use Rattle.px_bytes.specs.declared.addr.Side.{Side}
 use Rattle.px_bytes.specs.declared.addr.Side.TheVariants.{Client, Server}
-use Rattle.conn_trace.specs.declared.note.Note.{Note}
-use Rattle.conn_trace.specs.declared.note.Note.TheVariants as note
+use Rattle.core_events.specs.declared.note.Note.{Note}
+use Rattle.core_events.specs.declared.note.Note.TheVariants as note
 use Rattle.conn_trace.specs.Gates.{TakenCounts, no_bytes, Met}
 use Rattle.conn_trace.specs.Heard.{Heard, nothing_heard, taken, start_of}
-use Rattle.conn_trace.specs.declared.edges.Edges.{Edges}
-use Rattle.conn_trace.specs.declared.edges.EdgeState.{EdgeState}
-use Rattle.conn_trace.specs.declared.edges.EdgeState.TheVariants as state
+use Rattle.core_events.specs.declared.edges.Edges.{Edges}
+use Rattle.core_events.specs.declared.edges.EdgeState.{EdgeState}
+use Rattle.core_events.specs.declared.edges.EdgeState.TheVariants as state
 use Rattle.conn_trace.specs.Item.{Item, calls_in, cause_of, client_output, notes_of}
 use Rattle.conn_trace.specs.Item.{reasons_in, server_output}
 use Rattle.conn_trace.specs.Setup.{Setup}
-use Rattle.conn_trace.specs.Edges.{edge_of}
+use Rattle.core_events.specs.Edges.{edge_of}
 use Rattle.conn_trace.specs.State.{Cut, ForReply, Over, TraceState, Waits}
 use Rattle.conn_trace.specs.Trace.{next_item, Unfolds, GivesNoMore}
 use Rattle.conn.specs.RunsItems.{is_cut}

@@ -1,10 +1,12 @@
--- A core before any event.
-use Rattle.std.specs.Prelude.{◌≡◌, []}
+-- A core before any event, and what a configuration gives it.
+use Rattle.std.specs.Prelude.{◌≡◌, ◌≤◌, []}
 use Rattle.shared_store.specs.Store.{new_store}
 use Rattle.proxy_core.specs.Bodies.{all_places}
-use Rattle.proxy_core.specs.Setup.{statics_of}
+use Rattle.proxy_core.specs.Setup.{init_notes, statics_of}
 use Rattle.proxy_core.specs.declared.config.Config.{Config}
 use Rattle.proxy_core.specs.declared.core_state.Core.{Core}
+use Rattle.proxy_core.specs.declared.start.Room.{Room}
+use Rattle.proxy_core.specs.declared.start.Ruled.{Ruled}
 
 pub record IsStart (C : Config) (core : Core) : Type 0 where
   pub config : core.config ≡ C
@@ -16,3 +18,19 @@ pub record IsStart (C : Config) (core : Core) : Type 0 where
   pub ring : core.live.ring ≡ []
   pub queue : core.queue.items ≡ []
   pub store : core.store ≡ new_store C.pools []
+
+-- what the rules give: where bodies stand, what RULE_INIT left, and the notes of what it logged
+pub record IsRuled (C : Config) (ruled : Ruled) : Type 0 where
+  pub places : ruled.places ≡ all_places C.rules C.virtuals
+  pub statics : ruled.vars.statics ≡ statics_of C
+  pub notes : ruled.notes.items ≡ init_notes C
+
+-- nothing is live and no call waits, with room for all that may; and a store without rows
+pub record IsRoom (C : Config) (room : Room) : Type 0 where
+  pub live : room.live.items ≡ []
+  pub numbers : room.live.numbers ≡ []
+  pub ring : room.live.ring ≡ []
+  pub queue : room.queue.items ≡ []
+  pub live_room : C.connections ≤ room.live.room
+  pub queue_room : C.connections ≤ room.queue.room
+  pub store : room.store ≡ new_store C.pools []

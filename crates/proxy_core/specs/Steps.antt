@@ -1,16 +1,17 @@
 -- What one event does to a core, for all that it may stand for.
 use Rattle.std.specs.Prelude.{◌≡◌, ◌≤◌, ℕ, List, length, ◌∷◌, ◌++◌, Some}
-use Rattle.conn_trace.specs.declared.note.Note.{Note}
+use Rattle.core_events.specs.declared.note.Note.{Note}
 use Rattle.proxy_core.specs.Changes.{Changes}
 use Rattle.proxy_core.specs.Moves.{Moves}
-use Rattle.proxy_core.specs.Past.{Happened, Past, kind_of}
+use Rattle.core_events.specs.Kinds.{kind_of}
+use Rattle.proxy_core.specs.Past.{Happened, Past}
 use Rattle.proxy_core.specs.Represents.{Represents}
 use Rattle.proxy_core.specs.Refusal.{refused}
 use Rattle.proxy_core.specs.Scheduler.{State}
 use Rattle.proxy_core.specs.declared.config.Config.{Config}
 use Rattle.proxy_core.specs.declared.core_state.Core.{Core}
-use Rattle.proxy_core.specs.declared.event.Event.{Event}
-use Rattle.proxy_core.specs.declared.event.BadEvent.{BadEvent}
+use Rattle.core_events.specs.declared.event.Event.{Event}
+use Rattle.core_events.specs.declared.bad_event.BadEvent.{BadEvent}
 
 -- the event with its notes moved the scheduler on, and the core stands for the longer past
 pub record StandsAfter (C : Config) (past : Past) (s : State) (x : Happened)

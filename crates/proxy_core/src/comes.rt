@@ -2,17 +2,14 @@
 
 ghost use Rattle.std.specs.Prelude.{◌≡◌, ◌≤◌, ◌+◌, ◌++◌, Some, None, OnOk, OnErr, IfErr, List};
 ghost use Rattle.std.specs.Prelude.{length};
-ghost use Rattle.conn_trace.specs.Heard.{Comes};
-ghost use Rattle.conn_trace.specs.declared.note.Note.{Note};
+ghost use Rattle.core_events.specs.declared.event_kind.EventKind.TheVariants.{Comes};
+ghost use Rattle.core_events.specs.declared.note.Note.{Note};
 ghost use Rattle.proxy_core.specs.Changes.{ComesOf};
-ghost use Rattle.proxy_core.specs.Live.{input_of};
 ghost use Rattle.proxy_core.specs.Refusal.{refusal_of};
 
 use crate::core_state::Core;
-use crate::event::BadEvent;
-use crate::input::Incoming;
 use crate::ring::{find, wake};
-use conn_trace::Notes;
+use core_events::{BadEvent, Input, Notes};
 
 impl Core {
     /// This comes of a connection, which ends, waits on for the reply to its call, or gets
@@ -20,24 +17,24 @@ impl Core {
     pub(crate) fn comes(
         &mut self,
         number: u32,
-        input: Incoming<'_>,
+        input: &Input,
         notes: &mut Notes,
     ) -> Result<(), BadEvent>
         requires { 68 ≤ notes.old.spare }
         ensures accepted { OnOk result
-            (refusal_of self.old (Comes number (input_of input.entry)) ≡ None) }
+            (refusal_of self.old (Comes number input.now) ≡ None) }
         ensures refused { IfErr result
-            (λ why. refusal_of self.old (Comes number (input_of input.entry)) ≡ Some why) }
+            (λ why. refusal_of self.old (Comes number input.now) ≡ Some why) }
         ensures comes { OnOk result
             ((group : List Note) × (notes.new.items ≡ notes.old.items ++ group)
-            × ComesOf self.old self.new number (input_of input.entry) group) }
+            × ComesOf self.old self.new number input.now group) }
         ensures few_notes { OnOk result (length notes.new.items ≤ length notes.old.items + 68) }
         ensures same { OnErr result ((self.new ≡ self.old) × (notes.new ≡ notes.old)) }
     {
         let Some(at) = find(&self.live, number) else {
             return Err(BadEvent::NoConn);
         };
-        if let Some(why) = self.live[at].refuses(&input) {
+        if let Some(why) = self.live[at].refuses(input) {
             return Err(why);
         }
         let waited = self.live[at].is_asking();

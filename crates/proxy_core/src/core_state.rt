@@ -6,13 +6,13 @@ ghost use Rattle.proxy_core.specs.Ready.{numbers, is_in};
 
 use crate::call_queue::CallQueue;
 use crate::config::Config;
-use crate::init::{init, start_notes};
 use crate::live::Live;
-use crate::server_bodies::{EventPlaces, all_places};
-use conn_trace::Notes;
+use crate::server_bodies::EventPlaces;
+use crate::start::{Parts, Room};
+use core_events::Notes;
 use number_table::Table;
 use px_bytes::{M, Seq};
-use shared_store::{Store, VirtualTimes};
+use shared_store::Store;
 use std::alloc::Global;
 use tcl_vars::Vars;
 
@@ -47,7 +47,7 @@ impl Core {
     ghost use Rattle.proxy_core.specs.Represents.{Represents};
     ghost use Rattle.proxy_core.specs.Scheduler.{no_connections};
     ghost use Rattle.proxy_core.specs.Setup.{init_notes};
-    ghost use Rattle.proxy_core.specs.Start.{IsStart};
+    ghost use Rattle.proxy_core.specs.Start.{IsRoom, IsRuled, IsStart};
 
     /// A core without connections, and the notes of its start. It has room for all connections that
     /// may be live at once.
@@ -56,25 +56,35 @@ impl Core {
         ensures stands { IfOk result (λ made. Represents config [] no_connections made.0) }
         ensures notes { IfOk result (λ made. made.1.items ≡ init_notes config) }
     {
-        let places = all_places(alloc, config.rules.as_slice(), config.virtuals.as_slice())?;
-        let left = init(alloc, &config)?;
-        let notes = start_notes(alloc, left.lines.as_slice())?;
-        let room = config.connections as usize;
-        let live = Table::with_capacity(alloc, room)?;
-        let queue = CallQueue::with_capacity(alloc, room)?;
-        let pools = config.pools.copy(alloc)?;
-        let store = Store::new(alloc, pools, VirtualTimes::new(alloc));
+        match Parts::new(alloc, &config) {
+            Ok(parts) => Ok(Core::joined(alloc, config, parts)),
+            Err(why) => {
+                drop(config);
+                Err(why)
+            }
+        }
+    }
+
+    // The core of these parts, and the notes of its start.
+    fn joined(alloc: Global, config: Config, parts: Parts) -> (Core, Notes)
+        requires ruled { IsRuled config parts.ruled }
+        requires room { IsRoom config parts.room }
+        ensures start { IsStart config result.0 }
+        ensures notes { result.1.items ≡ init_notes config }
+    {
+        let Parts { ruled, room } = parts;
+        let Room { live, queue, store } = room;
         let core = Core {
             alloc,
             config,
-            statics: left.vars,
-            places,
+            statics: ruled.vars,
+            places: ruled.places,
             moment: 0,
             last: 0,
             live,
             queue,
             store,
         };
-        Ok((core, notes))
+        (core, ruled.notes)
     }
 }

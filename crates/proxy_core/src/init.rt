@@ -1,7 +1,7 @@
 // What the rules' RULE_INIT leave.
 
 ghost use Rattle.std.specs.Prelude.{◌≡◌, ◌++◌, IfOk, OnOk, map};
-ghost use Rattle.conn_trace.specs.declared.note.Note.TheVariants as noted;
+ghost use Rattle.core_events.specs.declared.note.Note.TheVariants as noted;
 ghost use Rattle.conn.specs.Setups.{handler_of};
 ghost use Rattle.irule_net.specs.Effects.{effect_of};
 ghost use Rattle.proxy_core.specs.Init.{all_ran, fault_lines, init, init_bodies, init_host};
@@ -13,7 +13,8 @@ use crate::config::Config;
 use crate::init_host::InitHost;
 use crate::server_bodies::places_of;
 use conn::{Handler, Place, body_in};
-use conn_trace::{Note, Notes, uncaught_line};
+use conn_trace::uncaught_line;
+use core_events::{Note, Notes};
 use event_order::EventName;
 use irule_net::Made;
 use plain_eval::{Plain, Replies, eval_plain};

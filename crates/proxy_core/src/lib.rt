@@ -7,10 +7,9 @@ mod call_queue;
 mod comes;
 mod config;
 mod core_state;
-mod event;
+mod face;
 mod init;
 mod init_host;
-mod input;
 mod laws;
 mod live;
 mod mark;
@@ -19,15 +18,15 @@ mod ring;
 mod run;
 mod server_bodies;
 mod setup;
+mod start;
 mod step;
 mod tick;
 mod turn;
 mod views;
 
 pub use config::{Config, Virtual};
-pub use conn_trace::{Cause, Note, Notes};
+pub use core_events::{BadEvent, Cause, Event, Note, Notes};
 pub use core_state::Core;
-pub use event::{BadEvent, Event};
 pub use laws::{
     bodies_run_in_order, bytes_are_bounded, notes_fit_edges, one_server_is_made, only_changed,
     output_matches_evaluator, statics_stay,

@@ -3,9 +3,11 @@
 ghost use Rattle.std.specs.Prelude.{◌≡◌, ◌≤◌, ◌+◌, ◌-◌, ◌++◌, ℕ, List, Bool, true, false, Some};
 ghost use Rattle.std.specs.Prelude.{length};
 ghost use Rattle.std.specs.Prelude.{OnOk, OnErr};
-ghost use Rattle.conn_trace.specs.declared.note.Note.{Note};
-ghost use Rattle.conn_trace.specs.Edges.{edges_noted};
-ghost use Rattle.conn_trace.specs.Heard.{Bytes, Connects, Ends, Resets, Takes, edges_met};
+ghost use Rattle.core_events.specs.declared.note.Note.{Note};
+ghost use Rattle.core_events.specs.Edges.{edges_noted};
+ghost use Rattle.core_events.specs.declared.input.Input.TheVariants.{Bytes, Connects, Ends, Resets};
+ghost use Rattle.core_events.specs.declared.input.Input.TheVariants.{Takes};
+ghost use Rattle.conn_trace.specs.Heard.{edges_met};
 ghost use Rattle.conn.specs.Stages.{has_finished};
 ghost use Rattle.conn.specs.Runs.{IsWhole};
 ghost use Rattle.conn.specs.RunsItems.{ends};
@@ -15,13 +17,11 @@ ghost use Rattle.proxy_core.specs.Live.{ConnHears, ConnMay, KeepsPlace, LiveCome
 ghost use Rattle.proxy_core.specs.Live.{MayCome};
 ghost use Rattle.proxy_core.specs.Live.{SamePlace, edges_in};
 ghost use Rattle.proxy_core.specs.Live.{LiveAnswers, LiveFails, LiveReplies, LiveTakes, asks_in};
-ghost use Rattle.proxy_core.specs.Live.{input_of, pending_in, takes_memory, wanted_of};
+ghost use Rattle.proxy_core.specs.Live.{pending_in, takes_memory, wanted_of};
 
 use crate::call::Asked;
-use crate::event::BadEvent;
-use crate::input::Incoming;
 use conn::{Conn, ConnTurn, Setup, close};
-use conn_trace::{Cause, EdgeState, Edges, Note, Notes};
+use core_events::{BadEvent, Cause, EdgeState, Edges, Input, Note, Notes};
 use px_bytes::{Addr, M, Reply, Side, Steps};
 use shared_store::Store;
 use std::alloc::Global;
@@ -85,15 +85,15 @@ impl Live {
     }
 
     /// Why what comes of it is refused.
-    pub fn refuses(&self, input: &Incoming<'_>) -> Option<BadEvent>
-        ensures { result ≡ input_refusal self.now (input_of input.now) }
+    pub fn refuses(&self, input: &Input) -> Option<BadEvent>
+        ensures { result ≡ input_refusal self.now input.now }
     {
         match input {
-            Incoming::Bytes(side, bytes) => self.refuses_bytes(*side, bytes),
-            Incoming::End(side) => self.refuses_end(*side),
-            Incoming::Reset(side) => self.refuses_reset(*side),
-            Incoming::Took(side, n) => self.refuses_took(*side, *n),
-            Incoming::Connected(made) => self.refuses_answer(*made),
+            Input::Bytes(side, bytes) => self.refuses_bytes(*side, bytes.as_bytes()),
+            Input::Ends(side) => self.refuses_end(*side),
+            Input::Resets(side) => self.refuses_reset(*side),
+            Input::Takes(side, n) => self.refuses_took(*side, *n),
+            Input::Connects(made) => self.refuses_answer(*made),
         }
     }
 
@@ -152,21 +152,21 @@ impl Live {
 
     /// This comes of it. Says whether the connection is over, and gives the notes that are due
     /// then. Where bytes find no memory, it has finished with that cause.
-    pub fn comes(&mut self, input: Incoming<'_>, notes: &mut Notes) -> bool
-        requires may { MayCome (input_of input) self.old }
+    pub fn comes(&mut self, input: &Input, notes: &mut Notes) -> bool
+        requires may { MayCome input.now self.old }
         requires spare { 3 ≤ notes.old.spare }
         ensures place { KeepsPlace self.old self.new }
         ensures comes { (group : List Note) × (notes.new.items ≡ notes.old.items ++ group)
-            × LiveComes (input_of input.entry) self.old.number self.old.conn self.new.conn group
+            × LiveComes input.now self.old.number self.old.conn self.new.conn group
             result
             × (edges_in self.new
-            ≡ edges_noted group (edges_met (input_of input.entry) (edges_in self.old))) }
+            ≡ edges_noted group (edges_met input.now (edges_in self.old))) }
         ensures few_notes { length notes.new.items ≤ length notes.old.items + 68 }
     {
         match &mut self.conn {
             Some(conn) => tell(conn, input, self.number, notes),
             None => {
-                self.edges = met(self.edges, &input);
+                self.edges = met(self.edges, input);
                 false
             }
         }
@@ -297,28 +297,28 @@ fn end(number: u32, edges: &mut Edges, notes: &mut Notes)
 }
 
 // Where it puts the ends of a connection.
-fn met(edges: Edges, input: &Incoming<'_>) -> Edges
-    ensures { result ≡ edges_met (input_of input.now) edges }
+fn met(edges: Edges, input: &Input) -> Edges
+    ensures { result ≡ edges_met input.now edges }
 {
     match input {
-        Incoming::Bytes(..) | Incoming::Took(..) => edges,
-        Incoming::End(side) => edges.ends(*side),
-        Incoming::Reset(side) => edges.resets(*side),
-        Incoming::Connected(made) => edges.connects(*made),
+        Input::Bytes(..) | Input::Takes(..) => edges,
+        Input::Ends(side) => edges.ends(*side),
+        Input::Resets(side) => edges.resets(*side),
+        Input::Connects(made) => edges.connects(*made),
     }
 }
 
 // This comes of a connection, which may find no memory for it. Says whether the connection is over.
-fn tell(conn: &mut Conn, input: Incoming<'_>, number: u32, notes: &mut Notes) -> bool
-    requires may { ConnMay (input_of input) conn.old }
+fn tell(conn: &mut Conn, input: &Input, number: u32, notes: &mut Notes) -> bool
+    requires may { ConnMay input.now conn.old }
     requires spare { 3 ≤ notes.old.spare }
     ensures comes { (group : List Note) × (notes.new.items ≡ notes.old.items ++ group)
-        × LiveComes (input_of input.entry) number (Some conn.old) (Some conn.new) group result
+        × LiveComes input.now number (Some conn.old) (Some conn.new) group result
         × (conn.new.ends.edges
-        ≡ edges_noted group (edges_met (input_of input.entry) conn.old.ends.edges)) }
+        ≡ edges_noted group (edges_met input.now conn.old.ends.edges)) }
     ensures few_notes { length notes.new.items ≤ length notes.old.items + 68 }
 {
-    match hear(conn, &input) {
+    match hear(conn, input) {
         Ok(()) => conn.settle(number, notes),
         Err(_) => {
             conn.out_of_memory();
@@ -331,28 +331,28 @@ fn tell(conn: &mut Conn, input: Incoming<'_>, number: u32, notes: &mut Notes) ->
     }
 }
 
-fn hear(conn: &mut Conn, input: &Incoming<'_>) -> M<()>
-    requires { ConnMay (input_of input.now) conn.old }
-    ensures hears { OnOk result (ConnHears (input_of input.now) conn.old conn.new) }
-    ensures memory { OnErr result (takes_memory (input_of input.now) ≡ true) }
+fn hear(conn: &mut Conn, input: &Input) -> M<()>
+    requires { ConnMay input.now conn.old }
+    ensures hears { OnOk result (ConnHears input.now conn.old conn.new) }
+    ensures memory { OnErr result (takes_memory input.now ≡ true) }
     ensures goes_on { OnErr result (has_finished conn.old.stage ≡ false) }
     ensures same { OnErr result (conn.new ≡ conn.old) }
 {
     match input {
-        Incoming::Bytes(side, bytes) => conn.arrive(*side, bytes),
-        Incoming::End(side) => {
+        Input::Bytes(side, bytes) => conn.arrive(*side, bytes.as_bytes()),
+        Input::Ends(side) => {
             conn.end(*side);
             Ok(())
         }
-        Incoming::Reset(side) => {
+        Input::Resets(side) => {
             conn.reset(*side);
             Ok(())
         }
-        Incoming::Took(side, n) => {
+        Input::Takes(side, n) => {
             conn.took(*side, *n);
             Ok(())
         }
-        Incoming::Connected(made) => {
+        Input::Connects(made) => {
             conn.connected(*made);
             Ok(())
         }

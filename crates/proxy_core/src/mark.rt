@@ -1,12 +1,12 @@
 // A member of a pool is up or down.
 
 ghost use Rattle.std.specs.Prelude.{◌≡◌, Some, None, OnOk, OnErr, IfErr};
-ghost use Rattle.conn_trace.specs.Heard.{Marks};
+ghost use Rattle.core_events.specs.declared.event_kind.EventKind.TheVariants.{Marks};
 ghost use Rattle.proxy_core.specs.Refusal.{refusal_of};
 ghost use Rattle.shared_store.specs.Store.{marked};
 
 use crate::core_state::Core;
-use crate::event::BadEvent;
+use core_events::BadEvent;
 use px_bytes::Addr;
 
 impl Core {

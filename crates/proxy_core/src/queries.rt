@@ -12,7 +12,7 @@ ghost use Rattle.proxy_core.specs.declared.config.Config.{Config};
 
 use crate::config::Virtual;
 use crate::core_state::Core;
-use conn_trace::Edges;
+use core_events::Edges;
 use px_bytes::{M, Side, Text};
 
 impl Core {

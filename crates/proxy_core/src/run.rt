@@ -2,12 +2,12 @@
 
 ghost use Rattle.std.specs.Prelude.{◌≡◌, ◌≤◌, ◌+◌, ◌-◌, ◌++◌, List, length};
 ghost use Rattle.proxy_core.specs.Changes.{RunsRing};
-ghost use Rattle.conn_trace.specs.declared.note.Note.{Note};
+ghost use Rattle.core_events.specs.declared.note.Note.{Note};
 
 use crate::core_state::Core;
 use crate::ring::put_behind;
 use crate::setup::setup_at;
-use conn_trace::Notes;
+use core_events::Notes;
 use px_bytes::Steps;
 use std::sync::ledger::Ledger;
 

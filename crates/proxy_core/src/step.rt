@@ -2,16 +2,13 @@
 
 ghost use Rattle.std.specs.Prelude.{◌≡◌, ◌≤◌, ◌+◌, ◌-◌, ◌++◌, Some, None, OnOk, OnErr, IfErr, List};
 ghost use Rattle.std.specs.Prelude.{length};
-ghost use Rattle.conn_trace.specs.declared.note.Note.{Note};
-ghost use Rattle.proxy_core.specs.Changes.{Changes};
-ghost use Rattle.proxy_core.specs.Refusal.{refusal};
+ghost use Rattle.core_events.specs.declared.note.Note.{Note};
+ghost use Rattle.proxy_core.specs.Changes.{ChangesBy};
+ghost use Rattle.proxy_core.specs.Refusal.{refusal, refusal_of};
 ghost use Rattle.proxy_core.specs.Steps.{Steps, IsRefused};
 
 use crate::core_state::Core;
-use crate::event::{BadEvent, Event};
-use crate::input::Incoming;
-use conn_trace::Notes;
-use px_bytes::Side;
+use core_events::{BadEvent, Event, EventKind, Notes};
 use std::sync::ledger::Ledger;
 
 impl Core {
@@ -34,56 +31,43 @@ impl Core {
         ensures uncounted { OnErr result (steps.new ≡ steps.old) }
         ensures bounded { steps.new ≤ steps.old + 2000 }
     {
-        self.take(event, steps, notes)
+        let kind = event.kind();
+        self.take(&kind, steps, notes)
     }
 
+    // By what the event may mean.
     fn take<L: Ledger>(
         &mut self,
-        event: Event,
+        kind: &EventKind,
         steps: &mut px_bytes::Steps<L>,
         notes: &mut Notes,
     ) -> Result<(), BadEvent>
         requires { 68 ≤ notes.old.spare }
-        ensures accepted { OnOk result (refusal self.old event ≡ None) }
-        ensures refused { IfErr result (λ why. refusal self.old event ≡ Some why) }
+        ensures accepted { OnOk result (refusal_of self.old kind.now ≡ None) }
+        ensures refused { IfErr result (λ why. refusal_of self.old kind.now ≡ Some why) }
         ensures changes { OnOk result
             ((group : List Note) × (notes.new.items ≡ notes.old.items ++ group)
-            × Changes self.old self.new event group (steps.new - steps.old)) }
+            × ChangesBy self.old self.new kind.now group (steps.new - steps.old)) }
         ensures same { OnErr result ((self.new ≡ self.old) × (notes.new ≡ notes.old)) }
         ensures few_notes { OnOk result (length notes.new.items ≤ length notes.old.items + 68) }
         ensures uncounted { OnErr result (steps.new ≡ steps.old) }
         ensures bounded { steps.new ≤ steps.old + 2000 }
     {
-        match event {
-            Event::Accept { conn, vs, from } => self.accept(conn, vs.as_bytes(), from, notes),
-            Event::FromClient { conn, bytes } => {
-                self.comes(conn, Incoming::Bytes(Side::Client, bytes.as_bytes()), notes)
+        match kind {
+            EventKind::Accepts(number, vs, from) => {
+                self.accept(*number, vs.as_bytes(), *from, notes)
             }
-            Event::ClientEnd { conn } => self.comes(conn, Incoming::End(Side::Client), notes),
-            Event::ClientReset { conn } => self.comes(conn, Incoming::Reset(Side::Client), notes),
-            Event::ClientTook { conn, n } => {
-                self.comes(conn, Incoming::Took(Side::Client, n), notes)
-            }
-            Event::Connected { conn } => self.comes(conn, Incoming::Connected(true), notes),
-            Event::Refused { conn } => self.comes(conn, Incoming::Connected(false), notes),
-            Event::FromServer { conn, bytes } => {
-                self.comes(conn, Incoming::Bytes(Side::Server, bytes.as_bytes()), notes)
-            }
-            Event::ServerEnd { conn } => self.comes(conn, Incoming::End(Side::Server), notes),
-            Event::ServerReset { conn } => self.comes(conn, Incoming::Reset(Side::Server), notes),
-            Event::ServerTook { conn, n } => {
-                self.comes(conn, Incoming::Took(Side::Server, n), notes)
-            }
-            Event::Tick { moment } => self.tick(moment),
-            Event::Turn => {
+            EventKind::Comes(number, input) => self.comes(*number, input, notes),
+            EventKind::Ticks(moment) => self.tick(*moment),
+            EventKind::Turns => {
                 self.turn(notes);
                 Ok(())
             }
-            Event::Run => {
+            EventKind::Runs => {
                 self.run(steps, notes);
                 Ok(())
             }
-            Event::Mark { pool, member, up } => self.mark(pool.as_bytes(), member, up),
+            EventKind::Marks(pool, member, up) => self.mark(pool.as_bytes(), *member, *up),
         }
     }
 }

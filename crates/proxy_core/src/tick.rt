@@ -1,11 +1,11 @@
 // The present moment.
 
 ghost use Rattle.std.specs.Prelude.{◌≡◌, Some, None, OnOk, OnErr, IfErr};
-ghost use Rattle.conn_trace.specs.Heard.{Ticks};
+ghost use Rattle.core_events.specs.declared.event_kind.EventKind.TheVariants.{Ticks};
 ghost use Rattle.proxy_core.specs.Refusal.{refusal_of};
 
 use crate::core_state::Core;
-use crate::event::BadEvent;
+use core_events::BadEvent;
 
 impl Core {
     /// It is this moment.

@@ -1,12 +1,12 @@
 // A shared call is answered.
 
 ghost use Rattle.std.specs.Prelude.{◌≡◌, ◌≤◌, ◌+◌, ◌++◌, List, length};
-ghost use Rattle.conn_trace.specs.declared.note.Note.{Note};
+ghost use Rattle.core_events.specs.declared.note.Note.{Note};
 ghost use Rattle.proxy_core.specs.Changes.{TurnsQueue};
 
 use crate::core_state::Core;
 use crate::ring::find;
-use conn_trace::Notes;
+use core_events::Notes;
 
 impl Core {
     /// Answers the call that waits for the longest time, at the present moment. Its connection gets

@@ -8,7 +8,7 @@ ghost use Rattle.proxy_core.specs.Refusals.{live_at};
 use crate::core_state::Core;
 use crate::live::Live;
 use crate::ring::find;
-use conn_trace::Edges;
+use core_events::Edges;
 use px_bytes::{M, Side, Text};
 
 impl Core {

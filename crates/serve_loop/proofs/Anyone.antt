@@ -1,6 +1,6 @@
 -- Whether one of the links may be asked.
 use Rattle.std.proofs.Common.{◌≡◌, ℕ, List, [], ◌∷◌, drop, Bool, true, false, sym, subst, inl, inr}
-use Rattle.serve_loop.specs.Face.{Face}
+use Rattle.core_events.specs.Face.{Face}
 use Rattle.serve_loop.specs.Turn.{CanAsk, AnyAsks}
 use Rattle.serve_loop.specs.Walk.{Around}
 

@@ -2,15 +2,15 @@
 use Rattle.std.proofs.Common.{◌≡◌, ℕ, List, [], ◌∷◌, ◌++◌, Bool, true, Option, Some, None, refl, sym, subst, append_assoc}
 use Rattle.std.proofs.lemmas.List.{append-nil}
 use Rattle.px_outside.specs.Net.{Call, Chain}
-use Rattle.journal_text.specs.declared.event.Event.{Event}
-use Rattle.served_links.specs.declared.links.Links.{Links}
+use Rattle.core_events.specs.declared.event.Event.{Event}
+use Rattle.serve_loop.specs.declared.links.Links.{Links}
 use Rattle.serve_loop.specs.declared.serving.Serving.{Serving}
 use Rattle.serve_loop.specs.declared.work.Work.{Work}
 use Rattle.serve_loop.specs.Broken.{Broken, Unbegun, Ungiven, OwnSome, AskedSome, steps_of, Breaks, BrokenWalk, BrokeBy, IsBroken}
 use Rattle.serve_loop.specs.Broken.{GivesOrNot, IsGivenSome, AreAsks}
 use Rattle.serve_loop.specs.Carrying.{Known}
 use Rattle.serve_loop.specs.Events.{Tells, TellsFront, group_text}
-use Rattle.serve_loop.specs.Face.{Face}
+use Rattle.core_events.specs.Face.{Face}
 use Rattle.serve_loop.specs.Fresh.{GivesOnce, links_given}
 use Rattle.serve_loop.specs.Often.{Each}
 use Rattle.serve_loop.specs.Part.{stand, Made, Happens, Part}

@@ -10,14 +10,14 @@ use Rattle.px_outside.specs.declared.answers.ReadAnswer.TheVariants as read
 use Rattle.px_outside.specs.declared.answers.WriteAnswer.{WriteAnswer}
 use Rattle.px_outside.specs.declared.answers.WriteAnswer.TheVariants as write
 use Rattle.px_outside.specs.Net.{Call, Chain, Wait, Write, got, ReadsWithin, WritesWithin}
-use Rattle.journal_text.specs.declared.event.Event.{Event}
-use Rattle.served_links.specs.declared.links.Links.{Links}
-use Rattle.served_links.specs.Links.{link_in}
+use Rattle.core_events.specs.declared.event.Event.{Event}
+use Rattle.serve_loop.specs.declared.links.Links.{Links}
+use Rattle.serve_loop.specs.Links.{link_in}
 use Rattle.serve_loop.specs.declared.asked.Asked.TheVariants as is
 use Rattle.serve_loop.specs.declared.serving.Serving.{Serving}
 use Rattle.serve_loop.specs.Carrying.{Known}
 use Rattle.serve_loop.specs.Events.{Tells, read_event, write_event, group_text}
-use Rattle.serve_loop.specs.Face.{Face, MayCome, MayTake}
+use Rattle.core_events.specs.Face.{Face, MayCome, MayTake}
 use Rattle.serve_loop.specs.Walk.{Around, Given, Step, Asked as Asks, Own, MayCall, AfterCall, Calls}
 use Rattle.serve_loop.specs.Part.{stand, Part, IsGiven}
 use Rattle.serve_loop.specs.Asking.{IsOn, takes_back, OneCall, IsUnknown, AskedOnce}

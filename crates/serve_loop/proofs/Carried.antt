@@ -7,10 +7,10 @@ use Rattle.px_bytes.specs.declared.addr.Addr.{Addr}
 use Rattle.px_bytes.specs.declared.addr.Side.{Side}
 use Rattle.px_bytes.specs.declared.addr.Side.TheVariants as side
 use Rattle.px_outside.specs.Net.{Call, Connect, Finish, Close}
-use Rattle.conn_trace.specs.declared.note.Note.{Note}
-use Rattle.served_links.specs.declared.links.Links.{Links}
-use Rattle.served_links.specs.declared.row.Row.{Row}
-use Rattle.served_links.specs.Links.{owner_in, link_in, Opens, Closes}
+use Rattle.core_events.specs.declared.note.Note.{Note}
+use Rattle.serve_loop.specs.declared.links.Links.{Links}
+use Rattle.serve_loop.specs.declared.link_owner.LinkOwner.{LinkOwner}
+use Rattle.serve_loop.specs.Links.{owner_in, link_in, Opens, Closes}
 use Rattle.px_outside.specs.declared.failed.Failed.{Failed}
 use Rattle.px_outside.specs.declared.failed.Failed.TheVariants as failed
 use Rattle.serve_loop.specs.declared.carry.Action.{Action}
@@ -23,7 +23,7 @@ use Rattle.serve_loop.proofs.Chains.{chain_append}
 use Rattle.serve_loop.proofs.Fresh.{once_none, once_one, once_then, owners_same, owners_then, owners_open, owners_close}
 
 -- a link that was given is known with its owner
-known_with : (gave : ℕ → Type 0) (link l : ℕ) (b : Bool) (o : Option Row) (r : Row) (v : Option Row)
+known_with : (gave : ℕ → Type 0) (link l : ℕ) (b : Bool) (o : Option LinkOwner) (r : LinkOwner) (v : Option LinkOwner)
     → nat_eq link l ≡ b → (b ≡ true → v ≡ Some r → gave l) → (o ≡ Some r → gave l)
     → (if nat_eq link l then v else o) ≡ Some r → gave l
 known_with gave link l true o r v is here there e =
@@ -34,7 +34,7 @@ known_with gave link l false o r v is here there e =
 not_both : (b : Bool) → b ≡ true → b ≡ false → ⊥
 not_both b x y = cc
 
-none_is_some : (r : Row) → None ≡ Some r → ⊥
+none_is_some : (r : LinkOwner) → None ≡ Some r → ⊥
 none_is_some r e = cc
 
 same_number : (link l : ℕ) → nat_eq link l ≡ true → link ≡ l

@@ -8,7 +8,7 @@ use Rattle.serve_loop.specs.Fresh.{GivesOnce, links_given}
 use Rattle.serve_loop.specs.declared.journal.Journal.{Journal}
 use Rattle.serve_loop.specs.declared.serving.Serving.{Serving}
 use Rattle.serve_loop.specs.Events.{kept, Tells}
-use Rattle.serve_loop.specs.Face.{Face}
+use Rattle.core_events.specs.Face.{Face}
 use Rattle.serve_loop.specs.Walk.{Around, Step, calls_of, calls_in, text_of, text_in, Walks, Then}
 use Rattle.serve_loop.specs.Part.{stand, Ready, Made, Part}
 

@@ -6,7 +6,7 @@ use Rattle.std.specs.Prelude.{Result, Ok, Err, OnErr}
 use Rattle.px_outside.specs.Net.{Call}
 use Rattle.px_outside.specs.Outside.{told_more}
 use Rattle.serve_loop.specs.declared.serving.Serving.{Serving}
-use Rattle.serve_loop.specs.Face.{Face}
+use Rattle.core_events.specs.Face.{Face}
 use Rattle.serve_loop.specs.Part.{stand}
 use Rattle.serve_loop.specs.Server.{Running, Turns, Done, Walked, IsOver, GoesOn, IsOverOr, Behind}
 use Rattle.serve_loop.specs.Turn.{CanAccept}

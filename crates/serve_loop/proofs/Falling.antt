@@ -4,7 +4,7 @@ use Rattle.px_outside.specs.declared.answers.ReadyAt.{ReadyAt}
 use Rattle.px_outside.specs.Net.{Call}
 use Rattle.serve_loop.specs.declared.serving.Serving.{Serving}
 use Rattle.serve_loop.specs.Broken.{IsBroken, AreAsks, AtMostOne, IsWait, steps_of}
-use Rattle.serve_loop.specs.Face.{Face}
+use Rattle.core_events.specs.Face.{Face}
 use Rattle.serve_loop.specs.Fallen.{FellTicking, IsFallen}
 use Rattle.serve_loop.specs.Part.{stand, Part}
 use Rattle.serve_loop.specs.Server.{Waited}

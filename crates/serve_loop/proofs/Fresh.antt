@@ -6,9 +6,9 @@ use Rattle.std.proofs.lemmas.Bool.{ne_eqb}
 use Rattle.std.proofs.lemmas.Map.Keys.{IsDistinct-cons, IsDistinct-head, IsDistinct-tail}
 use Rattle.px_bytes.specs.declared.addr.Side.{Side}
 use Rattle.px_outside.specs.Net.{Call, IsNew}
-use Rattle.served_links.specs.declared.links.Links.{Links}
-use Rattle.served_links.specs.declared.row.Row.{Row}
-use Rattle.served_links.specs.Links.{owner_in, Opens, Closes}
+use Rattle.serve_loop.specs.declared.links.Links.{Links}
+use Rattle.serve_loop.specs.declared.link_owner.LinkOwner.{LinkOwner}
+use Rattle.serve_loop.specs.Links.{owner_in, Opens, Closes}
 use Rattle.serve_loop.specs.Fresh.{link_given, links_given, GivesOnce, OwnersStay}
 
 pub given_append : (xs ys : List Call) → links_given (xs ++ ys) ≡ links_given xs ++ links_given ys
@@ -68,7 +68,7 @@ once_then gave mid gave' xs ys p q =
 pub owners_same : (gave : ℕ → Type 0) (a : Links) → OwnersStay gave a a
 owners_same gave a = record { stays = λ l there. inl refl }
 
-stays_then : (a b c : Option Row) → (b ≡ a) ⊎ (b ≡ None) → (c ≡ b) ⊎ (c ≡ None) → (c ≡ a) ⊎ (c ≡ None)
+stays_then : (a b c : Option LinkOwner) → (b ≡ a) ⊎ (b ≡ None) → (c ≡ b) ⊎ (c ≡ None) → (c ≡ a) ⊎ (c ≡ None)
 stays_then a b c p (inr none) = inr none
 stays_then a b c (inl one) (inl two) = inl (two ∙ one)
 stays_then a b c (inr none) (inl two) = inr (two ∙ none)
@@ -89,7 +89,7 @@ old_stays gave a b link c s new opens l there =
 pub owners_open : (gave : ℕ → Type 0) (a b : Links) (link c : ℕ) (s : Side) → (gave link → ⊥) → Opens a b link c s → OwnersStay gave a b
 owners_open gave a b link c s new opens = record { stays = λ l there. inl (old_stays gave a b link c s new opens l there) }
 
-closed_stays : (link l : ℕ) (o : Option Row) (b : Bool) → nat_eq link l ≡ b → (n : Option Row) → n ≡ (if nat_eq link l then None else o)
+closed_stays : (link l : ℕ) (o : Option LinkOwner) (b : Bool) → nat_eq link l ≡ b → (n : Option LinkOwner) → n ≡ (if nat_eq link l then None else o)
     → (n ≡ o) ⊎ (n ≡ None)
 closed_stays link l o true is n e = inr (e ∙ ap (λ (t : Bool). if t then None else o) is)
 closed_stays link l o false is n e = inl (e ∙ ap (λ (t : Bool). if t then None else o) is)

@@ -2,17 +2,17 @@
 use Rattle.std.proofs.Common.{◌≡◌, ℕ, List, [], ◌++◌, Bool, true, Some, None, refl, ap, sym, ◌∙◌, subst, inl, inr}
 use Rattle.std.specs.Prelude.{IsTrue}
 use Rattle.px_outside.specs.Net.{Call}
-use Rattle.conn_trace.specs.declared.note.Note.{Note}
-use Rattle.journal_text.specs.declared.event.Event.{Event}
+use Rattle.core_events.specs.declared.note.Note.{Note}
+use Rattle.core_events.specs.declared.event.Event.{Event}
 use Rattle.journal_text.specs.Line.{event_line}
 use Rattle.journal_text.specs.Notes.{note_lines}
-use Rattle.served_links.specs.declared.links.Links.{Links}
+use Rattle.serve_loop.specs.declared.links.Links.{Links}
 use Rattle.serve_loop.specs.declared.journal.Journal.{Journal}
 use Rattle.serve_loop.specs.declared.serving.Serving.{Serving}
 use Rattle.serve_loop.specs.Broken.{IsGivenSome}
 use Rattle.serve_loop.specs.Carrying.{Carries, Carried, CarriesUpTo, CarriesSome, CarriedSome}
 use Rattle.serve_loop.specs.Events.{Tells, TellsFront}
-use Rattle.serve_loop.specs.Face.{Face}
+use Rattle.core_events.specs.Face.{Face}
 use Rattle.serve_loop.specs.Part.{IsGiven}
 use Rattle.serve_loop.proofs.Carried.{up_to_short}
 use Rattle.serve_loop.proofs.Compose.{tells_then, tells_nothing}

@@ -2,20 +2,20 @@
 use Rattle.std.proofs.Common.{◌≡◌, ℕ, ◌<◌, List, [], ◌∷◌, true, Option, Some, None, refl, sym}
 use Rattle.px_outside.specs.declared.answers.ReadAnswer.{ReadAnswer}
 use Rattle.px_outside.specs.Net.{Call, Read}
-use Rattle.journal_text.specs.declared.event.Event.{Event}
-use Rattle.served_links.specs.declared.row.Row.{Row}
-use Rattle.served_links.specs.Links.{owner_in}
+use Rattle.core_events.specs.declared.event.Event.{Event}
+use Rattle.serve_loop.specs.declared.link_owner.LinkOwner.{LinkOwner}
+use Rattle.serve_loop.specs.Links.{owner_in}
 use Rattle.serve_loop.specs.declared.serving.Serving.{Serving}
 use Rattle.serve_loop.specs.Asking.{IsWanted}
 use Rattle.serve_loop.specs.Broken.{AreAsks, IsBroken}
 use Rattle.serve_loop.specs.Events.{read_event}
-use Rattle.serve_loop.specs.Face.{Face}
+use Rattle.core_events.specs.Face.{Face}
 use Rattle.serve_loop.specs.Fresh.{GivesOnce, links_given}
 use Rattle.serve_loop.proofs.Breaking.{broke_quiet, broke_ungiven}
 use Rattle.serve_loop.proofs.Compose.{tells_nothing}
 
 -- where it became none, nothing is lost
-pub read_lost : {C S : Type 0} {face : Face C} {did : S → Call → S → Type 0} {gave : S → ℕ → Type 0} (x : Serving C) (n m : S) (row : Row)
+pub read_lost : {C S : Type 0} {face : Face C} {did : S → Call → S → Type 0} {gave : S → ℕ → Type 0} (x : Serving C) (n m : S) (row : LinkOwner)
     (link room : ℕ) (answer : ReadAnswer) (bytes : List ℕ) → did n (Read link room answer bytes) m
     → GivesOnce (gave n) (gave m) (links_given (Read link room answer bytes ∷ [])) → owner_in x.links link ≡ Some row → 0 < room
     → IsWanted face x.core row.conn row.side room → (o : Option Event) → read_event row.conn row.side answer bytes ≡ o

@@ -10,7 +10,7 @@ use Rattle.serve_loop.specs.declared.journal.Journal.{Journal}
 use Rattle.serve_loop.specs.declared.serving.Serving.{Serving}
 use Rattle.serve_loop.specs.Broken.{Unbegun}
 use Rattle.serve_loop.specs.Events.{Grew, Tells, TellsFront}
-use Rattle.serve_loop.specs.Face.{Face}
+use Rattle.core_events.specs.Face.{Face}
 use Rattle.serve_loop.specs.Fallen.{IsFallen, DoneSome, TurnSome, WalkedSome}
 use Rattle.serve_loop.specs.Faults.{FromNet, FromSink, FromNetOrSink, is_memory, is_not_net, turn_end}
 use Rattle.serve_loop.specs.Part.{stand, Ready, Part}

@@ -7,7 +7,7 @@ use Rattle.px_outside.specs.Net.{Call}
 use Rattle.serve_loop.specs.declared.asked.Asked.{Asked}
 use Rattle.serve_loop.specs.declared.asked.Asked.TheVariants as is
 use Rattle.serve_loop.specs.declared.serving.Serving.{Serving}
-use Rattle.serve_loop.specs.Face.{Face}
+use Rattle.core_events.specs.Face.{Face}
 use Rattle.serve_loop.specs.Often.{GaveOften, Tried, staying, Each, OneOf}
 use Rattle.serve_loop.specs.Walk.{Around, Step, Then}
 use Rattle.serve_loop.specs.Part.{Part}

@@ -3,7 +3,7 @@ use Rattle.std.proofs.Common.{ℕ, ◌+◌, ◌++◌, Option, refl, sym, subst, 
 use Rattle.px_bytes.specs.declared.addr.Addr.{Addr}
 use Rattle.serve_loop.proofs.Chains.{chain_append}
 use Rattle.px_outside.specs.Net.{Call, Chain}
-use Rattle.serve_loop.specs.Face.{Face}
+use Rattle.core_events.specs.Face.{Face}
 use Rattle.serve_loop.specs.Server.{Running, OneTurn, Turns, Behind, ListensAll, ListensTo, listen_calls}
 
 pub turns_next : {C S T : Type 0} (face : Face C) (did : S → Call → S → Type 0) (gave : S → ℕ → Type 0) (ticked : T → ℕ → T → Type 0)

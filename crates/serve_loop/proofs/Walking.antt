@@ -5,15 +5,15 @@ use Rattle.px_bytes.specs.declared.addr.Side.TheVariants.{Client, Server}
 use Rattle.px_outside.specs.declared.answers.ReadyAt.{ReadyAt}
 use Rattle.px_outside.specs.declared.answers.ReadyAt.TheVariants as ready
 use Rattle.px_outside.specs.Net.{Call, Listen, Wait, Accept, Connect, Ask, Read, Write, Finish, Close}
-use Rattle.journal_text.specs.declared.event.Event.{Event}
-use Rattle.journal_text.specs.declared.event.Event.TheVariants as event
+use Rattle.core_events.specs.declared.event.Event.{Event}
+use Rattle.core_events.specs.declared.event.Event.TheVariants as event
 use Rattle.serve_loop.specs.declared.asked.Asked.{Asked}
 use Rattle.serve_loop.specs.declared.asked.Asked.TheVariants as is
 use Rattle.serve_loop.specs.declared.work.Work.{Work}
 use Rattle.serve_loop.specs.declared.work.Work.TheVariants as work
 use Rattle.serve_loop.specs.Asking.{IsOn, OneCall, AskedOnce}
 use Rattle.serve_loop.specs.Broken.{AreAsks, IsAsk}
-use Rattle.serve_loop.specs.Face.{Face}
+use Rattle.core_events.specs.Face.{Face}
 use Rattle.serve_loop.specs.Often.{NotAsked, GaveOften, TriedLast, Tried, Each}
 use Rattle.serve_loop.specs.Running.{OwnStep, OnePair, GavePairs, RanLast, Ran}
 use Rattle.serve_loop.specs.Server.{Round, RunsAndWrites, AsksLinks, AsksAll, Rounds}

@@ -11,11 +11,11 @@ use Rattle.px_outside.specs.declared.answers.ConnectAnswer.TheVariants as connec
 use Rattle.px_outside.specs.declared.answers.ReadAnswer.{ReadAnswer}
 use Rattle.px_outside.specs.declared.answers.ReadAnswer.TheVariants as read
 use Rattle.px_outside.specs.Net.{Call, Accept, Ask, Read}
-use Rattle.served_links.specs.declared.row.Row.{Row}
-use Rattle.served_links.specs.Links.{owner_in}
+use Rattle.serve_loop.specs.declared.link_owner.LinkOwner.{LinkOwner}
+use Rattle.serve_loop.specs.Links.{owner_in}
 use Rattle.serve_loop.specs.declared.asked.Asked.{Asked}
 use Rattle.serve_loop.specs.declared.asked.Asked.TheVariants as is
-use Rattle.serve_loop.specs.Face.{Face, MayCome}
+use Rattle.core_events.specs.Face.{Face, MayCome}
 use Rattle.serve_loop.specs.Often.{NotAsked}
 use Rattle.serve_loop.specs.Walk.{Around, Given, Step, Asked as Asks, Calls}
 
@@ -59,7 +59,7 @@ NotConnecting face a c Server = face.connecting a.core c false
 
 -- nothing more is wanted of the link
 pub record NotWanted {C : Type 0} (face : Face C) (a : Around C) (link : ℕ) : Type 0 where
-  pub row : Row
+  pub row : LinkOwner
   pub owned : owner_in a.links link ≡ Some row
   pub waits : NotConnecting face a row.conn row.side
   pub wants : face.wants a.core row.conn row.side 0

@@ -3,14 +3,14 @@ use Rattle.std.specs.Prelude.{◌≡◌, ◌⊎◌, ℕ, List, [], ◌∷◌, �
 use Rattle.std.specs.Prelude.{Option, Some, None, Result, Ok, Err}
 use Rattle.px_bytes.specs.declared.addr.Side.{Side}
 use Rattle.px_bytes.specs.declared.addr.Side.TheVariants as side
-use Rattle.conn_trace.specs.declared.note.Note.{Note}
-use Rattle.conn_trace.specs.declared.note.Note.TheVariants as note
+use Rattle.core_events.specs.declared.note.Note.{Note}
+use Rattle.core_events.specs.declared.note.Note.TheVariants as note
 use Rattle.px_outside.specs.declared.failed.Failed.{Failed}
 use Rattle.px_outside.specs.declared.failed.Failed.TheVariants as failed
 use Rattle.px_outside.specs.Net.{Call, Connect, Finish, Close, Chain}
-use Rattle.served_links.specs.declared.links.Links.{Links}
-use Rattle.served_links.specs.declared.row.Row.{Row}
-use Rattle.served_links.specs.Links.{owner_in, link_in, Opens, Closes}
+use Rattle.serve_loop.specs.declared.links.Links.{Links}
+use Rattle.serve_loop.specs.declared.link_owner.LinkOwner.{LinkOwner}
+use Rattle.serve_loop.specs.Links.{owner_in, link_in, Opens, Closes}
 use Rattle.serve_loop.specs.Fresh.{GivesOnce, OwnersStay, links_given}
 use Rattle.serve_loop.specs.declared.carry.Action.{Action}
 use Rattle.serve_loop.specs.declared.carry.Action.TheVariants as does
@@ -47,7 +47,7 @@ Carries (n ∷ notes) a calls b = (mid : Links) × (first rest : List Call) × (
 
 -- each link that has an owner was given by the net
 abbrev pub Known : (ℕ → Type 0) → Links → Type 0
-Known gave links = (l : ℕ) (r : Row) → owner_in links l ≡ Some r → gave l
+Known gave links = (l : ℕ) (r : LinkOwner) → owner_in links l ≡ Some r → gave l
 
 -- what a call on the net asks for became of table and net
 pub record Carried {S : Type 0} (did : S → Call → S → Type 0) (gave : S → ℕ → Type 0)

@@ -1,8 +1,8 @@
 -- What answers of a net become, and the text of events with their notes.
 use Rattle.std.specs.Prelude.{◌≡◌, ℕ, List, [], ◌++◌, Bool, true, false, Option, Some, None}
-use Rattle.conn_trace.specs.declared.note.Note.{Note}
-use Rattle.journal_text.specs.declared.event.Event.{Event}
-use Rattle.journal_text.specs.declared.event.Event.TheVariants as event
+use Rattle.core_events.specs.declared.note.Note.{Note}
+use Rattle.core_events.specs.declared.event.Event.{Event}
+use Rattle.core_events.specs.declared.event.Event.TheVariants as event
 use Rattle.journal_text.specs.Line.{event_line}
 use Rattle.journal_text.specs.Notes.{note_lines}
 use Rattle.px_bytes.specs.declared.addr.Side.{Side}
@@ -14,7 +14,7 @@ use Rattle.px_outside.specs.declared.answers.ConnectAnswer.{ConnectAnswer}
 use Rattle.px_outside.specs.declared.answers.ConnectAnswer.TheVariants as connect
 use Rattle.px_outside.specs.Outside.{told_more}
 use Rattle.serve_loop.specs.declared.journal.Journal.{Journal}
-use Rattle.serve_loop.specs.Face.{from_event, end_event, reset_event, took_event}
+use Rattle.core_events.specs.Face.{from_event, end_event, reset_event, took_event}
 
 -- bytes, an end and a reset of a side
 abbrev pub read_event : ℕ → Side → ReadAnswer → List ℕ → Option Event

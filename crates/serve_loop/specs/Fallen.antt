@@ -11,7 +11,7 @@ use Rattle.serve_loop.specs.declared.serving.Serving.{Serving}
 use Rattle.serve_loop.specs.Broken.{Broken, Unbegun, BrokenWalk, IsBroken, steps_of}
 use Rattle.serve_loop.specs.Broken.{IsTick, IsWait, AtMostOne, AreAsks}
 use Rattle.serve_loop.specs.Events.{Grew, TellsFront}
-use Rattle.serve_loop.specs.Face.{Face}
+use Rattle.core_events.specs.Face.{Face}
 use Rattle.serve_loop.specs.Faults.{fault_of, is_not_net}
 use Rattle.serve_loop.specs.Part.{Ready, stand}
 use Rattle.serve_loop.specs.Server.{Round, BeginsAt, Rounds}

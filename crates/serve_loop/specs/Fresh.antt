@@ -3,8 +3,8 @@ use Rattle.std.specs.Prelude.{◌≡◌, ◌⊎◌, ℕ, List, [], ◌∷◌, �
 use Rattle.std.specs.List.{AllByRecursion, IsDistinct}
 use Rattle.px_outside.specs.declared.answers.Accepted.TheVariants as accepted
 use Rattle.px_outside.specs.Net.{Call, Accept, Connect}
-use Rattle.served_links.specs.declared.links.Links.{Links}
-use Rattle.served_links.specs.Links.{owner_in}
+use Rattle.serve_loop.specs.declared.links.Links.{Links}
+use Rattle.serve_loop.specs.Links.{owner_in}
 
 -- the link that a call gave
 abbrev pub link_given : Call → List ℕ

@@ -1,5 +1,6 @@
 pub mod Faults
-pub mod Face
+pub mod Links
+pub mod Added
 pub mod Fresh
 pub mod Carrying
 pub mod Events

@@ -1,11 +1,11 @@
 -- What a part of the loop did, from where it stood to where it stands then.
 use Rattle.std.specs.Prelude.{◌≡◌, ℕ, List}
 use Rattle.px_outside.specs.Net.{Call, Chain}
-use Rattle.journal_text.specs.declared.event.Event.{Event}
+use Rattle.core_events.specs.declared.event.Event.{Event}
 use Rattle.serve_loop.specs.declared.serving.Serving.{Serving}
 use Rattle.serve_loop.specs.Carrying.{Known}
 use Rattle.serve_loop.specs.Events.{Tells, group_text}
-use Rattle.serve_loop.specs.Face.{Face}
+use Rattle.core_events.specs.Face.{Face}
 use Rattle.serve_loop.specs.Fresh.{GivesOnce, OwnersStay, links_given}
 use Rattle.serve_loop.specs.Walk.{Around, Given, Step, Gives, calls_in, text_in}
 

@@ -2,11 +2,11 @@
 use Rattle.std.specs.Prelude.{◌≡◌, ◌≤◌, ℕ, zero, suc, List, [], ◌∷◌, Bool, true, false}
 use Rattle.std.specs.Prelude.{Option, Some, None, nat_eq}
 use Rattle.indexmap.specs.IndexSet.{insert_key}
-use Rattle.journal_text.specs.declared.event.Event.{Event}
-use Rattle.journal_text.specs.declared.event.Event.TheVariants as event
+use Rattle.core_events.specs.declared.event.Event.{Event}
+use Rattle.core_events.specs.declared.event.Event.TheVariants as event
 use Rattle.serve_loop.specs.declared.asked.Asked.{Asked}
 use Rattle.serve_loop.specs.declared.asked.Asked.TheVariants as is
-use Rattle.serve_loop.specs.Face.{Face}
+use Rattle.core_events.specs.Face.{Face}
 use Rattle.serve_loop.specs.Often.{NotAsked}
 use Rattle.serve_loop.specs.Walk.{Around, Given, Step, Own, Gives, Then}
 

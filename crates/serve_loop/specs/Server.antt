@@ -3,15 +3,15 @@ use Rattle.std.specs.Prelude.{◌≡◌, ◌⊎◌, ℕ, ◌<◌, ◌≤◌, zer
 use Rattle.std.specs.Prelude.{Bool, true, false, Option, Some, None, Ok}
 use Rattle.px_outside.specs.declared.answers.ReadyAt.{ReadyAt}
 use Rattle.px_outside.specs.Net.{Call, Chain, Listen}
-use Rattle.served_links.specs.Added.{added}
-use Rattle.served_links.specs.Links.{IsEmpty}
+use Rattle.serve_loop.specs.Added.{added}
+use Rattle.serve_loop.specs.Links.{IsEmpty}
 use Rattle.px_bytes.specs.declared.addr.Addr.{Addr}
 use Rattle.serve_loop.specs.declared.fault.ServeEnd.{ServeEnd}
 use Rattle.serve_loop.specs.declared.fault.ServeEnd.TheVariants as ending
 use Rattle.serve_loop.specs.declared.server.Server.{Server}
 use Rattle.serve_loop.specs.declared.serving.Serving.{Serving}
 use Rattle.serve_loop.specs.Events.{Grew}
-use Rattle.serve_loop.specs.Face.{Face}
+use Rattle.core_events.specs.Face.{Face}
 use Rattle.serve_loop.specs.Often.{Each}
 use Rattle.serve_loop.specs.Part.{Made, Part, Ready, stand}
 use Rattle.serve_loop.specs.Running.{Ran}

@@ -5,14 +5,14 @@ use Rattle.px_bytes.specs.declared.addr.Side.TheVariants.{Client, Server}
 use Rattle.px_outside.specs.declared.answers.ReadyAt.{ReadyAt}
 use Rattle.px_outside.specs.declared.answers.ReadyAt.TheVariants as ready
 use Rattle.px_outside.specs.Net.{Wait}
-use Rattle.journal_text.specs.declared.event.Event.TheVariants as event
-use Rattle.served_links.specs.declared.row.Row.{Row}
-use Rattle.served_links.specs.Links.{owner_in}
-use Rattle.served_links.specs.Added.{added}
+use Rattle.core_events.specs.declared.event.Event.TheVariants as event
+use Rattle.serve_loop.specs.declared.link_owner.LinkOwner.{LinkOwner}
+use Rattle.serve_loop.specs.Links.{owner_in}
+use Rattle.serve_loop.specs.Added.{added}
 use Rattle.serve_loop.specs.declared.work.Work.{Work}
 use Rattle.serve_loop.specs.declared.work.Work.TheVariants as work
 use Rattle.serve_loop.specs.Asking.{AskedOnce, MayNot, IsUnknown}
-use Rattle.serve_loop.specs.Face.{Face}
+use Rattle.core_events.specs.Face.{Face}
 use Rattle.serve_loop.specs.Often.{NotAsked, Tried}
 use Rattle.serve_loop.specs.Running.{OwnStep}
 use Rattle.serve_loop.specs.Walk.{Around, Step, Asked as Asks, MayAccept, Then}
@@ -45,7 +45,7 @@ CanAccept face conns a false = face.next a.core None
 
 -- a link may be asked, or not
 pub record LinkAsks {C : Type 0} (face : Face C) (a : Around C) (link : ℕ) : Type 0 where
-  pub row : Row
+  pub row : LinkOwner
   pub owned : owner_in a.links link ≡ Some row
   pub asks : ((row.side ≡ Server) × face.connecting a.core row.conn true)
       ⊎ ((n : ℕ) × face.wants a.core row.conn row.side n × (0 < n))

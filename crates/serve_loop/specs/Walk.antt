@@ -7,15 +7,15 @@ use Rattle.px_bytes.specs.declared.addr.Side.TheVariants.{Client, Server}
 use Rattle.px_outside.specs.declared.answers.Accepted.TheVariants as accepted
 use Rattle.px_outside.specs.declared.answers.ConnectAnswer.TheVariants as connect
 use Rattle.px_outside.specs.Net.{Call, Wait, Accept, Ask, Read, Write}
-use Rattle.conn_trace.specs.declared.note.Note.{Note}
-use Rattle.journal_text.specs.declared.event.Event.{Event}
-use Rattle.journal_text.specs.declared.event.Event.TheVariants as event
-use Rattle.served_links.specs.declared.links.Links.{Links}
-use Rattle.served_links.specs.declared.row.Row.{Row}
-use Rattle.served_links.specs.Links.{owner_in, link_in, Opens, Closes}
+use Rattle.core_events.specs.declared.note.Note.{Note}
+use Rattle.core_events.specs.declared.event.Event.{Event}
+use Rattle.core_events.specs.declared.event.Event.TheVariants as event
+use Rattle.serve_loop.specs.declared.links.Links.{Links}
+use Rattle.serve_loop.specs.declared.link_owner.LinkOwner.{LinkOwner}
+use Rattle.serve_loop.specs.Links.{owner_in, link_in, Opens, Closes}
 use Rattle.serve_loop.specs.Carrying.{Carries}
 use Rattle.serve_loop.specs.Events.{read_event, write_event, connect_event, group_text}
-use Rattle.serve_loop.specs.Face.{Face}
+use Rattle.core_events.specs.Face.{Face}
 
 -- where the loop stands
 pub record Around (C : Type 0) : Type 0 where
@@ -81,7 +81,7 @@ pub record Accepts {C : Type 0} (face : Face C) (conns : ℕ) (a : Around C) (sl
 
 pub record Asks {C : Type 0} (face : Face C) (a : Around C) (link : ℕ)
     (event : ℕ → Option Event) (o : Option Event) : Type 0 where
-  pub row : Row
+  pub row : LinkOwner
   pub owned : owner_in a.links link ≡ Some row
   pub is_server : row.side ≡ Server
   pub waits : face.connecting a.core row.conn true
@@ -90,7 +90,7 @@ pub record Asks {C : Type 0} (face : Face C) (a : Around C) (link : ℕ)
 -- no more is read than the core wants
 pub record Reads {C : Type 0} (face : Face C) (a : Around C) (link room : ℕ)
     (event : ℕ → Side → Option Event) (o : Option Event) : Type 0 where
-  pub row : Row
+  pub row : LinkOwner
   pub owned : owner_in a.links link ≡ Some row
   pub wanted : ℕ
   pub wants : face.wants a.core row.conn row.side wanted
@@ -129,7 +129,7 @@ OpensNext face a link t = (number : ℕ) × face.next a.core (Some number)
 
 -- a link that is refused is gone
 abbrev pub ClosesOwn : {C : Type 0} → Around C → ℕ → Links → Type 0
-ClosesOwn a link t = (row : Row) × (owner_in a.links link ≡ Some row)
+ClosesOwn a link t = (row : LinkOwner) × (owner_in a.links link ≡ Some row)
     × Closes a.links t link row.conn row.side
 
 -- what a call changes of the links

@@ -4,10 +4,10 @@ use Rattle.px_bytes.specs.declared.addr.Side.{Side}
 use Rattle.px_outside.specs.declared.answers.WriteAnswer.{WriteAnswer}
 use Rattle.px_outside.specs.declared.answers.WriteAnswer.TheVariants as write
 use Rattle.px_outside.specs.Net.{Write}
-use Rattle.served_links.specs.Links.{link_in}
+use Rattle.serve_loop.specs.Links.{link_in}
 use Rattle.serve_loop.specs.declared.asked.Asked.{Asked}
 use Rattle.serve_loop.specs.declared.asked.Asked.TheVariants as is
-use Rattle.serve_loop.specs.Face.{Face}
+use Rattle.core_events.specs.Face.{Face}
 use Rattle.serve_loop.specs.Often.{NotAsked, Tried}
 use Rattle.serve_loop.specs.Walk.{Around, Given, Step, Asked as Asks, Calls}
 

@@ -3,18 +3,17 @@
 ghost use Rattle.std.specs.Prelude.{◌≡◌, IfOk, Some, true, IfErr, ◌≤◌};
 ghost use Rattle.px_bytes.specs.declared.addr.Side.TheVariants.{Server};
 ghost use Rattle.px_outside.specs.declared.answers.ReadyAt.TheVariants as ready;
-ghost use Rattle.served_links.specs.Links.{owner_in};
+ghost use Rattle.serve_loop.specs.Links.{owner_in};
 ghost use Rattle.serve_loop.specs.Asking.{AskedOnce};
-ghost use Rattle.serve_loop.specs.Face.{MayAnswer};
+ghost use Rattle.core_events.specs.Face.{MayAnswer};
 ghost use Rattle.serve_loop.specs.Part.{Part};
 ghost use Rattle.serve_loop.specs.Broken.{AreAsks, IsBroken};
 ghost use Rattle.serve_loop.specs.Faults.{FromNet, is_memory};
 
 use crate::serving::Serving;
-use crate::{Asked, Core, ServeFault};
-use journal_text::Event;
+use crate::{Asked, LinkOwner, ServeFault};
+use core_events::{Core, Event};
 use px_outside::{ConnectAnswer, Net};
-use served_links::Row;
 
 impl<C: Core + Drop> Serving<C> {
     /// Asks what became of a connect. The net has closed a link that is refused.
@@ -23,7 +22,7 @@ impl<C: Core + Drop> Serving<C> {
         &mut self,
         net: &mut N,
         link: u32,
-        row: Row,
+        row: LinkOwner,
     ) -> Result<Asked, ServeFault>
         requires owned { owner_in self.old.links link ≡ Some row }
         requires server { row.side ≡ Server }

@@ -2,7 +2,7 @@
 
 ghost use Rattle.std.specs.Prelude.{◌≡◌, ◌<◌, ◌≤◌, IfOk, Some, vec_len, IfErr};
 ghost use Rattle.px_bytes.specs.declared.addr.Addr.{Addr};
-ghost use Rattle.journal_text.specs.declared.event.Event.TheVariants as event;
+ghost use Rattle.core_events.specs.declared.event.Event.TheVariants as event;
 ghost use Rattle.px_outside.specs.declared.answers.ReadyAt.TheVariants as ready;
 ghost use Rattle.serve_loop.specs.Asking.{AskedOnce};
 ghost use Rattle.serve_loop.specs.Part.{Part};
@@ -10,8 +10,8 @@ ghost use Rattle.serve_loop.specs.Broken.{AreAsks, IsBroken};
 ghost use Rattle.serve_loop.specs.Faults.{FromNet, is_memory};
 
 use crate::serving::Serving;
-use crate::{Asked, Core, ServeFault};
-use journal_text::Event;
+use crate::{Asked, ServeFault};
+use core_events::{Core, Event};
 use px_bytes::{M, Side, Text};
 use px_outside::{Accepted, Net};
 

@@ -2,16 +2,16 @@
 
 ghost use Rattle.std.specs.Prelude.{◌≡◌, IfOk, take};
 ghost use Rattle.px_outside.specs.Net.{got};
-ghost use Rattle.serve_loop.specs.Face.{from_event, end_event, reset_event, took_event};
+ghost use Rattle.core_events.specs.Face.{from_event, end_event, reset_event, took_event};
 ghost use Rattle.serve_loop.specs.Events.{read_event, write_event};
 ghost use Rattle.serve_loop.specs.declared.asked.Asked.TheVariants as is;
 ghost use Rattle.serve_loop.specs.Asking.{read_over};
 ghost use Rattle.std.specs.Prelude.{if◌then◌else◌};
 
-use journal_text::Event;
+use crate::LinkOwner;
+use core_events::Event;
 use px_bytes::{M, Side, Text};
 use px_outside::{ReadAnswer, WriteAnswer};
-use served_links::Row;
 use std::alloc::Global;
 
 /// What asking a listener or a link comes to.
@@ -26,7 +26,12 @@ pub enum Asked {
 }
 
 /// What an answer to a read becomes, with the bytes that stand at the start of the room.
-pub fn read_to_event(alloc: Global, row: Row, answer: ReadAnswer, room: &[u8]) -> M<Option<Event>>
+pub fn read_to_event(
+    alloc: Global,
+    row: LinkOwner,
+    answer: ReadAnswer,
+    room: &[u8],
+) -> M<Option<Event>>
     ensures { IfOk result
         (λ event. event ≡ read_event row.conn row.side answer (got answer room.now)) }
 {
@@ -47,7 +52,7 @@ fn front(room: &[u8], n: usize) -> &[u8]
     if n <= room.len() { &room[..n] } else { room }
 }
 
-fn from_to_event(row: Row, bytes: Text) -> Event
+fn from_to_event(row: LinkOwner, bytes: Text) -> Event
     ensures { result ≡ from_event row.side row.conn bytes }
 {
     let conn = row.conn;
@@ -57,7 +62,7 @@ fn from_to_event(row: Row, bytes: Text) -> Event
     }
 }
 
-fn end_to_event(row: Row) -> Event
+fn end_to_event(row: LinkOwner) -> Event
     ensures { result ≡ end_event row.side row.conn }
 {
     match row.side {

@@ -10,11 +10,10 @@ ghost use Rattle.serve_loop.specs.Faults.{FromNet};
 use crate::journal::Journal;
 use crate::server::Server;
 use crate::serving::Serving;
-use crate::{Core, ServeFault};
-use conn_trace::Notes;
+use crate::{Links, Numbers, ServeFault};
+use core_events::{Core, Notes};
 use px_bytes::{M, Seq};
 use px_outside::{Net, ReadyList};
-use served_links::{Links, Numbers};
 use std::alloc::Global;
 
 /// The most bytes of one read.

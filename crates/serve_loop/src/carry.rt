@@ -5,11 +5,10 @@ ghost use Rattle.serve_loop.specs.Carrying.{action, Carried, CarriesOne, Carries
 ghost use Rattle.serve_loop.specs.Carrying.{CarriedSome, CarriesUpTo, ConnectStops};
 ghost use Rattle.serve_loop.specs.Faults.{FromNet, is_memory};
 
-use crate::ServeFault;
-use conn_trace::Note;
+use crate::{Links, ServeFault};
+use core_events::Note;
 use px_bytes::{Addr, Side};
 use px_outside::Net;
-use served_links::Links;
 
 /// What a note asks for.
 #[derive(Clone, Copy)]

@@ -3,9 +3,9 @@
 ghost use Rattle.std.specs.Prelude.{◌≡◌, IfOk};
 ghost use Rattle.serve_loop.specs.Turn.{due_now, listed_slots, listed_links};
 
+use crate::Numbers;
 use px_bytes::{M, Seq};
 use px_outside::{ReadyAt, ReadyList};
-use served_links::Numbers;
 use std::alloc::Global;
 
 /// The listeners that are due, each once.

@@ -9,10 +9,10 @@ ghost use Rattle.serve_loop.specs.Faults.{FromNet, is_memory};
 
 use crate::serving::Serving;
 use crate::work::Work;
-use crate::{Core, ServeFault};
+use crate::{Numbers, ServeFault};
+use core_events::Core;
 use px_bytes::{Seq, Side};
 use px_outside::Net;
-use served_links::Numbers;
 
 impl<C: Core + Drop> Serving<C> {
     /// Does this with each number of a list, in order, and leaves those that stay.

@@ -8,8 +8,8 @@ ghost use Rattle.serve_loop.specs.Events.{Tells};
 ghost use Rattle.serve_loop.specs.Faults.{FromSink};
 
 use crate::ServeFault;
-use conn_trace::Note;
-use journal_text::{Event, write_event, write_notes};
+use core_events::{Event, Note};
+use journal_text::{write_event, write_notes};
 use px_bytes::{M, Text};
 use px_outside::{Failed, Sink, write_all};
 use std::alloc::Global;

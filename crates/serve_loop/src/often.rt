@@ -9,7 +9,8 @@ ghost use Rattle.serve_loop.specs.Broken.{AreAsks, IsBroken};
 ghost use Rattle.serve_loop.specs.Faults.{FromNet, is_memory};
 
 use crate::serving::Serving;
-use crate::{Asked, Core, ServeFault};
+use crate::{Asked, ServeFault};
+use core_events::Core;
 use px_outside::Net;
 
 impl<C: Core + Drop> Serving<C> {

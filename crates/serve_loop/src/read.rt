@@ -2,7 +2,7 @@
 
 ghost use Rattle.std.specs.Prelude.{◌≡◌, ◌<◌, ◌≤◌, IfOk, Some, length, vec_len, IfErr};
 ghost use Rattle.px_outside.specs.declared.answers.ReadyAt.TheVariants as ready;
-ghost use Rattle.served_links.specs.Links.{owner_in};
+ghost use Rattle.serve_loop.specs.Links.{owner_in};
 ghost use Rattle.serve_loop.specs.Asking.{AskedOnce, IsWanted, NotConnecting};
 ghost use Rattle.serve_loop.specs.Part.{Part, stand};
 ghost use Rattle.serve_loop.specs.Broken.{AreAsks, IsBroken};
@@ -10,9 +10,9 @@ ghost use Rattle.serve_loop.specs.Faults.{FromNet, is_memory};
 
 use crate::asked::{asked_by, read_to_event};
 use crate::serving::Serving;
-use crate::{Asked, Core, ServeFault};
+use crate::{Asked, LinkOwner, ServeFault};
+use core_events::Core;
 use px_outside::Net;
-use served_links::Row;
 
 impl<C: Core + Drop> Serving<C> {
     /// Reads from a link as much as is wanted, and no more than the room holds.
@@ -21,7 +21,7 @@ impl<C: Core + Drop> Serving<C> {
         &mut self,
         net: &mut N,
         link: u32,
-        row: Row,
+        row: LinkOwner,
         room: &mut Vec<u8>,
     ) -> Result<Asked, ServeFault>
         requires owned { owner_in self.old.links link ≡ Some row }
@@ -49,7 +49,7 @@ impl<C: Core + Drop> Serving<C> {
         &mut self,
         net: &mut N,
         link: u32,
-        row: Row,
+        row: LinkOwner,
         room: &mut [u8],
     ) -> Result<Asked, ServeFault>
         requires owned { owner_in self.old.links link ≡ Some row }

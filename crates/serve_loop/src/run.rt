@@ -7,11 +7,10 @@ ghost use Rattle.serve_loop.specs.Broken.{AreAsks, IsBroken};
 ghost use Rattle.serve_loop.specs.Faults.{FromNet, is_memory};
 
 use crate::serving::Serving;
-use crate::{Asked, Core, ServeFault};
-use journal_text::Event;
+use crate::{Asked, Numbers, ServeFault};
+use core_events::{Core, Event};
 use px_bytes::M;
 use px_outside::Net;
-use served_links::Numbers;
 
 impl<C: Core + Drop> Serving<C> {
     /// Gives pairs of a Run and a Turn until nothing is ready, 2,048 at most. The connections that

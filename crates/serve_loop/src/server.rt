@@ -2,10 +2,10 @@
 
 ghost use Rattle.std.specs.Prelude.{◌<◌, vec_len};
 
+use crate::Numbers;
 use crate::serving::Serving;
 use px_bytes::Seq;
 use px_outside::ReadyList;
-use served_links::Numbers;
 
 /// Serves links by a core.
 #[derive(Drop)]

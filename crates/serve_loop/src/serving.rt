@@ -7,11 +7,9 @@ ghost use Rattle.serve_loop.specs.Faults.{FromNet, is_memory};
 
 use crate::carry::carry;
 use crate::journal::Journal;
-use crate::{Core, ServeFault};
-use conn_trace::Notes;
-use journal_text::Event;
+use crate::{Links, ServeFault};
+use core_events::{Core, Event, Notes};
 use px_outside::Net;
-use served_links::Links;
 use std::alloc::Global;
 
 /// A core, and the links that it is served by.

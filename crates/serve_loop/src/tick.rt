@@ -9,9 +9,9 @@ ghost use Rattle.serve_loop.specs.Broken.{AtMostOne, IsBroken, IsWait};
 ghost use Rattle.serve_loop.specs.Fallen.{FellTicking, IsFallen};
 ghost use Rattle.serve_loop.specs.Faults.{FromNet, is_memory};
 
+use crate::ServeFault;
 use crate::serving::Serving;
-use crate::{Core, ServeFault};
-use journal_text::Event;
+use core_events::{Core, Event};
 use px_bytes::{Seq, Side};
 use px_outside::{Net, ReadyList};
 

@@ -5,11 +5,12 @@ ghost use Rattle.serve_loop.specs.Fallen.{Fell, IsFallen};
 ghost use Rattle.serve_loop.specs.Faults.{FromNet, FromNetOrSink, is_memory};
 ghost use Rattle.serve_loop.specs.Server.{OneTurn, Turned, running};
 
+use crate::ServeFault;
 use crate::due::{due_links, due_slots};
 use crate::fault::turn_end;
 use crate::server::Server;
 use crate::work::Work;
-use crate::{Core, ServeFault};
+use core_events::Core;
 use px_bytes::Seq;
 use px_outside::{Clock, Net, Sink};
 

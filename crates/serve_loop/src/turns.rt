@@ -8,7 +8,8 @@ ghost use Rattle.serve_loop.specs.Server.{IsOver, Served, running};
 ghost use Rattle.serve_loop.specs.Turn.{CanAccept};
 
 use crate::server::Server;
-use crate::{Core, ServeEnd, ServeFault};
+use crate::{ServeEnd, ServeFault};
+use core_events::Core;
 use px_outside::{Clock, Net, Sink};
 
 /// So many turns, and no more once as many connections were accepted as may be and all are over.

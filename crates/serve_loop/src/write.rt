@@ -8,7 +8,8 @@ ghost use Rattle.serve_loop.specs.Faults.{FromNet, is_memory};
 
 use crate::asked::write_to_event;
 use crate::serving::Serving;
-use crate::{Asked, Core, ServeFault};
+use crate::{Asked, ServeFault};
+use core_events::Core;
 use px_bytes::Side;
 use px_outside::{Net, WriteAnswer};
 

@@ -4,11 +4,12 @@ use Rattle.std.proofs.Math.Seq.{take-add}
 use Rattle.std.proofs.lemmas.List.{append-nil}
 use Rattle.px_outside.specs.Net.{Call}
 use Rattle.px_bytes.specs.declared.addr.Side.{Side}
-use Rattle.journal_text.specs.declared.event.Event.{Event as Told}
+use Rattle.core_events.specs.declared.event.Event.{Event}
 use Rattle.proxy_core.specs.Past.{Past, heard}
 use Rattle.proxy_core.specs.Represents.{Represents}
 use Rattle.proxy_core.specs.Scheduler.{State, no_connections}
 use Rattle.proxy_core.specs.declared.config.Config.{Config}
+use Rattle.proxy_core.specs.declared.core_state.Core.{Core}
 use Rattle.serve_loop.specs.Broken.{Broken, Unbegun, Ungiven, OwnSome, AskedSome, Breaks, steps_of}
 use Rattle.serve_loop.specs.Fallen.{WalkedSome}
 use Rattle.serve_loop.specs.Faults.{FromSink}
@@ -20,9 +21,8 @@ use Rattle.serve_loop.specs.declared.fault.ServeFault.TheVariants as fault
 use Rattle.served_core.proofs.Pieces.{PiecesAre, call_pieces, own_pieces, told_pieces, took_side, untaken}
 use Rattle.served_core.proofs.Promising.{StandsFor, begins_with, event_past, keeps_by, none_taken, same_took, walks_past}
 use Rattle.served_core.specs.Pieces.{piece_of, pieces_of, sent_side, ungiven_piece}
-use Rattle.served_core.specs.Served.{served_face}
+use Rattle.proxy_core.specs.Face.{core_face}
 use Rattle.served_core.specs.Serves.{EventsSome, Starts, past_after, started}
-use Rattle.served_core.specs.declared.served.Served.{Served}
 
 past_append : (xs ys : List Step) (past : Past) → past_after (xs ++ ys) past ≡ past_after ys (past_after xs past)
 past_append [] ys past = refl
@@ -39,31 +39,31 @@ pieces_append c side (Asked call (Some g) ∷ xs) ys =
     ∙ sym (append_assoc (piece_of c side call g.event) (pieces_of c side xs) (pieces_of c side ys))
 
 -- the step that broke off
-broken_past : (C : Config) (conns : ℕ) (short : Bool) (broken : Broken) (past : Past) (took : Side → ℕ → List ℕ) (a : Around Served) (core : Served)
-    → Breaks served_face conns short a broken core → StandsFor C past took a.core.core
-    → StandsFor C (past_after (steps_of broken) past) (λ side c. took side c ++ pieces_of c side (steps_of broken)) core.core
+broken_past : (C : Config) (conns : ℕ) (short : Bool) (broken : Broken) (past : Past) (took : Side → ℕ → List ℕ) (a : Around Core) (core : Core)
+    → Breaks core_face conns short a broken core → StandsFor C past took a.core
+    → StandsFor C (past_after (steps_of broken) past) (λ side c. took side c ++ pieces_of c side (steps_of broken)) core
 broken_past C conns short Unbegun past took a core it p =
-    same_took C past took (λ side c. took side c ++ []) core.core (λ side c. append-nil (took side c))
-    (subst (λ (x : Served). StandsFor C past took x.core) (sym it) p)
+    same_took C past took (λ side c. took side c ++ []) core (λ side c. append-nil (took side c))
+    (subst (λ (x : Core). StandsFor C past took x) (sym it) p)
 broken_past C conns short (Ungiven call e) past took a core it p =
-    same_took C past took (λ side c. took side c ++ []) core.core (λ side c. append-nil (took side c))
-    (subst (λ (x : Served). StandsFor C past took x.core) (sym it.2) p)
+    same_took C past took (λ side c. took side c ++ []) core (λ side c. append-nil (took side c))
+    (subst (λ (x : Core). StandsFor C past took x) (sym it.2) p)
 broken_past C conns short (OwnSome g) past took a core it p =
-    event_past C past took (λ side c. []) g.event a.core.core g core.core refl it.1.taken it.1.moved (λ s r. own_pieces past s g.event it.0) p
+    event_past C past took (λ side c. []) g.event a.core g core refl it.1.taken it.1.moved (λ s r. own_pieces past s g.event it.0) p
 broken_past C conns short (AskedSome call g) past took a core it p =
-    same_took C _ (λ side c. took side c ++ piece_of c side call g.event) (λ side c. took side c ++ (piece_of c side call g.event ++ [])) core.core
+    same_took C _ (λ side c. took side c ++ piece_of c side call g.event) (λ side c. took side c ++ (piece_of c side call g.event ++ [])) core
     (λ side c. ap (λ (l : List ℕ). took side c ++ l) (append-nil (piece_of c side call g.event)))
-    (event_past C past took (told_pieces call g.event) it.event a.core.core g core.core it.gives.event_is it.gives.taken it.gives.moved
-    (λ s r. subst (λ (x : Told). PiecesAre past s it.event (told_pieces call x)) (sym it.gives.event_is)
+    (event_past C past took (told_pieces call g.event) it.event a.core g core it.gives.event_is it.gives.taken it.gives.moved
+    (λ s r. subst (λ (x : Event). PiecesAre past s it.event (told_pieces call x)) (sym it.gives.event_is)
     (call_pieces C past s conns a call it.event r it.may)) p)
 
 -- a piece that was taken, and wasn't told to the core
-ungiven_by : (C : Config) (conns : ℕ) (short : Bool) (broken : Broken) (past : Past) (s : State) (a : Around Served) (core : Served)
-    → Breaks served_face conns short a broken core → Represents C past s core.core → (side : Side) (c : ℕ)
+ungiven_by : (C : Config) (conns : ℕ) (short : Bool) (broken : Broken) (past : Past) (s : State) (a : Around Core) (core : Core)
+    → Breaks core_face conns short a broken core → Represents C past s core → (side : Side) (c : ℕ)
     → (n : ℕ) × (ungiven_piece c side broken ≡ take n (untaken past s side c))
 ungiven_by C conns short Unbegun past s a core it r side c = (0, refl)
 ungiven_by C conns short (Ungiven call e) past s a core it r side c =
-    (_, (call_pieces C past s conns a call e (subst (λ (x : Served). Represents C past s x.core) it.2 r) it.1).is side c)
+    (_, (call_pieces C past s conns a call e (subst (λ (x : Core). Represents C past s x) it.2 r) it.1).is side c)
 ungiven_by C conns short (OwnSome g) past s a core it r side c = (0, refl)
 ungiven_by C conns short (AskedSome call g) past s a core it r side c = (0, refl)
 
@@ -72,8 +72,8 @@ front_more t n sent pieces more p m =
     ap (λ (l : List ℕ). l ++ more) p ∙ ap (λ (l : List ℕ). take t sent ++ l) m ∙ sym (take-add t n sent)
 
 pub kept_some : {S T : Type 0} {did : S → Call → S → Type 0} {gave : S → ℕ → Type 0} {why : ServeFault} {C : Config} {conns : ℕ} {net : S}
-    (start : Starts did C conns net) (clock : T) (before : Option (List ℕ)) (new : Running Served S T)
-    → WalkedSome served_face did gave why (started start clock before) new → EventsSome did gave C why (started start clock before) new
+    (start : Starts did C conns net) (clock : T) (before : Option (List ℕ)) (new : Running Core S T)
+    → WalkedSome core_face did gave why (started start clock before) new → EventsSome did gave C why (started start clock before) new
 unfolding keeps_by
 kept_some {gave = gave} {C = C} start clock before new walked =
     let here = begins_with (gave start.begun) start in
@@ -87,15 +87,15 @@ kept_some {gave = gave} {C = C} start clock before new walked =
     (record { state = no_connections; represents = here.0; each = none_taken }) in
     let parts = broken_past C first.conns done.short walk.broken (past_after walk.steps []) (λ side c. pieces_of c side walk.steps) walk.mid core
     walk.breaks whole in
-    let past : StandsFor C (past_after all []) (λ side c. pieces_of c side all) core.core
-    = subst (λ (p : Past). StandsFor C p (λ side c. pieces_of c side all) core.core) (sym (past_append walk.steps rest []))
-    (same_took C _ (λ side c. pieces_of c side walk.steps ++ pieces_of c side rest) (λ side c. pieces_of c side all) core.core
+    let past : StandsFor C (past_after all []) (λ side c. pieces_of c side all) core
+    = subst (λ (p : Past). StandsFor C p (λ side c. pieces_of c side all) core) (sym (past_append walk.steps rest []))
+    (same_took C _ (λ side c. pieces_of c side walk.steps ++ pieces_of c side rest) (λ side c. pieces_of c side all) core
     (λ side c. pieces_append c side walk.steps rest) parts) in
     record {
       done = done;
       steps = all;
       steps_are = refl;
-      keeps = keeps_by C all core.core past;
+      keeps = keeps_by C all core past;
       ungiven = λ side c.
           let took = took_side side (heard c (past_after all [])) in
           let more = ungiven_by C first.conns done.short walk.broken (past_after all []) past.state walk.mid core walk.breaks past.represents side c in (

@@ -1,4 +1,3 @@
-pub mod Taking
 pub mod Growing
 pub mod ServerGrowing
 pub mod Pieces

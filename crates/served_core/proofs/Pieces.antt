@@ -13,14 +13,16 @@ use Rattle.px_outside.specs.declared.answers.ReadAnswer.TheVariants as read
 use Rattle.px_outside.specs.declared.answers.WriteAnswer.{WriteAnswer}
 use Rattle.px_outside.specs.declared.answers.WriteAnswer.TheVariants as write
 use Rattle.px_outside.specs.Net.{Call, Listen, Wait, Accept, Connect, Ask, Read, Write, Finish, Close}
-use Rattle.journal_text.specs.declared.event.Event.{Event}
-use Rattle.journal_text.specs.declared.event.Event.TheVariants as told
-use Rattle.conn_trace.specs.Edges.{may_take}
+use Rattle.core_events.specs.declared.event.Event.{Event}
+use Rattle.core_events.specs.declared.event.Event.TheVariants as told
+use Rattle.core_events.specs.Edges.{may_take}
 use Rattle.conn.specs.declared.connection.Conn.{Conn}
-use Rattle.conn_trace.specs.Heard.{EventKind, Heard, has_made, taken_by}
+use Rattle.core_events.specs.declared.event_kind.EventKind.{EventKind}
+use Rattle.conn_trace.specs.Heard.{Heard, has_made, taken_by}
 use Rattle.conn_trace.specs.Item.{client_output, server_output}
 use Rattle.proxy_core.specs.Asked.{edges_of, left_of}
-use Rattle.proxy_core.specs.Past.{Past, heard, kind_of, shared}
+use Rattle.core_events.specs.Kinds.{kind_of}
+use Rattle.proxy_core.specs.Past.{Past, heard, shared}
 use Rattle.proxy_core.specs.Ready.{is_in}
 use Rattle.proxy_core.specs.OneServer.{OneServer}
 use Rattle.proxy_core.specs.Queries.{queue_on}
@@ -35,11 +37,9 @@ use Rattle.proxy_core.proofs.Members.{eq_same}
 use Rattle.proxy_core.proofs.OneServer.{one_server}
 use Rattle.serve_loop.specs.Events.{read_event, write_event, connect_event}
 use Rattle.serve_loop.specs.Walk.{Around, IsOwn, MayCall}
-use Rattle.served_core.specs.Asked.{on_edge, to_write}
+use Rattle.proxy_core.specs.Questions.{on_edge, to_write}
 use Rattle.served_core.specs.Pieces.{piece_of, sent_side}
-use Rattle.served_core.specs.Served.{served_face}
-use Rattle.served_core.specs.Told.{meaning}
-use Rattle.served_core.specs.declared.served.Served.{Served}
+use Rattle.proxy_core.specs.Face.{core_face}
 use Rattle.served_core.proofs.Growing.{took_in}
 use Rattle.served_core.proofs.ServerGrowing.{server_in}
 
@@ -111,7 +111,7 @@ some_same x y e = cc
 
 -- no side took anything
 abbrev IsQuiet : Event → Type 0
-IsQuiet e = ((c : ℕ) → took_in c (kind_of (meaning e)) ≡ 0) × ((c : ℕ) → server_in c (kind_of (meaning e)) ≡ 0)
+IsQuiet e = ((c : ℕ) → took_in c (kind_of e) ≡ 0) × ((c : ℕ) → server_in c (kind_of e) ≡ 0)
 
 quiet_as : (x e : Event) → Some e ≡ Some x → IsQuiet x → IsQuiet e
 quiet_as x e is quiet = subst IsQuiet (sym (some_same e x is)) quiet
@@ -153,19 +153,19 @@ told_pieces call e side c = piece_of c side call e
 
 -- they are what the event says; a server took some only where one was made
 pub record PiecesAre (past : Past) (s : State) (e : Event) (piece : Side → ℕ → List ℕ) : Type 0 where
-  pub is : (side : Side) (c : ℕ) → piece side c ≡ take (in_side side c (kind_of (meaning e))) (untaken past s side c)
-  pub first : (c : ℕ) → has_made (heard c past).connects ≡ false → server_in c (kind_of (meaning e)) ≡ 0
+  pub is : (side : Side) (c : ℕ) → piece side c ≡ take (in_side side c (kind_of e)) (untaken past s side c)
+  pub first : (c : ℕ) → has_made (heard c past).connects ≡ false → server_in c (kind_of e) ≡ 0
 
 by_side : (P : Side → Type 0) → P Client → P Server → (side : Side) → P side
 by_side P client server Client = client
 by_side P client server Server = server
 
 pieces_by : (past : Past) (s : State) (e : Event) (piece : Side → ℕ → List ℕ)
-    → ((c : ℕ) → piece Client c ≡ take (took_in c (kind_of (meaning e))) (untaken past s Client c))
-    → ((c : ℕ) → piece Server c ≡ take (server_in c (kind_of (meaning e))) (untaken past s Server c))
-    → ((c : ℕ) → has_made (heard c past).connects ≡ false → server_in c (kind_of (meaning e)) ≡ 0) → PiecesAre past s e piece
+    → ((c : ℕ) → piece Client c ≡ take (took_in c (kind_of e)) (untaken past s Client c))
+    → ((c : ℕ) → piece Server c ≡ take (server_in c (kind_of e)) (untaken past s Server c))
+    → ((c : ℕ) → has_made (heard c past).connects ≡ false → server_in c (kind_of e) ≡ 0) → PiecesAre past s e piece
 pieces_by past s e piece client server first = record {
-  is = by_side (λ side. (c : ℕ) → piece side c ≡ take (in_side side c (kind_of (meaning e))) (untaken past s side c)) client server;
+  is = by_side (λ side. (c : ℕ) → piece side c ≡ take (in_side side c (kind_of e)) (untaken past s side c)) client server;
   first = first;
 }
 
@@ -179,8 +179,8 @@ none_of k piece rest none zero_more = none ∙ ap (λ n. take n rest) (sym zero_
 quiet_pieces : (past : Past) (s : State) (e : Event) (piece : Side → ℕ → List ℕ) → IsQuiet e → ((c : ℕ) → piece Client c ≡ [])
     → ((c : ℕ) → piece Server c ≡ []) → PiecesAre past s e piece
 quiet_pieces past s e piece quiet client server =
-    pieces_by past s e piece (λ c. none_of (took_in c (kind_of (meaning e))) (piece Client c) _ (client c) (quiet.0 c))
-    (λ c. none_of (server_in c (kind_of (meaning e))) (piece Server c) _ (server c) (quiet.1 c)) (λ c none. quiet.1 c)
+    pieces_by past s e piece (λ c. none_of (took_in c (kind_of e)) (piece Client c) _ (client c) (quiet.0 c))
+    (λ c. none_of (server_in c (kind_of e)) (piece Server c) _ (server c) (quiet.1 c)) (λ c none. quiet.1 c)
 
 pub own_pieces : (past : Past) (s : State) (e : Event) → IsOwn e → PiecesAre past s e (λ side c. [])
 own_pieces past s e own = quiet_pieces past s e (λ side c. []) (own_quiet e own) (λ c. refl) (λ c. refl)
@@ -227,8 +227,8 @@ write_pieces past s d Server link bytes write.Reset e one is some told_is =
     (quiet_pieces past s (told.ServerReset d) _ (λ c. refl, λ c. refl) (λ c. refl) (λ c. refl))
 
 -- what a call told
-pub call_pieces : (C : Config) (past : Past) (s : State) (conns : ℕ) (a : Around Served) (call : Call) (e : Event) → Represents C past s a.core.core
-    → MayCall served_face conns a call (Some e) → PiecesAre past s e (told_pieces call e)
+pub call_pieces : (C : Config) (past : Past) (s : State) (conns : ℕ) (a : Around Core) (call : Call) (e : Event) → Represents C past s a.core
+    → MayCall core_face conns a call (Some e) → PiecesAre past s e (told_pieces call e)
 call_pieces C past s conns a (Listen slot at answer) e r may = absurd may
 call_pieces C past s conns a (Wait until listed answer) e r may = cc
 call_pieces C past s conns a (Accept slot (Ok (accepted.One link from))) e r may =
@@ -242,6 +242,6 @@ call_pieces C past s conns a (Read link room answer bytes) e r may =
     quiet_pieces past s e _ (read_quiet may.row.conn may.row.side answer bytes e may.becomes) (λ c. refl) (λ c. refl)
 call_pieces C past s conns a (Write link bytes answer) e r may =
     write_pieces past s may.conn may.side link bytes answer e (one_server C past s r.sound.leads may.conn)
-    (queued C past s a.core.core may.conn may.side bytes r (may.queued C past s r) may.some) may.some may.becomes
+    (queued C past s a.core may.conn may.side bytes r (may.queued C past s r) may.some) may.some may.becomes
 call_pieces C past s conns a (Finish link) e r may = absurd may
 call_pieces C past s conns a (Close link) e r may = absurd may

@@ -3,25 +3,25 @@ use Rattle.std.proofs.Common.{◌≡◌, ◌≤◌, ℕ, List, [], ◌∷◌, �
 use Rattle.std.specs.Prelude.{Result, Ok, Err, IfErr}
 use Rattle.std.proofs.lemmas.List.{append-nil}
 use Rattle.px_outside.specs.Net.{Call}
-use Rattle.journal_text.specs.declared.event.Event.{Event as Told}
+use Rattle.core_events.specs.declared.event.Event.{Event}
 use Rattle.px_bytes.specs.declared.addr.Side.{Side}
 use Rattle.px_bytes.specs.declared.addr.Side.TheVariants.{Client, Server}
-use Rattle.conn_trace.specs.declared.note.Note.{Note}
+use Rattle.core_events.specs.declared.note.Note.{Note}
 use Rattle.conn_trace.specs.Heard.{hears}
 use Rattle.conn_trace.specs.Item.{to_client, to_server}
 use Rattle.proxy_core.specs.Represents.{Represents}
-use Rattle.proxy_core.specs.Past.{Happened, Past, heard, kind_of}
-use Rattle.proxy_core.specs.Steps.{StandsAfter}
+use Rattle.core_events.specs.Kinds.{kind_of}
+use Rattle.proxy_core.specs.Past.{Happened, Past, heard}
+use Rattle.proxy_core.specs.Steps.{KeepsStanding}
 use Rattle.proxy_core.specs.Moves.{MovesBy}
 use Rattle.proxy_core.specs.Refusal.{refused}
 use Rattle.proxy_core.specs.Scheduler.{State, last_took, no_connections}
 use Rattle.proxy_core.proofs.OneServer.{one_server}
 use Rattle.proxy_core.specs.declared.config.Config.{Config}
-use Rattle.proxy_core.specs.declared.event.Event.{Event}
 use Rattle.proxy_core.specs.declared.core_state.Core.{Core}
 use Rattle.proxy_core.proofs.Promises.{every_past_matches}
-use Rattle.served_links.specs.declared.links.Links.{Links}
-use Rattle.served_links.specs.declared.row.Row.{Row}
+use Rattle.serve_loop.specs.declared.links.Links.{Links}
+use Rattle.serve_loop.specs.declared.link_owner.LinkOwner.{LinkOwner}
 use Rattle.serve_loop.specs.Part.{stand, Ready}
 use Rattle.serve_loop.specs.Server.{Running, Walked}
 use Rattle.serve_loop.specs.Walk.{Around, Given, Step, Own, Asked, Gives, Becomes, IsOwn, MayCall, Walks}
@@ -33,10 +33,8 @@ use Rattle.served_core.proofs.Growing.{fits, grows, heard_took, one_more, took_i
 use Rattle.served_core.proofs.ServerGrowing.{first_made, server_fits, server_heard, server_in}
 use Rattle.served_core.proofs.Pieces.{PiecesAre, call_pieces, own_pieces, taken, told_pieces}
 use Rattle.served_core.specs.Pieces.{piece_of, pieces_of}
-use Rattle.served_core.specs.Served.{Moved, TakesEvent, served_face}
+use Rattle.proxy_core.specs.Face.{TakesEvent, core_face}
 use Rattle.served_core.specs.Serves.{KeepsPromise, ServedEvents, Starts, happened, past_after, started}
-use Rattle.served_core.specs.Told.{meaning}
-use Rattle.served_core.specs.declared.served.Served.{Served}
 
 -- A core stands for this past of the configuration, in which each side of each connection took these bytes.
 pub record StandsFor (C : Config) (past : Past) (took : Side → ℕ → List ℕ) (core : Core) : Type 0 where
@@ -49,20 +47,20 @@ pub same_took : (C : Config) (past : Past) (before after : Side → ℕ → List
 same_took C past before after core same p = record { state = p.state; represents = p.represents; each = λ side c. same side c ∙ p.each side c }
 
 -- what each side took behind an event
-took_then : (C : Config) (past : Past) (s next : State) (core new : Core) (e : Told) (group : List Note) (took piece : Side → ℕ → List ℕ)
-    → Represents C past s core → refused C past s (kind_of (meaning e)) ≡ None → MovesBy C past (kind_of (meaning e)) group s next
-    → Represents C (record { event = meaning e; group = group } ∷ past) next new → PiecesAre past s e piece
+took_then : (C : Config) (past : Past) (s next : State) (core new : Core) (e : Event) (group : List Note) (took piece : Side → ℕ → List ℕ)
+    → Represents C past s core → refused C past s (kind_of e) ≡ None → MovesBy C past (kind_of e) group s next
+    → Represents C (record { event = e; group = group } ∷ past) next new → PiecesAre past s e piece
     → ((side : Side) (c : ℕ) → took side c ≡ taken past s side c)
-    → (side : Side) (c : ℕ) → took side c ++ piece side c ≡ taken (record { event = meaning e; group = group } ∷ past) next side c
+    → (side : Side) (c : ℕ) → took side c ++ piece side c ≡ taken (record { event = e; group = group } ∷ past) next side c
 took_then C past s next core new e group took piece r fine moves r' pieces each Client c =
-    let v = kind_of (meaning e) in
+    let v = kind_of e in
     let grown = grows C past v group s next moves c in
     one_more to_client (heard c past).client.took (took_in c v) (hears c (heard c past) v group).client.took (took Client c) (piece Client c)
     (s.places c) grown.more (next.places c) (each Client c) (pieces.is Client c) (fits C past s core v c r fine)
     (heard_took c (heard c past) v group) grown.place
 took_then C past s next core new e group took piece r fine moves r' pieces each Server c =
-    let v = kind_of (meaning e) in
-    let x : Happened = record { event = meaning e; group = group } in
+    let v = kind_of e in
+    let x : Happened = record { event = e; group = group } in
     let before = last_took (heard c past).connects in
     let after = last_took (hears c (heard c past) v group).connects in
     let grown = grows C past v group s next moves c in
@@ -73,56 +71,56 @@ took_then C past s next core new e group took piece r fine moves r' pieces each 
     (server_fits C past s next v group c after (one_server C past s r.sound.leads c) moves sum one'.within) sum grown.place
 
 -- an event, and the piece that each side took with it
-pub event_past : (C : Config) (past : Past) (took piece : Side → ℕ → List ℕ) (e : Told) (a : Core) (g : Given) (b : Core) → g.event ≡ e → TakesEvent a e
-    → Moved a b e g.group → ((s : State) → Represents C past s a → PiecesAre past s e piece)
+pub event_past : (C : Config) (past : Past) (took piece : Side → ℕ → List ℕ) (e : Event) (a : Core) (g : Given) (b : Core) → g.event ≡ e → TakesEvent a e
+    → KeepsStanding a b (record { event = e; group = g.group }) → ((s : State) → Represents C past s a → PiecesAre past s e piece)
     → StandsFor C past took a → StandsFor C (happened g ∷ past) (λ side c. took side c ++ piece side c) b
 event_past C past took piece e a g b event_is taken moved pieces p =
     let s = p.state in
-    let more = subst (λ (x : Event). StandsAfter C past s (record { event = x; group = g.group }) b) moved.means (moved.keeps C past s p.represents) in
-    let fine = taken (meaning e) refl C past s p.represents in
-    subst (λ (x : Event). StandsFor C (record { event = x; group = g.group } ∷ past) (λ side c. took side c ++ piece side c) b) (ap meaning (sym event_is))
+    let more = moved C past s p.represents in
+    let fine = taken C past s p.represents in
+    subst (λ (x : Event). StandsFor C (record { event = x; group = g.group } ∷ past) (λ side c. took side c ++ piece side c) b) (sym event_is)
     (record {
       state = more.next;
       represents = more.represents;
       each = took_then C past s more.next a b e g.group took piece p.represents fine more.moves more.represents (pieces s p.represents) p.each;
     })
 
-gives_past : (C : Config) (past : Past) (took piece : Side → ℕ → List ℕ) (e : Told) (a : Around Served) (g : Given) (b : Around Served)
-    → Gives served_face e a g b → ((s : State) → Represents C past s a.core.core → PiecesAre past s e piece)
-    → StandsFor C past took a.core.core → StandsFor C (happened g ∷ past) (λ side c. took side c ++ piece side c) b.core.core
-gives_past C past took piece e a g b it pieces p = event_past C past took piece e a.core.core g b.core.core it.event_is it.taken it.moved pieces p
+gives_past : (C : Config) (past : Past) (took piece : Side → ℕ → List ℕ) (e : Event) (a : Around Core) (g : Given) (b : Around Core)
+    → Gives core_face e a g b → ((s : State) → Represents C past s a.core → PiecesAre past s e piece)
+    → StandsFor C past took a.core → StandsFor C (happened g ∷ past) (λ side c. took side c ++ piece side c) b.core
+gives_past C past took piece e a g b it pieces p = event_past C past took piece e a.core g b.core it.event_is it.taken it.moved pieces p
 
-none_past : (C : Config) (o : Option Told) (past : Past) (took : Side → ℕ → List ℕ) (a b : Around Served) → Becomes served_face o a None b
-    → StandsFor C past took a.core.core → StandsFor C past took b.core.core
-none_past C None past took a b it p = subst (λ (x : Around Served). StandsFor C past took x.core.core) (sym it) p
+none_past : (C : Config) (o : Option Event) (past : Past) (took : Side → ℕ → List ℕ) (a b : Around Core) → Becomes core_face o a None b
+    → StandsFor C past took a.core → StandsFor C past took b.core
+none_past C None past took a b it p = subst (λ (x : Around Core). StandsFor C past took x.core) (sym it) p
 none_past C (Some e) past took a b it p = absurd it
 
-some_past : (C : Config) (conns : ℕ) (call : Call) (o : Option Told) (past : Past) (took : Side → ℕ → List ℕ) (a : Around Served) (links : Links)
-    (g : Given) (b : Around Served) → MayCall served_face conns a call o → Becomes served_face o (record { core = a.core; links = links }) (Some g) b
-    → StandsFor C past took a.core.core → StandsFor C (happened g ∷ past) (λ side c. took side c ++ piece_of c side call g.event) b.core.core
+some_past : (C : Config) (conns : ℕ) (call : Call) (o : Option Event) (past : Past) (took : Side → ℕ → List ℕ) (a : Around Core) (links : Links)
+    (g : Given) (b : Around Core) → MayCall core_face conns a call o → Becomes core_face o (record { core = a.core; links = links }) (Some g) b
+    → StandsFor C past took a.core → StandsFor C (happened g ∷ past) (λ side c. took side c ++ piece_of c side call g.event) b.core
 some_past C conns call None past took a links g b may it p = absurd it
 some_past C conns call (Some e) past took a links g b may it p =
     gives_past C past took (told_pieces call g.event) e (record { core = a.core; links = links }) g b it
-    (λ s r. subst (λ (x : Told). PiecesAre past s e (told_pieces call x)) (sym it.event_is) (call_pieces C past s conns a call e r may)) p
+    (λ s r. subst (λ (x : Event). PiecesAre past s e (told_pieces call x)) (sym it.event_is) (call_pieces C past s conns a call e r may)) p
 
-own_past : (C : Config) (past : Past) (took : Side → ℕ → List ℕ) (a : Around Served) (g : Given) (b : Around Served) → IsOwn g.event
-    → Gives served_face g.event a g b → StandsFor C past took a.core.core → StandsFor C (happened g ∷ past) took b.core.core
+own_past : (C : Config) (past : Past) (took : Side → ℕ → List ℕ) (a : Around Core) (g : Given) (b : Around Core) → IsOwn g.event
+    → Gives core_face g.event a g b → StandsFor C past took a.core → StandsFor C (happened g ∷ past) took b.core
 own_past C past took a g b own it p =
-    same_took C (happened g ∷ past) (λ side c. took side c ++ []) took b.core.core (λ side c. sym (append-nil (took side c)))
+    same_took C (happened g ∷ past) (λ side c. took side c ++ []) took b.core (λ side c. sym (append-nil (took side c)))
     (gives_past C past took (λ side c. []) g.event a g b it (λ s r. own_pieces past s g.event own) p)
 
-pub walks_past : (C : Config) (conns : ℕ) (steps : List Step) (past : Past) (took : Side → ℕ → List ℕ) (a b : Around Served) → Walks served_face conns a steps b
-    → StandsFor C past took a.core.core → StandsFor C (past_after steps past) (λ side c. took side c ++ pieces_of c side steps) b.core.core
+pub walks_past : (C : Config) (conns : ℕ) (steps : List Step) (past : Past) (took : Side → ℕ → List ℕ) (a b : Around Core) → Walks core_face conns a steps b
+    → StandsFor C past took a.core → StandsFor C (past_after steps past) (λ side c. took side c ++ pieces_of c side steps) b.core
 walks_past C conns [] past took a b it p =
-    same_took C past took (λ side c. took side c ++ []) b.core.core (λ side c. append-nil (took side c))
-    (subst (λ (x : Around Served). StandsFor C past took x.core.core) (sym it) p)
+    same_took C past took (λ side c. took side c ++ []) b.core (λ side c. append-nil (took side c))
+    (subst (λ (x : Around Core). StandsFor C past took x.core) (sym it) p)
 walks_past C conns (Own g ∷ steps) past took a b it p =
     walks_past C conns steps (happened g ∷ past) took it.0 b it.2 (own_past C past took a g it.0 it.1.0 it.1.1 p)
 walks_past C conns (Asked call None ∷ steps) past took a b it p =
     walks_past C conns steps past took it.0 b it.2 (none_past C it.1.event past took (record { core = a.core; links = it.1.links }) it.0 it.1.becomes p)
 walks_past C conns (Asked call (Some g) ∷ steps) past took a b it p =
     same_took C (past_after steps (happened g ∷ past)) (λ side c. (took side c ++ piece_of c side call g.event) ++ pieces_of c side steps)
-    (λ side c. took side c ++ (piece_of c side call g.event ++ pieces_of c side steps)) b.core.core
+    (λ side c. took side c ++ (piece_of c side call g.event ++ pieces_of c side steps)) b.core
     (λ side c. sym (append_assoc (took side c) (piece_of c side call g.event) (pieces_of c side steps)))
     (walks_past C conns steps (happened g ∷ past) (λ side c. took side c ++ piece_of c side call g.event) it.0 b it.2
     (some_past C conns call it.1.event past took a it.1.links g it.0 it.1.may it.1.becomes p))
@@ -132,15 +130,14 @@ pub none_taken : (side : Side) (c : ℕ) → [] ≡ taken [] no_connections side
 none_taken Client c = refl
 none_taken Server c = refl
 
-none_is_some : (r : Row) → None ≡ Some r → ⊥
+none_is_some : (r : LinkOwner) → None ≡ Some r → ⊥
 none_is_some r e = cc
 
 -- how a server begins
 pub begins_with : {S : Type 0} {did : S → Call → S → Type 0} (gave : ℕ → Type 0) {C : Config} {conns : ℕ} {net : S} (start : Starts did C conns net)
-    → Represents C [] no_connections start.server.serving.core.core × Ready served_face gave (stand start.server.serving)
+    → Represents C [] no_connections start.server.serving.core × Ready core_face gave (stand start.server.serving)
 begins_with gave {C} start =
-    let same = ap (λ (x : Served). x.core) start.begins.core_is in
-    let here = subst (λ (x : Core). Represents C [] no_connections x) (sym same) start.stands in (
+    let here = subst (λ (x : Core). Represents C [] no_connections x) (sym start.begins.core_is) start.stands in (
       here,
       record {
         stands = record { config = C; past = []; state = no_connections; represents = here };
@@ -160,7 +157,7 @@ keeps_by C steps core p = record {
 }
 
 pub kept : {S T : Type 0} {did : S → Call → S → Type 0} {gave : S → ℕ → Type 0} {C : Config} {conns : ℕ} {net : S} (start : Starts did C conns net)
-    (clock : T) (before : Option (List ℕ)) (new : Running Served S T) → Walked served_face did gave (started start clock before) new
+    (clock : T) (before : Option (List ℕ)) (new : Running Core S T) → Walked core_face did gave (started start clock before) new
     → ServedEvents did C conns (started start clock before) new
 kept {gave = gave} {C} {conns} start clock before new walked =
     let here = begins_with (gave start.begun) start in
@@ -168,10 +165,10 @@ kept {gave = gave} {C} {conns} start clock before new walked =
     let steps = done.made.steps in
     let first = start.server.serving in
     let last = new.server.serving in
-    let walks = subst (λ (n : ℕ). Walks served_face n (stand first) steps (stand last)) start.begins.conns_is done.made.leads in
+    let walks = subst (λ (n : ℕ). Walks core_face n (stand first) steps (stand last)) start.begins.conns_is done.made.leads in
     let past = walks_past C conns steps [] (λ side c. []) (stand first) (stand last) walks
     (record { state = no_connections; represents = here.0; each = none_taken }) in
-    record { steps = steps; chain = done.made.chain; walks = walks; written = done.told; keeps = keeps_by C steps last.core.core past }
+    record { steps = steps; chain = done.made.chain; walks = walks; written = done.told; keeps = keeps_by C steps last.core past }
 
 -- a fault's cause, where neither count fell before
 pub fails_later : (b m n c o d : ℕ) (r : Result ServeEnd ServeFault) → b ≤ m → c ≤ o → IfErr r (FromNetOrSink m n o d) → IfErr r (FromNetOrSink b n c d)

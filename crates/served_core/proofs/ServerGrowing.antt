@@ -4,15 +4,21 @@ use Rattle.std.proofs.Common.{inl, inr, refl, ap, sym, ◌∙◌, subst, arith}
 use Rattle.std.specs.Prelude.{◌||◌}
 use Rattle.std.proofs.lemmas.List.{append-nil}
 use Rattle.px_bytes.specs.declared.addr.Side.TheVariants.{Client, Server}
-use Rattle.conn_trace.specs.declared.note.Note.{Note}
-use Rattle.conn_trace.specs.Heard.{Input, Bytes, Ends, Resets, Connects, Takes, EventKind, Accepts, Comes, Ticks, Turns, Runs, Marks}
-use Rattle.conn_trace.specs.Heard.{Heard, SideHeard, at_last, brings_in, brought, brought_nothing, event_brings, event_marks, accepts}
+use Rattle.core_events.specs.declared.note.Note.{Note}
+use Rattle.core_events.specs.declared.event_kind.EventKind.{EventKind}
+use Rattle.core_events.specs.declared.event_kind.EventKind.TheVariants.{Accepts, Comes, Ticks}
+use Rattle.core_events.specs.declared.event_kind.EventKind.TheVariants.{Turns, Runs, Marks}
+use Rattle.core_events.specs.declared.input.Input.{Input}
+use Rattle.core_events.specs.declared.input.Input.TheVariants.{Bytes, Ends, Resets, Connects, Takes}
+use Rattle.conn_trace.specs.Heard.{Heard, SideHeard, at_last, brings_in, brought, brought_nothing}
+use Rattle.conn_trace.specs.Heard.{event_brings, event_marks, accepts}
 use Rattle.conn_trace.specs.Heard.{fresh_side, has_made, hears, hears_more, marks}
 use Rattle.conn_trace.specs.Item.{Item, server_output}
 use Rattle.conn_trace.specs.Tellings.{finish_told, notes_about}
 use Rattle.proxy_core.specs.Moves.{MovesBy}
 use Rattle.proxy_core.specs.OneServer.{OneServer}
-use Rattle.proxy_core.specs.Past.{Happened, Past, heard, kind_of}
+use Rattle.core_events.specs.Kinds.{kind_of}
+use Rattle.proxy_core.specs.Past.{Happened, Past, heard}
 use Rattle.proxy_core.specs.Scheduler.{State, last_took}
 use Rattle.proxy_core.specs.Servers.{made, makes, servers_made}
 use Rattle.proxy_core.specs.declared.config.Config.{Config}

@@ -1,6 +1,2 @@
-pub mod Asked
-pub mod Told
-pub mod Served
-pub mod Always
 pub mod Pieces
 pub mod Serves

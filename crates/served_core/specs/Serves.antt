@@ -24,13 +24,11 @@ use Rattle.serve_loop.specs.declared.fault.ServeFault.{ServeFault}
 use Rattle.serve_loop.specs.declared.fault.ServeFault.TheVariants as fault
 use Rattle.serve_loop.specs.declared.server.Server.{Server}
 use Rattle.served_core.specs.Pieces.{pieces_of, sent_side, ungiven_piece}
-use Rattle.served_core.specs.Served.{served_face}
-use Rattle.served_core.specs.Told.{meaning}
-use Rattle.served_core.specs.declared.served.Served.{Served}
+use Rattle.proxy_core.specs.Face.{core_face}
 
 -- an event with its notes, as the core was given it
 abbrev pub happened : Given → Happened
-happened g = record { event = meaning g.event; group = g.group }
+happened g = record { event = g.event; group = g.group }
 
 -- the past with the events of these steps
 abbrev pub past_after : List Step → Past → Past
@@ -56,12 +54,12 @@ pub record KeepsPromise (C : Config) (steps : List Step) (core : Core) : Type 0 
 -- each step is what the loop may do there, and no event is refused; the journal grew by exactly the
 -- lines of the events and their notes. The core keeps its promise.
 pub record ServedEvents {S T : Type 0} (did : S → Call → S → Type 0) (C : Config) (conns : ℕ)
-    (old new : Running Served S T) : Type 0 where
+    (old new : Running Core S T) : Type 0 where
   pub steps : List Step
   pub chain : Chain did old.net (calls_in steps) new.net
-  pub walks : Walks served_face conns (stand old.server.serving) steps (stand new.server.serving)
+  pub walks : Walks core_face conns (stand old.server.serving) steps (stand new.server.serving)
   pub written : Grew old.written new.written (text_in steps)
-  pub keeps : KeepsPromise C steps new.server.serving.core.core
+  pub keeps : KeepsPromise C steps new.server.serving.core
 
 -- so much of a text was written
 pub record WroteSome (text : List ℕ) (before after : Option (List ℕ)) : Type 0 where
@@ -77,19 +75,19 @@ pub record NeverServed {S T : Type 0} (did : S → Call → S → Type 0) (C : C
   pub wrote : WroteSome (note_lines (init_notes C)) before after
   pub all_written : why ≡ fault.Net → after ≡ told_more before (note_lines (init_notes C))
   pub listens : (net' ≡ net) ⊎ ((core : Core) × Represents C [] no_connections core
-      × ListensSome served_face did why (record { core = core }) net net')
+      × ListensSome core_face did why (record { core = core }) net net')
 
 -- All that was done up to a fault: whole steps, and one that broke off. The core keeps its promise
 -- with exactly the events that were given, those of the turn that met the fault among them. With
 -- the piece of a last write, whose event couldn't be given for want of memory, the pieces that each
 -- client and its server took are fronts of what was sent to them still.
 pub record EventsSome {S T : Type 0} (did : S → Call → S → Type 0) (gave : S → ℕ → Type 0)
-    (C : Config) (why : ServeFault) (old new : Running Served S T) : Type 0 where
-  pub done : DoneSome served_face did gave why old.server.serving new.server.serving
+    (C : Config) (why : ServeFault) (old new : Running Core S T) : Type 0 where
+  pub done : DoneSome core_face did gave why old.server.serving new.server.serving
       old.net new.net old.written new.written
   pub steps : List Step
   pub steps_are : steps ≡ done.walk.steps ++ steps_of done.walk.broken
-  pub keeps : KeepsPromise C steps new.server.serving.core.core
+  pub keeps : KeepsPromise C steps new.server.serving.core
   pub ungiven : (of : Side) (c : ℕ) → (n : ℕ) × (pieces_of c of steps
       ++ ungiven_piece c of done.walk.broken ≡ take n (sent_side of (keeps.state.places c)))
 
@@ -98,13 +96,13 @@ pub record Starts {S : Type 0} (did : S → Call → S → Type 0) (C : Config) 
     : Type 0 where
   pub core : Core
   pub stands : Represents C [] no_connections core
-  pub server : Server Served
+  pub server : Server Core
   pub begun : S
-  pub begins : Begins served_face did (record { core = core }) conns net begun server
+  pub begins : Begins core_face did core conns net begun server
 
 -- behind the notes of its start
 abbrev pub started : {S T : Type 0} {did : S → Call → S → Type 0} {C : Config} {conns : ℕ} {net : S}
-    → Starts did C conns net → T → Option (List ℕ) → Running Served S T
+    → Starts did C conns net → T → Option (List ℕ) → Running Core S T
 started {C = C} start clock before =
     running start.server start.begun clock (told_more before (note_lines (init_notes C)))
 
@@ -114,8 +112,8 @@ pub record ServedSome {S T : Type 0} (did : S → Call → S → Type 0) (gave :
     (ticked : T → ℕ → T → Type 0) (C : Config) (conns turns : ℕ) (why : ServeFault) (net net' : S)
     (clock clock' : T) (before after : Option (List ℕ)) : Type 0 where
   pub start : Starts did C conns net
-  pub last : Server Served
-  pub stopped : Stopped served_face did gave ticked turns (started start clock before)
+  pub last : Server Core
+  pub stopped : Stopped core_face did gave ticked turns (started start clock before)
       (running last net' clock' after) why
   pub events : ServedEvents did C conns (started start clock before) stopped.mid
   pub all_events : EventsSome did gave C why (started start clock before)
@@ -135,8 +133,8 @@ pub record ServesConfig {S T : Type 0} (did : S → Call → S → Type 0) (gave
     (ticked : T → ℕ → T → Type 0) (C : Config) (conns turns : ℕ) (net net' : S) (clock clock' : T)
     (before after : Option (List ℕ)) (end : ServeEnd) : Type 0 where
   pub start : Starts did C conns net
-  pub last : Server Served
-  pub served : IsServed served_face did gave ticked turns (started start clock before)
+  pub last : Server Core
+  pub served : IsServed core_face did gave ticked turns (started start clock before)
       (running last net' clock' after) end
   pub events : ServedEvents did C conns (started start clock before)
       (running last net' clock' after)

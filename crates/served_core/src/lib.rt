@@ -1,11 +1,6 @@
-//! The proxy's core, as a loop serves it.
+//! A configuration is served, and keeps the promise of the core.
 #![tactic(auto)]
 
-mod edges;
-mod face;
-mod served;
 mod serves;
-mod told;
 
-pub use served::Served;
 pub use serves::serve_config;

@@ -6,8 +6,7 @@ ghost use Rattle.px_outside.specs.Outside.{told_more};
 ghost use Rattle.serve_loop.specs.Faults.{FromNetOrSink, FromSink};
 ghost use Rattle.served_core.specs.Serves.{ServesConfig, StopsConfig, WroteSome};
 
-use crate::served::Served;
-use conn_trace::Note;
+use core_events::Note;
 use journal_text::write_notes;
 use proxy_core::{Config, Core};
 use px_outside::{Clock, Failed, Net, Sink, write_all};
@@ -41,7 +40,7 @@ pub fn serve_config<N: Net, T: Clock, K: Sink>(
         drop(core);
         return Err(fault);
     }
-    let mut server = Server::new(alloc, Served { core }, net, conns)?;
+    let mut server = Server::new(alloc, core, net, conns)?;
     let ended = serve(&mut server, net, clock, journal, turns);
     drop(server);
     ended

@@ -1,7 +1,7 @@
 use Rattle.std.proofs.Common.{◌≡◌, ap, sym, ◌∙◌, true, false, Bool, Some, None, option_map, drop, arith}
 use Rattle.std.specs.List.{list_all}
 use Rattle.std.specs.Prelude.{slice_get}
-use Rattle.interim_rules.specs.HostCommands.{is_built}
+use Rattle.proxy.specs.HostCommands.{is_built}
 use Rattle.tcl_trees.specs.Procedures.{Procedure, procs_view}
 use Rattle.proxy.specs.Runnable.{most_procedures}
 use Rattle.proxy.proofs.ListTests.{all_next, all_past, none_of}

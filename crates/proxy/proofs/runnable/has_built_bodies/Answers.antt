@@ -1,6 +1,6 @@
 use Rattle.std.proofs.Common.{ap, sym, ◌∙◌}
 use Rattle.std.specs.List.{list_all}
-use Rattle.interim_rules.specs.HostCommands.{is_built}
+use Rattle.proxy.specs.HostCommands.{is_built}
 use Rattle.rule_loader.specs.Handlers.{handler_view, handlers_at}
 use Rattle.tcl_trees.specs.TreeView.{node_view}
 use Rattle.proxy.proofs.ListTests.{all_map}

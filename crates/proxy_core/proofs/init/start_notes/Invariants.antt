@@ -1,5 +1,5 @@
 use Rattle.std.proofs.Common.{◌≡◌, map, take}
-use Rattle.conn_trace.specs.declared.note.Note.TheVariants.{Log}
+use Rattle.core_events.specs.declared.note.Note.TheVariants.{Log}
 use Rattle.proxy_core.proofs.init.start_notes.Given as goal
 
 abbrev pub invariant-loop-line : goal.invariant-loop-line

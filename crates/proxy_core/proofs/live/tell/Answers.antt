@@ -1,8 +1,7 @@
 use Rattle.std.proofs.Common.{refl, ap, ◌∙◌, inl}
-use Rattle.conn_trace.specs.Edges.{edges_noted}
+use Rattle.core_events.specs.Edges.{edges_noted}
 use Rattle.conn.specs.Settling.{settle_notes}
 use Rattle.conn.specs.Stages.{has_finished}
-use Rattle.proxy_core.specs.Live.{input_of}
 use Rattle.proxy_core.proofs.Coming.{ends_edges}
 use Rattle.proxy_core.proofs.live.tell.Goals as goal
 
@@ -15,5 +14,5 @@ returns-in-Ok-clause-comes c =
       notes,
       c.settle.ensures.noted,
       inl (record { mid = mid; hears = hears; settles = c.settle.ensures.settles; told = c.settle.ensures.told; over_is = c.settle.ensures.over; notes = refl; is = c.settle.ensures.ends }),
-      ap (λ x. x.ends.edges) c.settle.ensures.ends ∙ ap (λ x. edges_noted notes x.ends.edges) hears.is ∙ ap (edges_noted notes) (ends_edges (input_of c.args.input) (has_finished old.stage) old.ends),
+      ap (λ x. x.ends.edges) c.settle.ensures.ends ∙ ap (λ x. edges_noted notes x.ends.edges) hears.is ∙ ap (edges_noted notes) (ends_edges c.args.input.now (has_finished old.stage) old.ends),
     )

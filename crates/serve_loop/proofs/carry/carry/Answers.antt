@@ -1,5 +1,5 @@
 use Rattle.std.proofs.Common.{arith, ◌≡◌, ◌+◌, ◌∷◌, drop, subst, sym}
-use Rattle.conn_trace.specs.declared.note.Note.{Note}
+use Rattle.core_events.specs.declared.note.Note.{Note}
 use Rattle.serve_loop.specs.Faults.{is_memory}
 use Rattle.serve_loop.proofs.Exits.{at_fault}
 use Rattle.serve_loop.proofs.Carried.{carries_start, carries_next, carries_all, carries_broke}

@@ -2,12 +2,12 @@ use Rattle.std.proofs.lemmas.Result.{IfOk-weaker, IfErr-weaker}
 use Rattle.std.proofs.Common.{◌≡◌, ◌≤◌, List, ℕ, Option, inl, inr, length, refl, ap, sym, ◌∙◌, subst, arith}
 use Rattle.std.proofs.lemmas.List.{take_all}
 use Rattle.px_outside.specs.Outside.{told_more}
-use Rattle.conn_trace.specs.declared.note.Note.{Note}
+use Rattle.core_events.specs.declared.note.Note.{Note}
 use Rattle.journal_text.specs.Notes.{note_lines}
 use Rattle.serve_loop.specs.Fallen.{Stopped}
 use Rattle.serve_loop.specs.Server.{Served, running}
 use Rattle.serve_loop.specs.declared.fault.ServeFault.TheVariants.{Memory as OutOfMemory}
-use Rattle.served_core.specs.Served.{served_face}
+use Rattle.proxy_core.specs.Face.{core_face}
 use Rattle.served_core.specs.Serves.{Starts, WroteSome}
 use Rattle.served_core.proofs.Breaking.{kept_some, never_net}
 use Rattle.served_core.proofs.Promising.{fails_later, kept}
@@ -41,7 +41,7 @@ returns-clause-serves g c =
       begun = c.new-2.new.net;
       begins = c.in_ok-server.ensures.begins;
     } in
-    let served = subst (λ (w : Option (List ℕ)). Served served_face g.N.Net.did g.N.Net.gave g.T.Clock.gave c.args.turns
+    let served = subst (λ (w : Option (List ℕ)). Served core_face g.N.Net.did g.N.Net.gave g.T.Clock.gave c.args.turns
     (running c.in_ok-server.server c.new-2.new.net c.args.clock.now w)
     (running c.serve-ended.new.server c.serve-ended.new.net c.serve-ended.new.clock after) end) written it in
     record {
@@ -109,7 +109,7 @@ returns-clause-stopped g c =
       begun = c.new-2.new.net;
       begins = c.in_ok-server.ensures.begins;
     } in
-    let stopped = subst (λ (w : Option (List ℕ)). Stopped served_face g.N.Net.did g.N.Net.gave g.T.Clock.gave c.args.turns
+    let stopped = subst (λ (w : Option (List ℕ)). Stopped core_face g.N.Net.did g.N.Net.gave g.T.Clock.gave c.args.turns
     (running c.in_ok-server.server c.new-2.new.net c.args.clock.now w)
     (running c.serve-ended.new.server c.serve-ended.new.net c.serve-ended.new.clock after) why) written it in
     inr (record {

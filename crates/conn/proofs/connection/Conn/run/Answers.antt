@@ -1,6 +1,6 @@
 use Rattle.std.proofs.Common.{◌≡◌, sym, ap, subst, [], ◌∷◌, ◌++◌, length, arith}
-use Rattle.conn_trace.specs.declared.note.Note.TheVariants.{Finish}
-use Rattle.conn_trace.specs.declared.note.Cause.TheVariants.{Memory}
+use Rattle.core_events.specs.declared.note.Note.TheVariants.{Finish}
+use Rattle.core_events.specs.declared.note.Cause.TheVariants.{Memory}
 use Rattle.conn.specs.Acts.{Acted}
 use Rattle.conn.specs.Runs.{DropsQueued}
 use Rattle.conn.specs.declared.turn.Act.TheVariants as done

@@ -1,6 +1,6 @@
 use Rattle.std.proofs.Common.{◌≡◌, ◌∙◌, ap, arith, false, get_or, refl, set, sym, true}
 use Rattle.proxy_core.specs.Calls.{kept_calls, without_calls, woken}
-use Rattle.proxy_core.specs.Live.{asks_in, input_of}
+use Rattle.proxy_core.specs.Live.{asks_in}
 use Rattle.proxy_core.specs.Ready.{without}
 use Rattle.proxy_core.proofs.FrontRuns.{kept_same}
 use Rattle.proxy_core.proofs.Places.{number_at, number_in, read_again, read_set, remove_set, live_there}
@@ -60,12 +60,12 @@ invariant_of-self-else-comes-clause-live_limit c =
 pub returns-then-comes-clause-accepted : goal.returns-then-comes-clause-accepted
 returns-then-comes-clause-accepted c =
     let s = c.args.self.now in
-    input_judged s c.args.number (input_of c.args.input) c.index.result.now (live_there c.args.number c.in-Some.at s.live.items c.index.result.now (sym c.in-Some.ensures.place) c.index.ensures) ∙ (sym c.refuses.ensures ∙ c.in_default-refuses.is)
+    input_judged s c.args.number c.args.input.now c.index.result.now (live_there c.args.number c.in-Some.at s.live.items c.index.result.now (sym c.in-Some.ensures.place) c.index.ensures) ∙ (sym c.refuses.ensures ∙ c.in_default-refuses.is)
 
 pub returns-else-comes-clause-accepted : goal.returns-else-comes-clause-accepted
 returns-else-comes-clause-accepted c =
     let s = c.args.self.now in
-    input_judged s c.args.number (input_of c.args.input) c.index.result.now (live_there c.args.number c.in-Some.at s.live.items c.index.result.now (sym c.in-Some.ensures.place) c.index.ensures) ∙ (sym c.refuses.ensures ∙ c.in_default-refuses.is)
+    input_judged s c.args.number c.args.input.now c.index.result.now (live_there c.args.number c.in-Some.at s.live.items c.index.result.now (sym c.in-Some.ensures.place) c.index.ensures) ∙ (sym c.refuses.ensures ∙ c.in_default-refuses.is)
 
 pub returns-then-comes-clause-comes : goal.returns-then-comes-clause-comes
 returns-then-comes-clause-comes c =
@@ -88,7 +88,7 @@ returns-then-comes-clause-comes c =
         found = h;
         after = c.comes.new.self;
         same = c.comes.ensures.place;
-        may = may_come l (input_of c.args.input) (ap (λ x. input_refusal x (input_of c.args.input)) (sym (read_again s.live.items at c.index.result.now l c.index.ensures h)) ∙ sym c.refuses.ensures ∙ c.in_default-refuses.is);
+        may = may_come l c.args.input.now (ap (λ x. input_refusal x c.args.input.now) (sym (read_again s.live.items at c.index.result.now l c.index.ensures h)) ∙ sym c.refuses.ensures ∙ c.in_default-refuses.is);
         store = refl;
         over = c.comes.result;
         came = rw number at came.2;
@@ -128,7 +128,7 @@ returns-else-comes-clause-comes c =
         found = h;
         after = c.comes.new.self;
         same = c.comes.ensures.place;
-        may = may_come l (input_of c.args.input) (ap (λ x. input_refusal x (input_of c.args.input)) (sym (read_again s.live.items at c.index.result.now l c.index.ensures h)) ∙ sym c.refuses.ensures ∙ c.in_default-refuses.is);
+        may = may_come l c.args.input.now (ap (λ x. input_refusal x c.args.input.now) (sym (read_again s.live.items at c.index.result.now l c.index.ensures h)) ∙ sym c.refuses.ensures ∙ c.in_default-refuses.is);
         store = refl;
         over = c.comes.result;
         came = rw number at came.2;

@@ -1,5 +1,5 @@
 use Rattle.std.proofs.Common.{Option, Some, ap, sym, subst, ◌∙◌}
-use Rattle.conn_trace.specs.Edges.{edges_noted}
+use Rattle.core_events.specs.Edges.{edges_noted}
 use Rattle.conn.specs.declared.connection.Conn.{Conn}
 use Rattle.proxy_core.specs.Live.{LiveRuns, edges_by_conn}
 use Rattle.proxy_core.proofs.Coming.{conn_runs}

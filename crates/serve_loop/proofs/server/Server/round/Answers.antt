@@ -1,5 +1,5 @@
 use Rattle.std.proofs.Common.{ℕ, List, [], true, refl, ap, ◌∙◌}
-use Rattle.served_links.specs.Added.{added}
+use Rattle.serve_loop.specs.Added.{added}
 use Rattle.serve_loop.specs.declared.fault.ServeFault.TheVariants.{Memory as OutOfMemory}
 use Rattle.serve_loop.specs.declared.work.Work.TheVariants as work
 use Rattle.serve_loop.specs.Broken.{AreAsks}

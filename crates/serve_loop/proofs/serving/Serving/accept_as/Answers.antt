@@ -1,7 +1,7 @@
 use Rattle.std.proofs.Common.{Ok, Err, refl, ap, ◌∙◌, subst}
 use Rattle.std.specs.Prelude.{IfOk}
 use Rattle.px_bytes.specs.declared.addr.Side.TheVariants.{Client}
-use Rattle.journal_text.specs.declared.event.Event.TheVariants as event
+use Rattle.core_events.specs.declared.event.Event.TheVariants as event
 use Rattle.px_outside.specs.Net.{Accept, GivesNew}
 use Rattle.px_outside.specs.declared.answers.Accepted.TheVariants as accepted
 use Rattle.px_outside.specs.declared.answers.ReadyAt.TheVariants as ready

@@ -1,5 +1,5 @@
 use Rattle.std.proofs.Common.{refl}
-use Rattle.journal_text.specs.declared.event.Event.TheVariants as event
+use Rattle.core_events.specs.declared.event.Event.TheVariants as event
 use Rattle.px_outside.specs.Net.{Ask}
 use Rattle.px_outside.specs.declared.answers.ConnectAnswer.TheVariants as connect
 use Rattle.px_outside.specs.declared.answers.ReadyAt.TheVariants as ready

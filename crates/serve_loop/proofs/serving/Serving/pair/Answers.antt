@@ -1,5 +1,5 @@
 use Rattle.std.proofs.Common.{inl, inr}
-use Rattle.journal_text.specs.declared.event.Event.TheVariants as event
+use Rattle.core_events.specs.declared.event.Event.TheVariants as event
 use Rattle.serve_loop.proofs.Compose.{part_then, part_less}
 use Rattle.serve_loop.proofs.Calling.{part_own}
 use Rattle.serve_loop.specs.Broken.{AreAsks}

@@ -1,6 +1,6 @@
 use Rattle.std.proofs.Common.{ℕ, ◌≤◌, ◌<◌, inl, inr, refl, ap, ◌∙◌, subst, arith}
 use Rattle.std.specs.Prelude.{min}
-use Rattle.journal_text.specs.declared.event.Event.TheVariants as event
+use Rattle.core_events.specs.declared.event.Event.TheVariants as event
 use Rattle.serve_loop.specs.Part.{Part}
 use Rattle.serve_loop.specs.Running.{OwnStep}
 use Rattle.serve_loop.specs.Turn.{Ticks, tick_limit}

@@ -1,0 +1,36 @@
+-- Bodies and whether they can be run, as it is known from outside.
+use Rattle.std.proofs.Common.{◌≡◌, ℕ, List, [], ◌∷◌, refl, codes, true, false}
+use Rattle.tcl_trees.specs.Tree.{Tree, plain, word, script, command, trees_of}
+use Rattle.tcl_trees.specs.declared.node.Verb.{Verb}
+use Rattle.tcl_trees.specs.declared.node.Verb.TheVariants.{Named, Computed}
+use Rattle.proxy.specs.HostCommands.{is_built, is_built_name, is_host_name}
+
+-- a word of this text
+abbrev text : List ℕ → Tree
+text bytes = word (trees_of (plain bytes ∷ []))
+
+-- `NAME p`
+abbrev call : Verb → List ℕ → Tree
+call verb name = script (trees_of (command verb (trees_of (text name ∷ text (codes "p") ∷ [])) ∷ []))
+
+record Rows : Type 0 where
+  -- table p
+  host : is_built (call Named (codes "table")) ≡ false
+  -- TCP::collect p
+  collect : is_built (call Named (codes "TCP::collect")) ≡ true
+  -- HTTP::uri p
+  uri : is_built (call Named (codes "HTTP::uri")) ≡ false
+  -- pool p
+  pool : is_built (call Named (codes "pool")) ≡ true
+  -- TCP::respond p
+  respond : is_built (call Named (codes "TCP::respond")) ≡ true
+  -- active_members p
+  members : is_built (call Named (codes "active_members")) ≡ true
+  -- string p
+  pure : is_built (call Named (codes "string")) ≡ true
+  -- tabl\x65 p: a name with a backslash is a name when the command runs
+  backslash : is_built (call Computed (codes "table")) ≡ true
+
+rows : Rows
+unfolding is_host_name is_built_name
+rows = record { host = refl; collect = refl; uri = refl; pool = refl; respond = refl; members = refl; pure = refl; backslash = refl }
