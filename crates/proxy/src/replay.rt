@@ -2,13 +2,16 @@
 
 ghost use Rattle.std.specs.Prelude.{◌≡◌, ◌≤◌, ◌<◌, ◌+◌, ◌^◌, IfOk, OnOk, IfErr, Option, List};
 ghost use Rattle.std.specs.Prelude.{[]};
-ghost use Rattle.px_outside.specs.Outside.{Rose};
+ghost use Rattle.journal_text.specs.Notes.{note_lines};
+ghost use Rattle.proxy_core.specs.Setup.{init_notes};
+ghost use Rattle.proxy_core.specs.declared.config.Config.{Config};
+ghost use Rattle.px_outside.specs.Outside.{Rose, told_more};
 ghost use Rattle.proxy.specs.Written.{Stands};
 ghost use Rattle.proxy.specs.Stops.{GoesOnWith, StopsAtStart, StopsWith};
 
 use crate::taken::{Taken, add_took, took_by};
 use journal_text::{LineKind, write_notes};
-use proxy_core::{BadEvent, Config, Core, Event, Notes};
+use proxy_core::{BadEvent, Config, Core, Event, Note, Notes};
 use px_bytes::{Memory, Steps};
 use px_outside::{Failed, Sink, write_all};
 use std::alloc::Global;
@@ -74,13 +77,19 @@ impl Replay {
         ensures faults_never_fall { K.faults out.old ≤ K.faults out.new }
     {
         let (core, notes) = Core::new(alloc, config)?;
-        write_all(out, write_notes(alloc, notes.as_slice())?.as_bytes())?;
-        Ok(Replay {
-            core,
-            notes,
-            taken: Vec::new(alloc),
-            events: 0,
-        })
+        match write_start(alloc, notes.as_slice(), out) {
+            Ok(()) => Ok(Replay {
+                core,
+                notes,
+                taken: Vec::new(alloc),
+                events: 0,
+            }),
+            Err(why) => {
+                drop(core);
+                drop(notes);
+                Err(why)
+            }
+        }
     }
 
     /// Gives the event of a line to the core, and writes its notes.
@@ -115,4 +124,19 @@ impl Replay {
         add_took(alloc, &mut self.taken, took)?;
         Ok(())
     }
+}
+
+// Writes the notes of the start.
+fn write_start<K: Sink>(alloc: Global, notes: &[Note], out: &mut K) -> Result<(), Stop>
+    ensures written { OnOk result
+        (K.written out.new ≡ told_more (K.written out.old) (note_lines notes.now)) }
+    ensures stops { IfErr result (λ why. (C : Config) → notes.now ≡ init_notes C
+        → StopsAtStart C (K.written out.old) (K.written out.new) why) }
+    ensures failed_is_counted { IfErr result
+        (λ why. why ≡ Stop.WriteFault → Rose (K.faults out.old) (K.faults out.new)) }
+    ensures faults_never_fall { K.faults out.old ≤ K.faults out.new }
+{
+    let lines = write_notes(alloc, notes)?;
+    write_all(out, lines.as_bytes())?;
+    Ok(())
 }

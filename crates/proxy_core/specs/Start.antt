@@ -5,8 +5,8 @@ use Rattle.proxy_core.specs.Bodies.{all_places}
 use Rattle.proxy_core.specs.Setup.{init_notes, statics_of}
 use Rattle.proxy_core.specs.declared.config.Config.{Config}
 use Rattle.proxy_core.specs.declared.core_state.Core.{Core}
-use Rattle.proxy_core.specs.declared.start.Room.{Room}
-use Rattle.proxy_core.specs.declared.start.Ruled.{Ruled}
+use Rattle.proxy_core.specs.declared.start.StartRoom.{StartRoom}
+use Rattle.proxy_core.specs.declared.start.StartRules.{StartRules}
 
 pub record IsStart (C : Config) (core : Core) : Type 0 where
   pub config : core.config ≡ C
@@ -20,13 +20,13 @@ pub record IsStart (C : Config) (core : Core) : Type 0 where
   pub store : core.store ≡ new_store C.pools []
 
 -- what the rules give: where bodies stand, what RULE_INIT left, and the notes of what it logged
-pub record IsRuled (C : Config) (ruled : Ruled) : Type 0 where
+pub record IsStartRules (C : Config) (ruled : StartRules) : Type 0 where
   pub places : ruled.places ≡ all_places C.rules C.virtuals
   pub statics : ruled.vars.statics ≡ statics_of C
   pub notes : ruled.notes.items ≡ init_notes C
 
 -- nothing is live and no call waits, with room for all that may; and a store without rows
-pub record IsRoom (C : Config) (room : Room) : Type 0 where
+pub record IsStartRoom (C : Config) (room : StartRoom) : Type 0 where
   pub live : room.live.items ≡ []
   pub numbers : room.live.numbers ≡ []
   pub ring : room.live.ring ≡ []

@@ -8,7 +8,7 @@ use crate::call_queue::CallQueue;
 use crate::config::Config;
 use crate::live::Live;
 use crate::server_bodies::EventPlaces;
-use crate::start::{Parts, Room};
+use crate::start::{StartParts, StartRoom};
 use core_events::Notes;
 use number_table::Table;
 use px_bytes::{M, Seq};
@@ -47,7 +47,7 @@ impl Core {
     ghost use Rattle.proxy_core.specs.Represents.{Represents};
     ghost use Rattle.proxy_core.specs.Scheduler.{no_connections};
     ghost use Rattle.proxy_core.specs.Setup.{init_notes};
-    ghost use Rattle.proxy_core.specs.Start.{IsRoom, IsRuled, IsStart};
+    ghost use Rattle.proxy_core.specs.Start.{IsStartRoom, IsStartRules, IsStart};
 
     /// A core without connections, and the notes of its start. It has room for all connections that
     /// may be live at once.
@@ -56,7 +56,7 @@ impl Core {
         ensures stands { IfOk result (λ made. Represents config [] no_connections made.0) }
         ensures notes { IfOk result (λ made. made.1.items ≡ init_notes config) }
     {
-        match Parts::new(alloc, &config) {
+        match StartParts::new(alloc, &config) {
             Ok(parts) => Ok(Core::joined(alloc, config, parts)),
             Err(why) => {
                 drop(config);
@@ -66,14 +66,14 @@ impl Core {
     }
 
     // The core of these parts, and the notes of its start.
-    fn joined(alloc: Global, config: Config, parts: Parts) -> (Core, Notes)
-        requires ruled { IsRuled config parts.ruled }
-        requires room { IsRoom config parts.room }
+    fn joined(alloc: Global, config: Config, parts: StartParts) -> (Core, Notes)
+        requires ruled { IsStartRules config parts.ruled }
+        requires room { IsStartRoom config parts.room }
         ensures start { IsStart config result.0 }
         ensures notes { result.1.items ≡ init_notes config }
     {
-        let Parts { ruled, room } = parts;
-        let Room { live, queue, store } = room;
+        let StartParts { ruled, room } = parts;
+        let StartRoom { live, queue, store } = room;
         let core = Core {
             alloc,
             config,

@@ -3,7 +3,7 @@
 ghost use Rattle.std.specs.Prelude.{◌≡◌, ◌≤◌, IfOk, []};
 ghost use Rattle.shared_store.specs.Store.{new_store};
 ghost use Rattle.proxy_core.specs.Setup.{init_notes, statics_of};
-ghost use Rattle.proxy_core.specs.Start.{IsRoom, IsRuled};
+ghost use Rattle.proxy_core.specs.Start.{IsStartRoom, IsStartRules};
 
 use crate::call_queue::CallQueue;
 use crate::config::Config;
@@ -20,7 +20,7 @@ use tcl_vars::Vars;
 /// What its rules give: where the bodies of each virtual server stand, and what RULE_INIT left and
 /// logged.
 #[derive(Drop)]
-pub struct Ruled {
+pub struct StartRules {
     pub places: Seq<EventPlaces>,
     pub vars: Vars,
     pub notes: Notes,
@@ -28,7 +28,7 @@ pub struct Ruled {
 
 /// Room for all connections that may be live at once and for their calls, and the store.
 #[derive(Drop)]
-pub struct Room {
+pub struct StartRoom {
     pub live: Table<Live>,
     pub queue: CallQueue,
     pub store: Store,
@@ -36,19 +36,19 @@ pub struct Room {
 
 /// All of it.
 #[derive(Drop)]
-pub struct Parts {
-    pub ruled: Ruled,
-    pub room: Room,
+pub struct StartParts {
+    pub ruled: StartRules,
+    pub room: StartRoom,
 }
 
-impl Parts {
-    pub fn new(alloc: Global, config: &Config) -> M<Parts>
-        ensures ruled { IfOk result (λ parts. IsRuled config.now parts.ruled) }
-        ensures room { IfOk result (λ parts. IsRoom config.now parts.room) }
+impl StartParts {
+    pub fn new(alloc: Global, config: &Config) -> M<StartParts>
+        ensures ruled { IfOk result (λ parts. IsStartRules config.now parts.ruled) }
+        ensures room { IfOk result (λ parts. IsStartRoom config.now parts.room) }
     {
-        let ruled = Ruled::new(alloc, config)?;
-        match Room::new(alloc, config) {
-            Ok(room) => Ok(Parts { ruled, room }),
+        let ruled = StartRules::new(alloc, config)?;
+        match StartRoom::new(alloc, config) {
+            Ok(room) => Ok(StartParts { ruled, room }),
             Err(why) => {
                 drop(ruled);
                 Err(why)
@@ -57,13 +57,13 @@ impl Parts {
     }
 }
 
-impl Ruled {
-    fn new(alloc: Global, config: &Config) -> M<Ruled>
-        ensures { IfOk result (λ ruled. IsRuled config.now ruled) }
+impl StartRules {
+    fn new(alloc: Global, config: &Config) -> M<StartRules>
+        ensures { IfOk result (λ ruled. IsStartRules config.now ruled) }
     {
         let places = all_places(alloc, config.rules.as_slice(), config.virtuals.as_slice())?;
         match left_by(alloc, config) {
-            Ok((vars, notes)) => Ok(Ruled {
+            Ok((vars, notes)) => Ok(StartRules {
                 places,
                 vars,
                 notes,
@@ -91,13 +91,13 @@ fn left_by(alloc: Global, config: &Config) -> M<(Vars, Notes)>
     }
 }
 
-impl Room {
-    fn new(alloc: Global, config: &Config) -> M<Room>
-        ensures { IfOk result (λ room. IsRoom config.now room) }
+impl StartRoom {
+    fn new(alloc: Global, config: &Config) -> M<StartRoom>
+        ensures { IfOk result (λ room. IsStartRoom config.now room) }
     {
         let store = store_of(alloc, config)?;
         match tables(alloc, config.connections as usize) {
-            Ok((live, queue)) => Ok(Room { live, queue, store }),
+            Ok((live, queue)) => Ok(StartRoom { live, queue, store }),
             Err(why) => {
                 drop(store);
                 Err(why)

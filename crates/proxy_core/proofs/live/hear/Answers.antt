@@ -8,7 +8,7 @@ use Rattle.proxy_core.proofs.live.hear.Goals as goal
 pub returns-in-Bytes-clause-hears : goal.returns-in-Bytes-clause-hears
 returns-in-Bytes-clause-hears c =
     let P : Input → Type 0 = λ i. OnOk c.arrive.result (ConnHears i c.args.conn.now c.arrive.new.self) in
-    subst P (sym c.in-Bytes.is) (arrives c.in-Bytes.side c.in-Bytes.bytes c.arrive.result c.args.conn.now c.arrive.new.self c.arrive.ensures.hears c.arrive.ensures.ends)
+    subst P (sym c.in-Bytes.is) (arrives c.in-Bytes.side c.in-Bytes.bytes c.arrive.result c.args.conn.now c.arrive.new.self (rw c.as_bytes.ensures at c.arrive.ensures.hears) (rw c.as_bytes.ensures at c.arrive.ensures.ends))
 
 pub returns-in-Ends-clause-hears : goal.returns-in-Ends-clause-hears
 returns-in-Ends-clause-hears c =
