@@ -3,8 +3,8 @@
 ghost use Rattle.std.specs.Prelude.{IfOk, OnOk, ◌+◌, ◌≡◌, ◌≤◌};
 ghost use Rattle.tcl_trees.specs.TreeView.{node_view};
 ghost use Rattle.rule_model.specs.Commands.{expression_of};
-ghost use Rattle.frame_machine.specs.Reading.{IsReading, ReadsFrom, read_cost, read_ticks};
-ghost use Rattle.frame_machine.specs.Reading.{expression_cost, expression_ticks};
+ghost use Rattle.frame_machine.specs.Reading.{IsReading, ReadsFrom, StandsIn, expression_cost};
+ghost use Rattle.frame_machine.specs.Reading.{expression_ticks, read_cost, read_next, read_ticks};
 ghost use Rattle.frame_machine.specs.Reads.{known_by};
 
 use crate::frame::{Frame, Room};
@@ -17,6 +17,7 @@ use expr_of_words::read_expression;
 use px_bytes::{M, Memory, Raise, Steps, Texts};
 use rule_model::Code;
 use rule_nodes::too_deep;
+use std::alloc::Global;
 use std::sync::ledger::Ledger;
 use tcl_trees::Node;
 
@@ -43,7 +44,7 @@ pub(crate) fn begin_read<L: Ledger, K: Ledger>(
     }
 }
 
-// An expression that was read.
+// An expression that was read. What has exits borrows it, since each exit would drop it anew.
 fn begin_tree<L: Ledger, K: Ledger>(
     reads: &Reads<'_>,
     room: Room,
@@ -58,20 +59,54 @@ fn begin_tree<L: Ledger, K: Ledger>(
         OnOk result (steps.new ≡ steps.old + ticks) }
     ensures few { steps.new ≤ steps.old + 5 }
 {
-    paid.add(alone(&tree));
-    if room.expressions == 0 {
-        let fault = too_deep(reads.alloc)?;
-        return Ok(Next::stop(Code::Raised(fault)));
-    }
-    match quick(reads, &tree, steps, paid)? {
-        Some(code) => go_whole(reads.alloc, code),
-        None => {
-            let tree = Box::new(reads.alloc, tree)?;
-            let room = Room {
-                expressions: room.expressions - 1,
-                ..room
-            };
-            Ok(Next::child(Frame::Read { tree, room }))
+    match read_at_once(reads, room, &tree, steps, paid) {
+        Ok(None) => stand_in(reads.alloc, room, tree),
+        Ok(Some(next)) => {
+            drop(tree);
+            Ok(next)
+        }
+        Err(memory) => {
+            drop(tree);
+            Err(memory)
         }
     }
+}
+
+// What an expression that was read comes to in the move that reads it.
+fn read_at_once<L: Ledger, K: Ledger>(
+    reads: &Reads<'_>,
+    room: Room,
+    tree: &Node,
+    steps: &mut Steps<L>,
+    paid: &mut Steps<K>,
+) -> M<Option<Next>>
+    ensures next { let next = read_next (known_by reads.now) room (node_view tree.now) in
+        IfOk result (λ n. n ≡ next) }
+    ensures cost { let cost = read_cost (known_by reads.now) room (node_view tree.now) in
+        OnOk result (paid.new ≡ paid.old + cost) }
+    ensures ticks { let ticks = read_ticks (known_by reads.now) room (node_view tree.now) in
+        OnOk result (steps.new ≡ steps.old + ticks) }
+    ensures few { steps.new ≤ steps.old + 5 }
+{
+    paid.add(alone(tree));
+    if room.expressions == 0 {
+        let fault = too_deep(reads.alloc)?;
+        return Ok(Some(Next::stop(Code::Raised(fault))));
+    }
+    match quick(reads, tree, steps, paid)? {
+        Some(code) => Ok(Some(go_whole(reads.alloc, code)?)),
+        None => Ok(None),
+    }
+}
+
+// A frame owns the expression, which begins.
+fn stand_in(alloc: Global, room: Room, tree: Node) -> M<Next>
+    ensures { IfOk result (λ n. StandsIn room (node_view tree) n) }
+{
+    let tree = Box::new(alloc, tree)?;
+    let room = Room {
+        expressions: room.expressions.saturating_sub(1),
+        ..room
+    };
+    Ok(Next::child(Frame::Read { tree, room }))
 }
