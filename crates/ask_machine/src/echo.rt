@@ -6,7 +6,7 @@ ghost use Rattle.px_bytes.specs.Answered.{DidStep};
 ghost use Rattle.rule_model.specs.Host.{Effect};
 ghost use Rattle.ask_machine.specs.Echo.{commands, no_effect, sends};
 
-use frame_machine::Host;
+use frames::Host;
 use plain_eval::PlainHost;
 use px_bytes::{HostAnswer, M, TclFault, Text, Texts};
 use std::alloc::Global;

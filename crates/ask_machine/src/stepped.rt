@@ -1,13 +1,14 @@
 // Bodies by steps.
 
 ghost use Rattle.std.specs.Prelude.{IfOk, IfSome, ◌<◌, ◌≡◌};
-ghost use Rattle.frame_machine.specs.Went.{IsAsked, IsRunning, TurnIs};
+ghost use Rattle.frames.specs.Went.{IsAsked, IsRunning, TurnIs};
 
 use crate::body::Body;
 use crate::echo::Echo;
 use crate::outcome::{end_of, push_asks, push_end, push_whole};
 use crate::run::Run;
-use frame_machine::{Machine, Turn};
+use frame_machine::Stepper;
+use frames::{Machine, Moves, Turn};
 use px_bytes::{M, Reply, Steps, Text, Texts};
 use std::alloc::Global;
 use std::marker::Brand;
@@ -65,9 +66,10 @@ impl<'a> Runner<'a> {
     {
         let (tree, procs, all) = (self.body.tree, self.body.procs, self.body.all_shared);
         let (statics, vars, host) = (Some(&self.statics), &mut self.vars, &mut self.host);
-        let turn = self
-            .machine
-            .step(alloc, tree, procs, statics, vars, host, &all, steps)?;
+        let machine = &mut self.machine;
+        let turn = Stepper::step(
+            machine, alloc, tree, procs, statics, vars, host, &all, steps,
+        )?;
         self.count();
         Ok(turn)
     }

@@ -5,7 +5,8 @@ ghost use Rattle.std.specs.Prelude.{◌<◌, ◌≡◌};
 use crate::echo::Echo;
 use crate::outcome::{end_of, push_asks, push_end, push_hex};
 use conn::{Body, Handler};
-use frame_machine::Turn;
+use frame_machine::Stepper;
+use frames::Turn;
 use px_bytes::{M, Reply, Steps, Text};
 use std::alloc::Global;
 use std::marker::Brand;
@@ -62,7 +63,7 @@ impl<'a> Suspended<'a> {
         let (vars, host) = (&mut self.vars, &mut self.host);
         let (handler, statics) = (&self.handler, &self.statics);
         self.body
-            .step(alloc, handler, statics, vars, host, &false, steps, spent)
+            .step::<Stepper, Echo, L>(alloc, handler, statics, vars, host, &false, steps, spent)
     }
 
     // Goes on slice by slice while replies are left, and writes what each came to, and what was sent.

@@ -10,7 +10,7 @@ use Rattle.conn_trace.specs.Item.{Item, Ran, calls_in, client_output, server_out
 use Rattle.core_events.specs.declared.note.Note.TheVariants as note
 use Rattle.conn_trace.specs.Gates.{Counts, TakenCounts, Met, sent_after, sent_from}
 use Rattle.conn_trace.specs.Bodies.{act_item}
-use Rattle.frame_machine.specs.Went.{effects_in}
+use Rattle.frames.specs.Went.{effects_in}
 use Rattle.conn.specs.Hosts.{SendsToFirst, client_bytes, server_bytes, logs_of}
 use Rattle.conn.proofs.Joining.{TakesNone, TakesNoCut}
 

@@ -19,7 +19,7 @@ use Rattle.core_events.specs.declared.note.CutReason.TheVariants.{ClientReset, S
 use Rattle.core_events.specs.declared.note.Note.{Note}
 use Rattle.core_events.specs.declared.note.Note.TheVariants as note
 use Rattle.conn_trace.proofs.Given.{sent_counted}
-use Rattle.frame_machine.specs.Went.{effects_in}
+use Rattle.frames.specs.Went.{effects_in}
 use Rattle.conn.specs.Acts.{Rests, RestsBy, cut_of}
 use Rattle.conn.specs.Changes.{Closes}
 use Rattle.conn.specs.Ends.{connects_by, has_stream, is_up, link_by, number_by, server_by}

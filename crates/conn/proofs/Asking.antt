@@ -4,12 +4,12 @@ use Rattle.tcl_trees.specs.Tree.{Tree}
 use Rattle.tcl_vars.specs.Scopes.{Scopes}
 use Rattle.rule_model.specs.Outcome.{Act, Called, State, state, Waits, heard}
 use Rattle.rule_model.specs.Setting.{Setting, Inner}
-use Rattle.frame_machine.specs.Frames.{apply, unwind, inside, wants, places, room_in, inner_of, full_room, comes_to, path_of}
-use Rattle.frame_machine.specs.declared.frame.Frame.{Frame}
-use Rattle.frame_machine.specs.declared.frame.Frame.TheVariants as frame
-use Rattle.frame_machine.specs.declared.frame.Mode.TheVariants as mode
-use Rattle.frame_machine.specs.declared.frame.Room.{Room}
-use Rattle.frame_machine.specs.declared.frame.Standing.{Standing}
+use Rattle.frames.specs.Frames.{apply, unwind, inside, wants, places, room_in, inner_of, full_room, comes_to, path_of}
+use Rattle.frames.specs.declared.frame.Frame.{Frame}
+use Rattle.frames.specs.declared.frame.Frame.TheVariants as frame
+use Rattle.frames.specs.declared.frame.Mode.TheVariants as mode
+use Rattle.frames.specs.declared.frame.Room.{Room}
+use Rattle.frames.specs.declared.frame.Standing.{Standing}
 
 -- a wait goes through every frame
 frame_waits : {H : Type 0} (g : Setting H) (i : Inner H) (t : Tree) (p : List ℕ) (f : Frame) (path : List ℕ) (call : List (List ℕ)) (st : State H) → apply g i t p f (Waits path call st) ≡ Waits path call st

@@ -26,11 +26,11 @@ use Rattle.conn_trace.specs.Trace.{next_item, Unfolds}
 use Rattle.conn_trace.proofs.BodyItems.{running, ended, body_waits}
 use Rattle.conn_trace.proofs.Unfolding.{unfolds_on, unfolds_one}
 use Rattle.core_events.specs.declared.note.Note.{Note}
-use Rattle.frame_machine.specs.Frames.{comes_to, path_of}
-use Rattle.frame_machine.specs.Given.{setting}
-use Rattle.frame_machine.specs.Went.{Went, place, comes_by, effects_in, TurnIs}
-use Rattle.frame_machine.specs.declared.turn.Turn.{Turn}
-use Rattle.frame_machine.specs.declared.turn.Turn.TheVariants as turn
+use Rattle.frames.specs.Frames.{comes_to, path_of}
+use Rattle.frames.specs.Given.{setting}
+use Rattle.frames.specs.Went.{Went, place, comes_by, effects_in, TurnIs}
+use Rattle.frames.specs.declared.turn.Turn.{Turn}
+use Rattle.frames.specs.declared.turn.Turn.TheVariants as turn
 use Rattle.conn.specs.Ends.{link_by, number_by}
 use Rattle.conn.specs.Steps.{BodySteps, GoesOn, ended_of, one_of, said_of}
 use Rattle.conn.specs.Bodies.{SaidIs}

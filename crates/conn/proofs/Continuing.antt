@@ -24,9 +24,9 @@ use Rattle.conn_trace.proofs.Furthering.{further_keeps}
 use Rattle.conn_trace.proofs.Given.{cut_keeps}
 use Rattle.conn_trace.proofs.Taking.{met_more}
 use Rattle.conn_trace.proofs.Unfolding.{trace_unfolds}
-use Rattle.frame_machine.specs.Frames.{comes_to, path_of}
-use Rattle.frame_machine.specs.declared.frame.Mode.TheVariants as mode
-use Rattle.frame_machine.specs.declared.frame.Standing.{Standing}
+use Rattle.frames.specs.Frames.{comes_to, path_of}
+use Rattle.frames.specs.declared.frame.Mode.TheVariants as mode
+use Rattle.frames.specs.declared.frame.Standing.{Standing}
 use Rattle.conn.specs.Continues.{gated_phase, phase_at, sent_by, own_state, items_of, first_ahead, ahead_at, MayCome, ConnectionContinues}
 use Rattle.conn.specs.Events.{event_of}
 use Rattle.conn.specs.Holds.{Around, Between, BodyGoesOn, GatedBefore, HoldsEnds, RunsFirst, Stands, Holds, call_of}

@@ -14,8 +14,8 @@ use Rattle.irule_net.specs.declared.state.NetState.{NetState}
 use Rattle.conn_trace.specs.Host.{HostState, commands}
 use Rattle.conn_trace.specs.Setup.{Setup}
 use Rattle.core_events.specs.declared.note.Note.{Note}
-use Rattle.frame_machine.specs.Went.{CalledBy, IsCall, Place, Went, effects_in, place}
-use Rattle.frame_machine.specs.declared.turn.Turn.{Turn}
+use Rattle.frames.specs.Went.{CalledBy, IsCall, Place, Went, effects_in, place}
+use Rattle.frames.specs.declared.turn.Turn.{Turn}
 use Rattle.conn.specs.Bodies.{SaidIs}
 use Rattle.conn.specs.Events.{event_of}
 use Rattle.conn.specs.Hosts.{KeepsCollects, Made, OneAtMost, SendsToFirst, Told, cleared_host, client_bytes, seen_host, server_bytes}

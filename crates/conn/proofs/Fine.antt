@@ -18,7 +18,7 @@ use Rattle.rule_model.proofs.Calls.{SameInner}
 use Rattle.rule_model.proofs.Facts.{Free, free as any}
 use Rattle.rule_model.proofs.Pieces.{AllSame, AllJoined, AllPaired, then_truth_same, first_true_same}
 use Rattle.rule_model.proofs.Trees.{meaning_same}
-use Rattle.frame_machine.specs.Frames.{after_condition}
+use Rattle.frames.specs.Frames.{after_condition}
 
 -- what is heard of an outcome
 heard_is : {H : Type 0} (wanted : Bool) (o : Outcome H) → then_code o (λ c st. Ends (heard_code wanted c) st) ≡ heard wanted o

@@ -19,13 +19,13 @@ use Rattle.rule_model.proofs.Calls.{command_same}
 use Rattle.rule_model.proofs.Facts.{Free, free as any}
 use Rattle.rule_model.proofs.Pieces.{AllJoined, AllPaired, in_word_same, word_at_same, in_order_same, commands_same, prefixes_same, operands_same, row_same, whole_same}
 use Rattle.rule_nodes.specs.Rows.{rows_view}
-use Rattle.frame_machine.specs.Children.{node_at}
-use Rattle.frame_machine.specs.Frames.{inner_of, places, wants, room_in, inside, commands_in, pieces_in, text_end, word_price, words_in, words_end, operators_of, joints_in, conditions_in, condition_price, last_in, after_condition, test_in, next_in, body_in, again, apply, unwind, tree_above, path_of, room_above, current, meaning}
-use Rattle.frame_machine.specs.declared.frame.Frame.{Frame}
-use Rattle.frame_machine.specs.declared.frame.Frame.TheVariants as frame
-use Rattle.frame_machine.specs.declared.frame.Mode.{Mode}
-use Rattle.frame_machine.specs.declared.frame.Mode.TheVariants as mode
-use Rattle.frame_machine.specs.declared.frame.Room.{Room}
+use Rattle.frames.specs.Children.{node_at}
+use Rattle.frames.specs.Frames.{inner_of, places, wants, room_in, inside, commands_in, pieces_in, text_end, word_price, words_in, words_end, operators_of, joints_in, conditions_in, condition_price, last_in, after_condition, test_in, next_in, body_in, again, apply, unwind, tree_above, path_of, room_above, current, meaning}
+use Rattle.frames.specs.declared.frame.Frame.{Frame}
+use Rattle.frames.specs.declared.frame.Frame.TheVariants as frame
+use Rattle.frames.specs.declared.frame.Mode.{Mode}
+use Rattle.frames.specs.declared.frame.Mode.TheVariants as mode
+use Rattle.frames.specs.declared.frame.Room.{Room}
 use Rattle.conn.proofs.Fine.{Fine, FineAt, AllFine, drop_fine, drop_joined, drop_paired, ended, code_fine, value_fine, truth_fine, heard_fine, leave_fine, joined_fine, condition_fine, body_fine, next_fine, turn_fine, turns_fine, rows_fine, tree_fine, inner_fine}
 
 module _ {H : Type 0} (g : Setting H) {R : State H → State H → Type 0} {O : Outcome H → Outcome H → Type 0} {Q : State H → Outcome H → Type 0} (s : Alike g.table g.table R O Q) (f : Fact g.table Free Q)

@@ -12,8 +12,8 @@ use Rattle.rule_model.specs.declared.code.Code.{Code}
 use Rattle.rule_model.specs.declared.code.Code.TheVariants.{Value, Raised}
 use Rattle.rule_model.proofs.Alike.{Fact, Alike, SameMeaning, with_vars, spent}
 use Rattle.rule_model.proofs.Facts.{Free}
-use Rattle.frame_machine.specs.Frames.{full_room, comes_to}
-use Rattle.frame_machine.specs.declared.frame.Standing.{Standing}
+use Rattle.frames.specs.Frames.{full_room, comes_to}
+use Rattle.frames.specs.declared.frame.Standing.{Standing}
 use Rattle.conn.proofs.FramesAlike.{frames_same}
 
 -- the same with these acts in front

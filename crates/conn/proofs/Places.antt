@@ -24,11 +24,11 @@ use Rattle.conn_trace.specs.Places.{Place, place, at as put, after_event, begun,
 use Rattle.conn_trace.specs.Setup.{Handler, Setup}
 use Rattle.conn_trace.specs.State.{Choosing, Collecting, Finishing, Gated, Relaying, Running, InEvent, Phase, Stream, TraceState, link_of}
 use Rattle.conn_trace.specs.State as state
-use Rattle.frame_machine.specs.Frames.{full_room, meaning, comes_to}
-use Rattle.frame_machine.specs.declared.frame.Frame.{Frame}
-use Rattle.frame_machine.specs.declared.frame.Mode.{Mode}
-use Rattle.frame_machine.specs.declared.frame.Mode.TheVariants as mode
-use Rattle.frame_machine.specs.declared.frame.Standing.{Standing}
+use Rattle.frames.specs.Frames.{full_room, meaning, comes_to}
+use Rattle.frames.specs.declared.frame.Frame.{Frame}
+use Rattle.frames.specs.declared.frame.Mode.{Mode}
+use Rattle.frames.specs.declared.frame.Mode.TheVariants as mode
+use Rattle.frames.specs.declared.frame.Standing.{Standing}
 use Rattle.conn.specs.Changes.{Begins, ClosesClient, ClosesServer, Closes as ClosesAll, Enters, GoesTo, Leaves, NextBody, StartsBody, left_stage}
 use Rattle.conn.specs.Ends.{is_sought, is_up, link_by, server_by}
 use Rattle.conn.specs.Events.{event_of, is_closed}

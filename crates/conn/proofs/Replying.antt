@@ -15,10 +15,10 @@ use Rattle.conn_trace.specs.Further.{longer, first_cut, nothing_comes, replies_o
 use Rattle.conn_trace.specs.Host.{body_setting}
 use Rattle.conn_trace.specs.Setup.{Handler, Setup}
 use Rattle.conn_trace.specs.State.{Running, TraceState}
-use Rattle.frame_machine.specs.Frames.{comes_to, path_of}
-use Rattle.frame_machine.specs.declared.frame.Mode.{Mode}
-use Rattle.frame_machine.specs.declared.frame.Mode.TheVariants as mode
-use Rattle.frame_machine.specs.declared.frame.Standing.{Standing}
+use Rattle.frames.specs.Frames.{comes_to, path_of}
+use Rattle.frames.specs.declared.frame.Mode.{Mode}
+use Rattle.frames.specs.declared.frame.Mode.TheVariants as mode
+use Rattle.frames.specs.declared.frame.Standing.{Standing}
 use Rattle.conn_trace.specs.State as phase
 use Rattle.conn_trace.specs.Selected.{addr_of}
 use Rattle.conn_trace.proofs.Spelling.{spelled, written_is_selected}

@@ -2,9 +2,9 @@
 use Rattle.std.specs.Prelude.{◌≡◌, ℕ, [], true, false}
 use Rattle.px_bytes.specs.declared.fault.Reply.{Reply}
 use Rattle.rule_model.specs.Outcome.{reply_code}
-use Rattle.frame_machine.specs.declared.frame.Mode.TheVariants as mode
-use Rattle.frame_machine.specs.declared.turn.Turn.{Turn}
-use Rattle.frame_machine.specs.declared.turn.Turn.TheVariants as turn
+use Rattle.frames.specs.declared.frame.Mode.TheVariants as mode
+use Rattle.frames.specs.declared.turn.Turn.{Turn}
+use Rattle.frames.specs.declared.turn.Turn.TheVariants as turn
 use Rattle.conn.specs.declared.body.Body.{Body}
 
 -- none runs or waits

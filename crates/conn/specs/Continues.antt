@@ -20,7 +20,7 @@ use Rattle.core_events.specs.declared.note.Note.{Note}
 use Rattle.conn_trace.specs.State as phase
 use Rattle.conn_trace.specs.Trace.{counted, next_item, selected_next, Unfolds, trace_from}
 use Rattle.conn_trace.specs.Trace.{trace, start}
-use Rattle.frame_machine.specs.Frames.{comes_to}
+use Rattle.frames.specs.Frames.{comes_to}
 use Rattle.irule_net.specs.declared.state.NetState.{NetState}
 use Rattle.px_bytes.specs.declared.addr.Side.{Side}
 use Rattle.conn.specs.declared.connection.Conn.{Conn}

@@ -19,7 +19,7 @@ use Rattle.conn_trace.specs.Selected.{any_member, only_member, select_call}
 use Rattle.conn_trace.specs.Setup.{Handler, Setup}
 use Rattle.conn_trace.specs.State.{Gated, Running, Failing, Phase, InEvent, TraceState}
 use Rattle.conn_trace.specs.State as phase
-use Rattle.frame_machine.specs.Frames.{comes_to}
+use Rattle.frames.specs.Frames.{comes_to}
 use Rattle.conn.specs.declared.connection.Conn.{Conn}
 use Rattle.conn.specs.declared.ends.Ends.{Ends}
 use Rattle.conn.specs.declared.ends.Link.TheVariants as link

@@ -1,7 +1,7 @@
 -- What a machine may do next.
 use Rattle.std.specs.Prelude.{Bool, true, false}
-use Rattle.frame_machine.specs.declared.frame.Mode.{Mode}
-use Rattle.frame_machine.specs.declared.frame.Mode.TheVariants as mode
+use Rattle.frames.specs.declared.frame.Mode.{Mode}
+use Rattle.frames.specs.declared.frame.Mode.TheVariants as mode
 
 abbrev pub is_running : Mode → Bool
 is_running mode.Begin = true

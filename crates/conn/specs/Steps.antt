@@ -6,10 +6,10 @@ use Rattle.rule_model.specs.Outcome.{uncaught_of}
 use Rattle.conn_trace.specs.Host.{commands}
 use Rattle.conn_trace.specs.Setup.{Handler, uncaught_line}
 use Rattle.core_events.specs.declared.note.Note.{Note}
-use Rattle.frame_machine.specs.Given.{setting}
-use Rattle.frame_machine.specs.Went.{Went, place}
-use Rattle.frame_machine.specs.declared.turn.Turn.{Turn}
-use Rattle.frame_machine.specs.declared.turn.Turn.TheVariants as turn
+use Rattle.frames.specs.Given.{setting}
+use Rattle.frames.specs.Went.{Went, place}
+use Rattle.frames.specs.declared.turn.Turn.{Turn}
+use Rattle.frames.specs.declared.turn.Turn.TheVariants as turn
 use Rattle.conn.specs.declared.body_step.Said.{Said}
 use Rattle.conn.specs.declared.body_step.Said.TheVariants as said
 use Rattle.conn.specs.declared.connection.Conn.{Conn}

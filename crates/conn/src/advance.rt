@@ -11,6 +11,7 @@ use crate::setup::Setup;
 use crate::stage::{Finish, Stage};
 use crate::turn::Act;
 use core_events::{CutReason, Note, Notes};
+use frames::Moves;
 use px_bytes::{FaultKind, M, Steps};
 use std::alloc::Global;
 use std::mem;
@@ -18,7 +19,7 @@ use std::sync::ledger::Ledger;
 
 impl Conn {
     /// Gives the items of one action, where there are some and they may be given.
-    pub(crate) fn advance<L: Ledger>(
+    pub(crate) fn advance<S: Moves, L: Ledger>(
         &mut self,
         alloc: Global,
         setup: &Setup<'_>,
@@ -43,7 +44,7 @@ impl Conn {
     {
         match self.stage {
             Stage::Running { at, number: body } => {
-                self.step_body(alloc, setup, number, at, body, steps, spent, notes)
+                self.step_body::<S, L>(alloc, setup, number, at, body, steps, spent, notes)
             },
             Stage::Failing { .. } => {
                 steps.tick();

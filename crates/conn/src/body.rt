@@ -1,7 +1,7 @@
 // A body that runs.
 
 use crate::setup::Handler;
-use frame_machine::{Host, Machine, Turn};
+use frames::{Host, Machine, Moves, Turn};
 use px_bytes::{M, Reply, Steps};
 use std::alloc::Global;
 use std::sync::ledger::Ledger;
@@ -27,8 +27,8 @@ impl Body {
     ghost use Rattle.px_bytes.specs.Host.{Effect};
     ghost use Rattle.tcl_trees.specs.Procedures.{procs_view};
     ghost use Rattle.tcl_trees.specs.TreeView.{node_view};
-    ghost use Rattle.frame_machine.specs.Given.{setting};
-    ghost use Rattle.frame_machine.specs.Went.{Went, place};
+    ghost use Rattle.frames.specs.Given.{setting};
+    ghost use Rattle.frames.specs.Went.{Went, place};
     ghost use Rattle.conn.specs.Bodies.{Fresh, Heard, IsIdle, SaidIs};
 
     /// A body that doesn't run.
@@ -65,7 +65,7 @@ impl Body {
     }
 
     /// One step of the body, on these static variables.
-    pub fn step<H: Host, L: Ledger>(
+    pub fn step<S: Moves, H: Host, L: Ledger>(
         &mut self,
         alloc: Global,
         handler: &Handler<'_>,
@@ -98,7 +98,8 @@ impl Body {
         self.runs = false;
         self.asks = false;
         let statics = Some(statics);
-        let turn = self.machine.step::<H, L>(
+        let turn = S::step::<H, L>(
+            &mut self.machine,
             alloc,
             handler.body,
             handler.procs,

@@ -9,13 +9,14 @@ ghost use Rattle.conn.specs.Steps.{BodyMoved, GoesOn, said_of};
 use crate::connection::Conn;
 use crate::ends::Link;
 use crate::events::At;
+use crate::host::RuleHost;
 use crate::setup::{Handler, Setup};
 use crate::stage::Stage;
 use crate::turn::Act;
 use crate::uncaught::uncaught;
 use conn_trace::uncaught_line;
 use core_events::Notes;
-use frame_machine::Turn;
+use frames::{Moves, Turn};
 use irule_net::NetState;
 use px_bytes::{FaultKind, M, Steps, Text, Texts};
 use std::alloc::Global;
@@ -55,7 +56,7 @@ impl Conn {
 
     /// The body goes on by one step, and what its command made is done. Where memory is refused nothing
     /// is noted.
-    pub(crate) fn step_body<L: Ledger>(
+    pub(crate) fn step_body<S: Moves, L: Ledger>(
         &mut self,
         alloc: Global,
         setup: &Setup<'_>,
@@ -86,7 +87,7 @@ impl Conn {
             return Ok(Act::Rests);
         };
         self.host.made.clear();
-        let turn = self.body.step(
+        let turn = self.body.step::<S, RuleHost, L>(
             alloc,
             &handler,
             setup.statics,

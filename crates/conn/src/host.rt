@@ -10,7 +10,7 @@ ghost use Rattle.conn.specs.Hosts.{selected_host};
 use crate::events::At;
 use conn_trace::is_there;
 use event_order::EventName;
-use frame_machine::Host;
+use frames::Host;
 use irule_net::{Asks, Collected, Effects, Groups, NetState, Selected, net_command};
 use px_bytes::{HostAnswer, M, Side, TclFault, Text, Texts};
 use std::alloc::Global;

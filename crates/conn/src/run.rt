@@ -11,6 +11,7 @@ use crate::setup::Setup;
 use crate::stage::Stage;
 use crate::turn::{Act, ConnTurn};
 use core_events::Notes;
+use frames::Moves;
 use px_bytes::Steps;
 use std::alloc::Global;
 use std::sync::ledger::Ledger;
@@ -23,7 +24,7 @@ const MOST_NOTES: usize = 64;
 impl Conn {
     /// Goes on until it waits, is over, counted more than 1,990 steps or gave 64 notes. Where memory
     /// is refused it finishes and is over.
-    pub fn run<L: Ledger>(
+    pub fn run<S: Moves, L: Ledger>(
         &mut self,
         alloc: Global,
         setup: &Setup<'_>,
@@ -59,7 +60,7 @@ impl Conn {
                 return ConnTurn::More;
             }
             let pending = self.ends.queued();
-            match self.advance(alloc, setup, number, steps, &mut spent, notes) {
+            match self.advance::<S, L>(alloc, setup, number, steps, &mut spent, notes) {
                 Ok(Act::Goes) => {}
                 Ok(Act::Asks(call)) => return ConnTurn::Asks(call),
                 Ok(Act::Rests) => return self.comes_to_rest(number, notes),

@@ -12,20 +12,20 @@ use Rattle.rule_model.specs.Outcome.{Act, State, state, Outcome, heard, heard_co
 use Rattle.rule_model.specs.Setting.{Setting}
 use Rattle.rule_model.specs.declared.code.Code.{Code}
 use Rattle.rule_model.specs.declared.code.Code.TheVariants.{Value, Raised, Return, Break, Continue}
-use Rattle.frame_machine.specs.Frames.{apply, unwind, inside, wants, places, room_in, inner_of, full_room, meaning, path_of, room_above, tree_above, comes_to}
-use Rattle.frame_machine.specs.Moves.{Moved, Now, Ready, ReadyBy, begins, due, frame_owed, goes_on, list_of, now, state_at}
-use Rattle.frame_machine.specs.Owed.{Heavy, is_flat, mode_owed, owed, owed_by, weight}
+use Rattle.frames.specs.Frames.{apply, unwind, inside, wants, places, room_in, inner_of, full_room, meaning, path_of, room_above, tree_above, comes_to}
+use Rattle.frames.specs.Moves.{Moved, Now, Ready, ReadyBy, begins, due, frame_owed, goes_on, list_of, now, state_at}
+use Rattle.frames.specs.Owed.{Heavy, is_flat, mode_owed, owed, owed_by, weight}
 use Rattle.frame_machine.specs.Places.{wants_above}
 use Rattle.frame_machine.specs.Steps.{StepsTo, told_mode, told_turn}
-use Rattle.frame_machine.specs.Went.{Went, TurnIs, comes_by}
-use Rattle.frame_machine.specs.declared.frame.Frame.{Frame}
-use Rattle.frame_machine.specs.declared.frame.Mode.{Mode}
-use Rattle.frame_machine.specs.declared.frame.Mode.TheVariants as mode
-use Rattle.frame_machine.specs.declared.frame.Room.{Room}
-use Rattle.frame_machine.specs.declared.frame.Standing.{Standing}
-use Rattle.frame_machine.specs.declared.next.Next.{Next}
-use Rattle.frame_machine.specs.declared.turn.Turn.{Turn}
-use Rattle.frame_machine.proofs.Heard.{heard_true}
+use Rattle.frames.specs.Went.{Went, TurnIs, comes_by}
+use Rattle.frames.specs.declared.frame.Frame.{Frame}
+use Rattle.frames.specs.declared.frame.Mode.{Mode}
+use Rattle.frames.specs.declared.frame.Mode.TheVariants as mode
+use Rattle.frames.specs.declared.frame.Room.{Room}
+use Rattle.frames.specs.declared.frame.Standing.{Standing}
+use Rattle.frames.specs.declared.next.Next.{Next}
+use Rattle.frames.specs.declared.turn.Turn.{Turn}
+use Rattle.frames.proofs.Heard.{heard_true}
 
 module _ {H : Type 0} (g : Setting H) where
   unwind_both : (r : Room) (t : Tree) (p : List ℕ) (fs gs : List Frame) (m : Mode) (st : State H)

@@ -5,12 +5,12 @@ use Rattle.std.proofs.lemmas.List.{length-append, length-take, take-append-drop,
 use Rattle.tcl_trees.specs.Procedures.{Procedure}
 use Rattle.tcl_trees.specs.Tree.{Tree}
 use Rattle.tcl_trees.specs.TreeView.{node_view}
-use Rattle.frame_machine.specs.Frames.{full_room, inside, room_above, tree_above}
-use Rattle.frame_machine.specs.Moves.{list_of}
+use Rattle.frames.specs.Frames.{full_room, inside, room_above, tree_above}
+use Rattle.frames.specs.Moves.{list_of}
 use Rattle.frame_machine.specs.Places.{inner_tree, wants_above}
 use Rattle.frame_machine.specs.Walks.{Enters, Follows, Grown, Leads, OnTheWay, Spot, root_spot, spot_above, spot_in, spot_of}
-use Rattle.frame_machine.specs.declared.frame.Frame.{Frame}
-use Rattle.frame_machine.specs.declared.frame.Frame.TheVariants as frame
+use Rattle.frames.specs.declared.frame.Frame.{Frame}
+use Rattle.frames.specs.declared.frame.Frame.TheVariants as frame
 use Rattle.frame_machine.specs.declared.place.Place.{Place}
 use Rattle.frame_machine.specs.declared.place.Waypoint.{Waypoint}
 use Rattle.frame_machine.specs.declared.walk.Walk.{Walk}

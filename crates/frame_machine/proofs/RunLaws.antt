@@ -9,16 +9,16 @@ use Rattle.rule_model.specs.Evaluator.{evaluate}
 use Rattle.rule_model.specs.Outcome.{Act, Called, State, state, Outcome, Waits, heard, reply_code}
 use Rattle.rule_model.specs.Setting.{Setting, Inner}
 use Rattle.rule_model.specs.declared.code.Code.{Code}
-use Rattle.frame_machine.specs.Frames.{apply, unwind, inside, wants, places, room_in, inner_of, full_room, meaning, comes_to, path_of}
-use Rattle.frame_machine.specs.Owed.{owed, owed_by, mode_owed, Heavy}
+use Rattle.frames.specs.Frames.{apply, unwind, inside, wants, places, room_in, inner_of, full_room, meaning, comes_to, path_of}
+use Rattle.frames.specs.Owed.{owed, owed_by, mode_owed, Heavy}
 use Rattle.frame_machine.specs.Runs.{Reached, Link, Steps, Replies, Stepped, Replied, Linked, Starts, Runs, StandsFor, EqualsEvaluator}
-use Rattle.frame_machine.specs.Went.{TurnIs, comes_by}
-use Rattle.frame_machine.specs.declared.frame.Frame.{Frame}
-use Rattle.frame_machine.specs.declared.frame.Frame.TheVariants as frame
-use Rattle.frame_machine.specs.declared.frame.Mode.{Mode}
-use Rattle.frame_machine.specs.declared.frame.Mode.TheVariants as mode
-use Rattle.frame_machine.specs.declared.frame.Standing.{Standing}
-use Rattle.frame_machine.specs.declared.turn.Turn.{Turn}
+use Rattle.frames.specs.Went.{TurnIs, comes_by}
+use Rattle.frames.specs.declared.frame.Frame.{Frame}
+use Rattle.frames.specs.declared.frame.Frame.TheVariants as frame
+use Rattle.frames.specs.declared.frame.Mode.{Mode}
+use Rattle.frames.specs.declared.frame.Mode.TheVariants as mode
+use Rattle.frames.specs.declared.frame.Standing.{Standing}
+use Rattle.frames.specs.declared.turn.Turn.{Turn}
 
 -- a wait goes through every frame
 frame_waits : {H : Type 0} (g : Setting H) (i : Inner H) (t : Tree) (p : List ℕ) (f : Frame) (path : List ℕ) (call : List (List ℕ)) (st : State H) → apply g i t p f (Waits path call st) ≡ Waits path call st

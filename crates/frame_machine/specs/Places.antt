@@ -1,10 +1,10 @@
 -- What the frames say of the node above them.
 use Rattle.std.specs.Prelude.{List, [], ◌∷◌, Bool}
 use Rattle.tcl_trees.specs.Tree.{Tree}
-use Rattle.frame_machine.specs.Children.{node_at, part_at}
-use Rattle.frame_machine.specs.Frames.{places, wants}
-use Rattle.frame_machine.specs.declared.frame.Frame.{Frame}
-use Rattle.frame_machine.specs.declared.frame.Frame.TheVariants as frame
+use Rattle.frames.specs.Children.{node_at, part_at}
+use Rattle.frames.specs.Frames.{places, wants}
+use Rattle.frames.specs.declared.frame.Frame.{Frame}
+use Rattle.frames.specs.declared.frame.Frame.TheVariants as frame
 
 -- whether its value is heard
 abbrev pub wants_above : Bool → List Frame → Bool

@@ -7,11 +7,11 @@ use Rattle.rule_model.specs.Evaluator.{evaluate}
 use Rattle.rule_model.specs.Outcome.{Act, Called, state, Outcome, Ends, Waits}
 use Rattle.rule_model.specs.declared.code.Code.{Code}
 use Rattle.rule_model.specs.Setting.{Setting}
-use Rattle.frame_machine.specs.Frames.{path_of}
-use Rattle.frame_machine.specs.Went.{Place, Went, Resumed, comes_by}
-use Rattle.frame_machine.specs.declared.frame.Mode.TheVariants as mode
-use Rattle.frame_machine.specs.declared.turn.Turn.{Turn}
-use Rattle.frame_machine.specs.declared.turn.Turn.TheVariants as turn
+use Rattle.frames.specs.Frames.{path_of}
+use Rattle.frames.specs.Went.{Place, Went, Resumed, comes_by}
+use Rattle.frames.specs.declared.frame.Mode.TheVariants as mode
+use Rattle.frames.specs.declared.turn.Turn.{Turn}
+use Rattle.frames.specs.declared.turn.Turn.TheVariants as turn
 
 -- where a run stands: the machine's place, what the last step said, the replies that came, and what
 -- was paid, done and ticked so far

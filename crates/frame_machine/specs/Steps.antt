@@ -5,15 +5,15 @@ use Rattle.tcl_trees.specs.Tree.{Tree}
 use Rattle.rule_model.specs.Host.{Effect}
 use Rattle.rule_model.specs.Outcome.{Act}
 use Rattle.rule_model.specs.Setting.{Setting}
-use Rattle.frame_machine.specs.Frames.{full_room, meaning}
-use Rattle.frame_machine.specs.Moves.{Now, state_at}
-use Rattle.frame_machine.specs.Went.{CalledBy, effects_in}
-use Rattle.frame_machine.specs.declared.frame.Frame.{Frame}
-use Rattle.frame_machine.specs.declared.frame.Mode.{Mode}
-use Rattle.frame_machine.specs.declared.frame.Mode.TheVariants as mode
-use Rattle.frame_machine.specs.declared.frame.Standing.{Standing}
-use Rattle.frame_machine.specs.declared.turn.Turn.{Turn}
-use Rattle.frame_machine.specs.declared.turn.Turn.TheVariants as turn
+use Rattle.frames.specs.Frames.{full_room, meaning}
+use Rattle.frames.specs.Moves.{Now, state_at}
+use Rattle.frames.specs.Went.{CalledBy, effects_in}
+use Rattle.frames.specs.declared.frame.Frame.{Frame}
+use Rattle.frames.specs.declared.frame.Mode.{Mode}
+use Rattle.frames.specs.declared.frame.Mode.TheVariants as mode
+use Rattle.frames.specs.declared.frame.Standing.{Standing}
+use Rattle.frames.specs.declared.turn.Turn.{Turn}
+use Rattle.frames.specs.declared.turn.Turn.TheVariants as turn
 
 -- the end of the root is told in the move that makes it
 abbrev pub told_turn : List Frame → Mode → Turn
@@ -36,12 +36,17 @@ pub record StepsTo {H : Type 0} (g : Setting H) (tree : Tree) (fs : List Frame) 
   pub called : Option (List (List ℕ))
   pub once : CalledBy g old.host new.host called acts
 
--- a step with its counter of cost, and what it tells
-pub record Stood {H : Type 0} (g : Setting H) (tree : Tree) (old new : Standing) (said : Turn)
-    (before after : Now H) (made : List Effect → Type 0) : Type 0 where
+-- a step from these frames and this mode, with its counter of cost, and what it tells
+pub record StoodFrom {H : Type 0} (g : Setting H) (tree : Tree) (fs : List Frame) (m : Mode)
+    (new : Standing) (said : Turn) (before after : Now H) (made : List Effect → Type 0)
+    : Type 0 where
   pub mode_before : Mode
-  pub steps : StepsTo g tree old.frames.items old.mode new.frames.items mode_before before after
-      made
+  pub steps : StepsTo g tree fs m new.frames.items mode_before before after made
   pub goes : mode_before ≡ mode.Over → ⊥
   pub mode_is : new.mode ≡ told_mode new.frames.items mode_before
   pub told : said ≡ told_turn new.frames.items mode_before
+
+abbrev pub Stood : {H : Type 0} → Setting H → Tree → (old new : Standing) → Turn
+    → (before after : Now H) → (List Effect → Type 0) → Type 0
+Stood g tree old new said before after made =
+    StoodFrom g tree old.frames.items old.mode new said before after made

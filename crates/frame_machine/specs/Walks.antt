@@ -4,12 +4,12 @@ use Rattle.std.specs.Prelude.{length, take, drop, Bool, true, false, Option}
 use Rattle.tcl_trees.specs.Procedures.{Procedure}
 use Rattle.tcl_trees.specs.Tree.{Tree}
 use Rattle.tcl_trees.specs.TreeView.{node_view}
-use Rattle.frame_machine.specs.Frames.{full_room, inside, room_in, wants}
-use Rattle.frame_machine.specs.Moves.{list_of}
-use Rattle.frame_machine.specs.declared.frame.Frame.{Frame}
-use Rattle.frame_machine.specs.declared.frame.Mode.{Mode}
-use Rattle.frame_machine.specs.declared.frame.Mode.TheVariants as mode
-use Rattle.frame_machine.specs.declared.frame.Room.{Room}
+use Rattle.frames.specs.Frames.{full_room, inside, room_in, wants}
+use Rattle.frames.specs.Moves.{list_of}
+use Rattle.frames.specs.declared.frame.Frame.{Frame}
+use Rattle.frames.specs.declared.frame.Mode.{Mode}
+use Rattle.frames.specs.declared.frame.Mode.TheVariants as mode
+use Rattle.frames.specs.declared.frame.Room.{Room}
 use Rattle.frame_machine.specs.declared.place.Place.{Place}
 use Rattle.frame_machine.specs.declared.place.Waypoint.{Waypoint}
 use Rattle.frame_machine.specs.declared.walk.Walk.{Walk}

@@ -4,12 +4,11 @@ ghost use Rattle.std.specs.Prelude.{IfSome, drop, length, ◌≡◌, ◌≤◌};
 ghost use Rattle.tcl_trees.specs.Procedures.{procs_view};
 ghost use Rattle.tcl_trees.specs.Tree.{next_body};
 ghost use Rattle.tcl_trees.specs.TreeView.{node_view};
-ghost use Rattle.frame_machine.specs.Frames.{body_of, inside, room_in, wants};
+ghost use Rattle.frames.specs.Frames.{body_of, inside, room_in, wants};
 ghost use Rattle.frame_machine.specs.Places.{inner_tree};
 ghost use Rattle.frame_machine.specs.Walks.{root_spot, spot_above, spot_in, spot_of};
 
-use crate::children::{child_at, part_at};
-use crate::frame::{Frame, Room};
+use frames::{Frame, Room, child_at, part_at};
 use tcl_trees::{Node, Procs};
 
 /// The most calls, and the most expressions that are read when they run, inside one another.

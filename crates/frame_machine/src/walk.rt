@@ -6,8 +6,8 @@ ghost use Rattle.tcl_trees.specs.Tree.{Tree};
 ghost use Rattle.tcl_trees.specs.TreeView.{node_view};
 ghost use Rattle.frame_machine.specs.Walks.{Enters, Follows, root_spot, spot_of, staying};
 
-use crate::frame::{Frame, Mode, Standing};
 use crate::place::{Place, Waypoint, place_in, root_place};
+use frames::{Frame, Mode, Standing};
 use px_bytes::M;
 use std::alloc::Global;
 use tcl_trees::{Node, Procs};

@@ -10,6 +10,7 @@ ghost use Rattle.proxy.specs.Written.{Stands};
 ghost use Rattle.proxy.specs.Stops.{GoesOnWith, StopsAtStart, StopsWith};
 
 use crate::taken::{Taken, add_took, took_by};
+use frame_machine::Stepper;
 use journal_text::{LineKind, write_notes};
 use proxy_core::{BadEvent, Config, Core, Event, Note, Notes};
 use px_bytes::{Memory, Steps};
@@ -116,7 +117,7 @@ impl Replay {
         self.notes.clear();
         self.notes.reserve(68)?;
         let took = took_by(&self.core, &event)?;
-        if let Err(why) = self.core.step(event, steps, &mut self.notes) {
+        if let Err(why) = self.core.step::<Stepper, L>(event, steps, &mut self.notes) {
             return Err(Stop::Event { line, why });
         }
         self.events += 1;

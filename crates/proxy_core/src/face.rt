@@ -9,6 +9,7 @@ ghost use Rattle.proxy_core.specs.Steps.{KeepsStanding};
 
 use crate::core_state::Core;
 use core_events::{EdgeState, Event, Notes};
+use frame_machine::Stepper;
 use px_bytes::{Addr, Side, Steps};
 use std::marker::Brand;
 use std::sync::ledger::{Blank, Ledger};
@@ -122,7 +123,7 @@ fn counted<L: Ledger>(core: &mut Core, event: Event, notes: &mut Notes, blank: B
     ensures stands { Stands core.old → Stands core.new }
 {
     let mut steps = Steps::<L>::new(blank);
-    match core.step(event, &mut steps, notes) {
+    match core.step::<Stepper, L>(event, &mut steps, notes) {
         Ok(()) => true,
         Err(_) => false,
     }

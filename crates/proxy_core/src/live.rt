@@ -22,6 +22,7 @@ ghost use Rattle.proxy_core.specs.Live.{pending_in, takes_memory, wanted_of};
 use crate::call::Asked;
 use conn::{Conn, ConnTurn, Setup, close};
 use core_events::{BadEvent, Cause, EdgeState, Edges, Input, Note, Notes};
+use frames::Moves;
 use px_bytes::{Addr, M, Reply, Side, Steps};
 use shared_store::Store;
 use std::alloc::Global;
@@ -256,7 +257,7 @@ impl Live {
     }
 
     /// Runs the connection, and says what its Run comes to.
-    pub fn run<L: Ledger>(
+    pub fn run<S: Moves, L: Ledger>(
         &mut self,
         alloc: Global,
         setup: &Setup<'_>,
@@ -275,7 +276,7 @@ impl Live {
         ensures few_notes { length notes.new.items ≤ length notes.old.items + 68 }
     {
         match &mut self.conn {
-            Some(conn) => conn.run(alloc, setup, self.number, steps, notes),
+            Some(conn) => conn.run::<S, L>(alloc, setup, self.number, steps, notes),
             None => {
                 end(self.number, &mut self.edges, notes);
                 ConnTurn::Over

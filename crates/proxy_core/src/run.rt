@@ -8,6 +8,7 @@ use crate::core_state::Core;
 use crate::ring::put_behind;
 use crate::setup::setup_at;
 use core_events::Notes;
+use frames::Moves;
 use px_bytes::Steps;
 use std::sync::ledger::Ledger;
 
@@ -15,7 +16,7 @@ impl Core {
     /// Takes the front of the ring and runs its connection, which goes to the back where there is
     /// more to do, and whose call waits behind all others where it made one. On an empty ring
     /// nothing happens.
-    pub(crate) fn run<L: Ledger>(&mut self, steps: &mut Steps<L>, notes: &mut Notes)
+    pub(crate) fn run<S: Moves, L: Ledger>(&mut self, steps: &mut Steps<L>, notes: &mut Notes)
         requires { 68 ≤ notes.old.spare }
         ensures runs { (group : List Note) × (notes.new.items ≡ notes.old.items ++ group)
             × RunsRing self.old self.new self.old.live.ring group (steps.new - steps.old) }
@@ -27,7 +28,7 @@ impl Core {
         };
         let setup = setup_at(&self.config, &self.statics, &self.places, self.live[at].vs);
         let number = self.live[at].number;
-        let turn = self.live[at].run(self.alloc, &setup, steps, notes);
+        let turn = self.live[at].run::<S, L>(self.alloc, &setup, steps, notes);
         if put_behind(&mut self.live, &mut self.queue, at, number, turn) {
             drop(self.live.remove(at));
         }

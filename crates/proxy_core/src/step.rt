@@ -9,12 +9,13 @@ ghost use Rattle.proxy_core.specs.Steps.{Steps, IsRefused};
 
 use crate::core_state::Core;
 use core_events::{BadEvent, Event, EventKind, Notes};
+use frames::Moves;
 use std::sync::ledger::Ledger;
 
 impl Core {
     /// Takes an event and adds its notes. A refused event changes nothing, gives no note and counts
     /// no step. An accepted one gives 68 notes and counts 2,000 steps at most.
-    pub fn step<L: Ledger>(
+    pub fn step<S: Moves, L: Ledger>(
         &mut self,
         event: Event,
         steps: &mut px_bytes::Steps<L>,
@@ -32,11 +33,11 @@ impl Core {
         ensures bounded { steps.new ≤ steps.old + 2000 }
     {
         let kind = event.kind();
-        self.take(&kind, steps, notes)
+        self.take::<S, L>(&kind, steps, notes)
     }
 
     // By what the event may mean.
-    fn take<L: Ledger>(
+    fn take<S: Moves, L: Ledger>(
         &mut self,
         kind: &EventKind,
         steps: &mut px_bytes::Steps<L>,
@@ -64,7 +65,7 @@ impl Core {
                 Ok(())
             }
             EventKind::Runs => {
-                self.run(steps, notes);
+                self.run::<S, L>(steps, notes);
                 Ok(())
             }
             EventKind::Marks(pool, member, up) => self.mark(pool.as_bytes(), *member, *up),

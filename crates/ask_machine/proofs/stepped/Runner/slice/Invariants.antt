@@ -1,4 +1,4 @@
-use Rattle.frame_machine.specs.Went.{IsRunning}
+use Rattle.frames.specs.Went.{IsRunning}
 use Rattle.ask_machine.proofs.stepped.Runner.slice.Given as goal
 
 abbrev pub invariant-loop : goal.invariant-loop

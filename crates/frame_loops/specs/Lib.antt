@@ -1,0 +1,9 @@
+pub mod AtOnce
+pub mod Branches
+pub mod ChoiceParts
+pub mod LoopParts
+pub mod Loops
+pub mod NodeParts
+pub mod Quick
+pub mod Rows
+pub mod Switches

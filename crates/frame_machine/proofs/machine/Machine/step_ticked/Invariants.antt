@@ -1,4 +1,0 @@
-use Rattle.frame_machine.proofs.machine.Machine.step_ticked.Given as goal
-
-abbrev pub ghosts-step_counted : goal.ghosts-step_counted
-ghosts-step_counted g a = record { name = a.blank.name; parts = a.blank.parts }

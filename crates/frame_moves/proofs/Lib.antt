@@ -1,0 +1,6 @@
+mod EndMeans
+mod InEnds
+mod InKinds
+mod InPrefixes
+mod InReading
+mod InTurns

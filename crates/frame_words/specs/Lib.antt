@@ -1,0 +1,10 @@
+pub mod CallParts
+pub mod Calls
+pub mod Catches
+pub mod Commands
+pub mod FirstWords
+pub mod Gathered
+pub mod Pieces
+pub mod Scripts
+pub mod WordMoves
+pub mod Words

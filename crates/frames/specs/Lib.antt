@@ -1,0 +1,13 @@
+pub mod Children
+pub mod Counted
+pub mod Frames
+pub mod Given
+pub mod Leafs
+pub mod Moves
+pub mod Nodes
+pub mod Owed
+pub mod Prices
+pub mod Reads
+pub mod Stills
+pub mod Stops
+pub mod Went
