@@ -39,3 +39,4 @@ pub mod Collecting
 pub mod Releasing
 pub mod Passing
 pub mod Changing
+mod Outside

@@ -120,6 +120,10 @@ is_relaying (stage.Relaying first) link = is_up link
 is_relaying (stage.Gated at) link = is_data at && is_up link
 is_relaying other link = false
 
+abbrev pub is_running : Stage → Bool
+is_running (stage.Running at n) = true
+is_running other = false
+
 -- a body runs, or left a fault
 abbrev pub is_in_body : Stage → Bool
 is_in_body (stage.Running at n) = true

@@ -1,8 +1,9 @@
 // One action of a connection.
 
 ghost use Rattle.std.specs.Prelude.{◌≡◌, ◌+◌, ◌<◌, ◌≤◌, ◌∷◌, ◌++◌, [], length, IfOk, OnOk};
-ghost use Rattle.std.specs.Prelude.{OnErr};
+ghost use Rattle.std.specs.Prelude.{OnErr, false};
 ghost use Rattle.conn.specs.Acts.{Acted, BehindFault, LogsFault, PassesGate, Rests, cut_of};
+ghost use Rattle.conn.specs.Stages.{is_running};
 
 use crate::connection::Conn;
 use crate::ends::ROOM;
@@ -45,70 +46,53 @@ impl Conn {
         match self.stage {
             Stage::Running { at, number: body } => {
                 self.step_body::<S, L>(alloc, setup, number, at, body, steps, spent, notes)
-            },
-            Stage::Failing { .. } => {
+            }
+            _ => {
                 steps.tick();
                 *spent += 1;
+                self.act(alloc, setup, number, notes)
+            }
+        }
+    }
+
+    // One action outside of bodies.
+    fn act(&mut self, alloc: Global, setup: &Setup<'_>, number: u32, notes: &mut Notes) -> M<Act>
+        requires room { 1 ≤ notes.old.spare }
+        requires outside { is_running self.old.stage ≡ false }
+        ensures ok { IfOk result
+            (λ act. Acted setup.now number self.old self.new notes.old.items notes.new.items act) }
+        ensures err { OnErr result (notes.new ≡ notes.old) }
+        ensures kept { OnErr result (self.new.ends.edges ≡ self.old.ends.edges) }
+        ensures spare { notes.old.spare ≤ notes.new.spare + 1 }
+        ensures grows { length notes.old.items ≤ length notes.new.items }
+        ensures room { notes.new.spare + length notes.new.items
+            ≡ notes.old.spare + length notes.old.items }
+    {
+        match self.stage {
+            Stage::Gated { at } => Ok(self.pass_gate(setup, number, at, notes)),
+            Stage::Choosing => self.choose(alloc, setup),
+            Stage::Answering(_) => Ok(self.answer(setup, number, notes)),
+            Stage::Collecting => self.collect(setup, number, notes),
+            Stage::Releasing => self.release(alloc, setup, number, notes),
+            Stage::Relaying(first) => self.relay(setup, number, first, notes),
+            Stage::Failing { .. } => {
                 self.log_fault(setup, number, notes);
                 Ok(Act::Goes)
             }
-            Stage::Gated { at } => {
-                steps.tick();
-                *spent += 1;
-                Ok(self.pass_gate(setup, number, at, notes))
-            }
-            Stage::Choosing => {
-                steps.tick();
-                *spent += 1;
-                self.choose(alloc, setup)
-            }
             Stage::Chosen(addr) => {
-                steps.tick();
-                *spent += 1;
                 self.take_chosen(alloc, setup, addr)?;
                 Ok(Act::Goes)
             }
             Stage::Connecting(to) => {
-                steps.tick();
-                *spent += 1;
                 self.connect(number, to, notes);
                 Ok(Act::Goes)
             }
-            Stage::Answering(_) => {
-                steps.tick();
-                *spent += 1;
-                Ok(self.answer(setup, number, notes))
-            }
-            Stage::Collecting => {
-                steps.tick();
-                *spent += 1;
-                self.collect(setup, number, notes)
-            }
-            Stage::Releasing => {
-                steps.tick();
-                *spent += 1;
-                self.release(alloc, setup, number, notes)
-            }
-            Stage::Relaying(first) => {
-                steps.tick();
-                *spent += 1;
-                self.relay(setup, number, first, notes)
-            }
             Stage::Finishing(finish) => {
-                steps.tick();
-                *spent += 1;
                 self.finish(setup, number, finish, notes);
                 Ok(Act::Goes)
             }
-            Stage::Asking { .. }
-            | Stage::Selecting
-            | Stage::Draining
-            | Stage::OutOfMemory
-            | Stage::Dropped(_) => {
-                steps.tick();
-                *spent += 1;
-                Ok(Act::Rests)
-            }
+            Stage::Running { .. } | Stage::Asking { .. } | Stage::Selecting => Ok(Act::Rests),
+            Stage::Draining | Stage::OutOfMemory | Stage::Dropped(_) => Ok(Act::Rests),
         }
     }
 

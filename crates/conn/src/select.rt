@@ -1,7 +1,9 @@
 // Which server is asked for a connection.
 
-ghost use Rattle.std.specs.Prelude.{◌≡◌, IfOk, OnErr, OnOk};
+ghost use Rattle.std.specs.Prelude.{[], ◌∷◌, ◌++◌, ◌≡◌, IfOk, OnErr, OnOk};
+ghost use Rattle.px_bytes.specs.Address.{ip_text};
 ghost use Rattle.irule_net.specs.Steps.{target_pool};
+ghost use Rattle.conn_trace.specs.Selected.{only_member};
 ghost use Rattle.conn.specs.Changes.{Enters};
 ghost use Rattle.conn.specs.Choosing.{Chooses, TakesChosen, asked_call, plan_of, wanted_of};
 
@@ -106,7 +108,8 @@ fn pool_of(alloc: Global, net: &NetState) -> M<Text>
     }
 }
 
-// The shared call that selects a member of a pool.
+// The shared call that selects a member of a pool. What has exits borrows it, since each exit would
+// drop it anew.
 fn select_call(
     alloc: Global,
     setup: &Setup<'_>,
@@ -117,16 +120,52 @@ fn select_call(
     ensures { IfOk result (λ call. call ≡ asked_call setup.now from pool (wanted_of only)) }
 {
     let mut call = Texts::new(alloc);
-    call.push(Text::new(alloc, b"select")?)?;
-    call.push(Text::new(alloc, setup.name)?)?;
-    call.push(pool)?;
-    call.push(print_ip(alloc, from.ip)?)?;
-    match only {
-        None => call.push(Text::new(alloc, b"any")?)?,
-        Some(addr) => {
-            call.push(Text::new(alloc, b"only")?)?;
-            call.push(print_addr(alloc, addr)?)?;
+    match fill(alloc, &mut call, setup, from, pool, only) {
+        Ok(()) => Ok(call),
+        Err(memory) => {
+            drop(call);
+            Err(memory)
         }
     }
-    Ok(call)
+}
+
+fn fill(
+    alloc: Global,
+    call: &mut Texts,
+    setup: &Setup<'_>,
+    from: Addr,
+    pool: Text,
+    only: Option<Addr>,
+) -> M<()>
+    ensures { let words = asked_call setup.now from pool (wanted_of only) in
+        OnOk result (call.new ≡ call.old ++ words) }
+{
+    add(alloc, call, b"select")?;
+    add(alloc, call, setup.name)?;
+    call.push(pool)?;
+    add_wanted(alloc, call, from, only)
+}
+
+// For which client, and which members will do.
+fn add_wanted(alloc: Global, call: &mut Texts, from: Addr, only: Option<Addr>) -> M<()>
+    ensures { OnOk result (call.new ≡ call.old ++ ip_text from.ip ∷ wanted_of only) }
+{
+    call.push(print_ip(alloc, from.ip)?)?;
+    match only {
+        None => add(alloc, call, b"any"),
+        Some(addr) => add_only(alloc, call, addr),
+    }
+}
+
+fn add_only(alloc: Global, call: &mut Texts, addr: Addr) -> M<()>
+    ensures { OnOk result (call.new ≡ call.old ++ only_member addr) }
+{
+    add(alloc, call, b"only")?;
+    call.push(print_addr(alloc, addr)?)
+}
+
+fn add(alloc: Global, call: &mut Texts, word: &[u8]) -> M<()>
+    ensures { OnOk result (call.new ≡ call.old ++ word.now ∷ []) }
+{
+    call.push(Text::new(alloc, word)?)
 }
