@@ -9,7 +9,8 @@ import time
 FUNCTION, CRATE, OF_CHAIN, WRONG_BODIES = 10, 120, 240, 25
 # The crates that are older than the budget of a crate. Others owe it.
 OLDER = """
-    ask_language ask_leaves ask_machine ciravogu config conn conn_trace data_groups event_order frame_machine http_cookies http_frames http_heads
+    ask_language ask_leaves ask_machine ciravogu config conn conn_trace data_groups event_order frame_loops frame_machine frame_moves frame_words
+    frames http_cookies http_frames http_heads
     irule_net journal_text number_table persistence plain_eval pools proxy proxy_core px_bytes px_outside px_real rule_loader rule_model
     rule_nodes seg_buffer serve_loop served_core session_table shared_store tcl_commands tcl_compile tcl_encodings tcl_expr
     tcl_list_commands tcl_lists tcl_strings tcl_var_commands tcl_vars tcl_words""".split()
