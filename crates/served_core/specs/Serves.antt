@@ -75,7 +75,7 @@ pub record NeverServed {S T : Type 0} (did : S → Call → S → Type 0) (C : C
   pub wrote : WroteSome (note_lines (init_notes C)) before after
   pub all_written : why ≡ fault.Net → after ≡ told_more before (note_lines (init_notes C))
   pub listens : (net' ≡ net) ⊎ ((core : Core) × Represents C [] no_connections core
-      × ListensSome core_face did why (record { core = core }) net net')
+      × ListensSome core_face did why core net net')
 
 -- All that was done up to a fault: whole steps, and one that broke off. The core keeps its promise
 -- with exactly the events that were given, those of the turn that met the fault among them. With
