@@ -1,21 +1,14 @@
 -- The value of a Host field, and fields of which one has another value.
-use Rattle.std.proofs.Common.{◌≡◌, ℕ, zero, suc, ◌<◌, true, false, not, ◌&&◌, ◌==◌, List, [], ◌∷◌, ◌++◌, codes, length, get_or, set, reverse, refl, sym, ap, ap₂, ◌∙◌, arith}
+use Rattle.std.proofs.Common.{◌≡◌, ℕ, zero, suc, ◌<◌, true, ◌&&◌, List, [], ◌∷◌, ◌++◌, codes, length, get_or, set, refl, sym, ap, ap₂, ◌∙◌, arith}
 use Rattle.std.specs.List.{list_all}
-use Rattle.std.proofs.lemmas.Bool.{and_parts, false≢true, ne_eqb, or_from}
+use Rattle.std.proofs.lemmas.Bool.{and_parts}
 use Rattle.std.proofs.lemmas.Bool.Decides.{nat_tests}
-use Rattle.std.proofs.lemmas.List.{length-append, reverse-append}
+use Rattle.std.proofs.lemmas.List.{length-append}
 use Rattle.std.proofs.lemmas.List.Folds.{list_all-append}
-use Rattle.httparse.specs.Grammar.{is_ows, is_token, is_token_byte, is_value_byte}
-use Rattle.http_heads.specs.Fields.{AreFields, Pair, begins_visibly, is_field, is_value}
+use Rattle.httparse.specs.Grammar.{is_token, is_token_byte, is_value_byte}
+use Rattle.http_heads.specs.Fields.{AreFields, Pair, is_field, is_value}
 use Rattle.http_heads.specs.Hosts.{is_host, is_host_byte}
 use Rattle.http_heads.specs.Received.{value_set}
-
--- a byte of a host is none that isn't
-other_than : (b n : ℕ) → is_host_byte b ≡ true → is_host_byte n ≡ false → (b == n) ≡ false
-other_than b n is other = ne_eqb b n (λ same. false≢true (sym other ∙ ap is_host_byte (sym same) ∙ is))
-
-not_white : (b : ℕ) → is_host_byte b ≡ true → not (is_ows b) ≡ true
-not_white b is = ap not (or_from (b == 32) (b == 9) (other_than b 32 is refl) (other_than b 9 is refl))
 
 pub host_visible : (b : ℕ) → is_host_byte b ≡ true → is_value_byte b ≡ true
 host_visible b is = grind (arith, nat_tests)
@@ -28,22 +21,8 @@ all_visible [] is = refl
 all_visible (b ∷ v) is =
     let both = and_parts (is_host_byte b) (is_host v) is in ap₂ (λ s t. s && t) (host_visible b both.0) (all_visible v both.1)
 
-begins_well : (v : List ℕ) → is_host v ≡ true → begins_visibly v ≡ true
-begins_well [] is = refl
-begins_well (b ∷ v) is = not_white b (and_parts (is_host_byte b) (is_host v) is).0
-
-host_reversed : (v : List ℕ) → is_host v ≡ true → is_host (reverse v) ≡ true
-host_reversed [] is = refl
-host_reversed (b ∷ v) is =
-    let both = and_parts (is_host_byte b) (is_host v) is in
-    ap is_host (reverse_more b v) ∙ list_all-append is_host_byte (reverse v) (b ∷ []) ∙ ap₂ (λ s t. s && t) (host_reversed v both.1) (ap (λ t. t && true) both.0)
-  where
-    reverse_more : (b : ℕ) (v : List ℕ) → reverse (b ∷ v) ≡ reverse v ++ b ∷ []
-    reverse_more b v = reverse-append (b ∷ []) v
-
 pub host_is_value : (v : List ℕ) → is_host v ≡ true → is_value v ≡ true
-host_is_value v is =
-    ap₂ (λ s t. s && t) (ap₂ (λ s t. s && t) (begins_well v is) (begins_well (reverse v) (host_reversed v is))) (all_visible v is)
+host_is_value v is = all_visible v is
 
 pub set_is : (fs : List Pair) (at : ℕ) (f : Pair) (v : List ℕ) → at < length fs → f ≡ get_or fs at f → set fs at (f.0, v) ≡ value_set fs at v
 set_is [] at f v there is = absurd (omega (arith, there))

@@ -7,11 +7,10 @@ mod LastFields
 mod LineEnds
 mod OneHead
 mod PathsAre
-mod ReadBack
+pub mod ReadBack
 mod ReadFields
 mod Readers
 mod Rows
 mod Sections
 mod StartLines
 mod Targets
-mod Trims

@@ -6,7 +6,7 @@ use Rattle.std.proofs.lemmas.Bool.Decides.{nat_tests}
 use Rattle.std.proofs.lemmas.List.{append-nil, length-map}
 use Rattle.httparse.specs.Grammar.{is_token, is_value_byte, status_code}
 use Rattle.http_heads.specs.Fields.{AreFields}
-use Rattle.http_heads.specs.Heads.{GivesRequest, GivesResponse}
+use Rattle.http_heads.specs.Heads.{GivesRequest, GivesResponse, bare_request, bare_response}
 use Rattle.http_heads.specs.Lines.{IsTarget, minor_of}
 use Rattle.http_heads.specs.Written.{code_digits, line_of, request_of, response_of, written_request, written_response}
 use Rattle.http_heads.specs.declared.line.Version.{Version}
@@ -20,7 +20,7 @@ minor_small Http10 = omega arith
 minor_small Http11 = omega arith
 
 pub request_comes_back : (head : RequestHead) → is_token head.method ≡ true → IsTarget head.target → AreFields head.fields
-    → GivesRequest (Ok head) (written_request head)
+    → GivesRequest (Ok (bare_request head)) (written_request head)
 request_comes_back head method target fields =
     let back = come_back head.fields fields.are in (
       request_of head,
@@ -52,7 +52,7 @@ code_comes_back : (head : ResponseHead) → head.status < 1000 → head.status �
 code_comes_back head small = grind (arith, nat_tests)
 
 pub response_comes_back : (head : ResponseHead) → head.status < 1000 → list_all is_value_byte head.reason ≡ true → AreFields head.fields
-    → GivesResponse (Ok head) (written_response head)
+    → GivesResponse (Ok (bare_response head)) (written_response head)
 response_comes_back head status reason fields =
     let back = come_back head.fields fields.are in (
       response_of head,

@@ -1,15 +1,14 @@
 -- Fields as they are read, and as they are written.
-use Rattle.std.proofs.Common.{◌≡◌, ℕ, Bool, true, ◌&&◌, List, [], ◌∷◌, map, reverse, refl, ap₂}
+use Rattle.std.proofs.Common.{◌≡◌, ℕ, Bool, true, ◌&&◌, List, [], ◌∷◌, map, refl, ap₂}
 use Rattle.std.specs.Prelude.{All}
 use Rattle.std.specs.List.{list_all}
 use Rattle.std.proofs.lemmas.Bool.{and_parts, lt-ltb, ltb-true}
 use Rattle.std.proofs.lemmas.List.Elements.{All-nil, All-cons, All-head, All-tail}
-use Rattle.httparse.specs.Grammar.{AllPass, Field, IsField, IsToken, field_value, is_token, is_token_byte, is_value_byte}
+use Rattle.httparse.specs.Grammar.{AllPass, Field, IsField, IsToken, field_value, is_token, is_token_byte, is_value_byte, trim_ows}
 use Rattle.httparse.specs.Spans.{name_and_value}
 use Rattle.httparse.proofs.TrimLemmas.{AllPass-trim_ows}
-use Rattle.http_heads.specs.Fields.{Pair, begins_visibly, is_field, is_trimmed, is_value}
+use Rattle.http_heads.specs.Fields.{Pair, bare, is_field, is_value}
 use Rattle.http_heads.specs.Written.{line_of}
-use Rattle.http_heads.proofs.Trims.{trim_is_trimmed, value_comes_back}
 
 pub test_of : (p : ℕ → Bool) (xs : List ℕ) → AllPass p xs → list_all p xs ≡ true
 test_of p [] all = refl
@@ -34,39 +33,30 @@ is_token_of text token = ap₂ (λ s t. s && t) (lt-ltb _ _ token.0) (test_of is
 field_read : (f : Field) → IsField f → is_field (name_and_value f) ≡ true
 field_read f is =
     ap₂ (λ s t. s && t) (is_token_of f.name is.name)
-    (ap₂ (λ s t. s && t) (trim_is_trimmed f.raw) (test_of is_value_byte (field_value f) (AllPass-trim_ows is_value_byte f.raw is.raw)))
+    (test_of is_value_byte (field_value f) (AllPass-trim_ows is_value_byte f.raw is.raw))
 
 pub fields_read : (fs : List Field) → All IsField fs → list_all is_field (map name_and_value fs) ≡ true
 fields_read [] all = refl
 fields_read (f ∷ fs) all =
     ap₂ (λ s t. s && t) (field_read f (All-head IsField f fs all)) (fields_read fs (All-tail IsField f fs all))
 
--- the parts of a field that may be written
-record Parts (f : Pair) : Type 0 where
-  token : is_token f.0 ≡ true
-  front : begins_visibly f.1 ≡ true
-  back : begins_visibly (reverse f.1) ≡ true
-  bytes : list_all is_value_byte f.1 ≡ true
+-- a value behind a blank
+bare_value : (value : List ℕ) → trim_ows (32 ∷ value) ≡ trim_ows value
+unfolding trim_ows
+bare_value value = refl
 
-parts : (f : Pair) → is_field f ≡ true → Parts f
-parts f is =
-    let both = and_parts (is_token f.0) (is_value f.1) is in
-    let value = and_parts (is_trimmed f.1) (list_all is_value_byte f.1) both.1 in
-    let ends = and_parts (begins_visibly f.1) (begins_visibly (reverse f.1)) value.0 in
-    record { token = both.0; front = ends.0; back = ends.1; bytes = value.1 }
-
--- what is written of fields is read back as these
+-- what is written of fields is read back as these, without the white space around their values
 pub record ComeBack (fs : List Pair) : Type 0 where
   pub are : All IsField (map line_of fs)
-  pub same : map name_and_value (map line_of fs) ≡ fs
+  pub same : map name_and_value (map line_of fs) ≡ map bare fs
 
 pub come_back : (fs : List Pair) → list_all is_field fs ≡ true → ComeBack fs
 come_back [] all = record { are = All-nil IsField; same = refl }
 come_back (f ∷ fs) all =
     let both = and_parts (is_field f) (list_all is_field fs) all in
-    let p = parts f both.0 in
+    let parts = and_parts (is_token f.0) (is_value f.1) both.0 in
     let rest = come_back fs both.1 in
     record {
-      are = All-cons IsField (line_of f) (map line_of fs) (record { name = token_of f.0 p.token; raw = pass_of is_value_byte (32 ∷ f.1) p.bytes }) rest.are;
-      same = ap₂ (λ v gs. (f.0, v) ∷ gs) (value_comes_back f.1 p.front p.back) rest.same;
+      are = All-cons IsField (line_of f) (map line_of fs) (record { name = token_of f.0 parts.0; raw = pass_of is_value_byte (32 ∷ f.1) parts.1 }) rest.are;
+      same = ap₂ (λ v gs. (f.0, v) ∷ gs) (bare_value f.1) rest.same;
     }

@@ -4,7 +4,7 @@ use Rattle.std.specs.Prelude.{reverse, sum_by, Option, Some, None, option_map, s
 use Rattle.std.specs.Prelude.{Result, Ok, Err, if◌then◌else◌}
 use Rattle.std.specs.List.{list_all}
 use Rattle.std.specs.Str.{bytes_eq}
-use Rattle.httparse.specs.Grammar.{is_ows, is_token, is_value_byte}
+use Rattle.httparse.specs.Grammar.{is_token, is_value_byte, trim_ows}
 use Rattle.px_bytes.specs.FaultText.{too_long}
 use Rattle.px_bytes.specs.Letters.{lowered}
 use Rattle.px_bytes.specs.declared.fault.Raise.{Raise}
@@ -14,20 +14,16 @@ use Rattle.px_bytes.specs.declared.fault.Raise.TheVariants as raise
 abbrev pub Pair : Type 0
 Pair = List ℕ × List ℕ
 
-abbrev pub begins_visibly : List ℕ → Bool
-begins_visibly [] = true
-begins_visibly (b ∷ bs) = not (is_ows b)
-
--- "A field value does not include leading or trailing whitespace."
-abbrev pub is_trimmed : List ℕ → Bool
-is_trimmed value = begins_visibly value && begins_visibly (reverse value)
-
 -- no control byte but the tab, so no CR, LF or NUL
 abbrev pub is_value : List ℕ → Bool
-is_value value = is_trimmed value && list_all is_value_byte value
+is_value value = list_all is_value_byte value
 
 abbrev pub is_field : Pair → Bool
 is_field f = is_token f.0 && is_value f.1
+
+-- A field as it is read: "A field value does not include leading or trailing whitespace."
+abbrev pub bare : Pair → Pair
+bare f = (f.0, trim_ows f.1)
 
 -- what a head may hold
 pub record AreFields (fields : List Pair) : Type 0 where
@@ -36,6 +32,11 @@ pub record AreFields (fields : List Pair) : Type 0 where
 
 abbrev pub field_made : Pair → Option Pair
 field_made f = if is_field f then Some f else None
+
+-- names and values that a head may hold
+abbrev pub fields_made : List Pair → Option (List Pair)
+fields_made fields =
+    if nat_le (length fields) 100 && list_all is_field fields then Some fields else None
 
 -- names are compared without the case of their letters
 abbrev pub is_named : List ℕ → Pair → Bool
@@ -60,6 +61,14 @@ value_at fields (Some at) = option_map (λ f. f.1) (slice_get fields at)
 -- the value of the last field of a name
 abbrev pub last_value : List ℕ → List Pair → Option (List ℕ)
 last_value name fields = value_at fields (last_place name fields)
+
+abbrev pub field_at : List Pair → Option ℕ → Option Pair
+field_at fields None = None
+field_at fields (Some at) = slice_get fields at
+
+-- the last field of a name
+abbrev pub last_field : List ℕ → List Pair → Option Pair
+last_field name fields = field_at fields (last_place name fields)
 
 -- as it is written: the name, `: `, the value, CRLF
 abbrev pub line_length : Pair → ℕ

@@ -4,6 +4,7 @@ use Rattle.std.specs.Prelude.{◌≡◌, ℕ, ◌≤◌, List, [], length, map, 
 use Rattle.httparse.specs.Grammar as grammar
 use Rattle.httparse.specs.Grammar.{ReadsRequest, ReadsResponse, reason_phrase, status_code}
 use Rattle.httparse.specs.Spans.{name_and_value}
+use Rattle.http_heads.specs.Fields.{bare}
 use Rattle.http_heads.specs.Lines.{minor_of}
 use Rattle.http_heads.specs.declared.fault.HeadFault.{HeadFault}
 use Rattle.http_heads.specs.declared.fault.HeadFault.TheVariants.{Fault, Memory}
@@ -23,6 +24,13 @@ pub record SeesResponse (h : grammar.ResponseHead) (head : ResponseHead) : Type 
   pub status : head.status ≡ status_code h
   pub reason : head.reason ≡ reason_phrase h.reason
   pub fields : head.fields ≡ map name_and_value h.fields
+
+-- a head without the white space around the values of its fields
+abbrev pub bare_request : RequestHead → RequestHead
+bare_request head = record head { fields = map bare head.fields }
+
+abbrev pub bare_response : ResponseHead → ResponseHead
+bare_response head = record head { fields = map bare head.fields }
 
 -- the bytes are this head and no more, with at most 100 fields
 abbrev pub IsRequestText : List ℕ → grammar.RequestHead → Type 0

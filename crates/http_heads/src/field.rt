@@ -1,14 +1,14 @@
 // One field of a head.
 
 ghost use Rattle.std.specs.Prelude.{◌≡◌, true, Bool, ℕ, List, option_map};
-ghost use Rattle.http_heads.specs.Fields.{field_made, is_field, is_trimmed, is_value};
+ghost use Rattle.http_heads.specs.Fields.{field_made, is_field, is_value};
 
-use httparse::{is_header_value, is_space_or_tab, is_token};
+use httparse::{is_header_value, is_token};
 use px_bytes::Text;
 use std::marker::Model;
 
-/// A field: a token as its name, and a value without a control byte but the tab, and without white
-/// space around it (RFC 9110, 5.1, 5.5).
+/// A field: a token as its name, and a value without a control byte but the tab (RFC 9110, 5.1, 5.5).
+/// White space around a value is no part of it for who reads the head.
 #[derive(Drop)]
 pub struct Field {
     name: Text,
@@ -26,22 +26,18 @@ impl Model for Field {
     ghost invariant = { λ f. is_field (f.name, f.value) ≡ true };
 }
 
-// Whether no white space stands at the ends of a value.
-fn is_trimmed(value: &[u8]) -> bool
-    ensures { result ≡ is_trimmed value.now }
-{
-    match value {
-        [] => true,
-        [first, ..] if is_space_or_tab(*first) => false,
-        [.., last] => !is_space_or_tab(*last),
-    }
-}
-
 /// Whether it may be the value of a field.
 pub(crate) fn is_value(value: &[u8]) -> bool
     ensures { result ≡ is_value value.now }
 {
-    is_trimmed(value) && is_header_value(value)
+    is_header_value(value)
+}
+
+/// Whether it may be the name and the value of a field.
+pub fn is_field(name: &[u8], value: &[u8]) -> bool
+    ensures { result ≡ is_field (name.now, value.now) }
+{
+    is_token(name) && is_value(value)
 }
 
 impl Field {
@@ -49,13 +45,13 @@ impl Field {
     pub fn new(name: Text, value: Text) -> Option<Field>
         ensures { result ≡ field_made (name, value) }
     {
-        if is_token(name.as_bytes()) && is_value(value.as_bytes()) {
+        if is_field(name.as_bytes(), value.as_bytes()) {
             return Some(Field { name, value });
         }
         None
     }
 
-    pub(crate) fn name(&self) -> &[u8]
+    pub fn name(&self) -> &[u8]
         ensures { result.now ≡ self.now.0 }
     {
         self.name.as_bytes()

@@ -1,8 +1,12 @@
 // The fields of a head.
 
 ghost use Rattle.std.specs.Prelude.{◌≡◌, ◌<◌, [], IfOk, IfSome, length, map, option_map};
-ghost use Rattle.http_heads.specs.Fields.{AreFields, is_named, last_place, last_value, named};
+ghost use Rattle.std.specs.List.{list_all};
+ghost use Rattle.std.specs.Option.{option_copied};
+ghost use Rattle.http_heads.specs.Fields.{AreFields, fields_made, is_field, is_named, last_field};
+ghost use Rattle.http_heads.specs.Fields.{last_place, last_value, named};
 
+use crate::field::is_field;
 use px_bytes::{M, Pairs, Text, Texts, same_name};
 use std::alloc::Global;
 use std::marker::Model;
@@ -31,6 +35,25 @@ pub(crate) fn is_named(name: &[u8], field: &(Text, Text)) -> bool
     same_name(field.0.as_bytes(), name)
 }
 
+fn are_all_fields(pairs: &[(Text, Text)]) -> bool
+    ensures { result ≡ list_all is_field pairs.now }
+{
+    pairs
+        .iter()
+        .all(|pair| is_field(pair.0.as_bytes(), pair.1.as_bytes()))
+}
+
+// The same names and values.
+fn copied(alloc: Global, pairs: &[(Text, Text)]) -> M<Vec<(Text, Text)>>
+    ensures { IfOk result (λ list. list.items ≡ pairs.now) }
+{
+    let mut list = Vec::new(alloc);
+    for pair in pairs {
+        list.push((pair.0.copy()?, pair.1.copy()?))?;
+    }
+    Ok(list)
+}
+
 impl Fields {
     /// No fields, which takes no memory.
     pub fn new(alloc: Global) -> Fields
@@ -39,6 +62,23 @@ impl Fields {
         Fields {
             list: Vec::new(alloc),
         }
+    }
+
+    /// These names and values; none where no head can have them.
+    pub fn of(pairs: Vec<(Text, Text)>) -> Option<Fields>
+        ensures { result ≡ fields_made pairs.items }
+    {
+        if pairs.len() <= 100 && are_all_fields(&pairs) {
+            return Some(Fields { list: pairs });
+        }
+        None
+    }
+
+    pub fn copy(&self, alloc: Global) -> M<Fields>
+        ensures { IfOk result (λ fields. fields ≡ self.now) }
+    {
+        let list = copied(alloc, &self.list)?;
+        Ok(Fields { list })
     }
 
     /// All of them, each a name and a value.
@@ -69,6 +109,14 @@ impl Fields {
     {
         let at = self.last_place(name)?;
         Some(&self.list[at].1)
+    }
+
+    /// The last field of a name.
+    pub fn last(&self, name: &[u8]) -> Option<&(Text, Text)>
+        ensures { option_copied result ≡ last_field name.now self.now }
+    {
+        let at = self.last_place(name)?;
+        Some(&self.list[at])
     }
 
     /// How many fields have a name.

@@ -17,7 +17,7 @@ mod target;
 mod written;
 
 pub use fault::HeadFault;
-pub use field::Field;
+pub use field::{Field, is_field};
 pub use fields::Fields;
 pub use laws::{request_is_one, request_is_read, response_is_one, response_is_read};
 pub use line::{Method, Reason, Status, Target, Version};
@@ -25,3 +25,4 @@ pub use passed::{passed_request, passed_response};
 pub use received::{received_request, received_response};
 pub use request::{RequestHead, read_request, write_request};
 pub use response::{ResponseHead, read_response, write_response};
+pub use written::{put_status, put_version};

@@ -138,7 +138,7 @@ impl Model for Status {
 }
 
 impl Status {
-    pub(crate) fn new(code: u16) -> Status
+    pub fn new(code: u16) -> Status
         requires { code < 1000 }
         ensures { result ≡ code }
     {

@@ -2,7 +2,7 @@
 
 ghost use Rattle.std.specs.Prelude.{◌≡◌, ◌≤◌, IfOk, Ok, length};
 ghost use Rattle.httparse.specs.Spans.{IsRequestOf, IsRequestWithin};
-ghost use Rattle.http_heads.specs.Heads.{GivesRequest};
+ghost use Rattle.http_heads.specs.Heads.{GivesRequest, bare_request};
 ghost use Rattle.http_heads.specs.Reading.{IsTold, read_request};
 ghost use Rattle.http_heads.specs.Written.{written_request};
 
@@ -63,10 +63,11 @@ pub fn read_request(alloc: Global, head: &[u8]) -> Result<RequestHead, HeadFault
     Err(HeadFault::Fault(HttpFault::BadHead))
 }
 
-/// The head as it is written, each line ended by CRLF. It is read back as the same head.
+/// The head as it is written, each line ended by CRLF. It is read back as the same head, without the
+/// white space around its values.
 pub fn write_request(alloc: Global, head: &RequestHead) -> M<Text>
     ensures text { IfOk result (λ t. t ≡ written_request head.now) }
-    ensures reads_back { IfOk result (λ t. GivesRequest (Ok head.now) t) }
+    ensures reads_back { IfOk result (λ t. GivesRequest (Ok (bare_request head.now)) t) }
 {
     let mut out = Vec::new(alloc);
     out.extend_from_slice(head.method.as_bytes())?;

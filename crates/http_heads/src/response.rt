@@ -2,7 +2,7 @@
 
 ghost use Rattle.std.specs.Prelude.{◌≡◌, ◌≤◌, IfOk, Ok, length};
 ghost use Rattle.httparse.specs.Spans.{IsResponseOf, IsResponseWithin};
-ghost use Rattle.http_heads.specs.Heads.{GivesResponse};
+ghost use Rattle.http_heads.specs.Heads.{GivesResponse, bare_response};
 ghost use Rattle.http_heads.specs.Reading.{IsTold, read_response};
 ghost use Rattle.http_heads.specs.Written.{written_response};
 
@@ -61,10 +61,11 @@ pub fn read_response(alloc: Global, head: &[u8]) -> Result<ResponseHead, HeadFau
     Err(HeadFault::Fault(HttpFault::BadHead))
 }
 
-/// The head as it is written, each line ended by CRLF. It is read back as the same head.
+/// The head as it is written, each line ended by CRLF. It is read back as the same head, without the
+/// white space around its values.
 pub fn write_response(alloc: Global, head: &ResponseHead) -> M<Text>
     ensures text { IfOk result (λ t. t ≡ written_response head.now) }
-    ensures reads_back { IfOk result (λ t. GivesResponse (Ok head.now) t) }
+    ensures reads_back { IfOk result (λ t. GivesResponse (Ok (bare_response head.now)) t) }
 {
     let mut out = Vec::new(alloc);
     put_version(&mut out, head.version)?;

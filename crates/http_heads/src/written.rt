@@ -9,7 +9,7 @@ use crate::line::{Status, Version};
 use px_bytes::{M, Text};
 
 /// The text of a version.
-pub(crate) fn put_version(out: &mut Vec<u8>, version: Version) -> M<()>
+pub fn put_version(out: &mut Vec<u8>, version: Version) -> M<()>
     ensures { OnOk result (out.new.items ≡ out.old.items ++ print_version (minor_of version)) }
 {
     let text = match version {
@@ -21,7 +21,7 @@ pub(crate) fn put_version(out: &mut Vec<u8>, version: Version) -> M<()>
 }
 
 /// The digits of a status.
-pub(crate) fn put_status(out: &mut Vec<u8>, status: &Status) -> M<()>
+pub fn put_status(out: &mut Vec<u8>, status: &Status) -> M<()>
     ensures text { OnOk result (out.new.items ≡ out.old.items ++ code_digits status.now) }
     ensures three_digits { status.now < 1000 }
 {

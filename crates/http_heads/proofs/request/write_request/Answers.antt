@@ -3,7 +3,7 @@ use Rattle.std.proofs.lemmas.List.{append_assoc}
 use Rattle.httparse.specs.Grammar.{is_token, print_request}
 use Rattle.httparse.proofs.GrammarLemmas.{cons-append}
 use Rattle.http_heads.specs.Fields.{AreFields}
-use Rattle.http_heads.specs.Heads.{GivesRequest}
+use Rattle.http_heads.specs.Heads.{GivesRequest, bare_request}
 use Rattle.http_heads.specs.Lines.{IsTarget}
 use Rattle.http_heads.proofs.ReadBack.{request_comes_back}
 use Rattle.http_heads.proofs.request.write_request.Goals as goal
@@ -32,4 +32,4 @@ returns-clause-reads_back c =
     let token = subst (λ m. is_token m ≡ true) c.as_bytes.ensures.value c.as_bytes.ensures.is_token in
     let target = subst IsTarget c.as_bytes-2.ensures.value c.as_bytes-2.ensures.is_target in
     let fields = subst AreFields c.as_slice.ensures.value c.as_slice.ensures.are_fields in
-    subst (λ t. GivesRequest (Ok c.args.head.now) t) (sym (returns-clause-text c)) (request_comes_back c.args.head.now token target fields)
+    subst (λ t. GivesRequest (Ok (bare_request c.args.head.now)) t) (sym (returns-clause-text c)) (request_comes_back c.args.head.now token target fields)
