@@ -29,8 +29,8 @@ fn is_cookie_field(name: &[u8]) -> bool
     same_name(name, b"cookie")
 }
 
-// Adds the cookies of one field.
-fn push_cookies(alloc: Global, pairs: &mut Pairs, value: &[u8]) -> M<()>
+/// Adds the cookies of the value of one field.
+pub(crate) fn push_cookies(alloc: Global, pairs: &mut Pairs, value: &[u8]) -> M<()>
     ensures { OnOk result (pairs.new ≡ pairs.old ++ cookies_in value.now) }
 {
     let pieces = pieces(alloc, value)?;
