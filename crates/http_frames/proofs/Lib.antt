@@ -8,6 +8,7 @@ pub mod Longer
 pub mod Needles
 pub mod NextUnits
 mod Numbers
+pub mod OneLength
 pub mod OneUnit
 mod Pairs
 pub mod PartsStay
