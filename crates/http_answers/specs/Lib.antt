@@ -1,0 +1,5 @@
+pub mod Answers
+pub mod Laws
+pub mod Limits
+pub mod Options
+pub mod Seen

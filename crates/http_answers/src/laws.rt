@@ -1,0 +1,9 @@
+// What holds of answers.
+
+ghost use Rattle.http_answers.specs.Laws.{AnswersAreRead};
+
+/// The law that what is sent of an answer is a response's head, which is read back, and a content of the
+/// length that the head tells to who asked.
+pub fn answers_are_read()
+    ensures { AnswersAreRead }
+{}

@@ -1,0 +1,15 @@
+//! What `HTTP::respond` sends: the words of an answer, its head and its content.
+#![tactic(auto)]
+
+mod answer;
+mod compose;
+mod given;
+mod laws;
+mod options;
+mod reasons;
+
+pub use answer::Answer;
+pub use compose::composed;
+pub use given::{are_fields, gives_close};
+pub use laws::answers_are_read;
+pub use options::{behind_first, content_of, field_words, has_server, is_answer, version_of};
