@@ -1,0 +1,5 @@
+pub mod Lengths
+pub mod Moves
+pub mod Refusals
+mod Rows
+pub mod Sending

@@ -1,0 +1,12 @@
+pub mod Answers
+pub mod Checks
+pub mod Commands
+pub mod Edits
+pub mod FaultText
+pub mod Forms
+pub mod Heads
+pub mod Laws
+pub mod Payload
+pub mod State
+pub mod Steps
+pub mod Told

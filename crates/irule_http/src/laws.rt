@@ -1,0 +1,42 @@
+// What holds of HTTP commands.
+
+ghost use Rattle.irule_http.specs.Laws.{AnsweredOnce, AnswersAreBounded, AnswersReadBack};
+ghost use Rattle.irule_http.specs.Laws.{FaultsChangeNothing, HeadsFit, KeepsMessage, PayloadFits};
+
+/// The law that the bodies of one event never send more than 1,114,112 bytes to the client, and none
+/// to a server.
+pub fn answers_are_bounded()
+    ensures { AnswersAreBounded }
+{}
+
+/// The law that a payload of at most 1,048,576 bytes stays so.
+pub fn payload_fits()
+    ensures { PayloadFits }
+{}
+
+/// The law that heads of at most so many bytes as they are written, from 65,536 on, stay so.
+pub fn heads_fit()
+    ensures { HeadsFit }
+{}
+
+/// The law that no command changes what is known of the messages as they came, of the body at hand
+/// and of the server's connection.
+pub fn keeps_message()
+    ensures { KeepsMessage }
+{}
+
+/// The law that a fault changes nothing and sends nothing.
+pub fn faults_change_nothing()
+    ensures { FaultsChangeNothing }
+{}
+
+/// The law that behind an answer no command edits, collects, releases or answers.
+pub fn answered_once()
+    ensures { AnsweredOnce }
+{}
+
+/// The law that what a command of at most 1,048,576 bytes sends is read back: a response's head, and a
+/// content of the length that the head tells.
+pub fn answers_read_back()
+    ensures { AnswersReadBack }
+{}
