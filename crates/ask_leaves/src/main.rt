@@ -1,8 +1,9 @@
-//! Answers questions about data groups, pools, tables, the store, messages and network commands, one a
+//! Answers questions about data groups, pools, tables, the store, messages and host commands, one a
 //! line. `README.md` has the form of the lines.
 #![tactic(auto)]
 
 mod bodies;
+mod commands;
 mod cookies;
 mod costs;
 mod fields;
@@ -71,6 +72,7 @@ fn answer(question: &mut Question<'_>) {
 // The calls on messages.
 fn http_answer(question: &mut Question<'_>, call: &str) {
     match call {
+        "http_commands" | "http_detach" => commands::answer(question, call),
         "fields" => fields::answer(question),
         "cookies" => cookies::answer(question),
         "print_bigip" => cookies::print_answer(question),

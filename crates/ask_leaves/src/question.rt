@@ -162,8 +162,13 @@ impl<'a> Question<'a> {
     /// The text that a word writes: parts with `+` between, each two hexadecimal digits a byte, or one
     /// byte and behind `*` how often it stands; `-` for no bytes.
     pub fn text(&mut self) -> Text {
-        let mut text = Text::empty(self.alloc);
         let word = self.word();
+        self.text_of(word)
+    }
+
+    /// The text that this word writes.
+    pub fn text_of(&mut self, word: &str) -> Text {
+        let mut text = Text::empty(self.alloc);
         if word != "-" {
             for part in word.split('+') {
                 self.add_part(&mut text, part);

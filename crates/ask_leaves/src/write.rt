@@ -106,6 +106,14 @@ impl Question<'_> {
         self.say_bytes(fault.text.as_bytes());
     }
 
+    /// `fault`, the number of its kind and its text, however long.
+    pub fn say_whole_fault(&mut self, fault: &TclFault) {
+        self.say("fault");
+        self.say_number(fault.kind as u64);
+        self.blank();
+        self.put_made(print_hex(self.alloc, fault.text.as_bytes()));
+    }
+
     /// `ok`, or the fault.
     pub fn say_done(&mut self, done: &Result<(), Raise>) {
         match done {
