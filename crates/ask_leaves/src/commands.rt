@@ -6,13 +6,13 @@ mod received;
 mod scene;
 
 use crate::question::Question;
-use scene::Scene;
+use scene::HttpScene;
 
 pub fn answer(question: &mut Question<'_>, call: &str) {
     let number = question.number(9_223_372_036_854_775_807);
     let request = question.text();
     let response = question.text();
-    let mut scene = Scene::new(question, number, &request, response);
+    let mut scene = HttpScene::new(question, number, &request, response);
     for step in question.rest().split(|word| *word == "/") {
         scene.answer_step(question, step);
     }

@@ -12,7 +12,7 @@ use px_bytes::{Addr, HostAnswer, Seq, Text, Texts};
 /// What the request and its response are known by, the event that runs, the length of the request's body as the
 /// rules changed it, and what was sent to the client.
 #[derive(Drop)]
-pub struct Scene {
+pub struct HttpScene {
     pub http: Http,
     net: NetState,
     groups: Groups,
@@ -24,8 +24,8 @@ pub struct Scene {
     detached: bool,
 }
 
-impl Scene {
-    pub fn new(question: &mut Question<'_>, number: u64, head: &Text, response: Text) -> Scene {
+impl HttpScene {
+    pub fn new(question: &mut Question<'_>, number: u64, head: &Text, response: Text) -> HttpScene {
         let alloc = question.alloc;
         let mut http = Http::new(alloc);
         http.number = number;
@@ -35,7 +35,7 @@ impl Scene {
             http.body = request.body;
             http.reader = start(request.body);
         }
-        Scene {
+        HttpScene {
             http,
             net: NetState::new(alloc, Addr { ip: 0, port: 0 }, 80, Text::empty(alloc), true),
             groups: Groups {
