@@ -22,8 +22,8 @@ returns-in_err-write_all-clause-stops g c =
     let said = c.as_bytes.ensures ∙ c.in_ok-lines.ensures in
     let P : Stop → Type 0 = λ why. (C : Config) → c.args.notes.now ≡ init_notes C → StopsAtStart C old new why in
     let front = λ C is.
-        let part = subst (λ t. AddsPrefix t old new) (said ∙ ap note_lines is) c.in_err-write_all.ensures.err_writes_prefix in
-        start_front C old new (part.taken, part.written) in
+    let part = subst (λ t. AddsPrefix t old new) (said ∙ ap note_lines is) c.in_err-write_all.ensures.err_writes_prefix in
+    start_front C old new (part.taken, part.written) in
     not_written c.in_err-write_all.field-0.0 c.from_residual-in_err-write_all.result P c.from_residual-in_err-write_all.ensures.1 front front
 
 pub returns-in_err-write_all-clause-failed_is_counted : goal.returns-in_err-write_all-clause-failed_is_counted
