@@ -1,10 +1,10 @@
-use Rattle.std.proofs.Common.{◌≡◌, ◌∙◌, ap, Err, subst}
-use Rattle.core_events.specs.declared.note.Note.{Note}
+use Rattle.std.proofs.Common.{◌≡◌, ◌∙◌, [], ap, Err, subst}
 use Rattle.journal_text.specs.Notes.{note_lines}
 use Rattle.proxy_core.specs.Setup.{init_notes}
 use Rattle.proxy_core.specs.declared.config.Config.{Config}
 use Rattle.px_outside.specs.Outside.{AddsPrefix}
 use Rattle.proxy.specs.Stops.{StopsAtStart}
+use Rattle.proxy.specs.Written.{WritesNotes}
 use Rattle.proxy.specs.declared.replay.Stop.{Stop}
 use Rattle.proxy.proofs.Stopping.{counted, out_of_memory, not_written, start_front, front_none}
 use Rattle.proxy.proofs.replay.write_start.Goals as goal
@@ -21,7 +21,7 @@ returns-in_err-write_all-clause-stops g c =
     let new = g.K.Sink.written c.write_all.new.sink in
     let said = c.as_bytes.ensures ∙ c.in_ok-lines.ensures in
     let P : Stop → Type 0 = λ why. (C : Config) → c.args.notes.now ≡ init_notes C → StopsAtStart C old new why in
-    let front = λ C is.
+    let front : (C : Config) → c.args.notes.now ≡ init_notes C → WritesNotes C [] old new = λ C is.
     let part = subst (λ t. AddsPrefix t old new) (said ∙ ap note_lines is) c.in_err-write_all.ensures.err_writes_prefix in
     start_front C old new (part.taken, part.written) in
     not_written c.in_err-write_all.field-0.0 c.from_residual-in_err-write_all.result P c.from_residual-in_err-write_all.ensures.1 front front
