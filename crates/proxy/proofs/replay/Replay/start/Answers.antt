@@ -18,5 +18,5 @@ pub returns-in-Ok-clause-stands : goal.returns-in-Ok-clause-stands
 returns-in-Ok-clause-stands g c =
     let C = c.args.config in
     let notes = c.as_slice.ensures ∙ c.in_ok-core.ensures.notes in
-    stands_first C c.in_ok-core.core _ (g.K.Sink.written c.args.out.now) (g.K.Sink.written c.write_start.new.out) c.in_ok-core.ensures.stands c.new-2.ensures.items
+    stands_first C c.in_ok-core.core _ (g.K.Sink.written c.args.out.now) (g.K.Sink.written c.write_start.new.out) c.in_ok-core.ensures.stands c.new-in-Ok.ensures.items
     (rw (ap note_lines notes) at c.in-Ok.ensures.written)
