@@ -123,12 +123,8 @@ fn change_length(alloc: Global, fields: &mut Fields, change: (usize, usize)) -> 
 
 // A length, which may begin with zeros.
 fn length_of(digits: &[u8]) -> u64 {
-    let mut rest = digits;
-    while let [b'0', behind @ ..] = rest {
-        if behind.is_empty() {
-            return 0;
-        }
-        rest = behind;
+    match digits.iter().position(|digit| *digit != b'0') {
+        Some(start) => read_decimal(&digits[start..], 999_999_999_999_999_999).unwrap_or(0),
+        None => 0,
     }
-    read_decimal(rest, 999_999_999_999_999_999).unwrap_or(0)
 }
