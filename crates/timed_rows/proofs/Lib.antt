@@ -1,0 +1,3 @@
+pub mod Expired
+pub mod Seen
+pub mod Ties
