@@ -3,4 +3,6 @@ pub mod Counters
 pub mod Faults
 pub mod SortedKeys
 pub mod OnceKeys
-pub mod Places
+pub mod UnderKeys
+pub mod Subtables
+pub mod Turning
