@@ -2,7 +2,7 @@
 use Rattle.std.proofs.Common.{◌≡◌, ◌⊎◌, inl, inr, refl, sym, ap, subst, ◌∙◌, ℕ, List, Option, true, false}
 use Rattle.std.specs.Prelude.{is_none}
 use Rattle.config.specs.declared.reader.Config as loaded
-use Rattle.proxy_core.specs.declared.config.Config as core
+use Rattle.run_config.specs.declared.config.Config as core
 use Rattle.proxy.specs.declared.end.End.{End}
 use Rattle.proxy.specs.declared.end.End.TheVariants.{Done, Usage, Config, Schedule, ReadFault}
 use Rattle.proxy.specs.declared.end.End.TheVariants.{WriteFault, Memory}

@@ -3,7 +3,7 @@ use Rattle.std.proofs.Common.{◌≡◌, inl, inr, refl, ap, subst, ◌∙◌, �
 use Rattle.std.proofs.Common.{◌++◌, length, Option, Result, Ok, Err, IfOk, arith}
 use Rattle.px_bytes.specs.declared.memory.Memory as want
 use Rattle.px_outside.specs.Outside.{told_more, Rose}
-use Rattle.proxy_core.specs.declared.config.Config as configured
+use Rattle.run_config.specs.declared.config.Config as configured
 use Rattle.core_events.specs.declared.bad_event.BadEvent.{BadEvent}
 use Rattle.proxy_core.proofs.Promises.{every_past_matches}
 use Rattle.journal_text.specs.declared.line_kind.LineKind.{LineKind}

@@ -4,8 +4,8 @@ use Rattle.core_events.specs.declared.note.Note.{Note}
 use Rattle.journal_text.specs.Line.{IsSkipped, event_text}
 use Rattle.journal_text.specs.Notes.{note_line, note_lines}
 use Rattle.journal_text.proofs.Written.{written_is_read}
-use Rattle.proxy_core.specs.Past.{Past}
-use Rattle.proxy_core.specs.Setup.{init_notes}
+use Rattle.record_model.specs.Past.{Past}
+use Rattle.record_model.specs.Setup.{init_notes}
 use Rattle.core_events.specs.declared.event.Event.{Event}
 use Rattle.serve_loop.specs.Events.{group_text}
 use Rattle.serve_loop.specs.Walk.{Given, Step, Own, Asked, text_in}

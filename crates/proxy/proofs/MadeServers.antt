@@ -13,11 +13,11 @@ use Rattle.conn_trace.specs.Item.{server_output}
 use Rattle.proxy_core.specs.Moves.{Leads}
 use Rattle.proxy_core.specs.Others.{about}
 use Rattle.core_events.specs.Kinds.{kind_of}
-use Rattle.proxy_core.specs.Past.{Past, heard}
+use Rattle.record_model.specs.Past.{Past, heard}
 use Rattle.proxy_core.specs.Refusal.{refused}
 use Rattle.proxy_core.specs.Scheduler.{State, Seen, last_took, seen}
 use Rattle.proxy_core.specs.Servers.{made, makes, servers_made, took_of}
-use Rattle.proxy_core.specs.declared.config.Config.{Config}
+use Rattle.run_config.specs.declared.config.Config.{Config}
 use Rattle.proxy_core.proofs.HeardServers.{heard_servers}
 use Rattle.proxy_core.proofs.Members.{eq_same}
 use Rattle.proxy_core.proofs.SoundPast.{leads_sound, may_come_at}

@@ -4,7 +4,7 @@ use Rattle.std.proofs.Common.{List, ◌++◌, length, take, drop, Option, Some, 
 use Rattle.std.specs.Prelude.{Result, Ok, Err, OnOk, IfErr}
 use Rattle.std.specs.List.{position_from}
 use Rattle.std.proofs.lemmas.List.{take-append-drop, take_rest}
-use Rattle.proxy_core.specs.declared.config.Config.{Config}
+use Rattle.run_config.specs.declared.config.Config.{Config}
 use Rattle.proxy_core.specs.declared.core_state.Core.{Core}
 use Rattle.proxy.specs.declared.replay.Stop.{Stop}
 use Rattle.proxy.specs.declared.replay.Stop.TheVariants as stop

@@ -11,13 +11,13 @@ use Rattle.px_outside.specs.declared.failed.Failed.{Failed}
 use Rattle.px_outside.specs.declared.failed.Failed.TheVariants as failed
 use Rattle.core_events.specs.declared.note.Note.{Note}
 use Rattle.core_events.specs.Kinds.{kind_of}
-use Rattle.proxy_core.specs.Past.{Past}
+use Rattle.record_model.specs.Past.{Past}
 use Rattle.proxy_core.specs.Refusal.{refusal, refused}
 use Rattle.proxy_core.specs.Represents.{Represents}
 use Rattle.proxy_core.specs.Scheduler.{State, no_connections}
-use Rattle.proxy_core.specs.Setup.{init_notes}
+use Rattle.record_model.specs.Setup.{init_notes}
 use Rattle.proxy_core.specs.Steps.{KeepsStanding, StandsAfter}
-use Rattle.proxy_core.specs.declared.config.Config.{Config}
+use Rattle.run_config.specs.declared.config.Config.{Config}
 use Rattle.proxy_core.specs.declared.core_state.Core.{Core}
 use Rattle.core_events.specs.declared.event.Event.{Event}
 use Rattle.proxy_core.proofs.Stepping.{refusal_same}

@@ -19,11 +19,11 @@ use Rattle.conn.specs.Holds.{Around}
 use Rattle.proxy_core.specs.Live.{met_by}
 use Rattle.proxy_core.specs.Moves.{Moves, MovesBy, MovesFailed, MovesLacks, MovesOn}
 use Rattle.core_events.specs.Kinds.{kind_of}
-use Rattle.proxy_core.specs.Past.{Happened, Past, heard}
+use Rattle.record_model.specs.Past.{Happened, Past, heard}
 use Rattle.proxy_core.specs.Ready.{is_in}
 use Rattle.proxy_core.specs.Represents.{around}
 use Rattle.proxy_core.specs.Scheduler.{State, last_took, seen}
-use Rattle.proxy_core.specs.declared.config.Config.{Config}
+use Rattle.run_config.specs.declared.config.Config.{Config}
 use Rattle.core_events.specs.declared.event.Event.{Event}
 use Rattle.core_events.specs.declared.event.Event.TheVariants.{Connected}
 use Rattle.proxy_core.specs.Others.{about}

@@ -18,14 +18,15 @@ use Rattle.conn.specs.Queues.{queue_in}
 use Rattle.proxy_core.specs.Live.{met_by, pending_in}
 use Rattle.proxy_core.specs.Moves.{Moves}
 use Rattle.core_events.specs.Kinds.{kind_of}
-use Rattle.proxy_core.specs.Past.{Happened, Past, heard}
+use Rattle.record_model.specs.Past.{Happened, Past, heard}
 use Rattle.proxy_core.specs.Queries.{front_of, front_in, queue_on}
-use Rattle.proxy_core.specs.Refusal.{core_standing, core_known, refusal_rows, takes_too_much}
+use Rattle.record_model.specs.Refusal.{refusal_rows, takes_too_much}
+use Rattle.proxy_core.specs.Refusal.{core_standing, core_known}
 use Rattle.proxy_core.specs.Refusal.{refusal, refusal_of}
 use Rattle.proxy_core.specs.Refusals.{live_at}
 use Rattle.proxy_core.specs.Represents.{ConnectionContinues, HoldsQueues, AgreesAt, Represents, around}
 use Rattle.proxy_core.specs.Scheduler.{State, Seen, last_took, seen}
-use Rattle.proxy_core.specs.declared.config.Config.{Config}
+use Rattle.run_config.specs.declared.config.Config.{Config}
 use Rattle.proxy_core.specs.declared.core_state.Core.{Core}
 use Rattle.core_events.specs.declared.event.Event.{Event}
 use Rattle.proxy_core.specs.declared.live.Live.{Live}

@@ -16,13 +16,14 @@ use Rattle.conn_trace.specs.Heard.{Accepted}
 use Rattle.conn_trace.specs.Item.{client_output, server_output}
 use Rattle.proxy_core.specs.Moves.{Leads, Moves}
 use Rattle.core_events.specs.Kinds.{kind_of}
-use Rattle.proxy_core.specs.Past.{Happened, Past, shared}
+use Rattle.record_model.specs.Past.{Happened, Past, shared}
 use Rattle.proxy_core.specs.Ready.{is_in}
-use Rattle.proxy_core.specs.Refusal.{known, refusal_rows}
+use Rattle.record_model.specs.Refusal.{refusal_rows}
+use Rattle.proxy_core.specs.Refusal.{known}
 use Rattle.proxy_core.specs.Refusal.{refused}
 use Rattle.proxy_core.specs.Scheduler.{State, Seen, last_took, seen}
 use Rattle.proxy_core.specs.Sound.{unseen, Sound}
-use Rattle.proxy_core.specs.declared.config.Config.{Config}
+use Rattle.run_config.specs.declared.config.Config.{Config}
 use Rattle.core_events.specs.declared.event.Event.{Event}
 use Rattle.core_events.specs.declared.event.Event.TheVariants.{Accept}
 use Rattle.proxy_core.specs.Others.{about}

@@ -15,17 +15,17 @@ use Rattle.conn_trace.specs.Heard.{Heard, hears}
 use Rattle.conn_trace.specs.Item.{Item, to_client, to_server, client_output, server_output}
 use Rattle.conn_trace.proofs.Hearing.{others_not_heard}
 use Rattle.proxy_core.specs.Calls.{asker}
-use Rattle.proxy_core.specs.History.{store_of}
+use Rattle.record_model.specs.History.{store_of}
 use Rattle.proxy_core.specs.Moves.{Leads, Moves, Rests}
 use Rattle.proxy_core.specs.Moves.{MovesRing, MovesQueue, RunsOn, RunsOut, RunsFailed}
 use Rattle.core_events.specs.Kinds.{kind_of}
-use Rattle.proxy_core.specs.Past.{Happened, Past, heard, with_accepted, shared}
+use Rattle.record_model.specs.Past.{Happened, Past, heard, with_accepted, shared}
 use Rattle.proxy_core.specs.Refusal.{refused, refusal}
 use Rattle.proxy_core.specs.Represents.{Represents}
 use Rattle.proxy_core.specs.Scheduler.{State, last_took, seen}
 use Rattle.proxy_core.specs.Sound.{Served, Sound}
 use Rattle.proxy_core.specs.declared.call.Asked.{Asked}
-use Rattle.proxy_core.specs.declared.config.Config.{Config}
+use Rattle.run_config.specs.declared.config.Config.{Config}
 use Rattle.proxy_core.specs.declared.core_state.Core.{Core}
 use Rattle.core_events.specs.declared.event.Event.{Event}
 use Rattle.core_events.specs.declared.event.Event.TheVariants.{Accept, FromClient, ClientEnd, ClientReset, Connected, Refused}

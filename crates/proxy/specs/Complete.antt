@@ -7,7 +7,7 @@ use Rattle.config.specs.Outcomes.{Configures, IsDocument}
 use Rattle.config.specs.Texts.{text_in}
 use Rattle.config.specs.declared.reader.Config as loaded
 use Rattle.px_outside.specs.Outside.{Rose}
-use Rattle.proxy_core.specs.declared.config.Config as core
+use Rattle.run_config.specs.declared.config.Config as core
 use Rattle.core_events.specs.declared.event.Event.{Event}
 use Rattle.toml.specs.Data.{Data, Items, no_items, item, Members}
 use Rattle.proxy.specs.declared.end.End.{End}

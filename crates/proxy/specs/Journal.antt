@@ -5,8 +5,8 @@ use Rattle.journal_text.specs.Laws.{AllWritable}
 use Rattle.journal_text.specs.Line.{event_text, longest_line}
 use Rattle.journal_text.specs.Notes.{note_lines}
 use Rattle.core_events.specs.declared.event.Event.{Event}
-use Rattle.proxy_core.specs.Setup.{init_notes}
-use Rattle.proxy_core.specs.declared.config.Config.{Config}
+use Rattle.record_model.specs.Setup.{init_notes}
+use Rattle.run_config.specs.declared.config.Config.{Config}
 use Rattle.serve_loop.specs.Walk.{Step, Own, Asked, text_in}
 use Rattle.served_core.specs.Serves.{past_after}
 use Rattle.proxy.specs.Lines.{IsLine, Reads, events_of}

@@ -6,7 +6,7 @@ use Rattle.config.specs.declared.reader.Config as loaded
 use Rattle.px_outside.specs.Outside.{told_more, Rose}
 use Rattle.px_outside.specs.declared.failed.Failed.{Failed}
 use Rattle.px_outside.specs.declared.failed.Failed.TheVariants as failed
-use Rattle.proxy_core.specs.declared.config.Config as core
+use Rattle.run_config.specs.declared.config.Config as core
 use Rattle.proxy.specs.declared.end.End.{End}
 use Rattle.proxy.specs.declared.end.End.TheVariants.{Done, Usage, Config, Schedule, ReadFault}
 use Rattle.proxy.specs.declared.end.End.TheVariants.{WriteFault, Memory}

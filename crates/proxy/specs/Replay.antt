@@ -4,14 +4,14 @@ use Rattle.std.specs.Prelude.{Option, Some, None, if◌then◌else◌}
 use Rattle.px_bytes.specs.declared.addr.Side.TheVariants.{Client, Server}
 use Rattle.conn_trace.specs.Item.{client_output, server_output}
 use Rattle.core_events.specs.Kinds.{kind_of}
-use Rattle.proxy_core.specs.Past.{Past, heard, with_accepted, shared}
+use Rattle.record_model.specs.Past.{Past, heard, with_accepted, shared}
 use Rattle.proxy_core.specs.Queries.{pending_on}
 use Rattle.proxy_core.specs.Ready.{is_in}
 use Rattle.proxy_core.specs.Refusals.{live_at}
 use Rattle.proxy_core.specs.Scheduler.{State, pending}
 use Rattle.proxy_core.specs.Servers.{servers_made, took_of}
-use Rattle.proxy_core.specs.Setup.{init_notes}
-use Rattle.proxy_core.specs.declared.config.Config.{Config}
+use Rattle.record_model.specs.Setup.{init_notes}
+use Rattle.run_config.specs.declared.config.Config.{Config}
 use Rattle.proxy_core.specs.declared.core_state.Core.{Core}
 use Rattle.proxy_core.specs.declared.live.Live.{Live}
 use Rattle.proxy.specs.declared.taken.Taken.{Taken}

@@ -3,10 +3,10 @@ use Rattle.std.specs.Prelude.{◌≡◌, ◌⊎◌, ℕ, ◌+◌, List, ◌++◌
 use Rattle.px_bytes.specs.declared.memory.Memory as want
 use Rattle.px_outside.specs.Outside.{told_more, Rose}
 use Rattle.proxy_core.specs.Headline.{OutputMatchesEvaluator}
-use Rattle.proxy_core.specs.Past.{Past}
+use Rattle.record_model.specs.Past.{Past}
 use Rattle.proxy_core.specs.Represents.{Represents}
 use Rattle.proxy_core.specs.Scheduler.{State}
-use Rattle.proxy_core.specs.declared.config.Config as configured
+use Rattle.run_config.specs.declared.config.Config as configured
 use Rattle.proxy_core.specs.declared.core_state.Core.{Core}
 use Rattle.core_events.specs.declared.bad_event.BadEvent.{BadEvent}
 use Rattle.journal_text.specs.declared.line_kind.LineKind.{LineKind}

@@ -14,8 +14,8 @@ use Rattle.config.specs.declared.rule_text.LoadedRule.{LoadedRule}
 use Rattle.event_order.specs.Event.{every_event}
 use Rattle.event_order.specs.declared.event.EventName.{EventName}
 use Rattle.proxy.specs.HostCommands.{is_built}
-use Rattle.proxy_core.specs.declared.config.Config as core
-use Rattle.proxy_core.specs.declared.config.Virtual as served
+use Rattle.run_config.specs.declared.config.Config as core
+use Rattle.run_config.specs.declared.config.Virtual as served
 use Rattle.rule_loader.specs.Handlers.{Handled, handler_view, handlers_at}
 use Rattle.rule_loader.specs.declared.rule.Rule.{Rule}
 use Rattle.tcl_trees.specs.Procedures.{Procedure, procs_view}

@@ -5,7 +5,7 @@ use Rattle.config.specs.declared.fault.ConfigFault.TheVariants as config
 use Rattle.config.specs.declared.reader.Config as loaded
 use Rattle.px_outside.specs.Net.{Call}
 use Rattle.px_outside.specs.Outside.{Rose}
-use Rattle.proxy_core.specs.declared.config.Config as core
+use Rattle.run_config.specs.declared.config.Config as core
 use Rattle.serve_loop.specs.declared.fault.ServeEnd.{ServeEnd}
 use Rattle.serve_loop.specs.declared.fault.ServeEnd.TheVariants as ending
 use Rattle.serve_loop.specs.declared.fault.ServeFault.{ServeFault}

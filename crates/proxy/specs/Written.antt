@@ -2,10 +2,10 @@
 use Rattle.std.specs.Prelude.{◌≡◌, ◌⊎◌, ℕ, ◌+◌, List, ◌++◌, length, take, Option}
 use Rattle.px_outside.specs.Outside.{told_more}
 use Rattle.proxy_core.specs.Moves.{Leads}
-use Rattle.proxy_core.specs.Past.{Past}
+use Rattle.record_model.specs.Past.{Past}
 use Rattle.proxy_core.specs.Represents.{Represents}
 use Rattle.proxy_core.specs.Scheduler.{State}
-use Rattle.proxy_core.specs.declared.config.Config.{Config}
+use Rattle.run_config.specs.declared.config.Config.{Config}
 use Rattle.proxy_core.specs.declared.core_state.Core.{Core}
 use Rattle.core_events.specs.declared.bad_event.BadEvent.{BadEvent}
 use Rattle.proxy.specs.declared.taken.Taken.{Taken}

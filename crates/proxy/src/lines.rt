@@ -4,7 +4,7 @@ ghost use Rattle.std.specs.Prelude.{◌≡◌, ◌≤◌, ◌<◌, ◌+◌, ◌^
 ghost use Rattle.std.specs.Prelude.{ℕ, length, nat_eq};
 ghost use Rattle.std.specs.List.{position_from};
 ghost use Rattle.px_outside.specs.Outside.{Rose};
-ghost use Rattle.proxy_core.specs.declared.config.Config.{Config};
+ghost use Rattle.run_config.specs.declared.config.Config.{Config};
 ghost use Rattle.journal_text.specs.Line.{IsSkipped};
 ghost use Rattle.proxy.specs.Lines.{IsLine, unended_kind};
 ghost use Rattle.proxy.specs.Stops.{GoesOnBehind, StopsBehind, Stopped};

@@ -3,8 +3,8 @@
 ghost use Rattle.std.specs.Prelude.{◌≡◌, ◌≤◌, ◌<◌, ◌+◌, ◌^◌, IfOk, OnOk, IfErr, Option, List};
 ghost use Rattle.std.specs.Prelude.{[]};
 ghost use Rattle.journal_text.specs.Notes.{note_lines};
-ghost use Rattle.proxy_core.specs.Setup.{init_notes};
-ghost use Rattle.proxy_core.specs.declared.config.Config.{Config};
+ghost use Rattle.record_model.specs.Setup.{init_notes};
+ghost use Rattle.run_config.specs.declared.config.Config.{Config};
 ghost use Rattle.px_outside.specs.Outside.{Rose, told_more};
 ghost use Rattle.proxy.specs.Written.{Stands};
 ghost use Rattle.proxy.specs.Stops.{GoesOnWith, StopsAtStart, StopsWith};
@@ -12,9 +12,10 @@ ghost use Rattle.proxy.specs.Stops.{GoesOnWith, StopsAtStart, StopsWith};
 use crate::taken::{Taken, add_took, took_by};
 use frame_machine::Stepper;
 use journal_text::{LineKind, write_notes};
-use proxy_core::{BadEvent, Config, Core, Event, Note, Notes};
+use proxy_core::{BadEvent, Core, Event, Note, Notes};
 use px_bytes::{Memory, Steps};
 use px_outside::{Failed, Sink, write_all};
+use run_config::Config;
 use std::alloc::Global;
 use std::sync::ledger::Ledger;
 

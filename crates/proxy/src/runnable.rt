@@ -15,9 +15,9 @@ use crate::groups::{Made, core_groups};
 use crate::interim_rules::is_built;
 use config::{Config as Loaded, LoadedRule, Persist, Virtual};
 use event_order::EventName;
-use proxy_core::{Config, Virtual as CoreVirtual};
 use px_bytes::{M, Seq, Text};
 use rule_loader::{Handler, Rule};
+use run_config::{Config, Virtual as CoreVirtual};
 use std::alloc::Global;
 use tcl_trees::Procs;
 

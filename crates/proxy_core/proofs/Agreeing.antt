@@ -14,18 +14,19 @@ use Rattle.conn.specs.declared.setup.Place.{Place}
 use Rattle.proxy_core.specs.Bodies.{all_places}
 use Rattle.proxy_core.specs.Changes as code
 use Rattle.proxy_core.specs.Calls.{is_any}
-use Rattle.proxy_core.specs.History.{store_of, store_after}
+use Rattle.record_model.specs.History.{store_of, store_after}
 use Rattle.proxy_core.specs.Live.{KeepsPlace, asks_in, edges_by_conn, edges_in}
 use Rattle.proxy_core.specs.Moves.{MovesBy}
-use Rattle.proxy_core.specs.Past.{Past, ended_in, without_all, with_accepted, last_after, moment_after, Shared, shared, shared_after}
+use Rattle.record_model.specs.Past.{Past, ended_in, without_all, with_accepted, last_after, moment_after, Shared, shared, shared_after}
 use Rattle.proxy_core.specs.Ready.{numbers, is_in, without}
-use Rattle.proxy_core.specs.Refusals.{live_at, virtual_place}
+use Rattle.record_model.specs.Setup.{virtual_place}
+use Rattle.proxy_core.specs.Refusals.{live_at}
 use Rattle.proxy_core.specs.Represents.{ConnectionContinues, AgreesLive, AgreesAt, AgreesBy, Represents}
 use Rattle.proxy_core.specs.Scheduler.{State, Seen, seen_after}
 use Rattle.proxy_core.specs.Serving.{Serves}
-use Rattle.proxy_core.specs.Setup.{statics_of, setup_of, handlers_in, setup_in, name_at, name_in, pool_in, port_in}
-use Rattle.proxy_core.specs.declared.config.Config.{Config}
-use Rattle.proxy_core.specs.declared.config.Virtual.{Virtual}
+use Rattle.record_model.specs.Setup.{statics_of, setup_of, handlers_in, setup_in, name_at, name_in, pool_in, port_in}
+use Rattle.run_config.specs.declared.config.Config.{Config}
+use Rattle.run_config.specs.declared.config.Virtual.{Virtual}
 use Rattle.proxy_core.specs.declared.core_state.Core.{Core}
 use Rattle.proxy_core.specs.declared.live.Live.{Live}
 use Rattle.px_bytes.specs.declared.addr.Addr.{Addr}

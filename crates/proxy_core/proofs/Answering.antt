@@ -22,14 +22,14 @@ use Rattle.conn.specs.RunsItems.{told_behind}
 use Rattle.conn_trace.specs.Trace.{next_item}
 use Rattle.conn.specs.Settling.{closing, is_over, settling_at, took_all}
 use Rattle.shared_store.specs.Calls.{reply}
-use Rattle.proxy_core.specs.History.{entries_in, store_of, IsAnswer, AreAnswers, IsHistory}
+use Rattle.record_model.specs.History.{entries_in, store_of, IsAnswer, AreAnswers, IsHistory}
 use Rattle.proxy_core.specs.Moves.{MovesFailed, MovesLacks, MovesOn, MovesCome, MovesRing, MovesBy, MovesQueue, TurnNotes, RunsOn, RunsOut, RunsFailed, Leads}
 use Rattle.core_events.specs.Kinds.{kind_of}
-use Rattle.proxy_core.specs.Past.{Past, heard, shared}
+use Rattle.record_model.specs.Past.{Past, heard, shared}
 use Rattle.proxy_core.specs.Scheduler.{State, untaken_all}
-use Rattle.proxy_core.specs.Setup.{setup_of, stand_of}
+use Rattle.record_model.specs.Setup.{setup_of, stand_of}
 use Rattle.proxy_core.specs.declared.call.Asked.{Asked}
-use Rattle.proxy_core.specs.declared.config.Config.{Config}
+use Rattle.run_config.specs.declared.config.Config.{Config}
 use Rattle.proxy_core.proofs.Besides.{replies_are}
 use Rattle.proxy_core.proofs.GroupNotes.{of_items, entries_items, entries_on, due_entries, closing_due, settling_due}
 use Rattle.proxy_core.proofs.RunOn.{told_due}

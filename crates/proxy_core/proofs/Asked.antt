@@ -6,7 +6,7 @@ use Rattle.px_bytes.specs.declared.addr.Side.{Side}
 use Rattle.core_events.specs.declared.edges.Edges.{Edges}
 use Rattle.proxy_core.specs.Asked.{is_none_of, settled_of, next_of, live_of, edges_of, wants_of, pending_of, queue_at, queue_of, first_of, copy_of}
 use Rattle.proxy_core.specs.Live.{edges_in, wanted_of}
-use Rattle.proxy_core.specs.Past.{Past, heard, shared}
+use Rattle.record_model.specs.Past.{Past, heard, shared}
 use Rattle.proxy_core.specs.Queries.{front_of, pending_on, queue_on}
 use Rattle.proxy_core.specs.Ready.{is_in}
 use Rattle.proxy_core.specs.Refusal.{wants_at}
@@ -15,7 +15,7 @@ use Rattle.proxy_core.specs.Represents.{AgreesLive, AgreesAt, Represents}
 use Rattle.proxy_core.specs.Scheduler.{State, Seen, seen, untaken_of}
 use Rattle.proxy_core.specs.Sound.{Served}
 use Rattle.proxy_core.specs.declared.call.Asked.{Asked}
-use Rattle.proxy_core.specs.declared.config.Config.{Config}
+use Rattle.run_config.specs.declared.config.Config.{Config}
 use Rattle.proxy_core.specs.declared.core_state.Core.{Core}
 use Rattle.proxy_core.specs.declared.live.Live.{Live}
 use Rattle.proxy_core.proofs.Finished.{heard_finish}

@@ -8,10 +8,11 @@ use Rattle.rule_loader.specs.declared.handler.Handler as loaded
 use Rattle.rule_loader.specs.declared.rule.Rule.{Rule}
 use Rattle.conn.specs.Setups.{body_in, body_of, handler_view, places_in}
 use Rattle.conn.specs.declared.setup.Place.{Place}
-use Rattle.proxy_core.specs.Bodies.{Body, all_places, bodies_in, bodies_of, body_view, gathered, place_priority, placed, placed_in, places_of, rule_bodies, rule_places, server_places}
-use Rattle.proxy_core.specs.Order.{by_priority, put}
-use Rattle.proxy_core.specs.Setup.{numbers_in}
-use Rattle.proxy_core.specs.declared.config.Virtual.{Virtual}
+use Rattle.record_model.specs.Bodies.{Body, bodies_in, bodies_of, body_view, rule_bodies}
+use Rattle.proxy_core.specs.Bodies.{all_places, gathered, place_priority, placed, placed_in, places_of, rule_places, server_places}
+use Rattle.record_model.specs.Order.{by_priority, put}
+use Rattle.record_model.specs.Setup.{numbers_in}
+use Rattle.run_config.specs.declared.config.Virtual.{Virtual}
 
 -- a body stands at a place of rules
 pub record Found (rules : List Rule) (e : EventName) (p : Place) (b : Body) : Type 0 where

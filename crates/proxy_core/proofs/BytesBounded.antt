@@ -39,19 +39,20 @@ use Rattle.conn.specs.RunsItems.{Passes, told_behind}
 use Rattle.conn.specs.Settling.{closing, is_over, settling_at, took_all}
 use Rattle.proxy_core.specs.Bounds.{BytesAreBounded}
 use Rattle.proxy_core.specs.Calls.{asker, calls_of}
-use Rattle.proxy_core.specs.History.{store_of}
+use Rattle.record_model.specs.History.{store_of}
 use Rattle.proxy_core.specs.Live.{entry_note}
 use Rattle.proxy_core.specs.Moves.{MovesFailed, MovesLacks, MovesOn, MovesCome, MovesRing, MovesFront, MovesQueue, Rests, TurnNotes, MovesBy, RunsOn, RunsOut, RunsFailed, Leads}
 use Rattle.proxy_core.specs.Others.{about, front}
 use Rattle.core_events.specs.Kinds.{kind_of}
-use Rattle.proxy_core.specs.Past.{Past, heard, shared}
-use Rattle.proxy_core.specs.Refusal.{by_edges, comes_too_much, is_late, known, refusal_rows, refused, standing_by}
+use Rattle.record_model.specs.Past.{Past, heard, shared}
+use Rattle.record_model.specs.Refusal.{by_edges, comes_too_much, is_late, refusal_rows}
+use Rattle.proxy_core.specs.Refusal.{known, refused, standing_by}
 use Rattle.proxy_core.specs.Scheduler.{State, Seen, seen, untaken_all}
-use Rattle.proxy_core.specs.Setup.{begins_at, setup_in, setup_of, stand_of}
+use Rattle.record_model.specs.Setup.{begins_at, setup_in, setup_of, stand_of}
 use Rattle.proxy_core.specs.Shown.{causes_behind}
 use Rattle.proxy_core.specs.Sound.{unseen, Served, Sound, SoundAt}
 use Rattle.proxy_core.specs.declared.call.Asked.{Asked}
-use Rattle.proxy_core.specs.declared.config.Config.{Config}
+use Rattle.run_config.specs.declared.config.Config.{Config}
 use Rattle.proxy_core.proofs.Arriving.{HeldOf, Room, Waiting, held_of, lies_along, longer_lies, nothing_fits, waiting_at}
 use Rattle.proxy_core.proofs.CameAt.{UncutOr, heard_uncut}
 use Rattle.proxy_core.proofs.Entries.{calls_front}

@@ -23,7 +23,7 @@ use Rattle.conn_trace.proofs.Hearing.{event_stands, finished_stands}
 use Rattle.conn.specs.Calls.{unless_finished}
 use Rattle.proxy_core.specs.Live.{further_in}
 use Rattle.core_events.specs.Kinds.{kind_of}
-use Rattle.proxy_core.specs.Past.{Past, heard}
+use Rattle.record_model.specs.Past.{Past, heard}
 use Rattle.proxy_core.proofs.Meeting.{come_further}
 
 -- ---- a cut finishes

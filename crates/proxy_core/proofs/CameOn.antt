@@ -40,11 +40,11 @@ use Rattle.conn.proofs.Giving.{ends_kept}
 use Rattle.conn.proofs.Taking.{takes_ends}
 use Rattle.proxy_core.specs.Live.{ConnComes, ConnLacks, ConnMay, LiveComes, asks_in, edges_by_conn, ends_met, further_in, met_by, takes_memory}
 use Rattle.proxy_core.specs.Moves.{came, is_drained_at, lacked, MovesBy, MovesFailed, MovesLacks, MovesOn}
-use Rattle.proxy_core.specs.Past.{Past, ended_in, heard}
+use Rattle.record_model.specs.Past.{Past, ended_in, heard}
 use Rattle.proxy_core.specs.Represents.{ConnectionContinues, Continues, HoldsQueues, Lacks, NeverBegan, around}
 use Rattle.proxy_core.specs.Scheduler.{State, last_took, seen, seen_after, untaken_all}
-use Rattle.proxy_core.specs.Setup.{setup_in, setup_of, stand_of}
-use Rattle.proxy_core.specs.declared.config.Config.{Config}
+use Rattle.record_model.specs.Setup.{setup_in, setup_of, stand_of}
+use Rattle.run_config.specs.declared.config.Config.{Config}
 use Rattle.proxy_core.proofs.CameAt.{UncutOr, heard_uncut, stands_come, stands_uncut}
 use Rattle.proxy_core.proofs.Coming.{ends_edges}
 use Rattle.proxy_core.proofs.GroupNotes.{About, AreDue, due_about, due_asks, due_failure, due_finish, due_quiet, ended_settling, quiet_finish, settling_due, tells_all}

@@ -11,14 +11,14 @@ use Rattle.conn.specs.declared.connection.Conn.{Conn}
 use Rattle.proxy_core.specs.Changes as code
 use Rattle.proxy_core.specs.Live.{MayCome, asks_in}
 use Rattle.proxy_core.specs.Calls.{calls_of, is_any, without_calls, woken}
-use Rattle.proxy_core.specs.Past.{Past, heard, ended_in, without_all, shared}
+use Rattle.record_model.specs.Past.{Past, heard, ended_in, without_all, shared}
 use Rattle.proxy_core.specs.Ready.{numbers, is_in, without, with_ready}
 use Rattle.proxy_core.specs.Refusals.{live_at}
 use Rattle.proxy_core.specs.Represents.{Represents}
 use Rattle.proxy_core.specs.Scheduler.{State, seen, seen_after}
-use Rattle.proxy_core.specs.Setup.{setup_in, setup_of}
+use Rattle.record_model.specs.Setup.{setup_in, setup_of}
 use Rattle.proxy_core.specs.Sound.{Served}
-use Rattle.proxy_core.specs.declared.config.Config.{Config}
+use Rattle.run_config.specs.declared.config.Config.{Config}
 use Rattle.proxy_core.specs.declared.core_state.Core.{Core}
 use Rattle.proxy_core.specs.declared.live.Live.{Live}
 use Rattle.proxy_core.proofs.EdgeNotes.{edges_come}

@@ -9,14 +9,14 @@ use Rattle.conn_trace.specs.Heard.{taken}
 use Rattle.conn_trace.specs.Setup.{Setup}
 use Rattle.conn_trace.specs.State.{TraceState}
 use Rattle.proxy_core.specs.Calls.{calls_of, is_any, without_calls}
-use Rattle.proxy_core.specs.Past.{Past, shared}
+use Rattle.record_model.specs.Past.{Past, shared}
 use Rattle.proxy_core.specs.Ready.{is_in, without}
 use Rattle.proxy_core.specs.Represents.{Represents}
 use Rattle.proxy_core.specs.Scheduler.{State, Seen, seen}
-use Rattle.proxy_core.specs.Setup.{setup_of, stand_of}
+use Rattle.record_model.specs.Setup.{setup_of, stand_of}
 use Rattle.proxy_core.specs.Sound.{unseen, Spot, Served, SoundAt}
 use Rattle.proxy_core.specs.declared.call.Asked.{Asked}
-use Rattle.proxy_core.specs.declared.config.Config.{Config}
+use Rattle.run_config.specs.declared.config.Config.{Config}
 use Rattle.proxy_core.specs.declared.core_state.Core.{Core}
 use Rattle.proxy_core.proofs.Entries.{calls_front, calls_without, calls_without_self}
 use Rattle.proxy_core.proofs.Members.{eq_same, in_without_other}

@@ -28,7 +28,7 @@ use Rattle.conn.specs.Settling.{client_notes, close_notes, closing, half_close, 
 use Rattle.conn.specs.declared.turn.ConnTurn.{ConnTurn}
 use Rattle.proxy_core.specs.Fitting.{fits, Fit}
 use Rattle.core_events.specs.Kinds.{kind_of}
-use Rattle.proxy_core.specs.Past.{Past, heard}
+use Rattle.record_model.specs.Past.{Past, heard}
 use Rattle.proxy_core.specs.Servers.{is_used}
 use Rattle.proxy_core.proofs.Closings.{both, halved, half_client, half_server, half_state, is_due, server_edges}
 use Rattle.proxy_core.proofs.GroupNotes.{About, due_about, resting_due}

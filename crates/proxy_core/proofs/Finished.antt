@@ -14,12 +14,12 @@ use Rattle.conn_trace.specs.Phases.{Orderly}
 use Rattle.conn_trace.specs.Tellings.{NoteTells, tells, own, notes_about, finish_told}
 use Rattle.conn_trace.proofs.Stepping.{finishes_once}
 use Rattle.core_events.specs.Kinds.{kind_of}
-use Rattle.proxy_core.specs.Past.{Past, heard}
+use Rattle.record_model.specs.Past.{Past, heard}
 use Rattle.proxy_core.specs.Scheduler.{Seen}
-use Rattle.proxy_core.specs.Setup.{setup_of, begins_at, stand_of}
+use Rattle.record_model.specs.Setup.{setup_of, begins_at, stand_of}
 use Rattle.proxy_core.specs.Shown.{causes_behind}
 use Rattle.proxy_core.specs.Sound.{Served}
-use Rattle.proxy_core.specs.declared.config.Config.{Config}
+use Rattle.run_config.specs.declared.config.Config.{Config}
 use Rattle.proxy_core.proofs.Sums.{finish_of_causes, some_causes}
 
 -- by notes behind others

@@ -36,18 +36,18 @@ use Rattle.shared_store.specs.Calls.{reply}
 use Rattle.shared_store.specs.Store.{StoreState}
 use Rattle.proxy_core.specs.Calls.{asker}
 use Rattle.proxy_core.specs.Fitting.{Fit, NotesFitEdges}
-use Rattle.proxy_core.specs.History.{store_of}
+use Rattle.record_model.specs.History.{store_of}
 use Rattle.proxy_core.specs.Live.{entry_note}
 use Rattle.proxy_core.specs.Moves.{MovesFailed, MovesLacks, MovesOn, MovesCome, MovesRing, MovesFront, MovesQueue, TurnNotes, MovesBy, RunsOn, RunsOut, RunsFailed}
 use Rattle.proxy_core.specs.Others.{about, front}
 use Rattle.core_events.specs.Kinds.{kind_of}
-use Rattle.proxy_core.specs.Past.{Past, heard, shared}
+use Rattle.record_model.specs.Past.{Past, heard, shared}
 use Rattle.proxy_core.specs.Scheduler.{State, Seen, seen, untaken_all}
 use Rattle.proxy_core.specs.Servers.{is_used, awaits, LinkedAt, Linked}
-use Rattle.proxy_core.specs.Setup.{setup_of, stand_of}
+use Rattle.record_model.specs.Setup.{setup_of, stand_of}
 use Rattle.proxy_core.specs.Sound.{is_closed, Served, Sound}
 use Rattle.proxy_core.specs.declared.call.Asked.{Asked as Call}
-use Rattle.proxy_core.specs.declared.config.Config.{Config}
+use Rattle.run_config.specs.declared.config.Config.{Config}
 use Rattle.proxy_core.proofs.Drains.{longer_orderly}
 use Rattle.proxy_core.proofs.EdgeNotes.{edges_joined}
 use Rattle.proxy_core.proofs.Finished.{heard_finish, stands_orderly, trace_finished}

@@ -17,11 +17,11 @@ use Rattle.conn_trace.specs.Item.{Item, notes_of}
 use Rattle.conn_trace.specs.Tellings.{tells, conn_of}
 use Rattle.conn_trace.proofs.Hearing.{others_not_heard}
 use Rattle.proxy_core.specs.Calls.{calls_of, is_any, asker, queue_behind}
-use Rattle.proxy_core.specs.History.{store_of}
+use Rattle.record_model.specs.History.{store_of}
 use Rattle.proxy_core.specs.Moves.{Rests, is_drained_at, came, lacked, ran, MovesFailed, MovesLacks, MovesOn, MovesCome, RunsOn, RunsOut, RunsFailed, MovesRing, TurnNotes, MovesQueue, MovesBy}
 use Rattle.proxy_core.specs.declared.call.Asked.{Asked}
 use Rattle.proxy_core.specs.Others.{about, front}
-use Rattle.proxy_core.specs.Past.{Past, heard, ended_in, without_all, with_accepted, shared}
+use Rattle.record_model.specs.Past.{Past, heard, ended_in, without_all, with_accepted, shared}
 use Rattle.proxy_core.specs.Ready.{is_in, ring_behind, with_ready, without}
 use Rattle.conn.specs.RunsItems.{is_resting, out_of_memory, told_behind}
 use Rattle.conn.specs.Settling.{closing, resting, settling_at}
@@ -32,10 +32,10 @@ use Rattle.conn_trace.specs.State.{TraceState}
 use Rattle.core_events.specs.declared.edges.Edges.{Edges}
 use Rattle.conn.specs.declared.turn.ConnTurn.{ConnTurn}
 use Rattle.proxy_core.specs.Scheduler.{State, entries, Seen, seen, seen_after, untaken_all}
-use Rattle.proxy_core.specs.declared.config.Config.{Config}
+use Rattle.run_config.specs.declared.config.Config.{Config}
 use Rattle.proxy_core.proofs.Entries.{entries_behind, entries_pushed, entries_rest, entries_without, entries_ready, entries_woken, calls_behind, calls_rest, calls_without}
 use Rattle.proxy_core.proofs.GroupNotes.{About, about_joined, about_items, closing_due, due_about, of_items, own_none, resting_due, settling_due}
-use Rattle.proxy_core.specs.Setup.{setup_of, stand_of}
+use Rattle.record_model.specs.Setup.{setup_of, stand_of}
 use Rattle.conn.specs.Settling.{is_over, took_all}
 use Rattle.conn_trace.specs.Trace.{next_item}
 use Rattle.px_bytes.specs.declared.addr.Side.TheVariants.{Client, Server}

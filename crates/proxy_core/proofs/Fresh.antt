@@ -9,12 +9,13 @@ use Rattle.core_events.specs.Edges.{accepted_edges}
 use Rattle.core_events.specs.declared.event_kind.EventKind.TheVariants.{Accepts}
 use Rattle.conn_trace.specs.Heard.{Accepted, nothing_heard, hears}
 use Rattle.proxy_core.specs.Calls.{calls_of}
-use Rattle.proxy_core.specs.Past.{Past, ended_in, shared, without_all}
+use Rattle.record_model.specs.Past.{Past, ended_in, shared, without_all}
 use Rattle.proxy_core.specs.Ready.{is_in}
-use Rattle.proxy_core.specs.Refusal.{Row, first_of, known, refusal_rows, refused}
+use Rattle.record_model.specs.Refusal.{Row, first_of, refusal_rows}
+use Rattle.proxy_core.specs.Refusal.{known, refused}
 use Rattle.proxy_core.specs.Scheduler.{Seen, State, entries, seen, seen_after}
 use Rattle.proxy_core.specs.Sound.{Sound, unseen}
-use Rattle.proxy_core.specs.declared.config.Config.{Config}
+use Rattle.run_config.specs.declared.config.Config.{Config}
 use Rattle.proxy_core.proofs.Entries.{entries_pushed_self}
 use Rattle.proxy_core.proofs.Framing.{same_seen}
 use Rattle.proxy_core.proofs.Members.{eq_self, in_pushed_self}

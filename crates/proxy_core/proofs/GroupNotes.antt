@@ -20,8 +20,8 @@ use Rattle.px_bytes.specs.declared.addr.Side.TheVariants.{Client, Server}
 use Rattle.conn_trace.specs.HeardLaws.{TellsNothing}
 use Rattle.conn_trace.specs.Item.{Item, Reason, Closed, Tcl, Unselected, Rejected, CutBy, cause_of, Passed, Fired, Reused, Connected, Logged, Finished, note_of, notes_of}
 use Rattle.conn_trace.specs.Tellings.{tells, conn_of, own, notes_about, replies_told, choices_told, cut_by, cut_told, finish_told, failure_told}
-use Rattle.proxy_core.specs.History.{called_in, entries_in, entry_in}
-use Rattle.proxy_core.specs.Past.{ended_in}
+use Rattle.record_model.specs.History.{called_in, entries_in, entry_in}
+use Rattle.record_model.specs.Past.{ended_in}
 use Rattle.proxy_core.specs.Shown.{shows, closes}
 use Rattle.proxy_core.proofs.Members.{eq_self}
 

@@ -12,7 +12,7 @@ use Rattle.conn_trace.specs.Heard.{brings_in, event_brings, accepts, marks, even
 use Rattle.conn_trace.specs.Heard.{hears}
 use Rattle.conn_trace.specs.Tellings.{notes_about, finish_told}
 use Rattle.core_events.specs.Kinds.{kind_of}
-use Rattle.proxy_core.specs.Past.{Past, heard}
+use Rattle.record_model.specs.Past.{Past, heard}
 use Rattle.proxy_core.specs.Servers.{made, makes, servers_made}
 
 last_made : (f : SideHeard → SideHeard) (cs : List (Option SideHeard)) → made (at_last f cs) ≡ made cs

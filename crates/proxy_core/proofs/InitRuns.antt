@@ -15,12 +15,13 @@ use Rattle.plain_eval.specs.declared.plain.Plain.TheVariants as plain
 use Rattle.conn_trace.specs.Host.{HostState}
 use Rattle.conn.specs.Hosts.{seen_net}
 use Rattle.conn.specs.declared.setup.Place.{Place}
-use Rattle.proxy_core.specs.Bodies.{Body, bodies_of, places_of}
-use Rattle.proxy_core.specs.Init.{all_ran, ended, fault_lines, init_bodies, kept, kept_with, lines_in, ran}
+use Rattle.record_model.specs.Bodies.{Body, bodies_of}
+use Rattle.proxy_core.specs.Bodies.{places_of}
+use Rattle.record_model.specs.Init.{all_ran, ended, fault_lines, init_bodies, kept, kept_with, lines_in, ran}
 use Rattle.proxy_core.specs.InitPlaces.{places_ran, plain_lines, ran_by}
-use Rattle.proxy_core.specs.declared.config.Config.{Config}
-use Rattle.proxy_core.specs.declared.init.Left.{Left}
-use Rattle.proxy_core.specs.declared.init_host.InitHost.{InitHost}
+use Rattle.run_config.specs.declared.config.Config.{Config}
+use Rattle.record_model.specs.declared.left.Left.{Left}
+use Rattle.record_model.specs.Init.{InitHost}
 use Rattle.proxy_core.proofs.BodyPlaces.{AllFound, places_found}
 
 -- the host keeps what was made

@@ -46,7 +46,6 @@ pub mod Fitting
 pub mod HeardServers
 pub mod OneServer
 pub mod Promises
-pub mod Order
 pub mod Ordering
 pub mod BodyPlaces
 pub mod InitRuns

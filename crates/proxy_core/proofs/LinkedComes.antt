@@ -14,7 +14,7 @@ use Rattle.conn_trace.specs.State.{TraceState}
 use Rattle.conn.specs.Calls.{unless_finished}
 use Rattle.conn.specs.Settling.{close_notes, closing}
 use Rattle.proxy_core.specs.Live.{further_in}
-use Rattle.proxy_core.specs.Refusal.{answers_nothing}
+use Rattle.record_model.specs.Refusal.{answers_nothing}
 use Rattle.proxy_core.specs.Servers.{Linked}
 use Rattle.proxy_core.specs.Shown.{closes, shows}
 use Rattle.proxy_core.proofs.Closings.{any_on}

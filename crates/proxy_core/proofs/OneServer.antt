@@ -31,20 +31,21 @@ use Rattle.conn.specs.declared.turn.ConnTurn.{ConnTurn}
 use Rattle.shared_store.specs.Calls.{reply}
 use Rattle.shared_store.specs.Store.{StoreState}
 use Rattle.proxy_core.specs.Calls.{asker}
-use Rattle.proxy_core.specs.History.{store_of}
+use Rattle.record_model.specs.History.{store_of}
 use Rattle.proxy_core.specs.Live.{entry_note}
 use Rattle.proxy_core.specs.Moves.{MovesFailed, MovesLacks, MovesOn, MovesCome, MovesRing, MovesFront, MovesQueue, TurnNotes, MovesBy, RunsOn, RunsOut, RunsFailed, Leads}
 use Rattle.proxy_core.specs.Others.{about, front}
 use Rattle.core_events.specs.Kinds.{kind_of}
-use Rattle.proxy_core.specs.Past.{Past, heard, shared}
-use Rattle.proxy_core.specs.Refusal.{answers_nothing, refused}
+use Rattle.record_model.specs.Past.{Past, heard, shared}
+use Rattle.record_model.specs.Refusal.{answers_nothing}
+use Rattle.proxy_core.specs.Refusal.{refused}
 use Rattle.proxy_core.specs.Scheduler.{State, last_took, seen, untaken_all}
 use Rattle.proxy_core.specs.OneServer.{OneServer, OneServerIsMade}
 use Rattle.proxy_core.specs.Servers.{made, makes, servers_made, took_of, awaits, Linked}
-use Rattle.proxy_core.specs.Setup.{setup_of, stand_of}
+use Rattle.record_model.specs.Setup.{setup_of, stand_of}
 use Rattle.proxy_core.specs.Sound.{unseen, Served, Sound}
 use Rattle.proxy_core.specs.declared.call.Asked.{Asked as Call}
-use Rattle.proxy_core.specs.declared.config.Config.{Config}
+use Rattle.run_config.specs.declared.config.Config.{Config}
 use Rattle.proxy_core.proofs.EdgeNotes.{edges_joined, edges_told}
 use Rattle.proxy_core.proofs.Finished.{heard_finish, trace_finished}
 use Rattle.proxy_core.proofs.Framing.{only_changed, touches}

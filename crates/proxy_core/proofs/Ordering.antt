@@ -5,7 +5,7 @@ use Rattle.std.specs.Prelude.{slice_get, slice_index_or}
 use Rattle.rule_loader.specs.declared.handler.Handler as loaded
 use Rattle.conn.specs.declared.setup.Place.{Place}
 use Rattle.proxy_core.specs.Bodies.{place_priority, placed}
-use Rattle.proxy_core.specs.Order.{put}
+use Rattle.record_model.specs.Order.{put}
 
 abbrev stands_before : ℕ → Place → Bool
 stands_before n p = nat_le n p.priority

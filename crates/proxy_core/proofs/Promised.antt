@@ -32,13 +32,13 @@ use Rattle.conn.specs.RunsItems.{is_cut, licenses}
 use Rattle.conn.specs.Settling.{half_close, is_drained, is_over, note_if, settling_at}
 use Rattle.proxy_core.specs.Calls.{calls_of}
 use Rattle.proxy_core.specs.Headline.{first_items, SentIsPrefix, IsSettled, EntriesAreCalls}
-use Rattle.proxy_core.specs.Past.{Past, heard}
+use Rattle.record_model.specs.Past.{Past, heard}
 use Rattle.proxy_core.specs.Scheduler.{State, entries, Seen, seen, untaken_of}
 use Rattle.proxy_core.specs.Servers.{took_of}
-use Rattle.proxy_core.specs.Setup.{setup_of, begins_at, stand_of}
+use Rattle.record_model.specs.Setup.{setup_of, begins_at, stand_of}
 use Rattle.proxy_core.specs.Shown.{causes_behind}
 use Rattle.proxy_core.specs.Sound.{Rested, Spot, Served}
-use Rattle.proxy_core.specs.declared.config.Config.{Config}
+use Rattle.run_config.specs.declared.config.Config.{Config}
 use Rattle.proxy_core.proofs.Answering.{heard_recorded}
 use Rattle.proxy_core.proofs.Ending.{finished_is_over}
 use Rattle.proxy_core.proofs.Finished.{heard_finish, stands_orderly, trace_finished}

@@ -10,11 +10,11 @@ use Rattle.conn_trace.specs.Trace.{next_item, GivesNoMore}
 use Rattle.core_events.specs.declared.note.CutReason.TheVariants.{ClientReset, ServerReset, Idle}
 use Rattle.proxy_core.specs.Headline.{IsSettled, NoCutIsDue, ConnectionPromise, EveryPastMatches, OutputMatchesEvaluator}
 use Rattle.proxy_core.specs.Moves.{Leads}
-use Rattle.proxy_core.specs.Past.{Past, heard}
+use Rattle.record_model.specs.Past.{Past, heard}
 use Rattle.proxy_core.specs.Scheduler.{State, Seen, last_took, seen, untaken_of}
-use Rattle.proxy_core.specs.Setup.{setup_of, stand_of}
+use Rattle.record_model.specs.Setup.{setup_of, stand_of}
 use Rattle.proxy_core.specs.Sound.{Rested, Served}
-use Rattle.proxy_core.specs.declared.config.Config.{Config}
+use Rattle.run_config.specs.declared.config.Config.{Config}
 use Rattle.proxy_core.proofs.Answering.{one_history}
 use Rattle.proxy_core.proofs.Promised.{sent_is_prefix, settled_at, settled_has_ended, drained_is_whole, half_at_rest, rest_not_cut, client_license, ended_at, ended_is_whole, ended_finished, client_counts, client_gone, client_took_all, trace_memory, once_finished, second_memory, calls_promised}
 use Rattle.proxy_core.proofs.ServerLeft.{FactsAt, server_facts}

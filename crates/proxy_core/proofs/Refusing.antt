@@ -9,9 +9,10 @@ use Rattle.core_events.specs.declared.bad_event.BadEvent.TheVariants.{AfterEnd, 
 use Rattle.core_events.specs.declared.event_kind.EventKind.TheVariants.{Comes}
 use Rattle.core_events.specs.declared.input.Input.{Input}
 use Rattle.core_events.specs.declared.input.Input.TheVariants.{Bytes, Ends, Resets, Connects, Takes}
-use Rattle.proxy_core.specs.Refusal.{core_standing, input_refusal, refusal_by, refusal_of}
+use Rattle.record_model.specs.Refusal.{refusal_by}
+use Rattle.proxy_core.specs.Refusal.{core_standing, input_refusal, refusal_of}
 use Rattle.proxy_core.specs.Refusals.{live_at}
-use Rattle.proxy_core.specs.declared.config.Config.{Config}
+use Rattle.run_config.specs.declared.config.Config.{Config}
 use Rattle.proxy_core.specs.declared.core_state.Core.{Core}
 use Rattle.proxy_core.specs.declared.live.Live.{Live}
 

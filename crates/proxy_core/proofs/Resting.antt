@@ -9,17 +9,17 @@ use Rattle.conn_trace.proofs.Hearing.{others_not_heard}
 use Rattle.proxy_core.specs.Changes as code
 use Rattle.shared_store.specs.Store.{marked}
 use Rattle.proxy_core.specs.Calls.{asker}
-use Rattle.proxy_core.specs.History.{store_of, store_after}
+use Rattle.record_model.specs.History.{store_of, store_after}
 use Rattle.proxy_core.specs.Moves.{MovesBy, MovesQueue}
 use Rattle.proxy_core.specs.Others.{about}
-use Rattle.proxy_core.specs.Past.{Past, ended_in, without_all, with_accepted, last_after, moment_after, shared}
+use Rattle.record_model.specs.Past.{Past, ended_in, without_all, with_accepted, last_after, moment_after, shared}
 use Rattle.proxy_core.specs.Ready.{numbers}
 use Rattle.proxy_core.specs.Refusals.{live_at}
 use Rattle.proxy_core.specs.Represents.{AgreesAt, Represents}
 use Rattle.proxy_core.specs.Scheduler.{State, Seen, seen, seen_after}
 use Rattle.proxy_core.specs.declared.call.Asked.{Asked}
 use Rattle.proxy_core.specs.declared.live.Live.{Live}
-use Rattle.proxy_core.specs.declared.config.Config.{Config}
+use Rattle.run_config.specs.declared.config.Config.{Config}
 use Rattle.proxy_core.specs.declared.core_state.Core.{Core}
 use Rattle.proxy_core.proofs.Agreeing.{After, assemble}
 use Rattle.proxy_core.proofs.SoundPast.{unchanged}

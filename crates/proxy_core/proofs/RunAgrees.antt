@@ -15,15 +15,15 @@ use Rattle.proxy_core.specs.Changes as code
 use Rattle.proxy_core.specs.Calls.{calls_of, queue_behind}
 use Rattle.proxy_core.specs.Live.{edges_in}
 use Rattle.proxy_core.specs.Moves.{MovesRing}
-use Rattle.proxy_core.specs.Past.{Past, ended_in, shared, without_all}
+use Rattle.record_model.specs.Past.{Past, ended_in, shared, without_all}
 use Rattle.proxy_core.specs.Ready.{numbers}
 use Rattle.proxy_core.specs.Refusals.{live_at}
 use Rattle.proxy_core.specs.Represents.{AgreesAt, Represents}
 use Rattle.proxy_core.specs.Scheduler.{State, entries, Seen, seen, seen_after}
 use Rattle.proxy_core.specs.Serving.{Serves, IsSetup}
-use Rattle.proxy_core.specs.Setup.{statics_of, setup_of, stand_of}
+use Rattle.record_model.specs.Setup.{statics_of, setup_of, stand_of}
 use Rattle.proxy_core.specs.Sound.{Spot, Served}
-use Rattle.proxy_core.specs.declared.config.Config.{Config}
+use Rattle.run_config.specs.declared.config.Config.{Config}
 use Rattle.proxy_core.specs.declared.core_state.Core.{Core}
 use Rattle.proxy_core.specs.declared.live.Live.{Live}
 use Rattle.proxy_core.specs.Others.{about, front}

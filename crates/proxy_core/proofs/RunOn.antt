@@ -36,12 +36,12 @@ use Rattle.conn.specs.declared.turn.ConnTurn.TheVariants as turn
 use Rattle.proxy_core.specs.Calls.{calls_of, is_any, queue_behind}
 use Rattle.proxy_core.specs.Live.{LiveRuns, asks_in, edges_by_conn}
 use Rattle.proxy_core.specs.Moves.{MovesFront, RunsFailed, RunsOn, RunsOut, ran}
-use Rattle.proxy_core.specs.Past.{Past, ended_in, heard}
+use Rattle.record_model.specs.Past.{Past, ended_in, heard}
 use Rattle.proxy_core.specs.Ready.{ring_behind}
 use Rattle.proxy_core.specs.Represents.{ConnectionContinues, Continues, HoldsQueues, around}
 use Rattle.proxy_core.specs.Scheduler.{State, last_took, seen, seen_after, untaken_all}
-use Rattle.proxy_core.specs.Setup.{setup_of, stand_of}
-use Rattle.proxy_core.specs.declared.config.Config.{Config}
+use Rattle.record_model.specs.Setup.{setup_of, stand_of}
+use Rattle.run_config.specs.declared.config.Config.{Config}
 use Rattle.proxy_core.proofs.CameOn.{Stood, queued_untaken, to_standing}
 use Rattle.proxy_core.proofs.Entries.{asked_behind, calls_behind_self}
 use Rattle.proxy_core.proofs.GroupNotes.{About, AreDue, about_items, about_joined, closing_due, due_about, due_failure, due_quiet, ended_behind, ended_closing, ended_resting, failure_behind, of_items, resting_due, tells_all}

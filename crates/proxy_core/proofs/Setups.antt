@@ -8,10 +8,11 @@ use Rattle.conn.specs.Setups as conn
 use Rattle.conn.specs.Setups.{body_in, places_in}
 use Rattle.conn.specs.declared.setup.Place.{Place}
 use Rattle.conn.specs.declared.setup.Setup as code
-use Rattle.proxy_core.specs.Bodies.{all_places, bodies_of, places_of}
+use Rattle.record_model.specs.Bodies.{bodies_of}
+use Rattle.proxy_core.specs.Bodies.{all_places, places_of}
 use Rattle.proxy_core.specs.Serving.{Serves, IsSetup}
-use Rattle.proxy_core.specs.Setup.{numbers_in}
-use Rattle.proxy_core.specs.declared.config.Config.{Config}
+use Rattle.record_model.specs.Setup.{numbers_in}
+use Rattle.run_config.specs.declared.config.Config.{Config}
 use Rattle.proxy_core.proofs.BodyPlaces.{found_count, found_each, places_found, stand_at}
 
 pub serves_code : (C : Config) (level : Level) (places : List (List (List Place))) (vs : ℕ) (s : code.Setup) (g : Setup) → places ≡ all_places C.rules C.virtuals → IsSetup C level places vs s → Serves C level vs g → conn.Serves s g

@@ -16,14 +16,14 @@ use Rattle.conn_trace.specs.Setup.{Setup}
 use Rattle.conn_trace.specs.State.{Stream, Absent, Answers as Recorded, Cut}
 use Rattle.conn_trace.specs.Trace.{start}
 use Rattle.proxy_core.specs.Calls.{calls_of}
-use Rattle.proxy_core.specs.History.{entries_in}
-use Rattle.proxy_core.specs.Past.{Past, ended_in, without_all, shared}
+use Rattle.record_model.specs.History.{entries_in}
+use Rattle.record_model.specs.Past.{Past, ended_in, without_all, shared}
 use Rattle.proxy_core.specs.Ready.{is_in}
 use Rattle.proxy_core.specs.Scheduler.{State, entries, Seen, seen, seen_after}
 use Rattle.proxy_core.specs.Servers.{took_of, Linked}
-use Rattle.proxy_core.specs.Setup.{begins_at, setup_of}
+use Rattle.record_model.specs.Setup.{begins_at, setup_of}
 use Rattle.proxy_core.specs.Sound.{unseen, is_closed, TookWithin, EndsTold, CallsTold, SoundAt}
-use Rattle.proxy_core.specs.declared.config.Config.{Config}
+use Rattle.run_config.specs.declared.config.Config.{Config}
 use Rattle.proxy_core.proofs.Entries.{entries_pushed_self}
 use Rattle.proxy_core.proofs.Framing.{same_seen}
 use Rattle.proxy_core.proofs.Members.{eq_self, in_pushed_self}

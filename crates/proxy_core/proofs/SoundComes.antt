@@ -29,17 +29,17 @@ use Rattle.conn_trace.proofs.Taking.{met_more}
 use Rattle.conn.specs.Calls.{unless_finished}
 use Rattle.conn.specs.Settling.{is_drained, is_over, is_there, settling, settling_at, took_all}
 use Rattle.proxy_core.specs.Calls.{calls_of, is_any}
-use Rattle.proxy_core.specs.History.{called_in, entries_in}
+use Rattle.record_model.specs.History.{called_in, entries_in}
 use Rattle.proxy_core.specs.Live.{further_in}
 use Rattle.proxy_core.specs.Moves.{came}
-use Rattle.proxy_core.specs.Past.{Past, heard, ended_in, without_all, shared}
+use Rattle.record_model.specs.Past.{Past, heard, ended_in, without_all, shared}
 use Rattle.proxy_core.specs.Ready.{is_in}
-use Rattle.proxy_core.specs.Refusal.{answers_nothing}
+use Rattle.record_model.specs.Refusal.{answers_nothing}
 use Rattle.proxy_core.specs.Scheduler.{State, entries, Seen, seen, seen_after, untaken_all, untaken_of}
-use Rattle.proxy_core.specs.Setup.{begins_at, setup_in, setup_of, stand_of}
+use Rattle.record_model.specs.Setup.{begins_at, setup_in, setup_of, stand_of}
 use Rattle.proxy_core.specs.Shown.{shows, closes, ends_it, causes_told, causes_behind}
 use Rattle.proxy_core.specs.Sound.{is_closed, TookWithin, EndsClosed, EndsTold, Spot, CallsTold, Served}
-use Rattle.proxy_core.specs.declared.config.Config.{Config}
+use Rattle.run_config.specs.declared.config.Config.{Config}
 use Rattle.proxy_core.proofs.CameAt.{UncutOr, heard_uncut, stands_come}
 use Rattle.proxy_core.proofs.Closings.{EndsBy, any_on, none_on, met_closed, settling_at_ends, settling_closed, settling_gone, settling_opens}
 use Rattle.proxy_core.proofs.EdgeNotes.{edges_come}

@@ -25,12 +25,12 @@ use Rattle.conn.specs.Calls.{unless_finished}
 use Rattle.proxy_core.specs.Calls.{is_any}
 use Rattle.proxy_core.specs.Live.{further_in}
 use Rattle.proxy_core.specs.Moves.{came, lacked}
-use Rattle.proxy_core.specs.Past.{Past, heard}
+use Rattle.record_model.specs.Past.{Past, heard}
 use Rattle.proxy_core.specs.Scheduler.{State, Seen, seen, seen_after, untaken_all}
-use Rattle.proxy_core.specs.Setup.{setup_in, setup_of, stand_of}
+use Rattle.record_model.specs.Setup.{setup_in, setup_of, stand_of}
 use Rattle.proxy_core.specs.Shown.{shows, causes_told, causes_behind}
 use Rattle.proxy_core.specs.Sound.{Spot, CallsTold, Served}
-use Rattle.proxy_core.specs.declared.config.Config.{Config}
+use Rattle.run_config.specs.declared.config.Config.{Config}
 use Rattle.proxy_core.proofs.CameAt.{UncutOr, heard_uncut, stands_come, stands_uncut}
 use Rattle.proxy_core.proofs.Closings.{none_ends}
 use Rattle.proxy_core.proofs.Entries.{ready_of, woken_of, entries_ready_self, calls_without_self}

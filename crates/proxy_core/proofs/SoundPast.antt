@@ -31,14 +31,15 @@ use Rattle.px_bytes.specs.declared.fault.Reply.{Reply}
 use Rattle.shared_store.specs.Calls.{reply}
 use Rattle.shared_store.specs.Store.{StoreState}
 use Rattle.proxy_core.specs.Calls.{asker, calls_of, queue_behind}
-use Rattle.proxy_core.specs.History.{called_in, entries_in, store_of}
+use Rattle.record_model.specs.History.{called_in, entries_in, store_of}
 use Rattle.proxy_core.specs.Live.{entry_note}
 use Rattle.proxy_core.specs.Moves.{Rests, MovesFailed, MovesLacks, MovesOn, MovesCome, MovesRing, MovesFront, MovesBy, Moves, RunsOn, RunsOut, RunsFailed, TurnNotes, MovesQueue, is_drained_at, came, lacked, ran, Leads}
 use Rattle.proxy_core.specs.declared.call.Asked.{Asked}
 use Rattle.core_events.specs.Kinds.{kind_of}
-use Rattle.proxy_core.specs.Past.{Happened, Past, heard, ended_in, without_all, with_accepted, shared, shared_after}
+use Rattle.record_model.specs.Past.{Happened, Past, heard, ended_in, without_all, with_accepted, shared, shared_after}
 use Rattle.proxy_core.specs.Ready.{is_in, ring_behind, without}
-use Rattle.proxy_core.specs.Refusal.{Row, answers_nothing, by_edges, wants_at, standing_by, known, takes_too_much, refusal_rows, first_of, refused}
+use Rattle.record_model.specs.Refusal.{Row, answers_nothing, by_edges, takes_too_much, refusal_rows, first_of}
+use Rattle.proxy_core.specs.Refusal.{wants_at, standing_by, known, refused}
 use Rattle.proxy_core.specs.Servers.{took_of}
 use Rattle.conn.specs.RunsItems.{asked_at, ends, Passes, StopsAt, out_of_memory, told_behind}
 use Rattle.conn.specs.Settling.{closing, is_drained, is_over, resting, settling_at, took_all}
@@ -46,9 +47,9 @@ use Rattle.conn_trace.specs.Item.{calls_in}
 use Rattle.conn.specs.declared.turn.ConnTurn.{ConnTurn}
 use Rattle.conn.specs.declared.turn.ConnTurn.TheVariants as turn
 use Rattle.proxy_core.specs.Scheduler.{State, no_connections, entries, Seen, seen, seen_after, untaken_of, untaken_all}
-use Rattle.proxy_core.specs.Setup.{setup_in, setup_of, stand_of}
+use Rattle.record_model.specs.Setup.{setup_in, setup_of, stand_of}
 use Rattle.proxy_core.specs.Sound.{unseen, Spot, Served, SoundAt, Sound}
-use Rattle.proxy_core.specs.declared.config.Config.{Config}
+use Rattle.run_config.specs.declared.config.Config.{Config}
 use Rattle.proxy_core.proofs.Entries.{entries_behind_self, ready_behind, asked_behind, calls_behind_self, calls_front}
 use Rattle.proxy_core.specs.Others.{about, front}
 use Rattle.proxy_core.proofs.Finished.{heard_finish, stands_orderly, trace_finished}

@@ -27,17 +27,17 @@ use Rattle.conn_trace.proofs.Unfolding.{unfolds_on}
 use Rattle.conn.specs.RunsItems.{Passes}
 use Rattle.conn.specs.Settling.{closing, is_over, is_there, took_all}
 use Rattle.proxy_core.specs.Calls.{calls_of}
-use Rattle.proxy_core.specs.History.{entries_in}
+use Rattle.record_model.specs.History.{entries_in}
 use Rattle.proxy_core.specs.Moves.{ran}
 use Rattle.proxy_core.specs.declared.call.Asked.{Asked}
-use Rattle.proxy_core.specs.Past.{Past, heard, ended_in, without_all, shared}
+use Rattle.record_model.specs.Past.{Past, heard, ended_in, without_all, shared}
 use Rattle.proxy_core.specs.Ready.{is_in}
 use Rattle.proxy_core.specs.Scheduler.{State, entries, seen, seen_after, untaken_all}
 use Rattle.proxy_core.specs.Servers.{Linked}
-use Rattle.proxy_core.specs.Setup.{begins_at, setup_in, setup_of, stand_of}
+use Rattle.record_model.specs.Setup.{begins_at, setup_in, setup_of, stand_of}
 use Rattle.proxy_core.specs.Shown.{shows, closes, causes_told, causes_behind}
 use Rattle.proxy_core.specs.Sound.{is_closed, Spot, CallsTold, ServedAt, Served}
-use Rattle.proxy_core.specs.declared.config.Config.{Config}
+use Rattle.run_config.specs.declared.config.Config.{Config}
 use Rattle.proxy_core.proofs.CameAt.{UncutOr, heard_uncut, stands_uncut}
 use Rattle.proxy_core.proofs.Closings.{EndsBy, none_on, closing_ends, closing_gone, ends_behind, items_closed, items_go_on, items_open}
 use Rattle.proxy_core.proofs.EdgeNotes.{edges_joined, edges_told}

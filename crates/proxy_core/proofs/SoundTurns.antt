@@ -17,16 +17,16 @@ use Rattle.conn_trace.specs.Tellings.{tells, notes_about, replies_told, choices_
 use Rattle.conn_trace.specs.Trace.{next_item, Unfolds}
 use Rattle.conn_trace.proofs.Hearing.{event_stands, finished_stands}
 use Rattle.proxy_core.specs.Calls.{calls_of}
-use Rattle.proxy_core.specs.History.{called_in, entries_in}
+use Rattle.record_model.specs.History.{called_in, entries_in}
 use Rattle.proxy_core.specs.declared.call.Asked.{Asked}
-use Rattle.proxy_core.specs.Past.{Past, heard, ended_in, without_all, shared}
+use Rattle.record_model.specs.Past.{Past, heard, ended_in, without_all, shared}
 use Rattle.proxy_core.specs.Ready.{is_in, with_ready}
 use Rattle.proxy_core.specs.Scheduler.{State, seen, seen_after, last_took, untaken_all}
 use Rattle.proxy_core.specs.Servers.{took_of}
-use Rattle.proxy_core.specs.Setup.{setup_in, setup_of, stand_of}
+use Rattle.record_model.specs.Setup.{setup_in, setup_of, stand_of}
 use Rattle.proxy_core.specs.Shown.{shows, closes, ends_it, causes_told, causes_behind}
 use Rattle.proxy_core.specs.Sound.{is_closed, TookWithin, Spot, CallsTold, Served}
-use Rattle.proxy_core.specs.declared.config.Config.{Config}
+use Rattle.run_config.specs.declared.config.Config.{Config}
 use Rattle.proxy_core.proofs.CameAt.{UncutOr, heard_uncut}
 use Rattle.proxy_core.proofs.EdgeNotes.{edges_told}
 use Rattle.proxy_core.proofs.Entries.{ready_of, entries_ready_self, calls_front}

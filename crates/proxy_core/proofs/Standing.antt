@@ -12,9 +12,9 @@ use Rattle.conn_trace.proofs.Given.{unfolds_behind, sent_counted}
 use Rattle.proxy_core.specs.Moves.{is_drained_at}
 use Rattle.conn.specs.Settling.{is_drained}
 use Rattle.proxy_core.specs.Scheduler.{Seen}
-use Rattle.proxy_core.specs.Setup.{setup_of, stand_of}
+use Rattle.record_model.specs.Setup.{setup_of, stand_of}
 use Rattle.proxy_core.specs.Sound.{unseen, ServedAt, Served, SoundAt}
-use Rattle.proxy_core.specs.declared.config.Config.{Config}
+use Rattle.run_config.specs.declared.config.Config.{Config}
 
 pub stands_at : (C : Config) (h : Heard) (g : Setup) (place : List Item) (at : TraceState) → setup_of C h ≡ g → Unfolds g (start_of g h) place at → stand_of C h place ≡ at
 stands_at C h g place at e u = ap (λ y. behind (length place) y (start_of y h)) e ∙ unfolds_behind g (start_of g h) at place u

@@ -11,16 +11,17 @@ use Rattle.conn_trace.specs.Tellings.{tells, finish_told}
 use Rattle.proxy_core.specs.Changes.{Changes, ChangesBy}
 use Rattle.proxy_core.specs.Live.{pending_in, wanted_of}
 use Rattle.core_events.specs.Kinds.{kind_of}
-use Rattle.proxy_core.specs.Past.{Past, Shared, shared}
+use Rattle.record_model.specs.Past.{Past, Shared, shared}
 use Rattle.proxy_core.specs.Ready.{numbers}
-use Rattle.proxy_core.specs.Refusal.{Standing, Known, wants_at, standing_by, standing_of, named, has_marked, known, refused, refusal_by, core_standing, core_known, refusal_of, refusal}
+use Rattle.record_model.specs.Refusal.{Standing, Known, named, has_marked, refusal_by}
+use Rattle.proxy_core.specs.Refusal.{wants_at, standing_by, standing_of, known, refused, core_standing, core_known, refusal_of, refusal}
 use Rattle.proxy_core.specs.Refusals.{live_at}
 use Rattle.proxy_core.specs.Represents.{AgreesAt, Represents}
 use Rattle.proxy_core.specs.Scheduler.{State, Seen, seen, no_connections, untaken_of}
 use Rattle.proxy_core.specs.Sound.{SoundAt}
 use Rattle.proxy_core.specs.Start.{IsStart}
 use Rattle.proxy_core.specs.Steps.{KeepsStanding, Steps, IsRefused}
-use Rattle.proxy_core.specs.declared.config.Config.{Config}
+use Rattle.run_config.specs.declared.config.Config.{Config}
 use Rattle.proxy_core.specs.declared.core_state.Core.{Core}
 use Rattle.core_events.specs.declared.bad_event.BadEvent.{BadEvent}
 use Rattle.core_events.specs.declared.event.Event.{Event}

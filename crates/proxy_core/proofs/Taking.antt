@@ -13,17 +13,19 @@ use Rattle.core_events.specs.declared.event_kind.EventKind.TheVariants.{Accepts,
 use Rattle.core_events.specs.declared.input.Input.{Input}
 use Rattle.core_events.specs.declared.input.Input.TheVariants.{Bytes, Ends, Resets, Takes}
 use Rattle.proxy_core.specs.Asked.{edges_of, live_of, wants_of, pending_of}
-use Rattle.proxy_core.specs.Past.{Past, heard, shared}
+use Rattle.record_model.specs.Past.{Past, heard, shared}
 use Rattle.proxy_core.specs.Ready.{is_in}
-use Rattle.proxy_core.specs.Refusal.{Standing, Known, known, standing_by, standing_of, refused, refusal_by}
-use Rattle.proxy_core.specs.Refusal.{is_late, answers_nothing, comes_too_much, takes_too_much, wants_at}
-use Rattle.proxy_core.specs.Refusals.{virtual_place}
+use Rattle.record_model.specs.Refusal.{Standing, Known, refusal_by}
+use Rattle.proxy_core.specs.Refusal.{known, standing_by, standing_of, refused}
+use Rattle.record_model.specs.Refusal.{is_late, answers_nothing, comes_too_much, takes_too_much}
+use Rattle.proxy_core.specs.Refusal.{wants_at}
+use Rattle.record_model.specs.Setup.{virtual_place}
 use Rattle.proxy_core.specs.Scheduler.{State, seen, untaken_of}
 use Rattle.proxy_core.specs.Queries.{queue_on, pending_on as pending_on_side}
 use Rattle.proxy_core.specs.Refusals.{live_at}
 use Rattle.proxy_core.specs.Scheduler.{pending}
-use Rattle.proxy_core.specs.declared.config.Config.{Config}
-use Rattle.proxy_core.specs.declared.config.Virtual.{Virtual}
+use Rattle.run_config.specs.declared.config.Config.{Config}
+use Rattle.run_config.specs.declared.config.Virtual.{Virtual}
 use Rattle.proxy_core.specs.declared.core_state.Core.{Core}
 use Rattle.core_events.specs.declared.event.Event.TheVariants as event
 use Rattle.proxy_core.specs.declared.live.Live.{Live}

@@ -13,20 +13,20 @@ use Rattle.conn.specs.declared.connection.Conn.{Conn}
 use Rattle.shared_store.specs.Calls.{reply}
 use Rattle.proxy_core.specs.Calls.{asker, calls_of, is_any}
 use Rattle.proxy_core.specs.Changes as code
-use Rattle.proxy_core.specs.History.{store_of}
+use Rattle.record_model.specs.History.{store_of}
 use Rattle.proxy_core.specs.Live.{LiveAnswers, asks_in, edges_in}
 use Rattle.proxy_core.specs.Moves.{MovesQueue, MovesTurn, MovesBy, TurnNotes}
 use Rattle.proxy_core.specs.Others.{about}
-use Rattle.proxy_core.specs.Past.{Past, heard, without_all, shared}
+use Rattle.record_model.specs.Past.{Past, heard, without_all, shared}
 use Rattle.proxy_core.specs.Ready.{numbers, is_in, with_ready}
 use Rattle.proxy_core.specs.Refusals.{live_at}
 use Rattle.proxy_core.specs.Represents.{AgreesAt, ConnectionContinues, Continues, Represents}
 use Rattle.proxy_core.specs.Scheduler.{State, Seen, seen, seen_after}
 use Rattle.proxy_core.specs.Serving.{Serves}
-use Rattle.proxy_core.specs.Setup.{statics_of, setup_of, stand_of}
+use Rattle.record_model.specs.Setup.{statics_of, setup_of, stand_of}
 use Rattle.proxy_core.specs.Sound.{Served, Spot}
 use Rattle.proxy_core.specs.declared.call.Asked.{Asked}
-use Rattle.proxy_core.specs.declared.config.Config.{Config}
+use Rattle.run_config.specs.declared.config.Config.{Config}
 use Rattle.proxy_core.specs.declared.core_state.Core.{Core}
 use Rattle.proxy_core.specs.declared.live.Live.{Live}
 use Rattle.proxy_core.proofs.Agreeing.{After, assemble, its, distinct_live, one_changed, is_live_over, serves_still}

@@ -27,13 +27,13 @@ use Rattle.shared_store.specs.Calls.{reply}
 use Rattle.shared_store.specs.Store.{StoreState, at_moment}
 use Rattle.proxy_core.specs.Live.{ConnFails, ConnReplies, LiveAnswers, LiveFails, LiveReplies, asks_in, edges_by_conn, entry_note}
 use Rattle.proxy_core.specs.Moves.{TurnNotes}
-use Rattle.proxy_core.specs.History.{store_after}
-use Rattle.proxy_core.specs.Past.{Past, ended_in, heard}
+use Rattle.record_model.specs.History.{store_after}
+use Rattle.record_model.specs.Past.{Past, ended_in, heard}
 use Rattle.proxy_core.specs.Represents.{ConnectionContinues, Continues, HoldsQueues, around}
 use Rattle.proxy_core.specs.Scheduler.{State, seen, seen_after}
-use Rattle.proxy_core.specs.Setup.{setup_of, stand_of}
+use Rattle.record_model.specs.Setup.{setup_of, stand_of}
 use Rattle.proxy_core.specs.declared.call.Asked.{Asked}
-use Rattle.proxy_core.specs.declared.config.Config.{Config}
+use Rattle.run_config.specs.declared.config.Config.{Config}
 use Rattle.proxy_core.proofs.CameAt.{UncutOr, heard_uncut}
 use Rattle.proxy_core.proofs.CameOn.{Stood, ends_standing, to_standing}
 use Rattle.proxy_core.proofs.GroupNotes.{About, tells_all}

@@ -17,9 +17,9 @@ use Rattle.proxy_core.specs.Live.{pending_in}
 use Rattle.proxy_core.specs.Queries.{pending_on, queue_on}
 use Rattle.proxy_core.specs.Represents.{ConnectionContinues, HoldsQueues, around}
 use Rattle.proxy_core.specs.Scheduler.{Seen, last_took, untaken_of}
-use Rattle.proxy_core.specs.Setup.{setup_of, begins_at, stand_of}
+use Rattle.record_model.specs.Setup.{setup_of, begins_at, stand_of}
 use Rattle.proxy_core.specs.Sound.{Served}
-use Rattle.proxy_core.specs.declared.config.Config.{Config}
+use Rattle.run_config.specs.declared.config.Config.{Config}
 use Rattle.proxy_core.proofs.Standing.{sent_at}
 
 -- its ends and queues, whether it goes on or found no memory

@@ -26,9 +26,9 @@ use Rattle.proxy_core.specs.Refusal.{wants_at}
 use Rattle.proxy_core.specs.Represents.{ConnectionContinues, Continues, around}
 use Rattle.proxy_core.specs.Scheduler.{Seen}
 use Rattle.proxy_core.specs.Servers.{AskedAt, Linked, LinkedAt, awaits}
-use Rattle.proxy_core.specs.Setup.{setup_of, stand_of}
+use Rattle.record_model.specs.Setup.{setup_of, stand_of}
 use Rattle.proxy_core.specs.Sound.{Served, is_closed}
-use Rattle.proxy_core.specs.declared.config.Config.{Config}
+use Rattle.run_config.specs.declared.config.Config.{Config}
 use Rattle.proxy_core.proofs.Finished.{stands_orderly, trace_finished}
 
 -- where the server's end says that none is there, bytes of one can't come

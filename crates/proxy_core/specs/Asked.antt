@@ -7,11 +7,11 @@ use Rattle.core_events.specs.declared.edges.Edges.{Edges}
 use Rattle.conn_trace.specs.Gates.{no_bytes, sent_from, taken_of}
 use Rattle.conn_trace.specs.Heard.{Heard, taken}
 use Rattle.conn_trace.specs.Item.{Item, client_output, server_output}
-use Rattle.proxy_core.specs.Past.{Past, heard, shared}
+use Rattle.record_model.specs.Past.{Past, heard, shared}
 use Rattle.proxy_core.specs.Ready.{is_in}
 use Rattle.proxy_core.specs.Refusal.{wants_at}
 use Rattle.proxy_core.specs.Scheduler.{State, seen, pending}
-use Rattle.proxy_core.specs.declared.config.Config.{Config}
+use Rattle.run_config.specs.declared.config.Config.{Config}
 
 abbrev pub is_none_of : {A : Type 0} → List A → Bool
 is_none_of [] = true

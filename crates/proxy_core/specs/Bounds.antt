@@ -6,10 +6,10 @@ use Rattle.conn_trace.specs.Bounds.{pending_limit}
 use Rattle.conn_trace.specs.Queries.{arriving, counted_held, unread_at, unread_limit}
 use Rattle.conn_trace.specs.State.{TraceState}
 use Rattle.proxy_core.specs.Moves.{Leads}
-use Rattle.proxy_core.specs.Past.{Past, heard}
+use Rattle.record_model.specs.Past.{Past, heard}
 use Rattle.proxy_core.specs.Scheduler.{State, pending}
-use Rattle.proxy_core.specs.Setup.{stand_of}
-use Rattle.proxy_core.specs.declared.config.Config.{Config}
+use Rattle.record_model.specs.Setup.{stand_of}
+use Rattle.run_config.specs.declared.config.Config.{Config}
 
 -- what came of a side and wasn't read, without what a collect holds of it
 abbrev pub lying : Side → TraceState → ℕ

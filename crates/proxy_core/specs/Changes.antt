@@ -27,10 +27,10 @@ use Rattle.proxy_core.specs.Calls.{queue_behind, without_calls, woken}
 use Rattle.proxy_core.specs.Live.{KeepsPlace, LiveAnswers, MayCome, LiveComes, LiveRuns, SamePlace}
 use Rattle.proxy_core.specs.Live.{asks_in, edges_in}
 use Rattle.proxy_core.specs.Ready.{place_of, ring_behind, with_ready, without}
-use Rattle.proxy_core.specs.Refusals.{virtual_place}
+use Rattle.record_model.specs.Setup.{virtual_place}
 use Rattle.proxy_core.specs.Serving.{IsSetup}
 use Rattle.proxy_core.specs.declared.call.Asked.{Asked}
-use Rattle.proxy_core.specs.declared.config.Config.{Config}
+use Rattle.run_config.specs.declared.config.Config.{Config}
 use Rattle.proxy_core.specs.declared.core_state.Core.{Core}
 use Rattle.proxy_core.specs.declared.live.Live.{Live}
 

@@ -5,14 +5,14 @@ use Rattle.core_events.specs.declared.event.Event.TheVariants as event
 use Rattle.core_events.specs.Face.{Face}
 use Rattle.core_events.specs.Kinds.{kind_of}
 use Rattle.proxy_core.specs.Asked.{live_of, next_of, settled_of}
-use Rattle.proxy_core.specs.Past.{Past, shared}
+use Rattle.record_model.specs.Past.{Past, shared}
 use Rattle.proxy_core.specs.Questions.{next_number, name_at, listen_at, due_at}
 use Rattle.proxy_core.specs.Questions.{may_come, to_write, is_waiting}
 use Rattle.proxy_core.specs.Refusal.{refused}
 use Rattle.proxy_core.specs.Represents.{Represents}
 use Rattle.proxy_core.specs.Scheduler.{State}
 use Rattle.proxy_core.specs.Steps.{KeepsStanding}
-use Rattle.proxy_core.specs.declared.config.Config.{Config}
+use Rattle.run_config.specs.declared.config.Config.{Config}
 use Rattle.proxy_core.specs.declared.core_state.Core.{Core}
 
 -- it stands for a past

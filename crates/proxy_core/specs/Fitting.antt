@@ -8,11 +8,11 @@ use Rattle.conn_trace.specs.Heard.{event_edges}
 use Rattle.conn_trace.specs.Tellings.{own}
 use Rattle.proxy_core.specs.Moves.{Leads, Moves}
 use Rattle.core_events.specs.Kinds.{kind_of}
-use Rattle.proxy_core.specs.Past.{Happened, Past, heard}
+use Rattle.record_model.specs.Past.{Happened, Past, heard}
 use Rattle.proxy_core.specs.Refusal.{refused}
 use Rattle.proxy_core.specs.Scheduler.{State}
 use Rattle.proxy_core.specs.Servers.{is_free, is_used}
-use Rattle.proxy_core.specs.declared.config.Config.{Config}
+use Rattle.run_config.specs.declared.config.Config.{Config}
 
 -- A server is asked for where there is none. A link that sends no more or is closed is there, and
 -- that it sends no more wasn't told before.

@@ -18,16 +18,16 @@ use Rattle.conn_trace.specs.Item.{reasons_in, server_output}
 use Rattle.conn_trace.specs.Laws.{cut_is_taken}
 use Rattle.conn_trace.specs.Tellings.{notes_about, failure_told}
 use Rattle.conn_trace.specs.Trace.{next_item, trace, GivesNoMore}
-use Rattle.proxy_core.specs.History.{IsHistory, called_in, entries_in}
+use Rattle.record_model.specs.History.{IsHistory, called_in, entries_in}
 use Rattle.proxy_core.specs.Moves.{Leads}
-use Rattle.proxy_core.specs.Past.{Past, heard}
+use Rattle.record_model.specs.Past.{Past, heard}
 use Rattle.proxy_core.specs.Scheduler.{State, Seen, last_took, seen, untaken_of, untaken_all}
 use Rattle.proxy_core.specs.Scheduler.{pending}
 use Rattle.proxy_core.specs.Servers.{last_reset, licenses, took_of}
 use Rattle.proxy_core.specs.Shown.{shows, causes_told, causes_behind}
-use Rattle.proxy_core.specs.Setup.{setup_of, begins_at, stand_of}
+use Rattle.record_model.specs.Setup.{setup_of, begins_at, stand_of}
 use Rattle.proxy_core.specs.Sound.{EndsTold}
-use Rattle.proxy_core.specs.declared.config.Config.{Config}
+use Rattle.run_config.specs.declared.config.Config.{Config}
 
 -- the first n items of a connection's trace on what was heard
 abbrev pub first_items : Config → Heard → ℕ → List Item

@@ -8,9 +8,9 @@ use Rattle.plain_eval.specs.declared.plain.Plain.TheVariants.{Done, Waits}
 use Rattle.conn_trace.specs.Setup.{Handler}
 use Rattle.conn.specs.Setups.{body_in}
 use Rattle.conn.specs.declared.setup.Place.{Place}
-use Rattle.proxy_core.specs.Init.{fault_lines, ran}
-use Rattle.proxy_core.specs.declared.config.Config.{Config}
-use Rattle.proxy_core.specs.declared.init.Left.{Left}
+use Rattle.record_model.specs.Init.{fault_lines, ran}
+use Rattle.run_config.specs.declared.config.Config.{Config}
+use Rattle.record_model.specs.declared.left.Left.{Left}
 
 -- the line of a fault that a body which comes to this leaves
 abbrev pub plain_lines : List ℕ → Plain → List (List ℕ)

@@ -4,16 +4,11 @@ pub mod CallQueue
 pub mod Live
 pub mod Start
 pub mod Refusals
-pub mod Order
 pub mod Bodies
-pub mod Init
 pub mod InitPlaces
-pub mod Setup
 pub mod Serving
 pub mod Changes
 pub mod Queries
-pub mod Past
-pub mod History
 pub mod Scheduler
 pub mod Servers
 pub mod Shown
@@ -30,4 +25,3 @@ pub mod Steps
 pub mod Headline
 pub mod Questions
 pub mod Face
-pub mod Laws

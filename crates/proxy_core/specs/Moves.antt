@@ -22,16 +22,16 @@ use Rattle.conn.specs.declared.turn.ConnTurn.{ConnTurn}
 use Rattle.shared_store.specs.Calls.{reply}
 use Rattle.shared_store.specs.Store.{StoreState}
 use Rattle.proxy_core.specs.Calls.{calls_of, is_any, queue_behind, without_calls, woken}
-use Rattle.proxy_core.specs.History.{store_of}
+use Rattle.record_model.specs.History.{store_of}
 use Rattle.proxy_core.specs.Live.{entry_note, takes_memory}
 use Rattle.core_events.specs.Kinds.{kind_of}
-use Rattle.proxy_core.specs.Past.{Happened, Past, heard, shared}
+use Rattle.record_model.specs.Past.{Happened, Past, heard, shared}
 use Rattle.proxy_core.specs.Ready.{ring_behind, with_ready, without}
 use Rattle.proxy_core.specs.Refusal.{refused}
 use Rattle.proxy_core.specs.Scheduler.{State, no_connections, with_place, untaken_all}
-use Rattle.proxy_core.specs.Setup.{setup_of, stand_of}
+use Rattle.record_model.specs.Setup.{setup_of, stand_of}
 use Rattle.proxy_core.specs.declared.call.Asked.{Asked}
-use Rattle.proxy_core.specs.declared.config.Config.{Config}
+use Rattle.run_config.specs.declared.config.Config.{Config}
 
 -- nothing changes
 abbrev pub Rests : List Note → State → State → Type 0

@@ -4,10 +4,10 @@ use Rattle.std.specs.Prelude.{◌≡◌, ◌≤◌, ℕ, [], length, false}
 use Rattle.conn_trace.specs.Heard.{has_made}
 use Rattle.conn_trace.specs.Item.{server_output}
 use Rattle.proxy_core.specs.Moves.{Leads}
-use Rattle.proxy_core.specs.Past.{Past, heard}
+use Rattle.record_model.specs.Past.{Past, heard}
 use Rattle.proxy_core.specs.Scheduler.{State, last_took}
 use Rattle.proxy_core.specs.Servers.{servers_made}
-use Rattle.proxy_core.specs.declared.config.Config.{Config}
+use Rattle.run_config.specs.declared.config.Config.{Config}
 
 -- What it took is within what was sent to it. Where none was heard of nothing was sent to one.
 pub record OneServer (past : Past) (s : State) (c : ℕ) : Type 0 where

@@ -7,9 +7,9 @@ use Rattle.proxy_core.specs.Asked.{edges_of, wants_of, pending_of, queue_of}
 use Rattle.proxy_core.specs.Calls.{asker}
 use Rattle.proxy_core.specs.Moves.{Moves}
 use Rattle.core_events.specs.Kinds.{kind_of}
-use Rattle.proxy_core.specs.Past.{Happened, Past}
+use Rattle.record_model.specs.Past.{Happened, Past}
 use Rattle.proxy_core.specs.Scheduler.{State}
-use Rattle.proxy_core.specs.declared.config.Config.{Config}
+use Rattle.run_config.specs.declared.config.Config.{Config}
 
 abbrev pub front : List ℕ → ℕ
 front [] = 0

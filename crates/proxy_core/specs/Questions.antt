@@ -8,9 +8,9 @@ use Rattle.core_events.specs.declared.edges.Edge.{Edge}
 use Rattle.core_events.specs.declared.edges.Edges.{Edges}
 use Rattle.core_events.specs.Edges.{edge_of, may_send, may_take, is_connecting}
 use Rattle.proxy_core.specs.Asked.{edges_of, live_of, next_due_of, queue_of, wants_of}
-use Rattle.proxy_core.specs.Past.{Past, shared}
+use Rattle.record_model.specs.Past.{Past, shared}
 use Rattle.proxy_core.specs.Scheduler.{State}
-use Rattle.proxy_core.specs.declared.config.Config.{Config}
+use Rattle.run_config.specs.declared.config.Config.{Config}
 
 -- the next number, where fewer are live than may be
 abbrev pub next_number : Config → Past → Option ℕ

@@ -9,16 +9,16 @@ use Rattle.conn.specs.declared.stage.Stage.TheVariants.{OutOfMemory}
 use Rattle.proxy_core.specs.Bodies.{all_places}
 use Rattle.shared_store.specs.Store.{StoreState}
 use Rattle.proxy_core.specs.Calls.{is_any}
-use Rattle.proxy_core.specs.History.{store_of}
+use Rattle.record_model.specs.History.{store_of}
 use Rattle.proxy_core.specs.Live.{asks_in, edges_in}
-use Rattle.proxy_core.specs.Past.{Past, Shared, shared}
+use Rattle.record_model.specs.Past.{Past, Shared, shared}
 use Rattle.proxy_core.specs.Ready.{numbers}
 use Rattle.proxy_core.specs.Refusals.{live_at}
 use Rattle.proxy_core.specs.Scheduler.{State, Seen, last_took, seen}
 use Rattle.proxy_core.specs.Serving.{Serves}
-use Rattle.proxy_core.specs.Setup.{statics_of, setup_of, stand_of}
+use Rattle.record_model.specs.Setup.{statics_of, setup_of, stand_of}
 use Rattle.proxy_core.specs.Sound.{Sound}
-use Rattle.proxy_core.specs.declared.config.Config.{Config}
+use Rattle.run_config.specs.declared.config.Config.{Config}
 use Rattle.proxy_core.specs.declared.core_state.Core.{Core}
 use Rattle.proxy_core.specs.declared.live.Live.{Live}
 

@@ -10,7 +10,7 @@ use Rattle.core_events.specs.declared.event_kind.EventKind.{EventKind}
 use Rattle.conn_trace.specs.Heard.{SideHeard, Heard, has_made, taken, hears}
 use Rattle.conn_trace.specs.Item.{Item, client_output}
 use Rattle.proxy_core.specs.Calls.{calls_of}
-use Rattle.proxy_core.specs.Past.{Past, heard, shared, shared_after}
+use Rattle.record_model.specs.Past.{Past, heard, shared, shared_after}
 use Rattle.proxy_core.specs.Ready.{is_in}
 use Rattle.proxy_core.specs.declared.call.Asked.{Asked}
 

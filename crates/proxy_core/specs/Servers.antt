@@ -16,7 +16,7 @@ use Rattle.conn_trace.specs.Heard.{SideHeard, Heard, has_made}
 use Rattle.conn_trace.specs.Places.{is_up}
 use Rattle.conn_trace.specs.State.{Stream, Phase, Answering, TraceState, link_of}
 use Rattle.core_events.specs.Kinds.{kind_of}
-use Rattle.proxy_core.specs.Past.{Past}
+use Rattle.record_model.specs.Past.{Past}
 
 -- how many of these answers are connections that were made
 abbrev pub made : {A : Type 0} → List (Option A) → ℕ

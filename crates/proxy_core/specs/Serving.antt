@@ -5,8 +5,8 @@ use Rattle.event_order.specs.declared.event.EventName.{EventName}
 use Rattle.conn_trace.specs.Setup.{Setup}
 use Rattle.conn.specs.declared.setup.Place.{Place}
 use Rattle.conn.specs.declared.setup.Setup as code
-use Rattle.proxy_core.specs.Setup.{handlers_in, name_at, pool_at, port_of}
-use Rattle.proxy_core.specs.declared.config.Config.{Config}
+use Rattle.record_model.specs.Setup.{handlers_in, name_at, pool_at, port_of}
+use Rattle.run_config.specs.declared.config.Config.{Config}
 
 -- it is the setup of a trace, of the virtual server at a place
 pub record Serves (C : Config) (level : Level) (vs : ℕ) (g : Setup) : Type 0 where

@@ -20,14 +20,14 @@ use Rattle.conn_trace.specs.State.{Cut, ForReply, Over, TraceState, Waits}
 use Rattle.conn_trace.specs.Trace.{next_item, Unfolds, GivesNoMore}
 use Rattle.conn.specs.RunsItems.{is_cut}
 use Rattle.conn.specs.Settling.{is_drained, is_there, resting}
-use Rattle.proxy_core.specs.History.{called_in}
+use Rattle.record_model.specs.History.{called_in}
 use Rattle.proxy_core.specs.Moves.{Leads}
-use Rattle.proxy_core.specs.Past.{Past, heard, shared}
+use Rattle.record_model.specs.Past.{Past, heard, shared}
 use Rattle.proxy_core.specs.Scheduler.{State, Seen, seen, untaken_all, untaken_of}
 use Rattle.proxy_core.specs.Shown.{shows, closes, ends_it, causes_told, causes_behind}
 use Rattle.proxy_core.specs.Servers.{Linked, licenses, took_of}
-use Rattle.proxy_core.specs.Setup.{setup_of, stand_of}
-use Rattle.proxy_core.specs.declared.config.Config.{Config}
+use Rattle.record_model.specs.Setup.{setup_of, stand_of}
+use Rattle.run_config.specs.declared.config.Config.{Config}
 
 -- no connection of this number was accepted
 abbrev pub unseen : Seen

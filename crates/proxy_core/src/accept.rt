@@ -6,17 +6,17 @@ ghost use Rattle.std.specs.List.{position_from};
 ghost use Rattle.std.specs.Str.{bytes_eq};
 ghost use Rattle.core_events.specs.declared.event_kind.EventKind.TheVariants.{Accepts as Accepted};
 ghost use Rattle.proxy_core.specs.Refusal.{refusal_of};
-ghost use Rattle.proxy_core.specs.Refusals.{virtual_place};
+ghost use Rattle.record_model.specs.Setup.{virtual_place};
 ghost use Rattle.core_events.specs.declared.note.Note.{Note};
 ghost use Rattle.proxy_core.specs.Changes.{Accepts, Begun};
 
-use crate::config::{Config, Virtual};
 use crate::core_state::Core;
 use crate::live::Live;
 use crate::setup::setup_at;
 use conn::{Conn, Setup};
 use core_events::{BadEvent, Cause, Edges, Note, Notes};
 use px_bytes::Addr;
+use run_config::{Config, Virtual};
 use std::alloc::Global;
 
 impl Core {

@@ -5,13 +5,13 @@ ghost use Rattle.std.specs.Prelude.{IfOk};
 ghost use Rattle.proxy_core.specs.Ready.{numbers, is_in};
 
 use crate::call_queue::CallQueue;
-use crate::config::Config;
 use crate::live::Live;
 use crate::server_bodies::EventPlaces;
 use crate::start::{StartParts, StartRoom};
 use core_events::Notes;
 use number_table::Table;
 use px_bytes::{M, Seq};
+use run_config::Config;
 use shared_store::Store;
 use std::alloc::Global;
 use tcl_vars::Vars;
@@ -46,7 +46,7 @@ pub struct Core {
 impl Core {
     ghost use Rattle.proxy_core.specs.Represents.{Represents};
     ghost use Rattle.proxy_core.specs.Scheduler.{no_connections};
-    ghost use Rattle.proxy_core.specs.Setup.{init_notes};
+    ghost use Rattle.record_model.specs.Setup.{init_notes};
     ghost use Rattle.proxy_core.specs.Start.{IsStartRoom, IsStartRules, IsStart};
 
     /// A core without connections, and the notes of its start. It has room for all connections that

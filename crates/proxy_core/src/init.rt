@@ -4,12 +4,11 @@ ghost use Rattle.std.specs.Prelude.{◌≡◌, ◌++◌, IfOk, OnOk, map};
 ghost use Rattle.core_events.specs.declared.note.Note.TheVariants as noted;
 ghost use Rattle.conn.specs.Setups.{handler_of};
 ghost use Rattle.irule_net.specs.Effects.{effect_of};
-ghost use Rattle.proxy_core.specs.Init.{all_ran, fault_lines, init, init_bodies, init_host};
-ghost use Rattle.proxy_core.specs.Init.{line_of};
-ghost use Rattle.proxy_core.specs.Init.{lines_in, nothing_left, ran};
+ghost use Rattle.record_model.specs.Init.{all_ran, fault_lines, init, init_bodies, init_host};
+ghost use Rattle.record_model.specs.Init.{line_of};
+ghost use Rattle.record_model.specs.Init.{lines_in, ran};
 ghost use Rattle.proxy_core.specs.InitPlaces.{place_ran, places_ran, plain_lines};
 
-use crate::config::Config;
 use crate::init_host::InitHost;
 use crate::server_bodies::places_of;
 use conn::{Handler, Place, body_in};
@@ -19,29 +18,12 @@ use event_order::EventName;
 use irule_net::Made;
 use plain_eval::{Plain, Replies, eval_plain};
 use px_bytes::{M, TclFault, Text, Texts};
+use record_model::Left;
+use run_config::Config;
 use std::alloc::Global;
-use tcl_vars::Vars;
-
-/// What was left so far: the variables, and the lines that were logged.
-#[derive(Drop)]
-pub struct Left {
-    pub vars: Vars,
-    pub lines: Texts,
-}
-
-impl Left {
-    fn new(alloc: Global) -> Left
-        ensures { result ≡ nothing_left }
-    {
-        Left {
-            vars: Vars::new(alloc),
-            lines: Texts::new(alloc),
-        }
-    }
-}
 
 /// The RULE_INIT bodies of all rules run, one after another.
-#[tactic(auto, unfolding(crate::specs::Init::init))]
+#[tactic(auto, unfolding(record_model::specs::Init::init))]
 pub fn init(alloc: Global, config: &Config) -> M<Left>
     ensures { IfOk result (λ left. left ≡ init config.now) }
 {
@@ -128,7 +110,7 @@ fn run_on(
         config.budget,
     )?;
     left.vars.leave_proc();
-    add_lines(&mut left.lines, host.made.as_slice())?;
+    add_lines(&mut left.lines, host.made().as_slice())?;
     add_end(alloc, handler.name, plain, &mut left.lines)?;
     Ok(())
 }

@@ -1,7 +1,7 @@
 // The host of RULE_INIT.
 
 ghost use Rattle.std.specs.Prelude.{◌≡◌};
-ghost use Rattle.proxy_core.specs.Init.{init_host};
+ghost use Rattle.record_model.specs.Init.{init_host};
 
 use conn::host_command;
 use event_order::EventName;
@@ -9,13 +9,22 @@ use irule_net::{Effects, Groups, NetState};
 use plain_eval::PlainHost;
 use px_bytes::{Addr, HostAnswer, Text, Texts};
 use std::alloc::Global;
+use std::marker::Model;
 
 /// What the commands of RULE_INIT read and leave: no connection stands behind it, and what they do
 /// outside the script is kept.
 #[derive(Drop)]
 pub struct InitHost {
-    pub net: NetState,
-    pub made: Effects,
+    net: NetState,
+    made: Effects,
+}
+
+impl Model for InitHost {
+    ghost use Rattle.record_model.specs.Init.{InitHost as Seen};
+
+    ghost Value = { Seen };
+
+    ghost view = { λ h. record { net = h.net; made = h.made } };
 }
 
 impl InitHost {
@@ -28,10 +37,17 @@ impl InitHost {
             made: Effects::new(alloc),
         }
     }
+
+    /// What was done outside the script.
+    pub fn made(&self) -> &Effects
+        ensures { result.now ≡ self.now.made }
+    {
+        &self.made
+    }
 }
 
 impl PlainHost for InitHost {
-    ghost use Rattle.proxy_core.specs.Init.{init_table};
+    ghost use Rattle.record_model.specs.Init.{init_table};
 
     type Env = Groups;
 

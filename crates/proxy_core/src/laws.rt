@@ -3,7 +3,6 @@
 ghost use Rattle.proxy_core.specs.Bounds.{BytesAreBounded};
 ghost use Rattle.proxy_core.specs.Fitting.{NotesFitEdges};
 ghost use Rattle.proxy_core.specs.Headline.{EveryPastMatches};
-ghost use Rattle.proxy_core.specs.Laws.{BodiesRunInOrder, StaticsStay};
 ghost use Rattle.proxy_core.specs.OneServer.{OneServerIsMade};
 ghost use Rattle.proxy_core.specs.Others.{OnlyItsOwnChanges};
 
@@ -12,17 +11,6 @@ ghost use Rattle.proxy_core.specs.Others.{OnlyItsOwnChanges};
 /// nothing pending; the notes are those of its items; and a connection ends for its named cause.
 pub fn output_matches_evaluator()
     ensures { EveryPastMatches }
-{}
-
-/// The bodies of rules run at an event each once, by their priorities, and those of one priority in
-/// the order of the rules and of their places.
-pub fn bodies_run_in_order()
-    ensures { BodiesRunInOrder }
-{}
-
-/// A connection sees the static variables that RULE_INIT left, for ever.
-pub fn statics_stay()
-    ensures { StaticsStay }
 {}
 
 /// An event changes what may be asked of its own connection alone, a Run of the one at the ring's

@@ -5,7 +5,6 @@ mod accept;
 mod call;
 mod call_queue;
 mod comes;
-mod config;
 mod core_state;
 mod face;
 mod init;
@@ -24,10 +23,8 @@ mod tick;
 mod turn;
 mod views;
 
-pub use config::{Config, Virtual};
 pub use core_events::{BadEvent, Cause, Event, Note, Notes};
 pub use core_state::Core;
 pub use laws::{
-    bodies_run_in_order, bytes_are_bounded, notes_fit_edges, one_server_is_made, only_changed,
-    output_matches_evaluator, statics_stay,
+    bytes_are_bounded, notes_fit_edges, one_server_is_made, only_changed, output_matches_evaluator,
 };

@@ -3,17 +3,17 @@
 ghost use Rattle.std.specs.Prelude.{◌≡◌, ◌↔◌, [], IsTrue, IfOk, length, option_map};
 ghost use Rattle.proxy_core.specs.Asked.{copy_of, edges_of, live_of, next_due_of, next_of};
 ghost use Rattle.proxy_core.specs.Asked.{pending_of, queue_of, settled_of, wants_of};
-ghost use Rattle.proxy_core.specs.Past.{Past, shared};
+ghost use Rattle.record_model.specs.Past.{Past, shared};
 ghost use Rattle.proxy_core.specs.Queries.{front_of, pending_on, queue_on};
 ghost use Rattle.proxy_core.specs.Refusals.{live_at};
 ghost use Rattle.proxy_core.specs.Represents.{Represents};
 ghost use Rattle.proxy_core.specs.Scheduler.{State};
-ghost use Rattle.proxy_core.specs.declared.config.Config.{Config};
+ghost use Rattle.run_config.specs.declared.config.Config.{Config};
 
-use crate::config::Virtual;
 use crate::core_state::Core;
 use core_events::Edges;
 use px_bytes::{M, Side, Text};
+use run_config::Virtual;
 
 impl Core {
     /// Whether no connection is ready to run and no shared call waits.

@@ -5,13 +5,13 @@ ghost use Rattle.std.specs.Prelude.{slice_get};
 ghost use Rattle.std.specs.List.{position_from};
 ghost use Rattle.proxy_core.specs.Bodies.{all_places, gathered, place_priority, placed, places_of};
 ghost use Rattle.proxy_core.specs.Bodies.{rule_places, server_places};
-ghost use Rattle.proxy_core.specs.Order.{by_priority, put};
+ghost use Rattle.record_model.specs.Order.{by_priority, put};
 
-use crate::config::Virtual;
 use conn::{Place, Places};
 use event_order::EventName;
 use px_bytes::{M, Seq};
 use rule_loader::{Handler, Rule};
+use run_config::Virtual;
 use std::alloc::Global;
 
 /// The bodies of a virtual server: those of each event, in the order of `EventName::ALL`.

@@ -2,12 +2,12 @@
 
 ghost use Rattle.std.specs.Prelude.{◌≡◌, [], slice_index_or};
 ghost use Rattle.proxy_core.specs.Serving.{IsSetup};
-ghost use Rattle.proxy_core.specs.Setup.{name_at, pool_at, port_of};
+ghost use Rattle.record_model.specs.Setup.{name_at, pool_at, port_of};
 
-use crate::config::Config;
 use crate::server_bodies::EventPlaces;
 use conn::{Places, Setup};
 use px_bytes::Seq;
+use run_config::Config;
 use tcl_vars::Vars;
 
 /// What the connections of the virtual server at a place run on, where the bodies of all stand

@@ -2,17 +2,17 @@
 
 ghost use Rattle.std.specs.Prelude.{◌≡◌, ◌≤◌, IfOk, []};
 ghost use Rattle.shared_store.specs.Store.{new_store};
-ghost use Rattle.proxy_core.specs.Setup.{init_notes, statics_of};
+ghost use Rattle.record_model.specs.Setup.{init_notes, statics_of};
 ghost use Rattle.proxy_core.specs.Start.{IsStartRoom, IsStartRules};
 
 use crate::call_queue::CallQueue;
-use crate::config::Config;
 use crate::init::{init, start_notes};
 use crate::live::Live;
 use crate::server_bodies::{EventPlaces, all_places};
 use core_events::Notes;
 use number_table::Table;
 use px_bytes::{M, Seq};
+use run_config::Config;
 use shared_store::{Store, VirtualTimes};
 use std::alloc::Global;
 use tcl_vars::Vars;

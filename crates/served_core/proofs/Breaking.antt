@@ -5,10 +5,10 @@ use Rattle.std.proofs.lemmas.List.{append-nil}
 use Rattle.px_outside.specs.Net.{Call}
 use Rattle.px_bytes.specs.declared.addr.Side.{Side}
 use Rattle.core_events.specs.declared.event.Event.{Event}
-use Rattle.proxy_core.specs.Past.{Past, heard}
+use Rattle.record_model.specs.Past.{Past, heard}
 use Rattle.proxy_core.specs.Represents.{Represents}
 use Rattle.proxy_core.specs.Scheduler.{State, no_connections}
-use Rattle.proxy_core.specs.declared.config.Config.{Config}
+use Rattle.run_config.specs.declared.config.Config.{Config}
 use Rattle.proxy_core.specs.declared.core_state.Core.{Core}
 use Rattle.serve_loop.specs.Broken.{Broken, Unbegun, Ungiven, OwnSome, AskedSome, Breaks, steps_of}
 use Rattle.serve_loop.specs.Fallen.{WalkedSome}

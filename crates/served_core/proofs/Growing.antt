@@ -18,15 +18,15 @@ use Rattle.core_events.specs.declared.input.Input.TheVariants.{Bytes, Ends, Rese
 use Rattle.conn_trace.specs.Heard.{Heard, SideHeard, edges_met, hears, hears_by, marks, accepts}
 use Rattle.conn_trace.specs.Heard.{event_marks, brought}
 use Rattle.conn_trace.specs.Item.{Item, client_output}
-use Rattle.proxy_core.specs.History.{store_of}
+use Rattle.record_model.specs.History.{store_of}
 use Rattle.proxy_core.specs.Moves.{MovesBy, MovesFailed, MovesOn, MovesLacks, MovesRing, MovesQueue, RunsFailed, RunsOn, RunsOut, ran}
-use Rattle.proxy_core.specs.Past.{Past, heard, shared}
+use Rattle.record_model.specs.Past.{Past, heard, shared}
 use Rattle.proxy_core.specs.Refusal.{refused}
 use Rattle.proxy_core.specs.Represents.{Represents}
 use Rattle.proxy_core.specs.Scheduler.{State, Seen, seen}
 use Rattle.proxy_core.specs.Sound.{Served, unseen}
 use Rattle.proxy_core.specs.declared.call.Asked.{Asked}
-use Rattle.proxy_core.specs.declared.config.Config.{Config}
+use Rattle.run_config.specs.declared.config.Config.{Config}
 use Rattle.proxy_core.specs.declared.core_state.Core.{Core}
 use Rattle.proxy_core.proofs.Members.{eq_same, eq_self}
 use Rattle.proxy_core.proofs.SoundPast.{may_come_at}

@@ -22,14 +22,14 @@ use Rattle.conn_trace.specs.Heard.{Heard, has_made, taken_by}
 use Rattle.conn_trace.specs.Item.{client_output, server_output}
 use Rattle.proxy_core.specs.Asked.{edges_of, left_of}
 use Rattle.core_events.specs.Kinds.{kind_of}
-use Rattle.proxy_core.specs.Past.{Past, heard, shared}
+use Rattle.record_model.specs.Past.{Past, heard, shared}
 use Rattle.proxy_core.specs.Ready.{is_in}
 use Rattle.proxy_core.specs.OneServer.{OneServer}
 use Rattle.proxy_core.specs.Queries.{queue_on}
 use Rattle.proxy_core.specs.Refusals.{live_at}
 use Rattle.proxy_core.specs.Represents.{AgreesAt, ConnectionContinues, HoldsQueues, Represents}
 use Rattle.proxy_core.specs.Scheduler.{State, Seen, last_took, seen}
-use Rattle.proxy_core.specs.declared.config.Config.{Config}
+use Rattle.run_config.specs.declared.config.Config.{Config}
 use Rattle.proxy_core.specs.declared.core_state.Core.{Core}
 use Rattle.proxy_core.specs.declared.live.Live.{Live}
 use Rattle.proxy_core.proofs.Asked.{queue_told}

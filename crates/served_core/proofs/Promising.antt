@@ -11,13 +11,13 @@ use Rattle.conn_trace.specs.Heard.{hears}
 use Rattle.conn_trace.specs.Item.{to_client, to_server}
 use Rattle.proxy_core.specs.Represents.{Represents}
 use Rattle.core_events.specs.Kinds.{kind_of}
-use Rattle.proxy_core.specs.Past.{Happened, Past, heard}
+use Rattle.record_model.specs.Past.{Happened, Past, heard}
 use Rattle.proxy_core.specs.Steps.{KeepsStanding}
 use Rattle.proxy_core.specs.Moves.{MovesBy}
 use Rattle.proxy_core.specs.Refusal.{refused}
 use Rattle.proxy_core.specs.Scheduler.{State, last_took, no_connections}
 use Rattle.proxy_core.proofs.OneServer.{one_server}
-use Rattle.proxy_core.specs.declared.config.Config.{Config}
+use Rattle.run_config.specs.declared.config.Config.{Config}
 use Rattle.proxy_core.specs.declared.core_state.Core.{Core}
 use Rattle.proxy_core.proofs.Promises.{every_past_matches}
 use Rattle.serve_loop.specs.declared.links.Links.{Links}

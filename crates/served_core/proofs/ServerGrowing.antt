@@ -18,10 +18,10 @@ use Rattle.conn_trace.specs.Tellings.{finish_told, notes_about}
 use Rattle.proxy_core.specs.Moves.{MovesBy}
 use Rattle.proxy_core.specs.OneServer.{OneServer}
 use Rattle.core_events.specs.Kinds.{kind_of}
-use Rattle.proxy_core.specs.Past.{Happened, Past, heard}
+use Rattle.record_model.specs.Past.{Happened, Past, heard}
 use Rattle.proxy_core.specs.Scheduler.{State, last_took}
 use Rattle.proxy_core.specs.Servers.{made, makes, servers_made}
-use Rattle.proxy_core.specs.declared.config.Config.{Config}
+use Rattle.run_config.specs.declared.config.Config.{Config}
 use Rattle.proxy_core.proofs.HeardServers.{heard_servers}
 use Rattle.proxy_core.proofs.Meeting.{last_keeps, last_more, none_took, took_answered, took_refused}
 use Rattle.served_core.proofs.Growing.{come_stays, none_more, took_same}

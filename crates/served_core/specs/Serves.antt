@@ -7,11 +7,11 @@ use Rattle.px_bytes.specs.declared.addr.Side.TheVariants as side
 use Rattle.conn_trace.specs.Item.{client_output, server_output}
 use Rattle.journal_text.specs.Notes.{note_lines}
 use Rattle.proxy_core.specs.Headline.{OutputMatchesEvaluator}
-use Rattle.proxy_core.specs.Past.{Happened, Past, heard}
+use Rattle.record_model.specs.Past.{Happened, Past, heard}
 use Rattle.proxy_core.specs.Represents.{Represents}
 use Rattle.proxy_core.specs.Scheduler.{State, last_took, no_connections}
-use Rattle.proxy_core.specs.Setup.{init_notes}
-use Rattle.proxy_core.specs.declared.config.Config.{Config}
+use Rattle.record_model.specs.Setup.{init_notes}
+use Rattle.run_config.specs.declared.config.Config.{Config}
 use Rattle.proxy_core.specs.declared.core_state.Core.{Core}
 use Rattle.serve_loop.specs.Events.{Grew}
 use Rattle.serve_loop.specs.Part.{stand}

@@ -8,8 +8,9 @@ ghost use Rattle.served_core.specs.Serves.{ServesConfig, StopsConfig, WroteSome}
 
 use core_events::Note;
 use journal_text::write_notes;
-use proxy_core::{Config, Core};
+use proxy_core::Core;
 use px_outside::{Clock, Failed, Net, Sink, write_all};
+use run_config::Config;
 use serve_loop::{ServeEnd, ServeFault, Server, serve};
 use std::alloc::Global;
 

@@ -1,7 +1,7 @@
 use Rattle.std.proofs.Common.{◌≡◌, ◌∙◌, [], ap, Err, subst}
 use Rattle.journal_text.specs.Notes.{note_lines}
-use Rattle.proxy_core.specs.Setup.{init_notes}
-use Rattle.proxy_core.specs.declared.config.Config.{Config}
+use Rattle.record_model.specs.Setup.{init_notes}
+use Rattle.run_config.specs.declared.config.Config.{Config}
 use Rattle.px_outside.specs.Outside.{AddsPrefix}
 use Rattle.proxy.specs.Stops.{StopsAtStart}
 use Rattle.proxy.specs.Written.{WritesNotes}

@@ -1,6 +1,6 @@
 use Rattle.std.proofs.Common.{◌≡◌, ◌++◌, drop, map}
 use Rattle.irule_net.specs.Effects.{effect_of}
-use Rattle.proxy_core.specs.Init.{lines_in}
+use Rattle.record_model.specs.Init.{lines_in}
 use Rattle.proxy_core.proofs.init.add_lines.Given as goal
 
 abbrev pub invariant-loop-effect : goal.invariant-loop-effect

@@ -1,5 +1,5 @@
 use Rattle.std.proofs.Common.{◌≡◌}
-use Rattle.proxy_core.specs.Init.{nothing_left, rules_ran}
+use Rattle.record_model.specs.Init.{nothing_left, rules_ran}
 use Rattle.proxy_core.proofs.init.init.Given as goal
 
 abbrev pub invariant-loop-number : goal.invariant-loop-number

@@ -13,7 +13,7 @@ use Rattle.served_core.proofs.Breaking.{kept_some, never_net}
 use Rattle.served_core.proofs.Promising.{fails_later, kept}
 use Rattle.serve_loop.proofs.Ending.{told_nothing}
 use Rattle.serve_loop.proofs.Exits.{at_fault}
-use Rattle.proxy_core.specs.Setup.{init_notes}
+use Rattle.record_model.specs.Setup.{init_notes}
 use Rattle.std.specs.Prelude.{Result, Ok, Err, OnOk, OnErr, IfErr}
 use Rattle.served_core.proofs.serves.serve_config.Goals as goal
 

@@ -1,6 +1,6 @@
 use Rattle.std.proofs.Common.{◌≡◌, ◌+◌, ◌-◌, ℕ, List, [], Option, take, drop, subst, sym, arith}
 use Rattle.std.proofs.lemmas.List.{append-nil, length-drop, take_all}
-use Rattle.proxy_core.specs.declared.config.Config.{Config}
+use Rattle.run_config.specs.declared.config.Config.{Config}
 use Rattle.proxy.specs.Stops.{StoppedAtLine}
 use Rattle.proxy.specs.Written.{Stands}
 use Rattle.proxy.proofs.LineCuts.{cut}

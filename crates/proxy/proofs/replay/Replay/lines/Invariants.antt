@@ -1,5 +1,5 @@
 use Rattle.std.proofs.Common.{◌≤◌, ◌-◌, ℕ, List, [], Option, length, take}
-use Rattle.proxy_core.specs.declared.config.Config.{Config}
+use Rattle.run_config.specs.declared.config.Config.{Config}
 use Rattle.proxy.specs.Written.{Stands}
 use Rattle.proxy.proofs.replay.Replay.lines.Given as goal
 

@@ -1,6 +1,6 @@
 use Rattle.std.proofs.Common.{◌∙◌, ap}
 use Rattle.journal_text.specs.Notes.{note_lines}
-use Rattle.proxy_core.specs.Setup.{init_notes}
+use Rattle.record_model.specs.Setup.{init_notes}
 use Rattle.proxy.specs.Stops.{StopsAtStart}
 use Rattle.proxy.proofs.Stopping.{out_of_memory, stands_first, start_front, front_none}
 use Rattle.proxy.proofs.replay.Replay.start.Goals as goal

@@ -8,7 +8,7 @@ use Rattle.core_events.specs.Kinds.{kind_of}
 use Rattle.conn_trace.specs.Heard.{Heard, hears, nothing_heard}
 use Rattle.conn_trace.specs.Tellings.{tells, conn_of}
 use Rattle.core_events.specs.declared.event.Event.{Event}
-use Rattle.proxy_core.specs.Ready.{without}
+use Rattle.index_lists.specs.Ring.{without}
 
 -- an event that was accepted, with the notes that came of it
 pub record Happened : Type 0 where

@@ -2,6 +2,8 @@
 -- it stands.
 use Rattle.std.specs.Prelude.{ℕ, List, [], map, length, false, slice_get, option_and_then}
 use Rattle.std.specs.Prelude.{Option, Some, None}
+use Rattle.std.specs.List.{position_from}
+use Rattle.std.specs.Str.{bytes_eq}
 use Rattle.px_bytes.specs.declared.addr.Addr.{Addr}
 use Rattle.tcl_vars.specs.Scopes.{Level}
 use Rattle.event_order.specs.declared.event.EventName.{EventName}
@@ -12,11 +14,10 @@ use Rattle.conn_trace.specs.Item.{Item}
 use Rattle.conn_trace.specs.Setup.{Handler, Setup}
 use Rattle.conn_trace.specs.State.{TraceState}
 use Rattle.conn_trace.specs.Trace.{behind}
-use Rattle.proxy_core.specs.Bodies.{bodies_of}
-use Rattle.proxy_core.specs.Init.{init}
-use Rattle.proxy_core.specs.Refusals.{virtual_place}
-use Rattle.proxy_core.specs.declared.config.Config.{Config}
-use Rattle.proxy_core.specs.declared.config.Virtual.{Virtual}
+use Rattle.record_model.specs.Bodies.{bodies_of}
+use Rattle.record_model.specs.Init.{init}
+use Rattle.run_config.specs.declared.config.Config.{Config}
+use Rattle.run_config.specs.declared.config.Virtual.{Virtual}
 
 -- the numbers of the rules of a virtual server
 abbrev pub numbers_in : Option Virtual → List ℕ
@@ -50,6 +51,10 @@ port_of C place = port_in (slice_get C.virtuals place)
 -- the bodies of an event, in their order
 abbrev pub handlers_in : Config → Option Virtual → EventName → List Handler
 handlers_in C v e = map (λ b. b.handler) (bodies_of C.rules (numbers_in v) e)
+
+-- the place of the first virtual server of a name
+abbrev pub virtual_place : Config → List ℕ → Option ℕ
+virtual_place C name = position_from (λ v. bytes_eq v.name name) 0 C.virtuals
 
 -- the virtual server of a name
 abbrev pub virtual_named : Config → List ℕ → Option Virtual

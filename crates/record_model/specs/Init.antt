@@ -13,18 +13,22 @@ use Rattle.tcl_vars.specs.Scopes.{in_proc, no_scopes, out_of_proc}
 use Rattle.event_order.specs.declared.event.EventName.TheVariants.{RuleInit}
 use Rattle.irule_net.specs.State.{new_state}
 use Rattle.irule_net.specs.declared.groups.Groups.{Groups}
+use Rattle.irule_net.specs.declared.state.NetState.{NetState}
 use Rattle.rule_model.specs.Evaluator.{evaluate}
 use Rattle.rule_model.specs.Outcome.{Outcome, Ends, Waits, uncaught_of}
 use Rattle.rule_model.specs.Setting.{Setting}
 use Rattle.conn_trace.specs.Host.{HostState, commands}
 use Rattle.conn_trace.specs.Setup.{Handler, uncaught_line}
-use Rattle.conn.specs.Hosts.{seen_net}
-use Rattle.proxy_core.specs.Bodies.{bodies_of}
-use Rattle.proxy_core.specs.declared.config.Config.{Config}
-use Rattle.proxy_core.specs.declared.init.Left.{Left}
-use Rattle.proxy_core.specs.declared.init_host.InitHost.{InitHost}
+use Rattle.record_model.specs.Bodies.{bodies_of}
+use Rattle.record_model.specs.declared.left.Left.{Left}
+use Rattle.run_config.specs.declared.config.Config.{Config}
 
 -- ---- the host
+
+-- what the commands of RULE_INIT read and leave, and what they did outside the script
+pub record InitHost : Type 0 where
+  pub net : NetState
+  pub made : List Effect
 
 -- no connection stands behind it, and nothing was made
 abbrev pub no_addr : Addr
@@ -43,7 +47,7 @@ kept h (Faults f s es) = Faults f (kept_with h s es) es
 kept h (Asks call s) = Asks call (kept_with h s [])
 
 abbrev pub init_table : Groups → InitHost → List (List ℕ) → HostStep InitHost
-init_table groups h words = kept h (commands groups (seen_net RuleInit h.net) words)
+init_table groups h words = kept h (commands groups (record { event = RuleInit; net = h.net }) words)
 
 abbrev pub init_setting : Groups → List Procedure → Setting InitHost
 init_setting groups procedures =

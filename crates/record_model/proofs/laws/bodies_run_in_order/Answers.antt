@@ -1,8 +1,8 @@
 use Rattle.std.specs.List.{flat_map}
-use Rattle.proxy_core.specs.Bodies.{rule_bodies}
-use Rattle.proxy_core.specs.Laws.{priority_of}
-use Rattle.proxy_core.proofs.Order.{all_once, all_sorted, all_stable}
-use Rattle.proxy_core.proofs.laws.bodies_run_in_order.Goals as goal
+use Rattle.record_model.specs.Bodies.{rule_bodies}
+use Rattle.record_model.specs.Laws.{priority_of}
+use Rattle.record_model.proofs.Order.{all_once, all_sorted, all_stable}
+use Rattle.record_model.proofs.laws.bodies_run_in_order.Goals as goal
 
 pub returns : goal.returns
 returns c rules numbers e =

@@ -10,8 +10,8 @@ use Rattle.core_events.specs.declared.event_kind.EventKind.TheVariants.{Turns, M
 use Rattle.shared_store.specs.Calls.{live_reply, reply}
 use Rattle.shared_store.specs.Store.{StoreState, at_moment, marked, new_store}
 use Rattle.core_events.specs.Kinds.{kind_of}
-use Rattle.proxy_core.specs.Past.{Past, shared}
-use Rattle.proxy_core.specs.declared.config.Config.{Config}
+use Rattle.record_model.specs.Past.{Past, shared}
+use Rattle.run_config.specs.declared.config.Config.{Config}
 
 -- an entry: whose call it answers, at which moment, its words, and the reply
 pub record Entry : Type 0 where

@@ -5,7 +5,7 @@ use Rattle.std.specs.List.{filter}
 use Rattle.std.specs.List.Sorted.{IsSortedBy, IsPermutation, IsStableBy, ties}
 use Rattle.std.proofs.lemmas.Bool.Decides.{nat_tests}
 use Rattle.std.proofs.lemmas.List.Sorted.{IsPermutation-refl, IsPermutation-cons, IsPermutation-middle, IsPermutation-sym, IsPermutation-trans}
-use Rattle.proxy_core.specs.Order.{put, by_priority, runs_before}
+use Rattle.record_model.specs.Order.{put, by_priority, runs_before}
 
 module _ {A : Type 0} (key : A → ℕ) where
   -- ---- sorted

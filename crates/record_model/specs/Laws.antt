@@ -4,11 +4,11 @@ use Rattle.std.specs.List.Sorted.{IsSortedBy, IsPermutation, IsStableBy}
 use Rattle.event_order.specs.declared.event.EventName.{EventName}
 use Rattle.rule_loader.specs.declared.rule.Rule.{Rule}
 use Rattle.conn_trace.specs.Heard.{Heard}
-use Rattle.proxy_core.specs.Bodies.{Body, bodies_of, rule_bodies}
-use Rattle.proxy_core.specs.Init.{init}
-use Rattle.proxy_core.specs.Order.{runs_before}
-use Rattle.proxy_core.specs.Setup.{setup_of}
-use Rattle.proxy_core.specs.declared.config.Config.{Config}
+use Rattle.record_model.specs.Bodies.{Body, bodies_of, rule_bodies}
+use Rattle.record_model.specs.Init.{init}
+use Rattle.record_model.specs.Order.{runs_before}
+use Rattle.record_model.specs.Setup.{setup_of}
+use Rattle.run_config.specs.declared.config.Config.{Config}
 
 abbrev pub priority_of : Body → ℕ
 priority_of b = b.priority
