@@ -93,7 +93,12 @@ ip_without test none no_dot ip small =
     let third = both_without test _ (codes ".") (both_without test _ (decimal (ip / 2 ^ 8 % 256)) second (part (ip / 2 ^ 8 % 256) (omega arith))) dot in
     both_without test _ (decimal (ip % 256)) third (part (ip % 256) (omega arith))
 
-pub addr_without : (test : ℕ → Bool) → NoDigit test → test 46 ≡ false → test 58 ≡ false → (addr : Addr) → IsAddr addr → Without test (addr_text addr)
+-- an address of 32 bits and a port of 16, which may be 0
+pub record SmallAddr (addr : Addr) : Type 0 where
+  pub ip : addr.ip < 2 ^ 32
+  pub port : addr.port < 2 ^ 16
+
+pub addr_without : (test : ℕ → Bool) → NoDigit test → test 46 ≡ false → test 58 ≡ false → (addr : Addr) → SmallAddr addr → Without test (addr_text addr)
 addr_without test none no_dot no_colon addr is =
     let colon : Without test (codes ":") = (no_colon, tt) in
     let port = decimal_without test none addr.port (omega (arith, is.port)) in
@@ -102,14 +107,17 @@ addr_without test none no_dot no_colon addr is =
 colon_free : NoDigit is_colon
 colon_free d low high = ne_eqb d 58 (λ e. omega arith)
 
-addr_parts : (addr : Addr) → IsAddr addr → slice_split is_colon (addr_text addr) ≡ ip_text addr.ip ∷ decimal addr.port ∷ []
+addr_parts : (addr : Addr) → SmallAddr addr → slice_split is_colon (addr_text addr) ≡ ip_text addr.ip ∷ decimal addr.port ∷ []
 addr_parts addr is =
     let port = slice_split_none is_colon (decimal addr.port) (as_all is_colon (decimal addr.port) (decimal_without is_colon colon_free addr.port (omega (arith, is.port)))) in
     let ip = as_all is_colon (ip_text addr.ip) (ip_without is_colon colon_free refl addr.ip is.ip) in
     let whole : addr_text addr ≡ ip_text addr.ip ++ (58 ∷ decimal addr.port) = append_assoc (ip_text addr.ip) _ _ in
     ap (slice_split is_colon) whole ∙ slice_split_at is_colon (ip_text addr.ip) 58 (decimal addr.port) ip refl ∙ ap (λ l. ip_text addr.ip ∷ l) port
 
-pub same_addr_text : (a b : Addr) → IsAddr a → IsAddr b → addr_text a ≡ addr_text b → a ≡ b
+pub same_addr_text : (a b : Addr) → SmallAddr a → SmallAddr b → addr_text a ≡ addr_text b → a ≡ b
 same_addr_text a b is is' e =
     let parts : ip_text a.ip ∷ decimal a.port ∷ [] ≡ ip_text b.ip ∷ decimal b.port ∷ [] = sym (addr_parts a is) ∙ ap (slice_split is_colon) e ∙ addr_parts b is' in
     same_addr a b (same_ip a.ip b.ip is.ip is'.ip cc) (decimal_injective a.port b.port (omega (arith, is.port)) (omega (arith, is'.port)) cc)
+
+pub is_small_addr : (addr : Addr) → IsAddr addr → SmallAddr addr
+is_small_addr addr is = record { ip = is.ip; port = is.port }

@@ -29,6 +29,7 @@ never_fails fs words read kind.BadHex other r f = f.1 (read_all every_form fs wo
 never_fails fs words read kind.Memory other r f = other refl
 never_fails fs words read kind.LongLine other r f = f
 never_fails fs words read kind.NoNewline other r f = f
+never_fails fs words read kind.NotNote other r f = f
 
 behind : (words : List (List ℕ)) (k : LineKind) (e : Event) → ¬ (k ≡ kind.Memory) → FailsBehind words k → WordsSpell words e → ⊥
 behind words k e other f s =
@@ -41,6 +42,7 @@ behind words k e other f s =
 pub fault_spells_none : FaultSpellsNone
 fault_spells_none line kind.LongLine other f e s = let long = f in let within = s.within in absurd (omega (arith, long, within))
 fault_spells_none line kind.NoNewline other f e s = f.1
+fault_spells_none line kind.NotNote other f e s = f.1
 fault_spells_none line kind.NotEvent other f e s =
     let w = s.spelled in
     never_fails (forms (verb_of e)) w.rest (fields e) kind.NotEvent other w.read (f.1 w.none_empty (verb_of e) w.rest w.words_are)

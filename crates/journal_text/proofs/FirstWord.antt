@@ -8,7 +8,7 @@ use Rattle.journal_text.specs.Line.{NoneEmpty, WordsSpell, WordsFail}
 use Rattle.journal_text.specs.declared.verb.Verb.{Verb}
 use Rattle.core_events.specs.declared.event.Event.{Event}
 use Rattle.journal_text.specs.declared.line_kind.LineKind.{LineKind}
-use Rattle.journal_text.specs.declared.line_kind.LineKind.TheVariants.{LongLine, NoNewline, NotEvent}
+use Rattle.journal_text.specs.declared.line_kind.LineKind.TheVariants.{LongLine, NoNewline, NotEvent, NotNote}
 use Rattle.journal_text.specs.declared.line_kind.LineKind.TheVariants.{BadNumber, BadHex, Memory}
 use Rattle.journal_text.proofs.ByText.{verb_by_text}
 use Rattle.journal_text.proofs.Found.{some_same}
@@ -26,6 +26,7 @@ failed words verb rest BadHex some are fails = record { none_empty = some; verb 
 failed words verb rest Memory some are fails = tt
 failed words verb rest LongLine some are fails = fails
 failed words verb rest NoNewline some are fails = fails
+failed words verb rest NotNote some are fails = fails
 
 pub by_first : (words : List (List ℕ)) (verb : Verb) (rest : List (List ℕ)) (r : Result Event LineKind) → NoneEmpty words → words ≡ verb_text verb ∷ rest → IfOk r (λ e. verb_of e ≡ verb) → Answered fields (forms verb) rest r → IfOk r (WordsSpell words) × IfErr r (WordsFail words)
 by_first words verb rest (Ok event) some are is read = (spelled words verb rest event some are is read, tt)

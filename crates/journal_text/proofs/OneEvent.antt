@@ -15,7 +15,7 @@ use Rattle.journal_text.specs.declared.verb.Verb.TheVariants as verb
 use Rattle.journal_text.proofs.FirstWord.{same_verb}
 use Rattle.journal_text.proofs.ReadFields.{number_read, hex_read, name_read, ip_read, member_read}
 use Rattle.journal_text.proofs.ReadFields.{health_read}
-use Rattle.journal_text.proofs.Addresses.{same_ip, same_addr_text}
+use Rattle.journal_text.proofs.Addresses.{same_ip, same_addr_text, is_small_addr}
 
 -- the greatest number of a form has 64 bits
 abbrev pub Small : Form → Type 0
@@ -53,7 +53,7 @@ reads_one Ip small word f g r s =
 reads_one Member small word f g r s =
     let a = member_read word f r in
     let b = member_read word g s in
-    a.1 ∙ ap At (same_addr_text a.0 b.0 a.2.1 b.2.1 (sym a.2.0 ∙ b.2.0)) ∙ sym b.1
+    a.1 ∙ ap At (same_addr_text a.0 b.0 (is_small_addr a.0 a.2.1) (is_small_addr b.0 b.2.1) (sym a.2.0 ∙ b.2.0)) ∙ sym b.1
 reads_one Health small word f g r s =
     let a = health_read word f r in
     let b = health_read word g s in

@@ -18,7 +18,7 @@ use Rattle.journal_text.specs.Line.{NoneEmpty, WordsSpell}
 use Rattle.journal_text.specs.Laws.{IsWritable, AllWritable, WrittenIsRead}
 use Rattle.journal_text.specs.declared.verb.Verb.{Verb}
 use Rattle.journal_text.specs.declared.verb.Verb.TheVariants as verb
-use Rattle.journal_text.proofs.Addresses.{Without, decimal_without, ip_without, addr_without}
+use Rattle.journal_text.proofs.Addresses.{Without, decimal_without, ip_without, addr_without, is_small_addr}
 use Rattle.journal_text.proofs.Clean.{no_digit, name_free, hex_free, health_free}
 use Rattle.journal_text.proofs.Spacing.{AllWithout, tail, spaced_tail, words_spaced}
 use Rattle.journal_text.proofs.OneEvent.{Small, AllSmall, forms_small}
@@ -58,7 +58,7 @@ written Hex small (Bytes []) h = absurd (let no : 0 < 0 = h.0 in omega (arith, n
 written Hex small (Bytes (b ∷ bs)) h = record { free = hex_free (b ∷ bs); some = refl; reads = hex_back b bs h.1 }
 written Name small (Named name) h = record { free = name_free name h.1; some = long_word name h.0; reads = refl }
 written Ip small (From ip) h = record { free = ip_without is_blank no_digit refl ip h; some = ip_word ip h; reads = (refl, h) }
-written Member small (At addr) h = record { free = addr_without is_blank no_digit refl refl addr h; some = joined_word _ _ (joined_word _ _ (ip_word addr.ip h.ip)); reads = (refl, h) }
+written Member small (At addr) h = record { free = addr_without is_blank no_digit refl refl addr (is_small_addr addr h); some = joined_word _ _ (joined_word _ _ (ip_word addr.ip h.ip)); reads = (refl, h) }
 written Health small (Up up) h = record { free = health_free up; some = health_word up; reads = refl }
 written (Number most) small (Bytes b) h = absurd h
 written (Number most) small (Named t) h = absurd h

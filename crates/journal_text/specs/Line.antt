@@ -10,7 +10,7 @@ use Rattle.journal_text.specs.declared.verb.Verb.{Verb}
 use Rattle.core_events.specs.declared.event.Event.{Event}
 use Rattle.journal_text.specs.declared.line_kind.LineKind.{LineKind}
 use Rattle.journal_text.specs.declared.line_kind.LineKind.TheVariants.{LongLine, NoNewline}
-use Rattle.journal_text.specs.declared.line_kind.LineKind.TheVariants.{NotEvent}
+use Rattle.journal_text.specs.declared.line_kind.LineKind.TheVariants.{NotEvent, NotNote}
 use Rattle.journal_text.specs.declared.line_kind.LineKind.TheVariants.{BadNumber, BadHex, Memory}
 
 -- it is empty, or begins with `#` or `>`
@@ -66,6 +66,7 @@ WordsFail words BadHex = FailsBehind words BadHex
 WordsFail words Memory = Unit {0}
 WordsFail words LongLine = ⊥
 WordsFail words NoNewline = ⊥
+WordsFail words NotNote = ⊥
 
 -- what is wrong with a line that isn't skipped
 abbrev pub LineFails : List ℕ → LineKind → Type 0

@@ -8,7 +8,7 @@ use Rattle.journal_text.specs.Form.{Form, Number, Hex, Name, Ip, Member, Health,
 use Rattle.journal_text.specs.Form.{Field, Numbered, Bytes, Named, From, At, Up}
 use Rattle.journal_text.specs.declared.line_kind.LineKind.{LineKind}
 use Rattle.journal_text.specs.declared.line_kind.LineKind.TheVariants.{LongLine, NoNewline}
-use Rattle.journal_text.specs.declared.line_kind.LineKind.TheVariants.{NotEvent}
+use Rattle.journal_text.specs.declared.line_kind.LineKind.TheVariants.{NotEvent, NotNote}
 use Rattle.journal_text.specs.declared.line_kind.LineKind.TheVariants.{BadNumber, BadHex, Memory}
 
 -- the word stands for the field; digits in hexadecimal are of either case
@@ -61,6 +61,7 @@ Fails forms words BadHex = AllRead but_bytes forms words × (¬ AllRead every_fo
 Fails forms words Memory = Unit {0}
 Fails forms words LongLine = ⊥
 Fails forms words NoNewline = ⊥
+Fails forms words NotNote = ⊥
 
 -- the words were read as what the value shows, or fail
 abbrev pub Answered : {A : Type 0} → (A → List Field) → List Form → List (List ℕ)

@@ -18,8 +18,10 @@ pub enum LineKind {
     BadNumber = 4,
     /// Bytes aren't in hexadecimal.
     BadHex = 5,
-    /// Memory was refused.
-    Memory = 7,
+    /// It begins with `>`, and is no note's.
+    NotNote = 7,
+    /// Memory was refused, which no report prints.
+    Memory = 8,
 }
 
 impl From<NoMemory> for LineKind {

@@ -5,7 +5,7 @@ use Rattle.px_bytes.specs.Hexadecimal.{hex_text}
 use Rattle.journal_text.specs.declared.line_kind.LineKind.{LineKind}
 use Rattle.journal_text.specs.declared.line_kind.LineKind.TheVariants.{LongLine, NoNewline}
 use Rattle.journal_text.specs.declared.line_kind.LineKind.TheVariants.{NotEvent, BadNumber, BadHex}
-use Rattle.journal_text.specs.declared.line_kind.LineKind.TheVariants.{Memory}
+use Rattle.journal_text.specs.declared.line_kind.LineKind.TheVariants.{NotNote, Memory}
 use Rattle.core_events.specs.declared.bad_event.BadEvent.{BadEvent}
 use Rattle.core_events.specs.declared.bad_event.BadEvent.TheVariants.{NoConn, AfterEnd, NotConnecting}
 use Rattle.core_events.specs.declared.bad_event.BadEvent.TheVariants.{MomentBack, TooMuch, TookTooMuch}
@@ -53,7 +53,8 @@ kind_number NoNewline = 2
 kind_number NotEvent = 3
 kind_number BadNumber = 4
 kind_number BadHex = 5
-kind_number Memory = 7
+kind_number NotNote = 7
+kind_number Memory = 8
 
 -- a line of the schedule, the first being 1, spells no event, with the kind of its fault
 abbrev pub text_fault : ℕ → LineKind → List ℕ

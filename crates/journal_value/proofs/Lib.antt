@@ -1,0 +1,14 @@
+pub mod Found
+pub mod Leaves
+pub mod EachWord
+pub mod NoteKinds
+pub mod HeadNotes
+pub mod Cuts
+pub mod Unescapes
+pub mod Exactly
+pub mod Low
+pub mod NoteTexts
+pub mod Told
+pub mod WrittenJournal
+pub mod NoJournal
+pub mod Reading

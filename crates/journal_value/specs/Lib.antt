@@ -1,0 +1,4 @@
+pub mod Exact
+pub mod Unescaped
+pub mod Words
+pub mod Journal
