@@ -24,7 +24,7 @@ pub enum JournalLine {
 
 /// What the lines of a journal tell, in order: the notes of the start, then each event before its
 /// notes.
-pub type Journal = Seq<JournalLine>;
+pub type JournalLines = Seq<JournalLine>;
 
 /// The first faulty line, the first line being 1, and what is wrong with it.
 #[derive(Clone, Copy, PartialEq, Eq)]
@@ -61,7 +61,7 @@ impl From<AllocError> for LineFault {
 
 /// What the lines of a journal tell, each of which ends with LF. Lines that are empty or begin with
 /// `#` tell nothing. A last line without LF is faulty.
-pub fn read_journal(alloc: Global, text: &[u8]) -> Result<Journal, LineFault>
+pub fn read_journal(alloc: Global, text: &[u8]) -> Result<JournalLines, LineFault>
     ensures journal { IfOk result (IsJournal text.now) }
     ensures only_journal { (told : List JournalLine) → AllFit told → IsJournal text.now told
         → IfOk result (λ journal. journal ≡ told) }
@@ -70,7 +70,7 @@ pub fn read_journal(alloc: Global, text: &[u8]) -> Result<Journal, LineFault>
     let parts = parts_of(alloc, text)?;
     match parts.as_slice() {
         [lines @ .., rest] => read_parts(alloc, lines, rest),
-        [] => Ok(Journal::new(alloc)),
+        [] => Ok(JournalLines::new(alloc)),
     }
 }
 
@@ -88,7 +88,7 @@ fn is_lf(byte: u8) -> bool
 }
 
 // What these lines tell, and what stands behind the last LF.
-fn read_parts(alloc: Global, lines: &[&[u8]], rest: &[u8]) -> Result<Journal, LineFault>
+fn read_parts(alloc: Global, lines: &[&[u8]], rest: &[u8]) -> Result<JournalLines, LineFault>
     ensures journal { IfOk result (TellBefore (map (λ line. line.now) lines.now) rest.now) }
     ensures only_journal { (told : List JournalLine) → AllFit told
         → TellBefore (map (λ line. line.now) lines.now) rest.now told
@@ -123,13 +123,13 @@ fn is_skipped(line: &[u8]) -> bool
 }
 
 // What these lines tell, each of which had its LF.
-fn read_lines(alloc: Global, lines: &[&[u8]]) -> Result<Journal, LineFault>
+fn read_lines(alloc: Global, lines: &[&[u8]]) -> Result<JournalLines, LineFault>
     ensures told { IfOk result (Tell (map (λ line. line.now) lines.now)) }
     ensures only_told { (told : List JournalLine) → AllFit told
         → Tell (map (λ line. line.now) lines.now) told → IfOk result (λ journal. journal ≡ told) }
     ensures fault { IfErr result (FaultyAmong (map (λ line. line.now) lines.now)) }
 {
-    let mut journal = Journal::new(alloc);
+    let mut journal = JournalLines::new(alloc);
     for (index, line) in lines.iter().enumerate() {
         match read_line(alloc, line, &mut journal) {
             Ok(()) => {}
@@ -145,7 +145,7 @@ fn read_lines(alloc: Global, lines: &[&[u8]]) -> Result<Journal, LineFault>
 }
 
 // Adds what a line tells.
-fn read_line(alloc: Global, line: &[u8], journal: &mut Journal) -> Result<(), LineKind>
+fn read_line(alloc: Global, line: &[u8], journal: &mut JournalLines) -> Result<(), LineKind>
     ensures told { OnOk result ((told : Option JournalLine) × Tells line.now told
         × (journal.new ≡ behind journal.old told)) }
     ensures only_told { OnOk result ((told : Option JournalLine) → FitsLine told

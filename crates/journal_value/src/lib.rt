@@ -14,7 +14,7 @@ mod notes;
 mod texts;
 mod words;
 
-pub use journal::{Journal, JournalLine, LineFault, read_journal};
+pub use journal::{JournalLine, JournalLines, LineFault, read_journal};
 pub use laws::{fault_has_no_journal, written_journal_is_read};
 pub use note::read_note;
 pub use note_verb::NoteVerb;
