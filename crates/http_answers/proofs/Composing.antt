@@ -1,23 +1,15 @@
 -- The head of an answer, as it is put together.
 use Rattle.std.proofs.Common.{◌≡◌, ℕ, false, List, [], ◌∷◌, ◌++◌, refl, ap, sym, ◌∙◌}
 use Rattle.std.proofs.lemmas.List.{append_assoc}
-use Rattle.httparse.specs.Grammar.{print_field, print_response}
+use Rattle.httparse.specs.Grammar.{print_response}
 use Rattle.httparse.proofs.GrammarLemmas.{cons-append}
 use Rattle.http_heads.specs.Fields.{Pair}
-use Rattle.http_heads.specs.Written.{line_of, written_response}
-use Rattle.http_answers.specs.Answers.{answer_fields, answer_head, lines_of, written_given}
+use Rattle.http_heads.specs.Written.{lines_of, written_response}
+use Rattle.http_heads.proofs.ForwardedFields.{lines_append}
+use Rattle.http_answers.specs.Answers.{answer_fields, answer_head, written_given}
 use Rattle.http_answers.specs.Options.{pairs_of}
 use Rattle.http_answers.specs.Seen.{own_fields, seen, status_line}
 use Rattle.http_answers.specs.declared.answer.Answer.{Answer}
-
-joined : (xs ys zs : List ℕ) → (xs ++ ys) ++ zs ≡ xs ++ (ys ++ zs)
-joined xs ys zs = simp append_assoc
-
-lines_append : (xs ys : List Pair) → lines_of (xs ++ ys) ≡ lines_of xs ++ lines_of ys
-lines_append [] ys = refl
-lines_append (x ∷ xs) ys =
-    ap (λ t. print_field (line_of x) ++ t) (lines_append xs ys)
-    ∙ sym (joined (print_field (line_of x)) (lines_of xs) (lines_of ys))
 
 grouped : (out status given own tail : List ℕ)
     → (((out ++ status) ++ given) ++ own) ++ tail ≡ out ++ (status ++ ((given ++ own) ++ tail))

@@ -1,2 +1,3 @@
 pub mod Answering
 mod Composing
+mod Refusing

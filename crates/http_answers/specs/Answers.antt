@@ -2,14 +2,13 @@
 -- content, and the latter two no length).
 use Rattle.std.specs.Prelude.{ℕ, ◌==◌, Bool, true, false, not, ◌&&◌, ◌||◌, List, [], ◌∷◌}
 use Rattle.std.specs.Prelude.{◌++◌, length, codes, Option, Some, None}
-use Rattle.std.specs.Prelude.{flat_map, map, if◌then◌else◌}
+use Rattle.std.specs.Prelude.{if◌then◌else◌}
 use Rattle.std.specs.Fmt.{decimal}
 use Rattle.std.specs.List.{list_any}
 use Rattle.std.specs.Str.{bytes_eq}
 use Rattle.px_bytes.specs.Letters.{lowered}
 use Rattle.http_heads.specs.Fields.{Pair, is_named}
-use Rattle.httparse.specs.Grammar.{print_field}
-use Rattle.http_heads.specs.Written.{line_of, written_response}
+use Rattle.http_heads.specs.Written.{written_response}
 use Rattle.http_heads.specs.declared.line.Version.{Version}
 use Rattle.http_heads.specs.declared.request.RequestHead.{RequestHead}
 use Rattle.http_heads.specs.declared.response.ResponseHead.{ResponseHead}
@@ -55,10 +54,6 @@ written_given closed [] = []
 written_given closed (field ∷ fields) =
     if is_written closed field then field ∷ written_given (closed || is_close field) fields
     else written_given (closed || is_close field) fields
-
--- the lines of fields
-abbrev pub lines_of : List Pair → List ℕ
-lines_of fields = flat_map print_field (map line_of fields)
 
 -- What an answer is made of: what its command says, and whether the connection closes behind it.
 pub record Answer : Type 0 where

@@ -2,4 +2,5 @@ pub mod Answers
 pub mod Laws
 pub mod Limits
 pub mod Options
+pub mod Refusals
 pub mod Seen

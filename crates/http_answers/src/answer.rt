@@ -2,16 +2,16 @@
 
 ghost use Rattle.std.specs.Prelude.{◌≡◌, ◌++◌, ◌<◌, ◌≤◌, IfOk, OnOk, length, nat_le};
 ghost use Rattle.std.specs.Fmt.{decimal};
-ghost use Rattle.http_heads.specs.Written.{written_response};
+ghost use Rattle.http_heads.specs.Written.{lines_of, written_response};
 ghost use Rattle.http_answers.specs.Answers.{answer_fields, answer_head, closes_text};
 ghost use Rattle.http_answers.specs.Answers.{connection_field};
-ghost use Rattle.http_answers.specs.Answers.{gives_close, is_bodiless, length_field, lines_of};
+ghost use Rattle.http_answers.specs.Answers.{gives_close, is_bodiless, length_field};
 ghost use Rattle.http_answers.specs.Answers.{reason_of, server_field};
 ghost use Rattle.http_answers.specs.Seen.{own_fields, seen, status_line};
 
-use crate::given::{gives_close, put_field, put_given};
+use crate::given::{gives_close, put_given};
 use crate::reasons::reason_of;
-use http_heads::{Status, Version, put_status, put_version};
+use http_heads::{Status, Version, put_field, put_status, put_version};
 use px_bytes::{M, Text};
 use std::alloc::Global;
 

@@ -2,14 +2,13 @@
 
 ghost use Rattle.std.specs.Prelude.{◌≡◌, ◌++◌, false, length, IfOk, OnOk};
 ghost use Rattle.std.specs.List.{list_all};
-ghost use Rattle.httparse.specs.Grammar.{print_field};
 ghost use Rattle.http_heads.specs.Fields.{is_field};
-ghost use Rattle.http_heads.specs.Written.{line_of};
+ghost use Rattle.http_heads.specs.Written.{lines_of};
 ghost use Rattle.http_answers.specs.Answers.{gives_close, is_close, is_framing, is_written};
-ghost use Rattle.http_answers.specs.Answers.{lines_of, written_given};
+ghost use Rattle.http_answers.specs.Answers.{written_given};
 ghost use Rattle.http_answers.specs.Options.{pairs_of};
 
-use http_heads::is_field;
+use http_heads::{is_field, put_field};
 use px_bytes::{M, Text, same_name};
 
 /// Whether names and values may be those of fields.
@@ -59,18 +58,6 @@ fn is_written(closed: bool, name: &[u8], value: &[u8]) -> bool
     ensures { result ≡ is_written closed (name.now, value.now) }
 {
     !is_framing(name, value) && !(closed && is_close(name, value))
-}
-
-/// Writes the line of a field.
-pub(crate) fn put_field(out: &mut Vec<u8>, name: &[u8], value: &[u8]) -> M<()>
-    ensures { OnOk result (out.new.items
-        ≡ out.old.items ++ print_field (line_of (name.now, value.now))) }
-{
-    out.extend_from_slice(name)?;
-    out.extend_from_slice(b": ")?;
-    out.extend_from_slice(value)?;
-    out.extend_from_slice(b"\r\n")?;
-    Ok(())
 }
 
 /// Writes the lines of the given fields that an answer has; tells how many these are.

@@ -46,7 +46,7 @@ stays name seen [] at g named there is so both = absurd (omega (arith, there))
 stays name seen (f ∷ fs) zero g named there is so both = one_stays name seen f fs named (ap (is_named name) (sym is) ∙ so) both
 stays name seen (f ∷ fs) (suc at) g named there is so both = ap (λ xs. f ∷ xs) (stays name seen fs at g named (omega (arith, there)) is so both)
 
-all_first : (name : List ℕ) (fs : List Pair) → list_all is_field fs ≡ true → list_all is_field (first_alone name fs) ≡ true
+pub all_first : (name : List ℕ) (fs : List Pair) → list_all is_field fs ≡ true → list_all is_field (first_alone name fs) ≡ true
 all_first name [] all = refl
 all_first name (f ∷ fs) all =
     let both = and_parts (is_field f) (list_all is_field fs) all in
@@ -55,7 +55,7 @@ all_first name (f ∷ fs) all =
       | false ↦ ap₂ (λ s t. s && t) both.0 (all_first name fs both.1)
     ]
 
-few_first : (name : List ℕ) (fs : List Pair) → length (first_alone name fs) ≤ length fs
+pub few_first : (name : List ℕ) (fs : List Pair) → length (first_alone name fs) ≤ length fs
 few_first name [] = omega arith
 few_first name (f ∷ fs) =
     elim (is_named name f) as (λ t. length (cond t (f ∷ without name fs) (f ∷ first_alone name fs)) ≤ length (f ∷ fs)) [

@@ -4,7 +4,7 @@ use Rattle.std.specs.Prelude.{reverse, sum_by, Option, Some, None, option_map, s
 use Rattle.std.specs.Prelude.{Result, Ok, Err, if◌then◌else◌}
 use Rattle.std.specs.List.{list_all}
 use Rattle.std.specs.Str.{bytes_eq}
-use Rattle.httparse.specs.Grammar.{is_token, is_value_byte, trim_ows}
+use Rattle.httparse.specs.Grammar.{is_ows, is_token, is_value_byte, trim_ows}
 use Rattle.px_bytes.specs.FaultText.{too_long}
 use Rattle.px_bytes.specs.Letters.{lowered}
 use Rattle.px_bytes.specs.declared.fault.Raise.{Raise}
@@ -24,6 +24,18 @@ is_field f = is_token f.0 && is_value f.1
 -- A field as it is read: "A field value does not include leading or trailing whitespace."
 abbrev pub bare : Pair → Pair
 bare f = (f.0, trim_ows f.1)
+
+-- no white space stands at the front
+abbrev pub begins_visible : List ℕ → Bool
+begins_visible [] = true
+begins_visible (byte ∷ bytes) = not (is_ows byte)
+
+-- nor at either end
+abbrev pub is_trimmed : List ℕ → Bool
+is_trimmed value = begins_visible value && begins_visible (reverse value)
+
+abbrev pub are_trimmed : List Pair → Bool
+are_trimmed fields = list_all (λ f. is_trimmed f.1) fields
 
 -- what a head may hold
 pub record AreFields (fields : List Pair) : Type 0 where

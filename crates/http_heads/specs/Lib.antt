@@ -1,4 +1,5 @@
 pub mod Fields
+pub mod Forwarded
 pub mod Heads
 pub mod Hosts
 pub mod Laws

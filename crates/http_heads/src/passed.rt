@@ -55,7 +55,7 @@ pub(crate) fn is_kept(connection: &[Text], name: &[u8]) -> bool
     is_of_message(name) || !is_option(name, connection)
 }
 
-fn goes_on(connection: &[Text], name: &[u8]) -> bool
+pub(crate) fn goes_on(connection: &[Text], name: &[u8]) -> bool
     ensures { result ≡ goes_on connection.now name.now }
 {
     !is_of_connection(name) && is_kept(connection, name)

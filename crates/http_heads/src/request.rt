@@ -1,10 +1,12 @@
 // The head of a request.
 
-ghost use Rattle.std.specs.Prelude.{◌≡◌, ◌≤◌, IfOk, Ok, length};
+ghost use Rattle.std.specs.Prelude.{◌≡◌, ◌++◌, ◌≤◌, IfOk, Ok, OnOk, length, true};
+ghost use Rattle.httparse.specs.Grammar.{is_token};
 ghost use Rattle.httparse.specs.Spans.{IsRequestOf, IsRequestWithin};
 ghost use Rattle.http_heads.specs.Heads.{GivesRequest, bare_request};
+ghost use Rattle.http_heads.specs.Lines.{IsTarget};
 ghost use Rattle.http_heads.specs.Reading.{IsTold, read_request};
-ghost use Rattle.http_heads.specs.Written.{written_request};
+ghost use Rattle.http_heads.specs.Written.{request_line, written_request};
 
 use crate::fault::HeadFault;
 use crate::fields::Fields;
@@ -63,6 +65,23 @@ pub fn read_request(alloc: Global, head: &[u8]) -> Result<RequestHead, HeadFault
     Err(HeadFault::Fault(HttpFault::BadHead))
 }
 
+/// Writes the first line.
+pub(crate) fn put_request_line(out: &mut Vec<u8>, head: &RequestHead) -> M<()>
+    ensures text { OnOk result (out.new.items ≡ out.old.items ++ request_line head.now) }
+    ensures is_token { is_token head.now.method ≡ true }
+    ensures is_target { IsTarget head.now.target }
+{
+    let method = head.method.as_bytes();
+    let target = head.target.as_bytes();
+    out.extend_from_slice(method)?;
+    out.extend_from_slice(b" ")?;
+    out.extend_from_slice(target)?;
+    out.extend_from_slice(b" ")?;
+    put_version(out, head.version)?;
+    out.extend_from_slice(b"\r\n")?;
+    Ok(())
+}
+
 /// The head as it is written, each line ended by CRLF. It is read back as the same head, without the
 /// white space around its values.
 pub fn write_request(alloc: Global, head: &RequestHead) -> M<Text>
@@ -70,12 +89,7 @@ pub fn write_request(alloc: Global, head: &RequestHead) -> M<Text>
     ensures reads_back { IfOk result (λ t. GivesRequest (Ok (bare_request head.now)) t) }
 {
     let mut out = Vec::new(alloc);
-    out.extend_from_slice(head.method.as_bytes())?;
-    out.extend_from_slice(b" ")?;
-    out.extend_from_slice(head.target.as_bytes())?;
-    out.extend_from_slice(b" ")?;
-    put_version(&mut out, head.version)?;
-    out.extend_from_slice(b"\r\n")?;
+    put_request_line(&mut out, head)?;
     put_section(&mut out, head.fields.as_slice())?;
     Ok(Text::from_vec(out))
 }

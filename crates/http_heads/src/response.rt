@@ -1,10 +1,12 @@
 // The head of a response.
 
-ghost use Rattle.std.specs.Prelude.{◌≡◌, ◌≤◌, IfOk, Ok, length};
+ghost use Rattle.std.specs.Prelude.{◌≡◌, ◌++◌, ◌<◌, ◌≤◌, IfOk, Ok, OnOk, length, true};
+ghost use Rattle.std.specs.List.{list_all};
+ghost use Rattle.httparse.specs.Grammar.{is_value_byte};
 ghost use Rattle.httparse.specs.Spans.{IsResponseOf, IsResponseWithin};
 ghost use Rattle.http_heads.specs.Heads.{GivesResponse, bare_response};
 ghost use Rattle.http_heads.specs.Reading.{IsTold, read_response};
-ghost use Rattle.http_heads.specs.Written.{written_response};
+ghost use Rattle.http_heads.specs.Written.{status_line, written_response};
 
 use crate::fault::HeadFault;
 use crate::fields::Fields;
@@ -61,6 +63,22 @@ pub fn read_response(alloc: Global, head: &[u8]) -> Result<ResponseHead, HeadFau
     Err(HeadFault::Fault(HttpFault::BadHead))
 }
 
+/// Writes the status line.
+pub(crate) fn put_status_line(out: &mut Vec<u8>, head: &ResponseHead) -> M<()>
+    ensures text { OnOk result (out.new.items ≡ out.old.items ++ status_line head.now) }
+    ensures three_digits { IfOk result (λ _. head.now.status < 1000) }
+    ensures is_reason { list_all is_value_byte head.now.reason ≡ true }
+{
+    let reason = head.reason.as_bytes();
+    put_version(out, head.version)?;
+    out.extend_from_slice(b" ")?;
+    put_status(out, &head.status)?;
+    out.extend_from_slice(b" ")?;
+    out.extend_from_slice(reason)?;
+    out.extend_from_slice(b"\r\n")?;
+    Ok(())
+}
+
 /// The head as it is written, each line ended by CRLF. It is read back as the same head, without the
 /// white space around its values.
 pub fn write_response(alloc: Global, head: &ResponseHead) -> M<Text>
@@ -68,12 +86,7 @@ pub fn write_response(alloc: Global, head: &ResponseHead) -> M<Text>
     ensures reads_back { IfOk result (λ t. GivesResponse (Ok (bare_response head.now)) t) }
 {
     let mut out = Vec::new(alloc);
-    put_version(&mut out, head.version)?;
-    out.extend_from_slice(b" ")?;
-    put_status(&mut out, &head.status)?;
-    out.extend_from_slice(b" ")?;
-    out.extend_from_slice(head.reason.as_bytes())?;
-    out.extend_from_slice(b"\r\n")?;
+    put_status_line(&mut out, head)?;
     put_section(&mut out, head.fields.as_slice())?;
     Ok(Text::from_vec(out))
 }

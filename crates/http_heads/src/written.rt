@@ -1,9 +1,9 @@
 // Parts of heads as they are written.
 
-ghost use Rattle.std.specs.Prelude.{◌≡◌, ◌++◌, ◌<◌, OnOk, flat_map, map};
+ghost use Rattle.std.specs.Prelude.{◌≡◌, ◌++◌, ◌<◌, OnOk, map};
 ghost use Rattle.httparse.specs.Grammar.{crlf, print_field, print_section, print_version};
 ghost use Rattle.http_heads.specs.Lines.{minor_of};
-ghost use Rattle.http_heads.specs.Written.{code_digits, line_of};
+ghost use Rattle.http_heads.specs.Written.{code_digits, line_of, lines_of};
 
 use crate::line::{Status, Version};
 use px_bytes::{M, Text};
@@ -35,23 +35,24 @@ pub fn put_status(out: &mut Vec<u8>, status: &Status) -> M<()>
     Ok(())
 }
 
-// The line of a field.
-fn put_line(out: &mut Vec<u8>, field: &(Text, Text)) -> M<()>
-    ensures { OnOk result (out.new.items ≡ out.old.items ++ print_field (line_of field.now)) }
+/// The line of a field.
+pub fn put_field(out: &mut Vec<u8>, name: &[u8], value: &[u8]) -> M<()>
+    ensures { OnOk result (out.new.items
+        ≡ out.old.items ++ print_field (line_of (name.now, value.now))) }
 {
-    out.extend_from_slice(field.0.as_bytes())?;
+    out.extend_from_slice(name)?;
     out.extend_from_slice(b": ")?;
-    out.extend_from_slice(field.1.as_bytes())?;
+    out.extend_from_slice(value)?;
     out.extend_from_slice(b"\r\n")?;
     Ok(())
 }
 
 fn put_lines(out: &mut Vec<u8>, fields: &[(Text, Text)]) -> M<()>
     ensures { OnOk result (out.new.items
-        ≡ out.old.items ++ flat_map print_field (map line_of fields.now)) }
+        ≡ out.old.items ++ lines_of fields.now) }
 {
     for field in fields {
-        put_line(out, field)?;
+        put_field(out, field.0.as_bytes(), field.1.as_bytes())?;
     }
     Ok(())
 }

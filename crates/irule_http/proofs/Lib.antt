@@ -2,4 +2,5 @@ pub mod Lengths
 pub mod Moves
 pub mod Refusals
 mod Rows
+pub mod SentHeads
 pub mod Sending

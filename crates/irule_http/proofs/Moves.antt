@@ -54,7 +54,8 @@ use Rattle.irule_http.specs.State.{fields_here, is_response}
 use Rattle.irule_http.specs.Steps.{done}
 use Rattle.http_answers.specs.Laws.{Made}
 use Rattle.http_answers.proofs.Answering.{is_answer}
-use Rattle.irule_http.proofs.Lengths.{fewer, request_length, response_length, shorter}
+use Rattle.http_heads.proofs.WrittenLengths.{request_length, response_length}
+use Rattle.irule_http.proofs.Lengths.{fewer, shorter}
 use Rattle.irule_http.specs.declared.form.Form.{Form}
 use Rattle.irule_http.specs.declared.form.Form.TheVariants as form
 use Rattle.irule_http.specs.declared.state.Http.{Http}

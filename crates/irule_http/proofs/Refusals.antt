@@ -18,7 +18,7 @@ use Rattle.irule_http.specs.Heads.{holds, holds_by, left_with, request_holds, re
 use Rattle.irule_http.specs.Heads.{response_holds, response_with}
 use Rattle.irule_http.specs.State.{is_response}
 use Rattle.irule_http.specs.declared.state.Http.{Http}
-use Rattle.irule_http.proofs.Lengths.{request_length, response_length}
+use Rattle.http_heads.proofs.WrittenLengths.{request_length, response_length}
 
 -- what fits into a head fits together
 fits_alone : (fs : List Pair) → length fs ≤ 100 → sum_by line_length fs ≤ 65536 → fit fs ≡ true

@@ -7,6 +7,7 @@ pub mod Forms
 pub mod Heads
 pub mod Laws
 pub mod Payload
+pub mod Sent
 pub mod State
 pub mod Steps
 pub mod Told

@@ -27,7 +27,7 @@ use std::alloc::Global;
 /// The most bytes that the bodies of one event send.
 const ANSWER_LIMIT: usize = 1_114_112;
 
-fn persists_by(came: &Option<Request>) -> bool
+pub(crate) fn persists_by(came: &Option<Request>) -> bool
     ensures { result ≡ persists_by came.now }
 {
     match came {

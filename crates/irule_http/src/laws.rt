@@ -2,6 +2,8 @@
 
 ghost use Rattle.irule_http.specs.Laws.{AnsweredOnce, AnswersAreBounded, AnswersReadBack};
 ghost use Rattle.irule_http.specs.Laws.{FaultsChangeNothing, HeadsFit, KeepsMessage, PayloadFits};
+ghost use Rattle.irule_http.specs.Sent.{InterimHeadsFit, SentHeadsFit, SentRequestIsRead};
+ghost use Rattle.irule_http.specs.Sent.{SentResponseIsRead};
 
 /// The law that the bodies of one event never send more than 1,114,112 bytes to the client, and none
 /// to a server.
@@ -39,4 +41,25 @@ pub fn answered_once()
 /// content of the length that the head tells.
 pub fn answers_read_back()
     ensures { AnswersReadBack }
+{}
+
+/// The law that heads of at most so many bytes have at most 44 more as they go out.
+pub fn sent_heads_fit()
+    ensures { SentHeadsFit }
+{}
+
+/// The same of responses before the final one.
+pub fn interim_heads_fit()
+    ensures { InterimHeadsFit }
+{}
+
+/// The law that a request's head that goes out is read back as that head, without the white space around
+/// its values.
+pub fn sent_request_is_read()
+    ensures { SentRequestIsRead }
+{}
+
+/// The same of responses, where they have at most 100 fields.
+pub fn sent_response_is_read()
+    ensures { SentResponseIsRead }
 {}

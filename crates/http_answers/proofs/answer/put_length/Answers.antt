@@ -2,8 +2,8 @@ use Rattle.std.proofs.Common.{◌≡◌, ◌++◌, codes, false, ap, sym, subst,
 use Rattle.std.specs.Fmt.{decimal}
 use Rattle.std.proofs.lemmas.List.{append-nil}
 use Rattle.httparse.specs.Grammar.{print_field}
-use Rattle.http_heads.specs.Written.{line_of}
-use Rattle.http_answers.specs.Answers.{length_field, lines_of}
+use Rattle.http_heads.specs.Written.{line_of, lines_of}
+use Rattle.http_answers.specs.Answers.{length_field}
 use Rattle.http_answers.proofs.answer.put_length.Goals as goal
 
 pub returns-clause-text : goal.returns-clause-text

@@ -1,5 +1,6 @@
 use Rattle.std.proofs.Common.{◌≡◌, ◌+◌, ◌*◌, ◌≤◌, ◌++◌, false, length}
-use Rattle.http_answers.specs.Answers.{lines_of, written_given}
+use Rattle.http_answers.specs.Answers.{written_given}
+use Rattle.http_heads.specs.Written.{lines_of}
 use Rattle.http_answers.specs.Options.{pairs_of}
 use Rattle.http_answers.proofs.given.put_given.Given as goal
 
