@@ -199,5 +199,12 @@ both_sums fs gs =
 pub response_short : ForwardedResponseIsShort
 response_short size option head fits =
     let fs = unframed head.status head.fields in
-    omega (arith, response_length (forwarded_response size option head), response_length head, both_sums (map (with_length size) (passed [] fs)) (connection_field option),
-    passed_short size fs fits, option_short option, unframed_short (nat_lt head.status 200 || head.status == 204) (head.status == 304) head.fields)
+    omega (
+      arith,
+      response_length (forwarded_response size option head),
+      response_length head,
+      both_sums (map (with_length size) (passed [] fs)) (connection_field option),
+      passed_short size fs fits,
+      option_short option,
+      unframed_short (nat_lt head.status 200 || head.status == 204) (head.status == 304) head.fields,
+    )

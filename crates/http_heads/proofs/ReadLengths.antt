@@ -57,8 +57,18 @@ request_bytes h =
     let fourth = third ++ print_end h.line_end in
     let nine : length (32 ∷ version) ≡ 9 = refl in
     let whole : length (print_request h) ≡ length fourth + length (flat ++ print_end h.last) = length-append fourth (flat ++ print_end h.last) in
-    omega (arith, whole, length-append flat (print_end h.last), length-append third (print_end h.line_end), length-append second (32 ∷ version), nine,
-    length-append first (32 ∷ h.target), length-append (print_blank h.blank) h.method, end_some h.last, end_some h.line_end)
+    omega (
+      arith,
+      whole,
+      length-append flat (print_end h.last),
+      length-append third (print_end h.line_end),
+      length-append second (32 ∷ version),
+      nine,
+      length-append first (32 ∷ h.target),
+      length-append (print_blank h.blank) h.method,
+      end_some h.last,
+      end_some h.line_end,
+    )
 
 reason_some : (r : Option (List ℕ)) → length (reason_phrase r) ≤ length (print_reason r)
 reason_some None = omega arith
@@ -76,8 +86,19 @@ response_bytes h =
     let fourth = third ++ print_end h.line_end in
     let eight : length version ≡ 8 = refl in
     let whole : length (print_response h) ≡ length fourth + length (flat ++ print_end h.last) = length-append fourth (flat ++ print_end h.last) in
-    omega (arith, whole, length-append flat (print_end h.last), length-append third (print_end h.line_end), length-append second (print_reason h.reason), eight,
-    length-append first (32 ∷ h.digits), length-append (print_blank h.blank) version, end_some h.last, end_some h.line_end, reason_some h.reason)
+    omega (
+      arith,
+      whole,
+      length-append flat (print_end h.last),
+      length-append third (print_end h.line_end),
+      length-append second (print_reason h.reason),
+      eight,
+      length-append first (32 ∷ h.digits),
+      length-append (print_blank h.blank) version,
+      end_some h.last,
+      end_some h.line_end,
+      reason_some h.reason,
+    )
 
 request_read : (bytes : List ℕ) (head : RequestHead) → GivesRequest (Ok head) bytes
     → (length head.fields ≤ 100) × (length (written_request head) ≤ length bytes + 203)

@@ -124,12 +124,7 @@ fn put_next(
     Ok(told || tells)
 }
 
-fn put_fields(
-    alloc: Global,
-    out: &mut Vec<u8>,
-    fields: &[(Text, Text)],
-    by: Forwarding,
-) -> M<()>
+fn put_fields(alloc: Global, out: &mut Vec<u8>, fields: &[(Text, Text)], by: Forwarding) -> M<()>
     ensures { OnOk result (out.new.items
         ≡ out.old.items ++ lines_of (fields_out by.omitted by.size false fields.now)) }
 {

@@ -1,5 +1,5 @@
 -- What holds of HTTP commands, one after another.
-use Rattle.std.specs.Prelude.{◌≡◌, ℕ, ◌≤◌, true, List, [], ◌∷◌, ◌++◌, length, Option, Some, None}
+use Rattle.std.specs.Prelude.{◌≡◌, ℕ, ◌+◌, ◌≤◌, true, List, [], ◌∷◌, ◌++◌, length, Option, Some, None}
 use Rattle.std.specs.Prelude.{is_some, sum_by, ⊤}
 use Rattle.px_bytes.specs.Host.{Effect, Gives, Faults, Asks, Logged, Sent}
 use Rattle.px_bytes.specs.declared.addr.Side.TheVariants.{Client, Server}
@@ -43,6 +43,16 @@ abbrev pub AnswersAreBounded : Type 0
 AnswersAreBounded = (event : EventName) (h : Http) (calls : Calls)
     → (sent_to Client (made_behind event (begun h) calls) ≤ answer_limit)
     × (sent_to Server (made_behind event (begun h) calls) ≡ 0)
+
+-- What a command sends to the client is counted, and it sends nothing to a server.
+pub record Counts (h : Http) (step : Step) : Type 0 where
+  pub client : (left step).made ≡ h.made + sent_to Client (made step)
+  pub server : sent_to Server (made step) ≡ 0
+  pub within : h.made ≤ answer_limit → (left step).made ≤ answer_limit
+
+abbrev pub AnswersAreCounted : Type 0
+AnswersAreCounted = (event : EventName) (h : Http) (words : List (List ℕ))
+    → Counts h (http_step event h words)
 
 -- A payload of at most 1,048,576 bytes stays so.
 abbrev pub PayloadFits : Type 0

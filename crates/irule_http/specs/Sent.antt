@@ -2,7 +2,6 @@
 -- before the final one (RFC 9110, 15.2).
 use Rattle.std.specs.Prelude.{◌≡◌, ℕ, ◌+◌, ◌-◌, ◌==◌, ◌≤◌, Bool, true, false, not, ◌||◌, List, [], length, min}
 use Rattle.std.specs.Prelude.{Option, Some, None, Ok, if◌then◌else◌}
-use Rattle.std.specs.List.{list_all}
 use Rattle.px_bytes.specs.declared.addr.Side.{Side}
 use Rattle.px_bytes.specs.declared.addr.Side.TheVariants.{Client, Server}
 use Rattle.http_frames.specs.declared.state.Body.{Body}
@@ -38,13 +37,13 @@ changed_length (body.Length size) (Some gathered) payload =
     length_with size gathered (length payload)
 changed_length other gathered payload = None
 
+abbrev pub is_to_end : Body → Bool
+is_to_end body.ToEnd = true
+is_to_end other = false
+
 abbrev pub lasts_to_end : Option Response → Bool
 lasts_to_end None = false
 lasts_to_end (Some r) = is_to_end r.body
-  where
-    abbrev is_to_end : Body → Bool
-    is_to_end body.ToEnd = true
-    is_to_end other = false
 
 -- The client's connection closes behind the message at hand: its heads say so, or a rule does.
 abbrev pub closes_by_heads : Http → Bool

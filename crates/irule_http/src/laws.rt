@@ -1,6 +1,7 @@
 // What holds of HTTP commands.
 
-ghost use Rattle.irule_http.specs.Laws.{AnsweredOnce, AnswersAreBounded, AnswersReadBack};
+ghost use Rattle.irule_http.specs.Laws.{AnsweredOnce, AnswersAreBounded, AnswersAreCounted};
+ghost use Rattle.irule_http.specs.Laws.{AnswersReadBack};
 ghost use Rattle.irule_http.specs.Laws.{FaultsChangeNothing, HeadsFit, KeepsMessage, PayloadFits};
 ghost use Rattle.irule_http.specs.Sent.{InterimHeadsFit, SentHeadsFit, SentRequestIsRead};
 ghost use Rattle.irule_http.specs.Sent.{SentResponseIsRead};
@@ -9,6 +10,12 @@ ghost use Rattle.irule_http.specs.Sent.{SentResponseIsRead};
 /// to a server.
 pub fn answers_are_bounded()
     ensures { AnswersAreBounded }
+{}
+
+/// The law that each command counts what it sends to the client, within 1,114,112 bytes, and sends
+/// nothing to a server.
+pub fn answers_are_counted()
+    ensures { AnswersAreCounted }
 {}
 
 /// The law that a payload of at most 1,048,576 bytes stays so.
