@@ -289,15 +289,16 @@ queued_ends a l at e es h first client server connects to_client to_server numbe
     none : is_up e.link ≡ false → server_bytes es ≡ []
     none down = sends_none l.sent.number es first (λ one. not_first e.link down (sym h.number ∙ one))
 
--- acts of a body, and what stands behind them
+-- acts of a body, and what stands behind them; they are its items
 pub acts_gave : (g : Setup) (a : Around) (l at : TraceState) (c : ℕ) (old new : Conn) (xs : List Act) (tail : List Item) {called : List (List (List ℕ))} → Silent c a.took tail → Holds g a l old → DoesActs g l.sent.number xs old new called
-    → Unfolds g l (map (act_item l.sent.number) xs ++ tail) at → Stands g new.stage at new → l.finished ≡ has_finished new.stage → fits new.stage new.ends.link ≡ true → HostIn new.stage new.host.event → SameBeside l at → Gave g a l at c old new (logs_of c (effects_in xs)) called
+    → Unfolds g l (map (act_item l.sent.number) xs ++ tail) at → Stands g new.stage at new → l.finished ≡ has_finished new.stage → fits new.stage new.ends.link ≡ true → HostIn new.stage new.host.event → SameBeside l at
+    → (gave : Gave g a l at c old new (logs_of c (effects_in xs)) called) × (gave.more ≡ map (act_item l.sent.number) xs ++ tail)
 acts_gave g a l at c old new xs tail t h made u stands finished fit ev same =
     let number = l.sent.number in
     let items = map (act_item number) xs ++ tail in
     let sent : at.sent ≡ sent_from l.sent items = sent_counted g l at items u in
     let takes = acts_take c number a.took tail t xs in
-    record {
+    let gave : Gave g a l at c old new (logs_of c (effects_in xs)) called = record {
       more = items;
       passes = record { passed = none_needed g a.took l at items items h.no_cut takes u; met = acts_met c number a.took tail t xs l.sent; cut = λ reason is. absurd (let e = sym (takes.1 a.took) ∙ is in cc) };
       holds = record {
@@ -319,4 +320,4 @@ acts_gave g a l at c old new xs tail t h made u stands finished fit ev same =
       still = λ e. takes;
       uncut = λ e. takes.1;
       stays = λ e. same.finished ∙ e;
-    }
+    } in (gave, refl)

@@ -158,8 +158,8 @@ went_on s at n (said.Asks call) mid new did k = ap (λ x. x.ends) k.1
 went_on s at n said.Over mid new did k = next_ends s at (n + 1) mid new k.1
 went_on s at n (said.Fails kind line) mid new did k = k.1.ends
 
-steps_tell : (s : code_setup.Setup) (h : Handler) (c : ℕ) (at : At) (n : ℕ) (old new : Conn) (before after : List Note) (did : step_act.Act) (k : BodySteps s h c at n old new before after did) → Tells (step_notes k) old new
-steps_tell s h c at n old new before after did k =
+pub steps_tell : (s : code_setup.Setup) (h : Handler) (c : ℕ) (at : At) (n : ℕ) (old new : Conn) (before after : List Note) (did : step_act.Act) (ticks : ℕ) (k : BodySteps s h c at n old new before after did ticks) → Tells (step_notes k) old new
+steps_tell s h c at n old new before after did ticks k =
     let es = one_of k.stepped.host.made in
     ap (λ e. e.edges) (went_on s at n (said_of h at k.turned) k.mid new did k.goes_on ∙ k.does.ends ∙ ap (queue_both (client_bytes es) (server_bytes es)) k.ends)
     ∙ sym (logs_keep c es old.ends.edges)
@@ -171,8 +171,8 @@ pub record ActedWell (s : code_setup.Setup) (c : ℕ) (old new : Conn) (before a
   pub tells : Tells group old new
   pub along : (g : Setup) (a : Around) (l : TraceState) → Serves s g → Holds g a l old → is_asking old.stage ≡ false → ActGave g a l c old new group did
 
-pub acted_well : (s : code_setup.Setup) (c : ℕ) (old new : Conn) (before after : List Note) (did : step_act.Act) → Acted s c old new before after did → ActedWell s c old new before after did
-acted_well s c old new before after did k = by_stage old.stage refl k
+pub acted_well : (s : code_setup.Setup) (c : ℕ) (old new : Conn) (before after : List Note) (did : step_act.Act) (ticks : ℕ) → Acted s c old new before after did ticks → ActedWell s c old new before after did
+acted_well s c old new before after did ticks k = by_stage old.stage refl k
   where
     here : (st : Stage) → old.stage ≡ st → (g : Setup) (a : Around) (l : TraceState) → Holds g a l old → Stands g st l old
     here st is g a l h = subst (λ x. Stands g x l old) is h.stage
@@ -186,7 +186,7 @@ acted_well s c old new before after did k = by_stage old.stage refl k
     asleep : (st : Stage) → old.stage ≡ st → is_asking st ≡ true → new ≡ old → after ≡ before → ActedWell s c old new before after did
     asleep st is asks same quiet = record { group = []; notes = none quiet; tells = ap (λ x. x.ends.edges) same; along = λ g a l serves h awake. absurd (let e = sym awake ∙ ap is_asking is ∙ asks in cc) }
 
-    by_stage : (st : Stage) → old.stage ≡ st → ActedAt st s c old new before after did → ActedWell s c old new before after did
+    by_stage : (st : Stage) → old.stage ≡ st → ActedAt st s c old new before after did ticks → ActedWell s c old new before after did
     by_stage (stage.Gated at) is k = record {
       group = gate_group (has_room old) c (cut_of old);
       notes = gate_noted s c at old new before after did k;
@@ -195,7 +195,7 @@ acted_well s c old new before after did k = by_stage old.stage refl k
     }
     by_stage (stage.Running at n) is k = by_handler (body_at s at n) refl k
       where
-        by_handler : (v : Option Handler) → body_at s at n ≡ v → BodyMovedBy s v c at n old new before after did → ActedWell s c old new before after did
+        by_handler : (v : Option Handler) → body_at s at n ≡ v → BodyMovedBy s v c at n old new before after did ticks → ActedWell s c old new before after did
         by_handler None e m = record {
           group = [];
           notes = none m.2;
@@ -208,8 +208,8 @@ acted_well s c old new before after did k = by_stage old.stage refl k
         by_handler (Some b) e m = record {
           group = step_notes m;
           notes = m.does.noted;
-          tells = steps_tell s b c at n old new before after did m;
-          along = λ g a l serves h awake. body_gives s g serves a l c old new at n b before after did e m is h;
+          tells = steps_tell s b c at n old new before after did ticks m;
+          along = λ g a l serves h awake. (body_gives s g serves a l c old new at n b before after did ticks e m is h).act;
         }
     by_stage (stage.Asking at n) is (rests, same, quiet) = asleep (stage.Asking at n) is refl same quiet
     by_stage stage.Selecting is (rests, same, quiet) = asleep stage.Selecting is refl same quiet
@@ -318,14 +318,14 @@ said_quiet s at n (said.Asks call) mid new k = let e = k.0 in cc
 said_quiet s at n said.Over mid new k = let e = k.0 in cc
 said_quiet s at n (said.Fails kind line) mid new k = let e = k.0 in cc
 
-pub rests_quiet : (s : code_setup.Setup) (c : ℕ) (old new : Conn) (before after : List Note) → Acted s c old new before after done.Rests → after ≡ before
-rests_quiet s c old new before after k = by_stage old.stage k
+pub rests_quiet : (s : code_setup.Setup) (c : ℕ) (old new : Conn) (before after : List Note) (ticks : ℕ) → Acted s c old new before after done.Rests ticks → after ≡ before
+rests_quiet s c old new before after ticks k = by_stage old.stage k
   where
-    by_handler : (at : At) (n : ℕ) (v : Option Handler) → BodyMovedBy s v c at n old new before after done.Rests → after ≡ before
+    by_handler : (at : At) (n : ℕ) (v : Option Handler) → BodyMovedBy s v c at n old new before after done.Rests ticks → after ≡ before
     by_handler at n None m = m.2
     by_handler at n (Some b) m = absurd (said_quiet s at n (said_of b at m.turned) m.mid new m.goes_on)
 
-    by_stage : (st : Stage) → ActedAt st s c old new before after done.Rests → after ≡ before
+    by_stage : (st : Stage) → ActedAt st s c old new before after done.Rests ticks → after ≡ before
     by_stage (stage.Gated at) k = gate_quiet s c at old new before after k
     by_stage (stage.Running at n) k = by_handler at n (body_at s at n) k
     by_stage (stage.Asking at n) k = k.2
@@ -381,8 +381,8 @@ gate_same s c at old new before after k = by_test (has_room old) k
     by_test false k = rest_same s c old new before after (cut_of old) k
 
 -- so no call is opened
-pub rests_asking : (s : code_setup.Setup) (c : ℕ) (old new : Conn) (before after : List Note) → Acted s c old new before after done.Rests → is_asking new.stage ≡ is_asking old.stage
-rests_asking s c old new before after k = by_stage old.stage refl k
+pub rests_asking : (s : code_setup.Setup) (c : ℕ) (old new : Conn) (before after : List Note) (ticks : ℕ) → Acted s c old new before after done.Rests ticks → is_asking new.stage ≡ is_asking old.stage
+rests_asking s c old new before after ticks k = by_stage old.stage refl k
   where
     as_before : new ≡ old → is_asking new.stage ≡ is_asking old.stage
     as_before same = ap (λ x. is_asking x.stage) same
@@ -392,11 +392,11 @@ rests_asking s c old new before after k = by_stage old.stage refl k
     choose_goes (plan.Node addr) k = let e = k.0 in cc
     choose_goes (plan.Member pool only) k = let e = k.asks in cc
 
-    by_handler : (at : At) (n : ℕ) (v : Option Handler) → BodyMovedBy s v c at n old new before after done.Rests → new ≡ old
+    by_handler : (at : At) (n : ℕ) (v : Option Handler) → BodyMovedBy s v c at n old new before after done.Rests ticks → new ≡ old
     by_handler at n None m = m.1
     by_handler at n (Some b) m = absurd (said_quiet s at n (said_of b at m.turned) m.mid new m.goes_on)
 
-    by_stage : (st : Stage) → old.stage ≡ st → ActedAt st s c old new before after done.Rests → is_asking new.stage ≡ is_asking old.stage
+    by_stage : (st : Stage) → old.stage ≡ st → ActedAt st s c old new before after done.Rests ticks → is_asking new.stage ≡ is_asking old.stage
     by_stage (stage.Gated at) is k = as_before (gate_same s c at old new before after k)
     by_stage (stage.Running at n) is k = as_before (by_handler at n (body_at s at n) k)
     by_stage (stage.Asking at n) is k = as_before k.1
@@ -456,19 +456,19 @@ said_asks s at n (said.Asks other) mid new call k = ap (λ x. is_asking x.stage)
 said_asks s at n said.Over mid new call k = absurd (let e = k.0 in cc)
 said_asks s at n (said.Fails kind line) mid new call k = absurd (let e = k.0 in cc)
 
-pub asks_there : (s : code_setup.Setup) (c : ℕ) (old new : Conn) (before after : List Note) (call : List (List ℕ)) → Acted s c old new before after (done.Asks call) → is_asking new.stage ≡ true
-asks_there s c old new before after call k = by_stage old.stage k
+pub asks_there : (s : code_setup.Setup) (c : ℕ) (old new : Conn) (before after : List Note) (call : List (List ℕ)) (ticks : ℕ) → Acted s c old new before after (done.Asks call) ticks → is_asking new.stage ≡ true
+asks_there s c old new before after call ticks k = by_stage old.stage k
   where
     by_plan : (p : Plan) → ChoosesBy p s old new (done.Asks call) → is_asking new.stage ≡ true
     by_plan plan.Nothing k = absurd (let e = k.0 in cc)
     by_plan (plan.Node addr) k = absurd (let e = k.0 in cc)
     by_plan (plan.Member pool only) k = ap is_asking k.there
 
-    by_handler : (at : At) (n : ℕ) (v : Option Handler) → BodyMovedBy s v c at n old new before after (done.Asks call) → is_asking new.stage ≡ true
+    by_handler : (at : At) (n : ℕ) (v : Option Handler) → BodyMovedBy s v c at n old new before after (done.Asks call) ticks → is_asking new.stage ≡ true
     by_handler at n None m = absurd (let e = m.0 in cc)
     by_handler at n (Some b) m = said_asks s at n (said_of b at m.turned) m.mid new call m.goes_on
 
-    by_stage : (st : Stage) → ActedAt st s c old new before after (done.Asks call) → is_asking new.stage ≡ true
+    by_stage : (st : Stage) → ActedAt st s c old new before after (done.Asks call) ticks → is_asking new.stage ≡ true
     by_stage (stage.Gated at) k = absurd (gate_asks_not s c at old new before after call k)
     by_stage (stage.Running at n) k = by_handler at n (body_at s at n) k
     by_stage (stage.Asking at n) k = absurd (let e = k.0 in cc)

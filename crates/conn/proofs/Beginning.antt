@@ -1,5 +1,5 @@
 -- A connection that begins stands where its trace does.
-use Rattle.std.proofs.Common.{◌≡◌, refl, sym, ap, subst, ◌∙◌, ℕ, List, Bool, false}
+use Rattle.std.proofs.Common.{◌≡◌, refl, sym, ap, subst, ◌∙◌, ℕ, List, Bool, false, arith}
 use Rattle.px_bytes.specs.declared.addr.Addr.{Addr}
 use Rattle.event_order.specs.declared.event.EventName.TheVariants.{ClientAccepted}
 use Rattle.tcl_vars.specs.Scopes.{no_scopes}
@@ -9,17 +9,21 @@ use Rattle.conn_trace.specs.Gates.{no_bytes}
 use Rattle.conn_trace.specs.Host.{HostState, first_host}
 use Rattle.conn_trace.specs.Places.{at as put, enter}
 use Rattle.conn_trace.specs.Setup.{Setup}
+use Rattle.conn_trace.specs.Trace.{start}
 use Rattle.conn_trace.specs.State.{Absent, Draining, NoServer, TraceState, no_stream, no_answers}
 use Rattle.conn.specs.Calls.{Begins}
 use Rattle.conn.specs.Ends.{fresh_ends}
 use Rattle.conn.specs.Holds.{Holds, HoldsEnds, fresh}
 use Rattle.conn.specs.Hosts.{begun_host, fresh_host, seen_host}
-use Rattle.conn.specs.Stages.{entered_stage}
+use Rattle.conn.specs.Setups.{places_at}
+use Rattle.conn.specs.Stages.{entered_stage, has_body}
 use Rattle.conn.specs.declared.connection.Conn.{Conn}
 use Rattle.conn.specs.declared.ends.Link.TheVariants as link
 use Rattle.conn.specs.declared.events.At.TheVariants.{Accepted}
 use Rattle.conn.specs.declared.setup.Setup as code
 use Rattle.conn.proofs.Acting.{gone_holds}
+use Rattle.conn.proofs.Fitting.{entered_no_body}
+use Rattle.conn.proofs.Paying.{plain_paid}
 use Rattle.conn.proofs.Places.{enters_gone}
 
 -- where its trace begins before its first event
@@ -51,7 +55,8 @@ begins s from net new made there vars host ends g serves came =
     let is_from : net.from ≡ g.from = ap (λ n. n.from) made ∙ sym came in
     let k = enters_gone g (before_start g) s serves Accepted (fresh_host net) fresh_ends new new (record { there = there ∙ ap (entered_stage s Accepted link.Absent) (sym same); vars = refl; host = begins_so; ends = ends }) (sym vars) refl is_from refl refl (λ e. absurd (cc)) in
     let P : HostState → Type 0 = λ h. Holds g fresh (put (enter g ClientAccepted Absent h) (before_start g)) new in
-    subst P first (gone_holds g fresh false (enter g ClientAccepted Absent (seen_host (fresh_host net))) (before_start g) fresh_ends new k refl (first_ends g (seen_host (fresh_host net))) refl refl)
+    (subst P first (gone_holds g fresh false (enter g ClientAccepted Absent (seen_host (fresh_host net))) (before_start g) fresh_ends new k refl (first_ends g (seen_host (fresh_host net))) refl refl),
+    plain_paid g (start g no_stream no_answers) new 0 0 new.stage (ap has_body there ∙ entered_no_body Accepted link.Absent net (places_at s Accepted)) (omega arith))
   where
     begins_so : new.host ≡ begun_host Accepted false (fresh_host net)
     begins_so = host ∙ ap fresh_host made ∙ sym (ap (λ n. begun_host Accepted false (fresh_host n)) made)

@@ -1,6 +1,6 @@
 -- A body's step, and what it led to, are the next items of each state that the connection may stand
 -- for.
-use Rattle.std.proofs.Common.{◌≡◌, refl, sym, ap, subst, ◌∙◌, ℕ, ◌+◌, List, [], ◌∷◌, ◌++◌, None, Some, Option, true, length, map, drop, append_assoc, append-nil, arith, length-append}
+use Rattle.std.proofs.Common.{◌≡◌, ◌≤◌, inl, inr, refl, sym, ap, subst, ◌∙◌, ℕ, ◌+◌, ◌*◌, List, [], ◌∷◌, ◌++◌, None, Some, Option, true, length, map, drop, append_assoc, append-nil, arith, length-append}
 use Rattle.px_bytes.specs.declared.fault.Reply.{Reply}
 use Rattle.px_bytes.specs.declared.fault.TclFault.{TclFault}
 use Rattle.px_bytes.specs.declared.addr.Side.TheVariants.{Server}
@@ -16,6 +16,7 @@ use Rattle.rule_model.specs.Setting as given
 use Rattle.rule_model.specs.declared.code.Code.{Code}
 use Rattle.event_order.specs.declared.event.EventName.{EventName}
 use Rattle.conn_trace.specs.Bodies.{run_body, act_item}
+use Rattle.conn_trace.specs.Costs.{paid_by}
 use Rattle.conn_trace.specs.Gates.{Counts, sent_from}
 use Rattle.conn_trace.specs.Host.{HostState, body_setting, commands}
 use Rattle.conn_trace.specs.Item.{Ran}
@@ -24,6 +25,7 @@ use Rattle.conn_trace.specs.Setup.{Handler, Setup, uncaught_line}
 use Rattle.conn_trace.specs.State.{Failing, InEvent, TraceState, link_of, with_replies}
 use Rattle.conn_trace.specs.Trace.{next_item, Unfolds}
 use Rattle.conn_trace.proofs.BodyItems.{running, ended, body_waits}
+use Rattle.conn_trace.proofs.Costs.{ended_pays}
 use Rattle.conn_trace.proofs.Unfolding.{unfolds_on, unfolds_one}
 use Rattle.core_events.specs.declared.note.Note.{Note}
 use Rattle.frames.specs.Frames.{comes_to, path_of}
@@ -36,9 +38,10 @@ use Rattle.conn.specs.Steps.{BodySteps, GoesOn, ended_of, one_of, said_of}
 use Rattle.conn.specs.Bodies.{SaidIs}
 use Rattle.conn.specs.Events.{event_of, is_closed}
 use Rattle.conn.specs.Holds.{Around, BodyGoesOn, RunsFirst, Stands, Holds}
+use Rattle.conn.specs.Paid.{BodyPaid, FirstPaid, Paid, PaidAt}
 use Rattle.conn.specs.Hosts.{KeepsCollects, Made, cleared_host, logs_of, seen_host}
 use Rattle.conn.specs.Setups.{body_at, Serves}
-use Rattle.conn.specs.Stages.{InEvent as HostIn, at_fits, fits, has_finished, is_asking}
+use Rattle.conn.specs.Stages.{InEvent as HostIn, at_fits, fits, has_finished, is_asking, is_running}
 use Rattle.conn.specs.declared.connection.Conn.{Conn}
 use Rattle.conn.specs.declared.events.At.{At}
 use Rattle.conn.specs.declared.events.At.TheVariants as event
@@ -48,14 +51,16 @@ use Rattle.conn.specs.declared.stage.Stage.{Stage}
 use Rattle.conn.specs.declared.stage.Stage.TheVariants as stage
 use Rattle.conn.specs.declared.turn.Act as step_act
 use Rattle.conn.specs.declared.turn.Act.TheVariants as done
-use Rattle.conn.proofs.Acting.{ActGave, DoesActs, SameBeside, acts_gave}
+use Rattle.conn.proofs.Acting.{DoesActs, SameBeside, acts_gave}
 use Rattle.conn.proofs.Doing.{acts_done, calls_too, made_done, said_same, went_same}
 use Rattle.conn.proofs.Giving.{Gave}
 use Rattle.conn.proofs.ActItems.{no_tail, end_tail, called_is_none}
 use Rattle.conn.proofs.Asking.{asking_waits}
 use Rattle.conn.proofs.BodyActs.{acts_come, end_comes}
 use Rattle.conn.proofs.FramesKeep.{acts_stay}
+use Rattle.conn.proofs.Leading.{ended_starts}
 use Rattle.conn.proofs.Passing.{up_is}
+use Rattle.conn.proofs.Paying.{ActPaid, begins_paid, end_paid, paid_within, step_paid}
 use Rattle.conn.proofs.Places.{GoneTo, first_left, link_is, next_gone, same_told}
 
 -- bytes go to a server only in the event of the first connection
@@ -124,7 +129,14 @@ module _ (s : code_setup.Setup) (g : Setup) (serves : Serves s g) (a : Around) (
   same_beside : (m : ℕ) (xs : List Act) → SameBeside l (running e b bs m (sent_by xs) l)
   same_beside m xs = record { finished = refl; client = refl; server = refl; connects = refl; choices = refl; cut = refl }
 
-  goes_on : said ≡ turn.More → mid.body.runs ≡ true → drop number (g.handlers e) ≡ b ∷ bs → mid.stage ≡ stage.Running at number → ActGave g a l c old mid group done.Goes
+  -- what the body counted is paid where it runs
+  paid_here : drop number (g.handlers e) ≡ b ∷ bs → (t p : ℕ) → Paid g l old t p → BodyPaid g b l old t p
+  paid_here left t p k' = subst (λ hs. FirstPaid g hs l old t p) left (subst (λ st. PaidAt st g l old t p) is_here k')
+
+  abbrev Same : Turn → Type 0
+  Same t = (more : List Reply) (cost : ℕ) (before : List Act) → comes_to S b.body old.body.machine.at old.vars (seen_host old.host) more cost before ≡ comes_by t S b.body mid.body.machine.at mid.vars (seen_host mid.host) more (cost + w.spent) (before ++ w.acts)
+
+  goes_on : said ≡ turn.More → mid.body.runs ≡ true → drop number (g.handlers e) ≡ b ∷ bs → mid.stage ≡ stage.Running at number → ActPaid g a l c old mid group done.Goes ticks
   goes_on more runs left there =
       let o = comes_to S b.body mid.body.machine.at mid.vars (seen_host mid.host) [] (k.cost + w.spent) acts in
       let Q : Turn → Type 0 = λ t. comes_by t S b.body mid.body.machine.at mid.vars (seen_host mid.host) [] (k.cost + w.spent) acts ≡ o in
@@ -136,16 +148,20 @@ module _ (s : code_setup.Setup) (g : Setup) (serves : Serves s g) (a : Around) (
       let now : BodyGoesOn g e b bs 0 at' mid = record { acts = acts; cost = k.cost + w.spent; phase = refl; kept = λ side free. keeps.kept side free ∙ k.kept side free; same = subst T more same } in
       let P : List Handler → Type 0 = λ hs. RunsFirst g e hs 0 at' mid in
       let R : Stage → Type 0 = λ st. Stands g st at' mid in
+      let gave = (acts_gave g a l at' c old mid w.acts [] (no_tail c a.took) holds done_acts (with_tail w.acts at' u) (subst R (sym there) (subst P (sym left) now, runs)) (fin ∙ ap has_finished (sym there)) (ap (λ x. fits x mid.ends.link) there ∙ fit) (subst (λ x. HostIn x mid.host.event) (sym there) ev) (same_beside (length acts + 0) w.acts)).0 in
       record {
-        at = at';
-        gave = acts_gave g a l at' c old mid w.acts [] (no_tail c a.took) holds done_acts (with_tail w.acts at' u) (subst R (sym there) (subst P (sym left) now, runs)) (fin ∙ ap has_finished (sym there)) (ap (λ x. fits x mid.ends.link) there ∙ fit) (subst (λ x. HostIn x mid.host.event) (sym there) ev) (same_beside (length acts + 0) w.acts);
-        stops = ap is_asking there;
+        act = record { at = at'; gave = gave; stops = ap is_asking there };
+        pays = λ t p k'.
+            (let one = step_paid g b l old mid said ticks made w t p (paid_here left t p k') at' refl refl refl (subst Same more w.same) in
+            let first = subst (λ hs. FirstPaid g hs at' mid (t + ticks) p) (sym left) one in
+            paid_within g at' mid (t + ticks) (t + ticks) p (p + paid_by gave.more) (omega arith) (omega arith) (subst (λ st. PaidAt st g at' mid (t + ticks) p) (sym there) first));
+        busy = λ goes some. inl (ap is_running there);
       }
 
   abbrev asked : Conn
   asked = record mid { stage = stage.Asking at number }
 
-  asks : (call : List (List ℕ)) → said ≡ turn.Asks call → mid.body.asks ≡ true → drop number (g.handlers e) ≡ b ∷ bs → ActGave g a l c old asked group (done.Asks call)
+  asks : (call : List (List ℕ)) → said ≡ turn.Asks call → mid.body.asks ≡ true → drop number (g.handlers e) ≡ b ∷ bs → ActPaid g a l c old asked group (done.Asks call) ticks
   asks call is_ask waits left =
       let m = mid.body.machine.at in
       let path = path_of m.frames.items in
@@ -162,11 +178,18 @@ module _ (s : code_setup.Setup) (g : Setup) (serves : Serves s g) (a : Around) (
       let now : BodyGoesOn g e b bs 1 at' asked = record { acts = acts; cost = k.cost + w.spent; phase = refl; kept = λ side free. keeps.kept side free ∙ k.kept side free; same = subst T is_ask same } in
       let R : List Handler → Type 0 = λ hs. RunsFirst g e hs 1 at' asked in
       let G : List Effect → Type 0 = λ es. Gave g a l at' c old asked (logs_of c es) (call ∷ []) in
+      let gave = subst G (called_is_none w.acts path call) (acts_gave g a l at' c old asked xs [] (no_tail c a.took) holds (calls_too g l.sent.number w.acts path call old asked (record { calls = done_acts.calls; first = done_acts.first; ends = done_acts.ends; told = done_acts.told })) (with_tail xs at' u) (subst R (sym left) now, waits) fin fit ev (same_beside (length acts + 1) xs)).0 in
       record {
-        at = at';
-        gave = subst G (called_is_none w.acts path call) (acts_gave g a l at' c old asked xs [] (no_tail c a.took) holds (calls_too g l.sent.number w.acts path call old asked (record { calls = done_acts.calls; first = done_acts.first; ends = done_acts.ends; told = done_acts.told })) (with_tail xs at' u) (subst R (sym left) now, waits) fin fit ev (same_beside (length acts + 1) xs));
-        stops = ap (λ n. next_item g (running e b bs n (sent_by xs) l)) (sym (length-append acts calls))
-            ∙ body_waits g e b bs l path call (state mid.vars (seen_host mid.host) [] m.budget (k.cost + w.spent) (acts ++ calls)) (sent_by xs) holds.no_cut is;
+        act = record {
+          at = at';
+          gave = gave;
+          stops = ap (λ n. next_item g (running e b bs n (sent_by xs) l)) (sym (length-append acts calls))
+              ∙ body_waits g e b bs l path call (state mid.vars (seen_host mid.host) [] m.budget (k.cost + w.spent) (acts ++ calls)) (sent_by xs) holds.no_cut is;
+        };
+        pays = λ t p k'.
+            (let one = step_paid g b l old asked said ticks made w t p (paid_here left t p k') at' refl refl refl (subst Same is_ask w.same) in
+            paid_within g at' asked (t + ticks) (t + ticks) p (p + paid_by gave.more) (omega arith) (omega arith) (subst (λ hs. FirstPaid g hs at' asked (t + ticks) p) (sym left) one));
+        busy = λ goes some. absurd (let x = goes in cc);
       }
 
   -- where a body that ended leaves it
@@ -194,8 +217,8 @@ module _ (s : code_setup.Setup) (g : Setup) (serves : Serves s g) (a : Around) (
         goes,
       )
 
-  over : (code : Code) → said ≡ turn.Done code → (new : Conn) (did : step_act.Act) → GoesOn s at number (ended_of h at (uncaught_of code)) mid new did → drop (number + 1) (g.handlers e) ≡ bs → ActGave g a l c old new group did
-  over code is_done new did n behind =
+  over : (code : Code) → said ≡ turn.Done code → (new : Conn) (did : step_act.Act) → GoesOn s at number (ended_of h at (uncaught_of code)) mid new did → drop number (g.handlers e) ≡ b ∷ bs → drop (number + 1) (g.handlers e) ≡ bs → ActPaid g a l c old new group did ticks
+  over code is_done new did n left behind =
       let m = mid.body.machine.at in
       let st = state mid.vars (seen_host mid.host) [] m.budget (k.cost + w.spent) acts in
       let o : Outcome HostState = Ends code st in
@@ -210,12 +233,18 @@ module _ (s : code_setup.Setup) (g : Setup) (serves : Serves s g) (a : Around) (
       let same_link : link_by mid.ends.link ≡ link_of l.server = ap (λ x. link_by x.link) done_acts.ends ∙ sym (link_is a l old.ends holds.ends) in
       let stands : Stands g new.stage at2 new = subst (λ k'. Stands g new.stage (put (after_body g e l.finished k' b bs (uncaught_of code) (seen_host mid.host)) L) new) same_link gone.0.stands in
       let made : DoesActs g l.sent.number w.acts old new [] = record { calls = done_acts.calls; first = done_acts.first; ends = gone.0.ends ∙ done_acts.ends; told = gone.0.told } in
-      subst (λ d. ActGave g a l c old new group d) (sym gone.1) (record {
-        at = at2;
-        gave = acts_gave g a l at2 c old new w.acts (Ran e st.cost ∷ []) (end_tail c a.took e st.cost) holds made
-            (unfolds_on g l at1 at2 (map (act_item l.sent.number) w.acts) (Ran e st.cost ∷ []) u (unfolds_one g at1 at2 (Ran e st.cost) last))
-            stands gone.0.finished gone.0.fits gone.0.event (record { finished = refl; client = refl; server = refl; connects = refl; choices = refl; cut = refl });
-        stops = gone.0.awake;
+      let given = acts_gave g a l at2 c old new w.acts (Ran e st.cost ∷ []) (end_tail c a.took e st.cost) holds made
+      (unfolds_on g l at1 at2 (map (act_item l.sent.number) w.acts) (Ran e st.cost ∷ []) u (unfolds_one g at1 at2 (Ran e st.cost) last))
+      stands gone.0.finished gone.0.fits gone.0.event (record { finished = refl; client = refl; server = refl; connects = refl; choices = refl; cut = refl }) in
+      let items = map (act_item l.sent.number) w.acts in
+      let worth : paid_by given.0.more ≡ paid_by items + (3 * st.cost + 2) = ap paid_by given.1 ∙ ended_pays e items st.cost in
+      let some_items : 1 ≤ length given.0.more = (let m = ap length given.1 ∙ length-append items (Ran e st.cost ∷ []) in omega (arith, m)) in
+      subst (λ d. ActPaid g a l c old new group d ticks) (sym gone.1) (record {
+        act = record { at = at2; gave = given.0; stops = gone.0.awake };
+        pays = λ t p k'.
+            (let ended_all = end_paid g b l old mid said ticks made w t p (paid_here left t p k') code st (subst Same is_done w.same) is in
+            begins_paid g a at2 s new (t + ticks) (p + paid_by given.0.more) given.0.holds (ended_starts s h at number mid new (uncaught_of code) did n) (omega (arith, ended_all, worth)));
+        busy = λ goes some. inr some_items;
       })
 
 -- what the step said decides
@@ -223,24 +252,24 @@ module _ (s : code_setup.Setup) (g : Setup) (serves : Serves s g) (a : Around) (
     (holds : Holds g a l old) (k : BodyGoesOn g (event_of at) h bs 0 l old) (left : drop number (g.handlers (event_of at)) ≡ h ∷ bs) (behind : drop (number + 1) (g.handlers (event_of at)) ≡ bs)
     (is_here : old.stage ≡ stage.Running at number) (there : mid.stage ≡ stage.Running at number) (ticks : ℕ) (made : List Effect → Type 0) where
   said_gives : (said : Turn) (w : Went (body_setting g h.procedures) h.body (place old.body.machine.at old.vars (seen_host old.host)) (place mid.body.machine.at mid.vars (seen_host mid.host)) said made ticks)
-      → DoesActs g l.sent.number w.acts old mid [] → event_of mid.host.event ≡ event_of old.host.event → KeepsCollects (event_of at) old.host.net mid.host.net → SaidIs said mid.body → (did : step_act.Act) → GoesOn s at number (said_of h at said) mid new did → ActGave g a l c old new (logs_of c (effects_in w.acts)) did
+      → DoesActs g l.sent.number w.acts old mid [] → event_of mid.host.event ≡ event_of old.host.event → KeepsCollects (event_of at) old.host.net mid.host.net → SaidIs said mid.body → (did : step_act.Act) → GoesOn s at number (said_of h at said) mid new did → ActPaid g a l c old new (logs_of c (effects_in w.acts)) did ticks
   said_gives turn.More w d ev keeps is did t =
-      let P : Conn → Type 0 = λ x. ActGave g a l c old x (logs_of c (effects_in w.acts)) did in
-      let Q : step_act.Act → Type 0 = λ x. ActGave g a l c old mid (logs_of c (effects_in w.acts)) x in
+      let P : Conn → Type 0 = λ x. ActPaid g a l c old x (logs_of c (effects_in w.acts)) did ticks in
+      let Q : step_act.Act → Type 0 = λ x. ActPaid g a l c old mid (logs_of c (effects_in w.acts)) x ticks in
       subst P (sym t.1) (subst Q (sym t.0) (goes_on s g serves a l c old mid at number h bs holds k turn.More ticks made w is_here d ev keeps refl is left there))
   said_gives (turn.Asks call) w d ev keeps is did t =
-      let P : Conn → Type 0 = λ x. ActGave g a l c old x (logs_of c (effects_in w.acts)) did in
-      let Q : step_act.Act → Type 0 = λ x. ActGave g a l c old (record mid { stage = stage.Asking at number }) (logs_of c (effects_in w.acts)) x in
+      let P : Conn → Type 0 = λ x. ActPaid g a l c old x (logs_of c (effects_in w.acts)) did ticks in
+      let Q : step_act.Act → Type 0 = λ x. ActPaid g a l c old (record mid { stage = stage.Asking at number }) (logs_of c (effects_in w.acts)) x ticks in
       subst P (sym t.1) (subst Q (sym t.0) (asks s g serves a l c old mid at number h bs holds k (turn.Asks call) ticks made w is_here d ev keeps call refl is left))
-  said_gives (turn.Done code) w d ev keeps is did t = over s g serves a l c old mid at number h bs holds k (turn.Done code) ticks made w is_here d ev keeps code refl new did t behind
+  said_gives (turn.Done code) w d ev keeps is did t = over s g serves a l c old mid at number h bs holds k (turn.Done code) ticks made w is_here d ev keeps code refl new did t left behind
 
 -- the notes of a body's step
-abbrev pub step_notes : {s : code_setup.Setup} {h : Handler} {c : ℕ} {at : At} {number : ℕ} {old new : Conn} {before after : List Note} {did : step_act.Act} → BodySteps s h c at number old new before after did → List Note
+abbrev pub step_notes : {s : code_setup.Setup} {h : Handler} {c : ℕ} {at : At} {number : ℕ} {old new : Conn} {before after : List Note} {did : step_act.Act} {ticks : ℕ} → BodySteps s h c at number old new before after did ticks → List Note
 step_notes {c = c} k = logs_of c (one_of k.stepped.host.made)
 
-pub body_gives : (s : code_setup.Setup) (g : Setup) → Serves s g → (a : Around) (l : TraceState) (c : ℕ) (old new : Conn) (at : At) (number : ℕ) (h : Handler) (before after : List Note) (did : step_act.Act) → body_at s at number ≡ Some h
-    → (k : BodySteps s h c at number old new before after did) → old.stage ≡ stage.Running at number → Holds g a l old → ActGave g a l c old new (step_notes k) did
-body_gives s g serves a l c old new at number h before after did got k is holds =
+pub body_gives : (s : code_setup.Setup) (g : Setup) → Serves s g → (a : Around) (l : TraceState) (c : ℕ) (old new : Conn) (at : At) (number : ℕ) (h : Handler) (before after : List Note) (did : step_act.Act) (ticks : ℕ) → body_at s at number ≡ Some h
+    → (k : BodySteps s h c at number old new before after did ticks) → old.stage ≡ stage.Running at number → Holds g a l old → ActPaid g a l c old new (step_notes k) did ticks
+body_gives s g serves a l c old new at number h before after did ticks got k is holds =
     let e = event_of at in
     let bs = drop (number + 1) (g.handlers e) in
     let left : drop number (g.handlers e) ≡ h ∷ bs = first_left (g.handlers e) number h (serves.each e number ∙ got) in
@@ -250,16 +279,16 @@ body_gives s g serves a l c old new at number h before after did got k is holds 
     let R : List Handler → Type 0 = λ hs. RunsFirst g e hs 0 l old in
     let goes : BodyGoesOn g e h bs 0 l old = subst R left here.0 in
     let made : List Effect → Type 0 = λ es. Made (cleared_host old.host) es k.stepped.host in
-    let W : given.Setting HostState → Conn → Type 0 = λ x y. Went x h.body (place old.body.machine.at old.vars (seen_host old.host)) (place y.body.machine.at y.vars (seen_host y.host)) k.turned made k.ticks in
+    let W : given.Setting HostState → Conn → Type 0 = λ x y. Went x h.body (place old.body.machine.at old.vars (seen_host old.host)) (place y.body.machine.at y.vars (seen_host y.host)) k.turned made ticks in
     let S : Level → Groups → given.Setting HostState = λ lv gs. setting (Some lv) (commands gs) h.procedures in
     let same : S s.statics.now.statics s.groups.now ≡ body_setting g h.procedures = ap (λ lv. S lv s.groups.now) (sym serves.statics) ∙ ap (λ gs. S g.statics gs) (sym serves.groups) in
     let w0 : W (body_setting g h.procedures) k.stepped = subst (λ x. W x k.stepped) same (k.went here.1) in
     let moved = made_done c k.stepped k.mid before after k.does in
-    let w : W (body_setting g h.procedures) k.mid = went_same (body_setting g h.procedures) h.body (place old.body.machine.at old.vars (seen_host old.host)) k.stepped k.mid k.turned made k.ticks moved w0 in
+    let w : W (body_setting g h.procedures) k.mid = went_same (body_setting g h.procedures) h.body (place old.body.machine.at old.vars (seen_host old.host)) k.stepped k.mid k.turned made ticks moved w0 in
     let to_server : side_of (event_of old.host.event) ≡ Server → l.sent.number ≡ 1 =
     λ to. holds.ends.number ∙ first_by at old.ends.link (sym (ap (λ x. fits x old.ends.link) is) ∙ holds.fits) (sym (ap side_of (subst (λ x. HostIn x old.host.event) is holds.event)) ∙ to) in
     let relays_to : old.host.net.relays ≡ true → l.sent.number ≡ 1 = λ r. holds.ends.number ∙ ap number_by (up_is old.ends.link (holds.told.relays r)) in
     let same_at : event_of old.host.event ≡ event_of at = subst (λ x. HostIn x old.host.event) is holds.event in
     let acted = acts_done g l.sent.number (body_setting g h.procedures) refl c old k.stepped k.mid before after k.does k.ends holds.told to_server relays_to w.acts w.called w.once w.by in
-    let N : List Effect → Type 0 = λ es. ActGave g a l c old new (logs_of c es) did in
-    subst N acted.taken (said_gives s g serves a l c old k.mid new at number h bs holds goes left behind is (k.does.there ∙ k.there ∙ is) k.ticks made k.turned w acted.acts acted.event (subst (λ x. KeepsCollects x old.host.net k.mid.host.net) same_at acted.keeps) (said_same k.turned k.stepped.body k.mid.body (sym k.does.body) (k.said_is here.1)) did k.goes_on)
+    let N : List Effect → Type 0 = λ es. ActPaid g a l c old new (logs_of c es) did ticks in
+    subst N acted.taken (said_gives s g serves a l c old k.mid new at number h bs holds goes left behind is (k.does.there ∙ k.there ∙ is) ticks made k.turned w acted.acts acted.event (subst (λ x. KeepsCollects x old.host.net k.mid.host.net) same_at acted.keeps) (said_same k.turned k.stepped.body k.mid.body (sym k.does.body) (k.said_is here.1)) did k.goes_on)

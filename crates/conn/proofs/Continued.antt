@@ -55,9 +55,9 @@ takes_on g a l given at side n old new takes k = record {
 }
 
 -- what a Run gave stands behind what was given before
-runs_on : (g : Setup) (a : Around) (l : TraceState) (given : List Item) (at : TraceState) (c : ℕ) (old new : Conn) (group : List Note) (t : ConnTurn) → l.answers.cut ≡ None
-    → (r : GoesOnWith g a at c old new group t) → Continues g a l given at old → Continues g a (longer (taken_by_items a.took r.more) l) (given ++ r.more) r.at new
-runs_on g a l given at c old new group t none r k =
+runs_on : (g : Setup) (a : Around) (l : TraceState) (given : List Item) (at : TraceState) (c : ℕ) (old new : Conn) (group : List Note) (t : ConnTurn) (steps : ℕ) → l.answers.cut ≡ None
+    → (r : GoesOnWith g a at c old new group t steps) → Continues g a l given at old → Continues g a (longer (taken_by_items a.took r.more) l) (given ++ r.more) r.at new
+runs_on g a l given at c old new group t steps none r k =
     let p = r.items.passes in
     let f = taken_by_items a.took r.more in
     let M : Counts → Type 0 = λ s. Met s a.took r.more in
@@ -71,6 +71,6 @@ pub calls : CallsContinue
 calls = record {
   begins = λ g c h. record { passed = refl; met = tt; holds = h };
   takes = takes_on;
-  replies = λ g a l given at reply old new hears k. record { passed = replies_keep g l at (reply ∷ []) given k.passed; met = k.met; holds = hears g a at k.holds };
+  replies = λ g a l given at reply old new hears k. record { passed = replies_keep g l at (reply ∷ []) given k.passed; met = k.met; holds = (hears g a at k.holds).0 };
   runs = runs_on;
 }

@@ -1,5 +1,5 @@
 -- Where a connection goes behind an event, or where one is entered: whether it has finished, and whether there may be a server connection.
-use Rattle.std.proofs.Common.{◌≡◌, refl, sym, subst, ℕ, List, [], ◌∷◌, Bool, true, false, true≢false, Option, Some, None}
+use Rattle.std.proofs.Common.{◌≡◌, refl, sym, ap, subst, ℕ, List, [], ◌∷◌, Bool, true, false, true≢false, Option, Some, None}
 use Rattle.std.specs.Prelude.{if◌then◌else◌}
 use Rattle.px_bytes.specs.declared.addr.Side.{Side}
 use Rattle.px_bytes.specs.declared.addr.Side.TheVariants.{Client, Server}
@@ -19,7 +19,7 @@ use Rattle.conn.specs.declared.stage.Stage.{Stage}
 use Rattle.conn.specs.declared.stage.Stage.TheVariants as stage
 use Rattle.conn.specs.Ends.{is_up}
 use Rattle.conn.specs.Events.{is_closed}
-use Rattle.conn.specs.Stages.{InEvent as HostIn, accepted_stage, after_stage, at_fits, connected_stage, connecting_stage, data_stage, entered_by, fits, goes_on_stage, has_finished, is_asking, unless_ended}
+use Rattle.conn.specs.Stages.{InEvent as HostIn, accepted_stage, after_stage, at_fits, connected_stage, connecting_stage, data_stage, entered_by, fits, goes_on_stage, has_body, has_finished, is_asking, unless_ended}
 
 -- what holds of a stage and of every stage that finishes holds however bodies end the connection
 ended_keeps : (P : Stage → Type 0) → P (stage.Finishing finish.Rejected) → P (stage.Finishing finish.Closed) → (o : Option Ending) (st : Stage) → P st → P (unless_ended o st)
@@ -97,6 +97,17 @@ after_plain at k net = by_close (is_closed at) refl
     by_close true is = subst (λ b. Plain true (if b then stage.Draining else unless_ended net.wishes.ends (goes_on_stage at k net))) (sym is) (record { finished = refl; awake = refl; event = λ e. tt })
     by_close false is = goes_keeps (Plain false) everywhere_plain at k net is
 
+-- nor does a body run there
+everywhere_no_body : Everywhere (λ st. has_body st ≡ false)
+everywhere_no_body = record { choosing = refl; collecting = refl; releasing = refl; relaying = λ first. refl; connecting = λ s. refl; unselected = refl; rejected = refl; closed = refl }
+
+pub after_no_body : (at : At) (k : Link) (net : NetState) → has_body (after_stage at k net) ≡ false
+after_no_body at k net = by_close (is_closed at) refl
+  where
+    by_close : (b : Bool) → is_closed at ≡ b → has_body (after_stage at k net) ≡ false
+    by_close true is = ap (λ b. has_body (if b then stage.Draining else unless_ended net.wishes.ends (goes_on_stage at k net))) is
+    by_close false is = goes_keeps (λ st. has_body st ≡ false) everywhere_no_body at k net is
+
 -- behind CLIENT_DATA it relays where there is a server
 data_fits : (k : Link) (released : Bool) → at_fits at.ClientData k ≡ true → fits (data_stage (is_up k) released) k ≡ true
 data_fits link.Absent true fit = refl
@@ -120,3 +131,8 @@ after_fits at.Closed net k fit = refl
 pub entered_awake : (at : At) (k : Link) (net : NetState) (ps : List Place) → is_asking (entered_by at k net ps) ≡ false
 entered_awake at k net [] = (after_plain at k net).awake
 entered_awake at k net (p ∷ ps) = refl
+
+-- nor a body
+pub entered_no_body : (at : At) (k : Link) (net : NetState) (ps : List Place) → has_body (entered_by at k net ps) ≡ false
+entered_no_body at k net [] = after_no_body at k net
+entered_no_body at k net (p ∷ ps) = refl

@@ -31,7 +31,7 @@ pub record Gave (g : Setup) (a : Around) (l at : TraceState) (c : ℕ) (old new 
   pub uncut : at.finished ≡ false → TakesNoCut more
   pub stays : l.finished ≡ true → at.finished ≡ true
 
-pub gave_none : (g : Setup) (a : Around) (l : TraceState) (c : ℕ) (old : Conn) → Holds g a l old → Gave g a l l c old old [] []
+abbrev pub gave_none : (g : Setup) (a : Around) (l : TraceState) (c : ℕ) (old : Conn) → Holds g a l old → Gave g a l l c old old [] []
 gave_none g a l c old h = record {
   more = [];
   passes = passes_none g a.took l h.no_cut;
@@ -55,7 +55,7 @@ other_way : (x y : Bool) → (x ≡ true → y ≡ true) → y ≡ false → x �
 other_way true y f e = absurd (let t = sym (f refl) ∙ e in cc)
 other_way false y f e = refl
 
-pub gave_more : (g : Setup) (a : Around) (l m at : TraceState) {called : List (List (List ℕ))} (c : ℕ) (old mid new : Conn) (first second : List Note) → l.answers.cut ≡ None → Gave g a l m c old mid first [] → Gave g a m at c mid new second called → Gave g a l at c old new (first ++ second) called
+abbrev pub gave_more : (g : Setup) (a : Around) (l m at : TraceState) {called : List (List (List ℕ))} (c : ℕ) (old mid new : Conn) (first second : List Note) → l.answers.cut ≡ None → Gave g a l m c old mid first [] → Gave g a m at c mid new second called → Gave g a l at c old new (first ++ second) called
 gave_more g a l m at c old mid new first second none p q = record {
   more = p.more ++ q.more;
   passes = passes_join g a.took l m at p.more q.more none p.holds.no_cut p.uncut q.still p.passes q.passes;

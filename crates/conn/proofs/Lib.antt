@@ -9,6 +9,9 @@ pub mod Settling
 pub mod Places
 pub mod ActItems
 pub mod Acting
+pub mod Leading
+pub mod Paying
+pub mod Affording
 pub mod Quick
 pub mod Calling
 pub mod Doing
@@ -21,6 +24,7 @@ pub mod Taking
 pub mod Beginning
 pub mod Replying
 pub mod Advancing
+pub mod Spending
 pub mod Running
 pub mod Continuing
 pub mod Wanting
@@ -40,3 +44,4 @@ pub mod Releasing
 pub mod Passing
 pub mod Changing
 mod Outside
+pub mod SliceRows

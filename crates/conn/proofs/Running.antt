@@ -1,14 +1,17 @@
 -- A Run, action by action.
-use Rattle.std.proofs.Common.{◌≡◌, ◌≤◌, inl, inr, refl, sym, ap, subst, ◌∙◌, ℕ, ◌+◌, List, [], ◌∷◌, ◌++◌, append-nil, append_assoc, length, length-append, Bool, true, false, true≢false, ◌&&◌, if◌then◌else◌, arith}
+use Rattle.std.proofs.Common.{◌≡◌, ◌≤◌, ◌<◌, ◌-◌, ◌*◌, ◌⊎◌, inl, inr, refl, sym, ap, subst, ◌∙◌, ℕ, zero, suc, ◌+◌, nat_lt, List, [], ◌∷◌, ◌++◌, append-nil, append_assoc, length, length-append, Bool, true, false, true≢false, ◌&&◌, if◌then◌else◌, arith}
 use Rattle.std.proofs.lemmas.Bool.{and_parts}
+use Rattle.std.proofs.lemmas.Bool.Decides.{nat_tests}
 use Rattle.px_bytes.specs.declared.addr.Side.{Side}
 use Rattle.px_bytes.specs.declared.addr.Side.TheVariants.{Client, Server}
 use Rattle.seg_buffer.specs.Bytes.{is_empty}
 use Rattle.core_events.specs.Edges.{edges_noted, is_connecting}
-use Rattle.conn_trace.specs.Item.{client_output, notes_of, server_output}
+use Rattle.conn_trace.specs.Costs.{in_body, paid_by}
+use Rattle.conn_trace.specs.Item.{Item, client_output, notes_of, server_output}
 use Rattle.conn_trace.specs.Setup.{Setup}
 use Rattle.conn_trace.specs.State.{TraceState}
 use Rattle.conn_trace.specs.Trace.{GivesNoMore, next_item}
+use Rattle.conn_trace.proofs.Costs.{paid_joins}
 use Rattle.core_events.specs.declared.edges.Edges.{Edges}
 use Rattle.core_events.specs.declared.note.Note.{Note}
 use Rattle.core_events.specs.declared.note.Note.TheVariants as note
@@ -16,12 +19,13 @@ use Rattle.core_events.specs.declared.note.Cause.TheVariants.{Memory}
 use Rattle.conn.specs.Acts.{Acted}
 use Rattle.conn.specs.Ends.{lost_at, queued_in}
 use Rattle.conn.specs.Holds.{Around, Holds}
+use Rattle.conn.specs.Paid.{Paid}
 use Rattle.conn.specs.Queues.{dropped_at, dropped_by, queue_in}
 use Rattle.conn.specs.Runs.{DropsQueued, IsWhole, GoesOnWith, Runs, Rested, RestsThere, TellsDropped}
-use Rattle.conn.specs.RunsItems.{StopsAt, asked_at, asks, is_cut, told_behind}
+use Rattle.conn.specs.RunsItems.{GoesForward, StopsAt, asked_at, asks, is_cut, told_behind}
 use Rattle.conn.specs.Settling.{close_notes, closing, half_due, half_notes, is_there, note_if, noted_in, over_in, rest_notes, settle_notes, settling}
 use Rattle.conn.specs.Setups.{Serves}
-use Rattle.conn.specs.Stages.{is_asking, is_draining}
+use Rattle.conn.specs.Stages.{is_asking, is_draining, is_running}
 use Rattle.conn.specs.declared.connection.Conn.{Conn}
 use Rattle.conn.specs.declared.setup.Setup as code
 use Rattle.conn.specs.declared.stage.Stage.{Stage}
@@ -29,26 +33,36 @@ use Rattle.conn.specs.declared.stage.Stage.TheVariants as stage
 use Rattle.conn.specs.declared.turn.Act.TheVariants as done
 use Rattle.conn.specs.declared.turn.ConnTurn.{ConnTurn}
 use Rattle.conn.specs.declared.turn.ConnTurn.TheVariants as turn
-use Rattle.conn.proofs.Advancing.{ActedWell, Tells, acted_well, asks_there, rests_asking}
+use Rattle.conn.proofs.Advancing.{Tells, asks_there, rests_asking}
 use Rattle.conn.proofs.Arriving.{holds, with_edges}
 use Rattle.conn.proofs.Giving.{Gave, edges_on, gave_none, gave_more}
+use Rattle.conn.proofs.Paying.{paid_ends, paid_within, runs_in}
 use Rattle.conn.proofs.Settling.{rests_with, settles}
+use Rattle.conn.proofs.Spending.{PaidWell, paid_well}
 
--- what was given so far, and no call is open
-pub record Given (g : Setup) (a : Around) (l : TraceState) (c : ℕ) (old mid : Conn) (group : List Note) : Type 0 where
+-- what was given so far, and no call is open; the steps that were counted are paid for, and where there were some a
+-- body runs or an item was given
+pub record Given (g : Setup) (a : Around) (l : TraceState) (c : ℕ) (old mid : Conn) (group : List Note) (steps : ℕ) : Type 0 where
   pub at : TraceState
   pub gave : Gave g a l at c old mid group []
   pub awake : is_asking mid.stage ≡ false
+  pub pays : (counted paid : ℕ) → Paid g l old counted paid → Paid g at mid (counted + steps) (paid + paid_by gave.more)
+  pub busy : 0 < steps → (is_running mid.stage ≡ true) ⊎ (0 < length gave.more)
 
-pub record RunsOn (s : code.Setup) (c : ℕ) (old mid : Conn) (before after : List Note) : Type 0 where
+pub record RunsOn (s : code.Setup) (c : ℕ) (old mid : Conn) (before after : List Note) (steps : ℕ) : Type 0 where
   pub group : List Note
   pub notes : after ≡ before ++ group
   pub tells : Tells group old mid
-  pub along : (g : Setup) (a : Around) (l : TraceState) → Serves s g → Holds g a l old → is_asking old.stage ≡ false → Given g a l c old mid group
+  pub along : (g : Setup) (a : Around) (l : TraceState) → Serves s g → Holds g a l old → is_asking old.stage ≡ false → Given g a l c old mid group steps
 
 -- some notes were added, as a Run adds them
-abbrev pub RunsBy : code.Setup → ℕ → Conn → Conn → List Note → List Note → ConnTurn → Type 0
-RunsBy s c old new before after t = (group : List Note) × (after ≡ before ++ group) × Tells group old new × Runs s c old new group t
+abbrev pub RunsBy : code.Setup → ℕ → Conn → Conn → List Note → List Note → ConnTurn → (steps : ℕ) → Type 0
+RunsBy s c old new before after t steps = (group : List Note) × (after ≡ before ++ group) × Tells group old new × Runs s c old new group t steps
+
+-- a body's step is counted, and nothing else
+pub record CountsBodies (old : Conn) (ticks : ℕ) : Type 0 where
+  pub inside : is_running old.stage ≡ true → 1 ≤ ticks
+  pub outside : is_running old.stage ≡ false → ticks ≡ 0
 
 -- notes that are told one after another
 tells_on : (old mid new : Conn) (first second : List Note) → Tells first old mid → Tells second mid new → Tells (first ++ second) old new
@@ -57,12 +71,35 @@ tells_on old mid new first second p q = q ∙ ap (edges_noted second) p ∙ sym 
 tells_same : (old new : Conn) (group : List Note) → Tells group old new → Tells (group ++ []) old new
 tells_same old new group p = p ∙ ap (λ x. edges_noted x old.ends.edges) (sym (append-nil group))
 
-pub at_first : (s : code.Setup) (c : ℕ) (old : Conn) (before : List Note) → RunsOn s c old old before before
-at_first s c old before = record { group = []; notes = sym (append-nil before); tells = refl; along = λ g a l serves h awake. record { at = l; gave = gave_none g a l c old h; awake = awake } }
+pub at_first : (s : code.Setup) (c : ℕ) (old : Conn) (before : List Note) → RunsOn s c old old before before 0
+at_first s c old before = record {
+  group = [];
+  notes = sym (append-nil before);
+  tells = refl;
+  along = λ g a l serves h awake.
+      record { at = l; gave = gave_none g a l c old h; awake = awake; pays = λ t p k. paid_within g l old t (t + 0) p (p + paid_by []) (omega arith) (omega arith) k; busy = λ some. absurd (omega (arith, some)) };
+}
 
-pub one_more : (s : code.Setup) (c : ℕ) (old mid new : Conn) (before notes after : List Note) → RunsOn s c old mid before notes → Acted s c mid new notes after done.Goes → RunsOn s c old new before after
-one_more s c old mid new before notes after r acted =
-    let k = acted_well s c mid new notes after done.Goes acted in
+-- what was paid one after another
+pays_on : (g : Setup) (l : TraceState) (c : Conn) (t m n p : ℕ) (some more : List Item) → Paid g l c ((t + m) + n) ((p + paid_by some) + paid_by more) → Paid g l c (t + (m + n)) (p + paid_by (some ++ more))
+pays_on g l c t m n p some more k = let j = paid_joins some more in paid_within g l c ((t + m) + n) (t + (m + n)) ((p + paid_by some) + paid_by more) (p + paid_by (some ++ more)) (omega arith) (omega (arith, j)) k
+
+busy_on : (mid new : Conn) (m n : ℕ) (some more : List Item) → CountsBodies mid n → (0 < m → (is_running mid.stage ≡ true) ⊎ (0 < length some)) → (0 < n → (is_running new.stage ≡ true) ⊎ (0 < length more))
+    → 0 < m + n → (is_running new.stage ≡ true) ⊎ (0 < length (some ++ more))
+busy_on mid new m zero some more counts first second k = by_first (first (omega (arith, k)))
+  where
+    by_first : (is_running mid.stage ≡ true) ⊎ (0 < length some) → (is_running new.stage ≡ true) ⊎ (0 < length (some ++ more))
+    by_first (inl runs) = absurd (let one = counts.inside runs in omega (arith, one))
+    by_first (inr s) = inr (let j = length-append some more in omega (arith, j, s))
+busy_on mid new m (suc n) some more counts first second k = by_second (second (omega arith))
+  where
+    by_second : (is_running new.stage ≡ true) ⊎ (0 < length more) → (is_running new.stage ≡ true) ⊎ (0 < length (some ++ more))
+    by_second (inl runs) = inl runs
+    by_second (inr s) = inr (let j = length-append some more in omega (arith, j, s))
+
+pub one_more : (s : code.Setup) (c : ℕ) (old mid new : Conn) (before notes after : List Note) (steps ticks : ℕ) → RunsOn s c old mid before notes steps → Acted s c mid new notes after done.Goes ticks → CountsBodies mid ticks → RunsOn s c old new before after (steps + ticks)
+one_more s c old mid new before notes after steps ticks r acted counts =
+    let k = paid_well s c mid new notes after done.Goes ticks acted counts.outside in
     record {
       group = r.group ++ k.group;
       notes = k.notes ∙ ap (λ x. x ++ k.group) r.notes ∙ append_assoc before r.group k.group;
@@ -70,48 +107,83 @@ one_more s c old mid new before notes after r acted =
       along = λ g a l serves h awake.
           (let p = r.along g a l serves h awake in
           let q = k.along g a p.at serves p.gave.holds p.awake in
-          record { at = q.at; gave = gave_more g a l p.at q.at c old mid new r.group k.group h.no_cut p.gave q.gave; awake = q.stops });
+          let first = p.gave.more in
+          let second = q.act.gave.more in
+          record {
+            at = q.act.at;
+            gave = gave_more g a l p.at q.act.at c old mid new r.group k.group h.no_cut p.gave q.act.gave;
+            awake = q.act.stops;
+            pays = λ t x y. pays_on g q.act.at new t steps ticks x first second (q.pays (t + steps) (x + paid_by first) (p.pays t x y));
+            busy = busy_on mid new steps ticks first second counts p.busy (q.busy refl);
+          });
     }
 
 -- a Run that gave these items, and told this behind them
-gives : (g : Setup) (a : Around) (l at : TraceState) (c : ℕ) (old mid new : Conn) (group last : List Note) (t : ConnTurn) → Gave g a l at c old mid group (asked_at t) → last ≡ told_behind t g a.took at c mid.ends.edges (queued_in new.ends) → StopsAt g a.took at t → Holds g a at new
-    → new.ends.client.queued ≡ mid.ends.client.queued → new.ends.server.queued ≡ mid.ends.server.queued → is_asking new.stage ≡ asks t → GoesOnWith g a l c old new (group ++ last) t
-gives g a l at c old mid new group last t p is stops now client server awake = record {
+gives : (g : Setup) (a : Around) (l at : TraceState) (c : ℕ) (old mid new : Conn) (group last : List Note) (t : ConnTurn) (steps : ℕ) (p : Gave g a l at c old mid group (asked_at t)) → last ≡ told_behind t g a.took at c mid.ends.edges (queued_in new.ends) → StopsAt g a.took at t → GoesForward t p.more at → Holds g a at new
+    → new.ends.client.queued ≡ mid.ends.client.queued → new.ends.server.queued ≡ mid.ends.server.queued → is_asking new.stage ≡ asks t → ((counted paid : ℕ) → Paid g l old counted paid → Paid g at new (counted + steps) (paid + paid_by p.more)) → GoesOnWith g a l c old new (group ++ last) t steps
+gives g a l at c old mid new group last t steps p is stops forward now client server awake pays = record {
   more = p.more;
   at = at;
   items = record {
     passes = p.passes;
     noted = ap (λ x. x ++ last) p.noted ∙ ap (λ x. notes_of c p.more ++ x) (is ∙ ap (λ e. told_behind t g a.took at c e (queued_in new.ends)) (p.edges ∙ ap (λ n. edges_noted n old.ends.edges) p.noted));
     stops = stops;
+    forward = forward;
     calls = p.calls;
   };
   holds = now;
   client_queue = client ∙ p.client_queue;
   server_queue = server ∙ p.server_queue;
   asking = awake;
+  pays = pays;
 }
 
-pub runs_more : (s : code.Setup) (c : ℕ) (old new : Conn) (before after : List Note) → RunsOn s c old new before after → RunsBy s c old new before after turn.More
-runs_more s c old new before after r = (
+-- where a Run stops in the middle it counted steps or gave notes; so it gave an item, or a body runs
+forward_by : (more : List Item) (at : TraceState) → (more ≡ [] → in_body at.phase ≡ true) → GoesForward turn.More more at
+forward_by [] at k = k refl
+forward_by (i ∷ more) at k = tt
+
+went_forward : (g : Setup) (a : Around) (at : TraceState) (c : ℕ) (new : Conn) (group : List Note) (more : List Item) (steps : ℕ) → group ≡ notes_of c more → Holds g a at new → (0 < steps → (is_running new.stage ≡ true) ⊎ (0 < length more)) → (0 < steps) ⊎ (0 < length group) → GoesForward turn.More more at
+went_forward g a at c new group more steps noted h busy k = forward_by more at (λ none. by_case none k)
+  where
+    by_busy : more ≡ [] → (is_running new.stage ≡ true) ⊎ (0 < length more) → in_body at.phase ≡ true
+    by_busy none (inl runs) = runs_in g a at new h runs
+    by_busy none (inr some) = absurd (let n = ap length none in omega (arith, n, some))
+
+    by_case : more ≡ [] → (0 < steps) ⊎ (0 < length group) → in_body at.phase ≡ true
+    by_case none (inl some) = by_busy none (busy some)
+    by_case none (inr some) = absurd (let n = ap length (noted ∙ ap (notes_of c) none) in omega (arith, n, some))
+
+pub runs_more : (s : code.Setup) (c : ℕ) (old new : Conn) (before after : List Note) (steps : ℕ) → RunsOn s c old new before after steps → (0 < steps) ⊎ (length before < length after) → RunsBy s c old new before after turn.More steps
+runs_more s c old new before after steps r whole = (
   r.group ++ [],
   r.notes ∙ ap (λ x. before ++ x) (sym (append-nil r.group)),
   tells_same old new r.group r.tells,
-  λ g a l serves h awake. (let p = r.along g a l serves h awake in inl (gives g a l p.at c old new new r.group [] turn.More p.gave refl tt p.gave.holds refl refl p.awake)),
+  λ g a l serves h awake.
+      (let p = r.along g a l serves h awake in
+      inl (gives g a l p.at c old new new r.group [] turn.More steps p.gave refl tt (went_forward g a p.at c new r.group p.gave.more steps p.gave.noted p.gave.holds p.busy (some whole)) p.gave.holds refl refl p.awake p.pays)),
 )
+  where
+    some : (0 < steps) ⊎ (length before < length after) → (0 < steps) ⊎ (0 < length r.group)
+    some (inl k) = inl k
+    some (inr k) = inr (let n = ap length r.notes ∙ length-append before r.group in omega (arith, n, k))
 
 both_notes : (before first second notes after : List Note) → notes ≡ before ++ first → after ≡ notes ++ second → after ≡ before ++ (first ++ second)
 both_notes before first second notes after e f = f ∙ ap (λ x. x ++ second) e ∙ append_assoc before first second
 
-pub runs_asks : (s : code.Setup) (c : ℕ) (old mid new : Conn) (before notes after : List Note) (call : List (List ℕ)) → RunsOn s c old mid before notes → Acted s c mid new notes after (done.Asks call) → RunsBy s c old new before after (turn.Asks call)
-runs_asks s c old mid new before notes after call r acted =
-    let k = acted_well s c mid new notes after (done.Asks call) acted in (
+pub runs_asks : (s : code.Setup) (c : ℕ) (old mid new : Conn) (before notes after : List Note) (call : List (List ℕ)) (steps ticks : ℕ) → RunsOn s c old mid before notes steps → Acted s c mid new notes after (done.Asks call) ticks → CountsBodies mid ticks → RunsBy s c old new before after (turn.Asks call) (steps + ticks)
+runs_asks s c old mid new before notes after call steps ticks r acted counts =
+    let k = paid_well s c mid new notes after (done.Asks call) ticks acted counts.outside in (
       (r.group ++ k.group) ++ [],
       both_notes before r.group k.group notes after r.notes k.notes ∙ ap (λ x. before ++ x) (sym (append-nil (r.group ++ k.group))),
       tells_same old new (r.group ++ k.group) (tells_on old mid new r.group k.group r.tells k.tells),
       λ g a l serves h awake.
           (let p = r.along g a l serves h awake in
           let q = k.along g a p.at serves p.gave.holds p.awake in
-          inl (gives g a l q.at c old new new (r.group ++ k.group) [] (turn.Asks call) (gave_more g a l p.at q.at c old mid new r.group k.group h.no_cut p.gave q.gave) refl q.stops q.gave.holds refl refl (asks_there s c mid new notes after call acted))),
+          let first = p.gave.more in
+          let second = q.act.gave.more in
+          let pays = λ (t x : ℕ) (y : Paid g l old t x). pays_on g q.act.at new t steps ticks x first second (q.pays (t + steps) (x + paid_by first) (p.pays t x y)) in
+          inl (gives g a l q.act.at c old new new (r.group ++ k.group) [] (turn.Asks call) (steps + ticks) (gave_more g a l p.at q.act.at c old mid new r.group k.group h.no_cut p.gave q.act.gave) refl q.act.stops tt q.act.gave.holds refl refl (asks_there s c mid new notes after call ticks acted) pays)),
     )
 
 -- no server is asked for by what is told at a rest
@@ -150,11 +222,15 @@ told_holds : (g : Setup) (a : Around) (l : TraceState) (c : ℕ) (conn : Conn) �
 told_holds g a l c conn h =
     holds g a a l l.client l.server l.answers.connects conn (noted_in (rest_notes c conn) conn).ends h (with_edges a l conn.ends h.ends (edges_noted (rest_notes c conn) conn.ends.edges) (rest_asks c conn conn.ends.edges)) h.fits (λ u. u)
 
-pub runs_rests : (s : code.Setup) (c : ℕ) (old mid new last : Conn) (before notes after told : List Note) (t : ConnTurn) → RunsOn s c old mid before notes → Acted s c mid new notes after done.Rests → Rested c new last after told t → RunsBy s c old last before told t
-runs_rests s c old mid new last before notes after told t r acted rested = by_turn t rested
+-- the items are the same whatever its calls are said to be
+by_calls : (g : Setup) (a : Around) (l at : TraceState) (c : ℕ) (old new : Conn) (group : List Note) (some other : List (List (List ℕ))) (e : some ≡ other) (gave : Gave g a l at c old new group some) → (subst (Gave g a l at c old new group) e gave).more ≡ gave.more
+by_calls g a l at c old new group some other refl gave = refl
+
+pub runs_rests : (s : code.Setup) (c : ℕ) (old mid new last : Conn) (before notes after told : List Note) (t : ConnTurn) (steps ticks : ℕ) → RunsOn s c old mid before notes steps → Acted s c mid new notes after done.Rests ticks → CountsBodies mid ticks → Rested c new last after told t → RunsBy s c old last before told t (steps + ticks)
+runs_rests s c old mid new last before notes after told t steps ticks r acted counts rested = by_turn t rested
   where
-    k : ActedWell s c mid new notes after done.Rests
-    k = acted_well s c mid new notes after done.Rests acted
+    k : PaidWell s c mid new notes after done.Rests ticks
+    k = paid_well s c mid new notes after done.Rests ticks acted counts.outside
 
     all : (over : Bool) → RestsThere c new last after told over → (told ≡ before ++ ((r.group ++ k.group) ++ rest_notes c new)) × Tells ((r.group ++ k.group) ++ rest_notes c new) old (noted_in (rest_notes c new) new)
     all over x = (
@@ -163,35 +239,45 @@ runs_rests s c old mid new last before notes after told t r acted rested = by_tu
     )
 
     -- where its trace stands, and what it gave
-    on : (t : ConnTurn) → (g : Setup) (a : Around) (l : TraceState) → Serves s g → Holds g a l old → is_asking old.stage ≡ false → told_behind t ≡ told_behind turn.NotYet → asked_at t ≡ [] → asks t ≡ false → ((at : TraceState) → (GivesNoMore false at.sent a.took (next_item g at) × (is_cut a.took at ≡ false)) → Holds g a at new → StopsAt g a.took at t)
-        → GoesOnWith g a l c old (noted_in (rest_notes c new) new) ((r.group ++ k.group) ++ rest_notes c new) t
-    on t g a l serves h awake is none quiet stops =
+    on : (t : ConnTurn) → (g : Setup) (a : Around) (l : TraceState) → Serves s g → Holds g a l old → is_asking old.stage ≡ false → told_behind t ≡ told_behind turn.NotYet → asked_at t ≡ [] → asks t ≡ false → ((more : List Item) (at : TraceState) → GoesForward t more at) → ((at : TraceState) → (GivesNoMore false at.sent a.took (next_item g at) × (is_cut a.took at ≡ false)) → Holds g a at new → StopsAt g a.took at t)
+        → GoesOnWith g a l c old (noted_in (rest_notes c new) new) ((r.group ++ k.group) ++ rest_notes c new) t (steps + ticks)
+    on t g a l serves h awake is none quiet forward stops =
         let p = r.along g a l serves h awake in
         let q = k.along g a p.at serves p.gave.holds p.awake in
-        gives g a l q.at c old new (noted_in (rest_notes c new) new) (r.group ++ k.group) (rest_notes c new) t (subst (Gave g a l q.at c old new (r.group ++ k.group)) (sym none) (gave_more g a l p.at q.at c old mid new r.group k.group h.no_cut p.gave q.gave))
-        (rests_with c new g a q.at q.gave.holds q.stops.1.1 ∙ sym (ap (λ f. f g a.took q.at c new.ends.edges (queued_in new.ends)) is)) (stops q.at (q.stops.0, q.stops.1.0) q.gave.holds) (told_holds g a q.at c new q.gave.holds) refl refl (rests_asking s c mid new notes after acted ∙ p.awake ∙ sym quiet)
+        let first = p.gave.more in
+        let second = q.act.gave.more in
+        let rest = noted_in (rest_notes c new) new in
+        let gave = gave_more g a l p.at q.act.at c old mid new r.group k.group h.no_cut p.gave q.act.gave in
+        let all = subst (Gave g a l q.act.at c old new (r.group ++ k.group)) (sym none) gave in
+        let same_items : all.more ≡ first ++ second = by_calls g a l q.act.at c old new (r.group ++ k.group) [] (asked_at t) (sym none) gave in
+        let pays = λ (t' x : ℕ) (y : Paid g l old t' x).
+        (let both = pays_on g q.act.at new t' steps ticks x first second (q.pays (t' + steps) (x + paid_by first) (p.pays t' x y)) in
+        subst (λ items. Paid g q.act.at rest (t' + (steps + ticks)) (x + paid_by items)) (sym same_items) (paid_ends g q.act.at new rest.ends (t' + (steps + ticks)) (x + paid_by (first ++ second)) both)) in
+        gives g a l q.act.at c old new rest (r.group ++ k.group) (rest_notes c new) t (steps + ticks) all
+        (rests_with c new g a q.act.at q.act.gave.holds q.act.stops.1.1 ∙ sym (ap (λ f. f g a.took q.act.at c new.ends.edges (queued_in new.ends)) is)) (stops q.act.at (q.act.stops.0, q.act.stops.1.0) q.act.gave.holds) (forward all.more q.act.at) (told_holds g a q.act.at c new q.act.gave.holds) refl refl
+        (rests_asking s c mid new notes after ticks acted ∙ p.awake ∙ sym quiet) pays
 
-    by_turn : (t : ConnTurn) → Rested c new last after told t → RunsBy s c old last before told t
+    by_turn : (t : ConnTurn) → Rested c new last after told t → RunsBy s c old last before told t (steps + ticks)
     by_turn turn.More x = absurd x
     by_turn (turn.Asks call) x = absurd x
     by_turn turn.NotYet x =
-        subst (λ z. RunsBy s c old z before told turn.NotYet) (sym x.told) (
+        subst (λ z. RunsBy s c old z before told turn.NotYet (steps + ticks)) (sym x.told) (
           (r.group ++ k.group) ++ rest_notes c new,
           (all false x).0,
           (all false x).1,
-          λ g a l serves h awake. inl (on turn.NotYet g a l serves h awake refl refl refl (λ at stops now. (stops.0, (sym (settles new false x.over_is g a at now), stops.1)))),
+          λ g a l serves h awake. inl (on turn.NotYet g a l serves h awake refl refl refl (λ more at. tt) (λ at stops now. (stops.0, (sym (settles new false x.over_is g a at now), stops.1)))),
         )
     by_turn turn.Over x =
-        subst (λ z. RunsBy s c old z before told turn.Over) (sym x.told) (
+        subst (λ z. RunsBy s c old z before told turn.Over (steps + ticks)) (sym x.told) (
           (r.group ++ k.group) ++ rest_notes c new,
           (all true x).0,
           (all true x).1,
-          λ g a l serves h awake. inl (on turn.Over g a l serves h awake refl refl refl (λ at stops now. sym (settles new true x.over_is g a at now))),
+          λ g a l serves h awake. inl (on turn.Over g a l serves h awake refl refl refl (λ more at. tt) (λ at stops now. sym (settles new true x.over_is g a at now))),
         )
 
-pub runs_out : (s : code.Setup) (c pending : ℕ) (old mid lost new : Conn) (before notes after : List Note) (t : ConnTurn) → RunsOn s c old mid before notes → pending ≡ queued_in mid.ends → lost.ends.edges ≡ mid.ends.edges → DropsQueued c pending lost new (notes ++ note.Finish c Memory ∷ []) after t
-    → RunsBy s c old new before after turn.Over
-runs_out s c pending old mid lost new before notes after t r waits kept d = (
+pub runs_out : (s : code.Setup) (c pending : ℕ) (old mid lost new : Conn) (before notes after : List Note) (t : ConnTurn) (steps all : ℕ) → RunsOn s c old mid before notes steps → pending ≡ queued_in mid.ends → lost.ends.edges ≡ mid.ends.edges → DropsQueued c pending lost new (notes ++ note.Finish c Memory ∷ []) after t
+    → RunsBy s c old new before after turn.Over all
+runs_out s c pending old mid lost new before notes after t steps all r waits kept d = (
   r.group ++ note.Finish c Memory ∷ closing c mid.ends.edges pending,
   both_notes before r.group (note.Finish c Memory ∷ closing c mid.ends.edges pending) notes after r.notes (d.noted ∙ append_assoc notes (note.Finish c Memory ∷ []) (closing c lost.ends.edges pending) ∙ ap (λ e. notes ++ note.Finish c Memory ∷ closing c e pending) kept),
   tells_on old mid new r.group (note.Finish c Memory ∷ closing c mid.ends.edges pending) r.tells (d.edges ∙ ap (λ e. edges_noted (closing c e pending) e) kept),
@@ -304,3 +390,29 @@ rested_few c old new before after turn.More r = absurd r
 rested_few c old new before after (turn.Asks call) r = absurd r
 rested_few c old new before after turn.NotYet r = let a = rest_few c old in let n = ap length r.noted ∙ length-append before (rest_notes c old) in omega (arith, a, n)
 rested_few c old new before after turn.Over r = let a = rest_few c old in let n = ap length r.noted ∙ length-append before (rest_notes c old) in omega (arith, a, n)
+
+-- what one action counted
+pub counts_on : (old : Conn) (spent spent' steps steps' : ℕ) → (is_running old.stage ≡ true → steps < steps') → (is_running old.stage ≡ false → steps' ≡ steps) → spent' + steps ≡ spent + steps' → CountsBodies old (steps' - steps) × (spent' ≡ spent + (steps' - steps))
+counts_on old spent spent' steps steps' inside outside sum = (
+  record { inside = λ runs. (let k = inside runs in omega (arith, k)); outside = λ still. (let k = outside still in omega (arith, k)) },
+  by_stage (is_running old.stage) refl,
+)
+  where
+    by_stage : (b : Bool) → is_running old.stage ≡ b → spent' ≡ spent + (steps' - steps)
+    by_stage true runs = let k = inside runs in omega (arith, k, sum)
+    by_stage false still = let k = outside still in omega (arith, k, sum)
+
+-- so many actions aren't made by a Run that counted no more and gave fewer notes
+pub whole_at_last : (actions rank given spent notes : ℕ) → actions + rank + 3 * given ≤ 3 * (spent + notes) + 2 → 6200 ≤ actions → (1990 < spent) ⊎ (64 ≤ notes - given)
+whole_at_last actions rank given spent notes k most = by_count (nat_lt 1990 spent) refl
+  where
+    by_count : (b : Bool) → nat_lt 1990 spent ≡ b → (1990 < spent) ⊎ (64 ≤ notes - given)
+    by_count true more = inl (grind (arith, nat_tests, more))
+    by_count false few = inr (let least : spent ≤ 1990 = grind (arith, nat_tests, few) in omega (arith, k, most, least))
+
+pub some_counted : (actions rank given spent notes before : ℕ) → given ≡ before → actions + rank + 3 * given ≤ 3 * (spent + notes) + 2 → 6200 ≤ actions → (0 < spent) ⊎ (before < notes)
+some_counted actions rank given spent notes before is k most = by_whole (whole_at_last actions rank given spent notes k most)
+  where
+    by_whole : (1990 < spent) ⊎ (64 ≤ notes - given) → (0 < spent) ⊎ (before < notes)
+    by_whole (inl more) = inl (omega (arith, more))
+    by_whole (inr more) = inr (omega (arith, more, is))

@@ -134,28 +134,31 @@ PassesReleased s c old new before after a =
     ((a ≡ act.Goes) × Releases old new × (after ≡ before))
     (Rests s c old new before after a)
 
--- what one action does, by where the connection stands
-abbrev pub ActedAt : Stage → Setup → ℕ → Conn → Conn → List Note → List Note → Act → Type 0
-ActedAt (stage.Gated at) s c old new before after a =
+-- what one action does, by where the connection stands; a body's step alone ticks
+abbrev pub ActedAt : Stage → Setup → ℕ → Conn → Conn → List Note → List Note → Act → (ticks : ℕ)
+    → Type 0
+ActedAt (stage.Gated at) s c old new before after a ticks =
     PassesGate s c at old new before after a
-ActedAt (stage.Running at number) s c old new before after a =
-    BodyMoved s c at number old new before after a
-ActedAt (stage.Failing at next kind line) s c old new before after a =
+ActedAt (stage.Running at number) s c old new before after a ticks =
+    BodyMoved s c at number old new before after a ticks
+ActedAt (stage.Failing at next kind line) s c old new before after a ticks =
     (a ≡ act.Goes) × BehindFault s at next kind old new × (after ≡ before ++ note.Log c line ∷ [])
-ActedAt stage.Choosing s c old new before after a =
+ActedAt stage.Choosing s c old new before after a ticks =
     Chooses s old new a × (after ≡ before)
-ActedAt (stage.Chosen addr) s c old new before after a =
+ActedAt (stage.Chosen addr) s c old new before after a ticks =
     (a ≡ act.Goes) × TakesChosen s addr old new × (after ≡ before)
-ActedAt (stage.Connecting to) s c old new before after a =
+ActedAt (stage.Connecting to) s c old new before after a ticks =
     (a ≡ act.Goes) × Connects c to old new before after
-ActedAt (stage.Answering to) s c old new before after a = Answers s c old new before after a
-ActedAt stage.Collecting s c old new before after a = Collects s c old new before after a
-ActedAt stage.Releasing s c old new before after a = PassesReleased s c old new before after a
-ActedAt (stage.Relaying first) s c old new before after a =
+ActedAt (stage.Answering to) s c old new before after a ticks =
+    Answers s c old new before after a
+ActedAt stage.Collecting s c old new before after a ticks = Collects s c old new before after a
+ActedAt stage.Releasing s c old new before after a ticks =
+    PassesReleased s c old new before after a
+ActedAt (stage.Relaying first) s c old new before after a ticks =
     Relays s c first old new before after a
-ActedAt (stage.Finishing f) s c old new before after a =
+ActedAt (stage.Finishing f) s c old new before after a ticks =
     (a ≡ act.Goes) × Finishes s c f old new before after
-ActedAt other s c old new before after a =
+ActedAt other s c old new before after a ticks =
     (a ≡ act.Rests) × (new ≡ old) × (after ≡ before)
 
 -- logs the fault that a body left
@@ -167,5 +170,5 @@ LogsAt other s c old new before after = Unit {0}
 abbrev pub LogsFault : Setup → ℕ → Conn → Conn → List Note → List Note → Type 0
 LogsFault s c old new before after = LogsAt old.stage s c old new before after
 
-abbrev pub Acted : Setup → ℕ → Conn → Conn → List Note → List Note → Act → Type 0
-Acted s c old new before after a = ActedAt old.stage s c old new before after a
+abbrev pub Acted : Setup → ℕ → Conn → Conn → List Note → List Note → Act → (ticks : ℕ) → Type 0
+Acted s c old new before after a ticks = ActedAt old.stage s c old new before after a ticks

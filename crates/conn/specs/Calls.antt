@@ -23,6 +23,7 @@ use Rattle.conn.specs.declared.ends.Link.TheVariants as link
 use Rattle.conn.specs.declared.setup.Setup.{Setup}
 use Rattle.conn.specs.Ends.{end_of, has_stream, hears_at}
 use Rattle.conn.specs.Holds.{Around, fresh, Holds}
+use Rattle.conn.specs.Paid.{Paid}
 use Rattle.conn.specs.Setups.{Serves}
 use Rattle.conn.specs.Stages.{has_finished, in_event_of}
 
@@ -71,10 +72,12 @@ ended_ends finished side e =
     let heard = heard_ends finished side (record { bytes = []; ended = true }) e in
     record heard { edges = edge_ends side e.edges }
 
--- its client is at this address
+-- its client is at this address; it counted no step
 abbrev pub Begins : Setup → Addr → Conn → Type 0
 Begins s from new =
-    (g : model.Setup) → Serves s g → g.from ≡ from → Holds g fresh (start g no_stream no_answers) new
+    (g : model.Setup) → Serves s g → g.from ≡ from
+    → Holds g fresh (start g no_stream no_answers) new
+    × Paid g (start g no_stream no_answers) new 0 0
 
 -- n bytes more are taken; of the servers' by the last of them
 abbrev pub more_at_last : ℕ → List (Option ℕ) → List (Option ℕ)
@@ -166,8 +169,10 @@ Connects made old new =
     → Holds g (answered_in l.finished made a)
     (longer (unless_finished l.finished (answer_of made)) l) new
 
--- the reply to the call that it waits for
+-- the reply to the call that it waits for; it counts no step
 abbrev pub Replies : Reply → Conn → Conn → Type 0
 Replies reply old new =
     (g : model.Setup) (a : Around) (l : TraceState) → Holds g a l old
     → Holds g a (longer (replies_only (reply ∷ [])) l) new
+    × ((counted paid : ℕ) → Paid g l old counted paid
+    → Paid g (longer (replies_only (reply ∷ [])) l) new counted paid)

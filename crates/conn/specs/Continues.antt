@@ -166,6 +166,7 @@ pub record CallsContinue : Type 0 where
       → Continues g a l given at old
       → Continues g a (replied reply l) given (replied reply at) new
   pub runs : (g : Setup) (a : Around) (l : TraceState) (given : List Item) (at : TraceState)
-      (c : ℕ) (old new : Conn) (group : List Note) (t : ConnTurn) → l.answers.cut ≡ None
-      → (r : GoesOnWith g a at c old new group t) → Continues g a l given at old
+      (c : ℕ) (old new : Conn) (group : List Note) (t : ConnTurn) (steps : ℕ)
+      → l.answers.cut ≡ None → (r : GoesOnWith g a at c old new group t steps)
+      → Continues g a l given at old
       → Continues g a (longer (taken_by_items a.took r.more) l) (given ++ r.more) r.at new

@@ -13,6 +13,7 @@ pub mod Steps
 pub mod Queues
 pub mod Acts
 pub mod Holds
+pub mod Paid
 pub mod Settling
 pub mod RunsItems
 pub mod Calls

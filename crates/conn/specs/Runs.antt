@@ -3,6 +3,7 @@ use Rattle.std.specs.Prelude.{◌≡◌, ◌⊎◌, ℕ, ◌+◌, ◌<◌, ◌�
 use Rattle.core_events.specs.declared.note.Note.{Note}
 use Rattle.core_events.specs.Edges.{edges_noted}
 use Rattle.core_events.specs.declared.note.Note.TheVariants.{Ended}
+use Rattle.conn_trace.specs.Costs.{paid_by}
 use Rattle.conn_trace.specs.Item.{Item, calls_in, client_output, server_output}
 use Rattle.conn_trace.specs.Setup as model
 use Rattle.conn_trace.specs.State.{TraceState}
@@ -13,6 +14,7 @@ use Rattle.conn.specs.declared.turn.ConnTurn.{ConnTurn}
 use Rattle.conn.specs.declared.turn.ConnTurn.TheVariants as turn
 use Rattle.conn.specs.Ends.{queued_in}
 use Rattle.conn.specs.Holds.{Around, Holds}
+use Rattle.conn.specs.Paid.{Paid}
 use Rattle.conn.specs.RunsItems.{Passes, RunsItems, asks, out_of_memory}
 use Rattle.conn.specs.Setups.{Serves}
 use Rattle.conn.specs.Queues.{dropped_by}
@@ -20,9 +22,9 @@ use Rattle.conn.specs.Settling.{closing, noted_in, over_in, rest_notes}
 use Rattle.conn.specs.Stages.{is_asking}
 
 -- It goes on with these items, and its queues grew by what they send. It waits for a reply only where it
--- stopped at a call.
+-- stopped at a call. The steps that it counted are paid for, with those that it had counted before.
 pub record GoesOnWith (g : model.Setup) (a : Around) (l : TraceState) (c : ℕ) (old new : Conn)
-    (group : List Note) (t : ConnTurn) : Type 0 where
+    (group : List Note) (t : ConnTurn) (steps : ℕ) : Type 0 where
   pub more : List Item
   pub at : TraceState
   pub items : RunsItems g a.took old.ends.edges l c more at group t (queued_in new.ends)
@@ -30,6 +32,8 @@ pub record GoesOnWith (g : model.Setup) (a : Around) (l : TraceState) (c : ℕ) 
   pub client_queue : new.ends.client.queued ≡ old.ends.client.queued ++ client_output more
   pub server_queue : new.ends.server.queued ≡ old.ends.server.queued ++ server_output 1 more
   pub asking : is_asking new.stage ≡ asks t
+  pub pays : (counted paid : ℕ) → Paid g l old counted paid
+      → Paid g at new (counted + steps) (paid + paid_by more)
 
 -- behind these items, no call among them, it found no memory, and all that is queued is dropped
 pub record StopsWithout (g : model.Setup) (a : Around) (l : TraceState) (c : ℕ) (old : Conn)
@@ -44,11 +48,11 @@ pub record StopsWithout (g : model.Setup) (a : Around) (l : TraceState) (c : ℕ
   pub over : t ≡ turn.Over
 
 -- wherever its trace stands, and no call is open
-abbrev pub Runs : Setup → ℕ → Conn → Conn → List Note → ConnTurn → Type 0
-Runs s c old new group t =
+abbrev pub Runs : Setup → ℕ → Conn → Conn → List Note → ConnTurn → (steps : ℕ) → Type 0
+Runs s c old new group t steps =
     (g : model.Setup) (a : Around) (l : TraceState) → Serves s g → Holds g a l old
     → is_asking old.stage ≡ false
-    → GoesOnWith g a l c old new group t ⊎ StopsWithout g a l c old group t
+    → GoesOnWith g a l c old new group t steps ⊎ StopsWithout g a l c old group t
 
 -- where no more may be given the notes come that are due
 pub record RestsThere (c : ℕ) (old new : Conn) (before after : List Note) (over : Bool)

@@ -1,7 +1,7 @@
 -- What a connection gives in one Run, from where its trace stands: the code's promise and the
 -- scheduler's move alike.
 use Rattle.std.specs.Prelude.{◌≡◌, ℕ, List, [], ◌∷◌, ◌++◌, Bool, true, false, Some, None}
-use Rattle.std.specs.Prelude.{if◌then◌else◌}
+use Rattle.std.specs.Prelude.{if◌then◌else◌, nat_lt}
 use Rattle.px_bytes.specs.declared.addr.Side.TheVariants.{Client, Server}
 use Rattle.core_events.specs.Edges.{edges_noted}
 use Rattle.core_events.specs.declared.edges.Edges.{Edges}
@@ -11,6 +11,7 @@ use Rattle.core_events.specs.declared.note.CutReason.TheVariants.{ClientReset, S
 use Rattle.core_events.specs.declared.note.CutReason.TheVariants.{Idle}
 use Rattle.core_events.specs.declared.note.Note.{Note}
 use Rattle.core_events.specs.declared.note.Note.TheVariants.{Finish}
+use Rattle.conn_trace.specs.Costs.{in_body}
 use Rattle.conn_trace.specs.Gates.{Counts, TakenCounts, Met}
 use Rattle.conn_trace.specs.Item.{Item, CutBy, Finished, calls_in, choices_in, notes_of}
 use Rattle.conn_trace.specs.Further.{choosing, longer}
@@ -55,6 +56,16 @@ StopsAt g took at turn.NotYet =
     × ((is_drained g took at ≡ false) × (is_cut took at ≡ false))
 StopsAt g took at turn.Over = is_drained g took at ≡ true
 
+-- one that stops in the middle gave an item, or stands inside a body
+abbrev pub GoesForward : ConnTurn → List Item → TraceState → Type 0
+GoesForward turn.More [] at = in_body at.phase ≡ true
+GoesForward other more at = Unit {0}
+
+-- one that stops in the middle behind fewer than 64 notes spent a slice
+abbrev pub slices_in : ConnTurn → (notes : ℕ) → ℕ
+slices_in turn.More notes = if nat_lt notes 64 then 1 else 0
+slices_in other notes = 0
+
 -- whether it stopped at a call
 abbrev pub asks : ConnTurn → Bool
 asks (turn.Asks call) = true
@@ -93,7 +104,7 @@ told_behind t g took at c e dropped =
 
 -- It gave these items, and stops there; its notes are those of the items, and then what is due where
 -- it rests. Before it the outside had been told so much of its ends. The only call among them is the
--- one at which it stops.
+-- one at which it stops. Where it stops in the middle without an item it stands inside a body.
 pub record RunsItems (g : Setup) (took : TakenCounts) (e : Edges) (l : TraceState) (c : ℕ)
     (more : List Item) (at : TraceState) (group : List Note) (t : ConnTurn) (dropped : ℕ)
     : Type 0 where
@@ -101,6 +112,7 @@ pub record RunsItems (g : Setup) (took : TakenCounts) (e : Edges) (l : TraceStat
   pub noted : group
       ≡ notes_of c more ++ told_behind t g took at c (edges_noted (notes_of c more) e) dropped
   pub stops : StopsAt g took at t
+  pub forward : GoesForward t more at
   pub calls : calls_in more ≡ asked_at t
 
 -- it found no memory behind these items, and ends: so many bytes are dropped

@@ -124,6 +124,12 @@ abbrev pub is_running : Stage → Bool
 is_running (stage.Running at n) = true
 is_running other = false
 
+-- a body runs or waits for a reply
+abbrev pub has_body : Stage → Bool
+has_body (stage.Running at n) = true
+has_body (stage.Asking at n) = true
+has_body other = false
+
 -- a body runs, or left a fault
 abbrev pub is_in_body : Stage → Bool
 is_in_body (stage.Running at n) = true

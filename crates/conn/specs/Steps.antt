@@ -67,13 +67,12 @@ GoesOn s at number said.Over old new a = (a ≡ act.Goes) × NextBody s at (numb
 GoesOn s at number (said.Fails kind line) old new a =
     (a ≡ act.Goes) × GoesTo (stage.Failing at (number + 1) kind line) old new
 
--- a body's step, what its command made, and what it led to
+-- a body's step with so many ticks, what its command made, and what it led to
 pub record BodySteps (s : Setup) (h : Handler) (c : ℕ) (at : At) (number : ℕ) (old new : Conn)
-    (before after : List Note) (a : Act) : Type 0 where
+    (before after : List Note) (a : Act) (ticks : ℕ) : Type 0 where
   pub stepped : Conn
   pub mid : Conn
   pub turned : Turn
-  pub ticks : ℕ
   pub there : stepped.stage ≡ old.stage
   pub ends : stepped.ends ≡ old.ends
   pub went : old.body.runs ≡ true
@@ -85,13 +84,14 @@ pub record BodySteps (s : Setup) (h : Handler) (c : ℕ) (at : At) (number : ℕ
   pub does : DoesMade c stepped mid before after
   pub goes_on : GoesOn s at number (said_of h at turned) mid new a
 
-abbrev pub BodyMovedBy :
-    Setup → Option Handler → ℕ → At → ℕ → Conn → Conn → List Note → List Note → Act → Type 0
-BodyMovedBy s None c at number old new before after a =
+abbrev pub BodyMovedBy : Setup → Option Handler → ℕ → At → ℕ → Conn → Conn → List Note → List Note
+    → Act → (ticks : ℕ) → Type 0
+BodyMovedBy s None c at number old new before after a ticks =
     (a ≡ act.Rests) × (new ≡ old) × (after ≡ before)
-BodyMovedBy s (Some h) c at number old new before after a =
-    BodySteps s h c at number old new before after a
+BodyMovedBy s (Some h) c at number old new before after a ticks =
+    BodySteps s h c at number old new before after a ticks
 
-abbrev pub BodyMoved : Setup → ℕ → At → ℕ → Conn → Conn → List Note → List Note → Act → Type 0
-BodyMoved s c at number old new before after a =
-    BodyMovedBy s (body_at s at number) c at number old new before after a
+abbrev pub BodyMoved : Setup → ℕ → At → ℕ → Conn → Conn → List Note → List Note → Act → (ticks : ℕ)
+    → Type 0
+BodyMoved s c at number old new before after a ticks =
+    BodyMovedBy s (body_at s at number) c at number old new before after a ticks

@@ -1,7 +1,7 @@
 // One action of a connection.
 
-ghost use Rattle.std.specs.Prelude.{◌≡◌, ◌+◌, ◌<◌, ◌≤◌, ◌∷◌, ◌++◌, [], length, IfOk, OnOk};
-ghost use Rattle.std.specs.Prelude.{OnErr, false};
+ghost use Rattle.std.specs.Prelude.{◌≡◌, ◌+◌, ◌-◌, ◌<◌, ◌≤◌, ◌∷◌, ◌++◌, [], length, IfOk, OnOk};
+ghost use Rattle.std.specs.Prelude.{OnErr, true, false};
 ghost use Rattle.conn.specs.Acts.{Acted, BehindFault, LogsFault, PassesGate, Rests, cut_of};
 ghost use Rattle.conn.specs.Stages.{is_running};
 
@@ -19,7 +19,8 @@ use std::mem;
 use std::sync::ledger::Ledger;
 
 impl Conn {
-    /// Gives the items of one action, where there are some and they may be given.
+    /// Gives the items of one action, where there are some and they may be given. Only a body's step
+    /// is counted.
     pub(crate) fn advance<S: Moves, L: Ledger>(
         &mut self,
         alloc: Global,
@@ -32,10 +33,12 @@ impl Conn {
         requires room { 1 ≤ notes.old.spare }
         requires spent { spent.old < 2000 }
         ensures ok { IfOk result
-            (λ act. Acted setup.now number self.old self.new notes.old.items notes.new.items act) }
+            (λ act. Acted setup.now number self.old self.new notes.old.items notes.new.items act
+            (steps.new - steps.old)) }
         ensures err { OnErr result (notes.new ≡ notes.old) }
         ensures kept { OnErr result (self.new.ends.edges ≡ self.old.ends.edges) }
-        ensures ticks { OnOk result (steps.old < steps.new) }
+        ensures inside { OnOk result (is_running self.old.stage ≡ true → steps.old < steps.new) }
+        ensures outside { is_running self.old.stage ≡ false → steps.new ≡ steps.old }
         ensures few { steps.new ≤ steps.old + 10 }
         ensures counted { OnOk result (spent.new + steps.old ≡ spent.old + steps.new) }
         ensures spare { notes.old.spare ≤ notes.new.spare + 1 }
@@ -47,11 +50,7 @@ impl Conn {
             Stage::Running { at, number: body } => {
                 self.step_body::<S, L>(alloc, setup, number, at, body, steps, spent, notes)
             }
-            _ => {
-                steps.tick();
-                *spent += 1;
-                self.act(alloc, setup, number, notes)
-            }
+            _ => self.act(alloc, setup, number, notes),
         }
     }
 
@@ -60,7 +59,7 @@ impl Conn {
         requires room { 1 ≤ notes.old.spare }
         requires outside { is_running self.old.stage ≡ false }
         ensures ok { IfOk result
-            (λ act. Acted setup.now number self.old self.new notes.old.items notes.new.items act) }
+            (λ act. Acted setup.now number self.old self.new notes.old.items notes.new.items act 0) }
         ensures err { OnErr result (notes.new ≡ notes.old) }
         ensures kept { OnErr result (self.new.ends.edges ≡ self.old.ends.edges) }
         ensures spare { notes.old.spare ≤ notes.new.spare + 1 }

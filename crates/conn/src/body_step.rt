@@ -1,6 +1,6 @@
 // A body goes on, begins or ends.
 
-ghost use Rattle.std.specs.Prelude.{◌≡◌, ◌+◌, ◌<◌, ◌≤◌, length, IfOk, OnErr, OnOk};
+ghost use Rattle.std.specs.Prelude.{◌≡◌, ◌+◌, ◌-◌, ◌<◌, ◌≤◌, length, IfOk, OnErr, OnOk};
 ghost use Rattle.conn.specs.Setups.{handler_of, places_at};
 ghost use Rattle.conn.specs.Stages.{entered_stage};
 ghost use Rattle.conn.specs.Changes.{NextBody, StartsBody};
@@ -70,7 +70,8 @@ impl Conn {
         requires room { 1 ≤ notes.old.spare }
         requires spent { spent.old < 2000 }
         ensures moved { IfOk result (λ act.
-            BodyMoved setup.now number at body self.old self.new notes.old.items notes.new.items act) }
+            BodyMoved setup.now number at body self.old self.new notes.old.items notes.new.items act
+            (steps.new - steps.old)) }
         ensures err { OnErr result (notes.new ≡ notes.old) }
         ensures kept { OnErr result (self.new.ends.edges ≡ self.old.ends.edges) }
         ensures ticks { OnOk result (steps.old < steps.new) }

@@ -16,14 +16,18 @@ use px_bytes::Steps;
 use std::alloc::Global;
 use std::sync::ledger::Ledger;
 
-/// A Run goes on while it counted no more steps, and gave fewer notes.
+/// A Run goes on while its bodies counted no more steps, and it gave fewer notes.
 const MOST_STEPS: u64 = 1_990;
 
 const MOST_NOTES: usize = 64;
 
+/// More actions than a Run makes: no more than two are made one after another that are neither counted
+/// nor noted.
+const MOST_ACTIONS: u64 = 6_200;
+
 impl Conn {
-    /// Goes on until it waits, is over, counted more than 1,990 steps or gave 64 notes. Where memory
-    /// is refused it finishes and is over.
+    /// Goes on until it waits, is over, its bodies counted more than 1,990 steps or it gave 64 notes.
+    /// Where memory is refused it finishes and is over.
     pub fn run<S: Moves, L: Ledger>(
         &mut self,
         alloc: Global,
@@ -35,7 +39,7 @@ impl Conn {
         requires { 68 ≤ notes.old.spare }
         ensures ran { (group : List Note) × (notes.new.items ≡ notes.old.items ++ group)
             × (self.new.ends.edges ≡ edges_noted group self.old.ends.edges)
-            × Runs setup.now number self.old self.new group result }
+            × Runs setup.now number self.old self.new group result (steps.new - steps.old) }
         ensures slice { let given = length notes.new.items - length notes.old.items in
             IsWhole result (steps.new - steps.old) given }
         ensures bounded { steps.new ≤ steps.old + 2000 }
@@ -52,7 +56,7 @@ impl Conn {
         }
         let given = notes.len();
         let mut spent = 0;
-        for _moved in 0..MOST_STEPS + 1 {
+        for _moved in 0..MOST_ACTIONS {
             if spent > MOST_STEPS {
                 return ConnTurn::More;
             }

@@ -26,3 +26,5 @@ pub mod Unread
 pub mod PlacesFit
 pub mod PendingFits
 pub mod Lying
+pub mod Costs
+pub mod PaidOn

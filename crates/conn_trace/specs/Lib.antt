@@ -17,3 +17,4 @@ pub mod HeardLaws
 pub mod Queries
 pub mod Units
 pub mod Bounds
+pub mod Costs

@@ -154,12 +154,14 @@ begun : (C : Config) (places : List (List (List Place))) (c place : ℕ) (vs : L
 begun C places c place vs from None group all e b = record { notes = b.2; continues = record { failed = refl; finished = refl; no_items = refl }; edges = refl; asks = refl }
 begun C places c place vs from (Some conn) group all e b =
     let g = setup_in C (Some (record { virtual = vs; from = from })) in
+    let begins = b.2.0 g (serves_code C (statics_of C) places place b.0 g all b.1 (serves_named C vs from place e)) refl in
     record {
       notes = b.2.2;
       continues = inl (record {
         not_failed = refl;
-        holds = b.2.0 g (serves_code C (statics_of C) places place b.0 g all b.1 (serves_named C vs from place e)) refl;
+        holds = begins.0;
         queues = record { client = ap (λ x. x.client.queued) b.2.1; server = ap (λ x. x.server.queued) b.2.1 };
+        paid = begins.1;
       });
       edges = sym (ap (λ x. x.edges) b.2.1);
       asks = b.2.3;

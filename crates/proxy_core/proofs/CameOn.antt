@@ -1,5 +1,5 @@
 -- A connection of the code on which something came: what it goes on with, for what was heard then.
-use Rattle.std.proofs.Common.{◌≡◌, ◌⊎◌, inl, inr, refl, sym, ap, subst, ◌∙◌, ℕ, ◌+◌, ◌-◌, List, [], ◌∷◌, length, drop, append-nil, Bool, true, false, ◌||◌, Option, Some, None, if◌then◌else◌, arith}
+use Rattle.std.proofs.Common.{◌≡◌, ◌⊎◌, inl, inr, refl, sym, ap, subst, ◌∙◌, ℕ, ◌+◌, ◌*◌, ◌-◌, List, [], ◌∷◌, length, drop, append-nil, Bool, true, false, ◌||◌, Option, Some, None, if◌then◌else◌, arith}
 use Rattle.std.specs.Bool.{MatchBool}
 use Rattle.std.proofs.lemmas.List.{length-drop}
 use Rattle.px_bytes.specs.declared.addr.Side.TheVariants.{Client, Server}
@@ -16,6 +16,7 @@ use Rattle.core_events.specs.declared.input.Input.TheVariants.{Bytes, Ends, Rese
 use Rattle.conn_trace.specs.Heard.{SideHeard, servers_taken, Heard, taken, edges_met, hears}
 use Rattle.conn_trace.specs.Heard.{further_of, start_of}
 use Rattle.conn_trace.specs.HeardLaws.{TellsNothing}
+use Rattle.conn_trace.specs.Costs.{paid_by}
 use Rattle.conn_trace.specs.Item.{Item, client_output, server_output}
 use Rattle.conn_trace.specs.Phases.{Orderly}
 use Rattle.conn_trace.specs.Setup.{Setup}
@@ -26,6 +27,7 @@ use Rattle.conn_trace.proofs.Streams.{nothing_stream, nothing_server, nothing_on
 use Rattle.conn.specs.Calls.{unless_finished}
 use Rattle.conn.specs.Ends.{fresh_end, has_stream, queue_of, queued_in, servers_by}
 use Rattle.conn.specs.Holds.{Around, Holds, HoldsEnds}
+use Rattle.conn.specs.Paid.{Paid}
 use Rattle.conn.specs.Settling.{is_over, noted_in, over_in, settle_notes, settling_at, took_all}
 use Rattle.conn.specs.Stages.{has_finished, is_asking, is_draining}
 use Rattle.conn.specs.declared.connection.Conn.{Conn}
@@ -37,6 +39,7 @@ use Rattle.conn.specs.declared.stage.Stage.{Stage}
 use Rattle.conn.specs.declared.stage.Stage.TheVariants.{OutOfMemory}
 use Rattle.conn.proofs.Arriving.{holds, resets_ends, with_edges}
 use Rattle.conn.proofs.Giving.{ends_kept}
+use Rattle.conn.proofs.Paying.{paid_ends, paid_longer}
 use Rattle.conn.proofs.Taking.{takes_ends}
 use Rattle.proxy_core.specs.Live.{ConnComes, ConnLacks, ConnMay, LiveComes, asks_in, edges_by_conn, ends_met, further_in, met_by, takes_memory}
 use Rattle.proxy_core.specs.Moves.{came, is_drained_at, lacked, MovesBy, MovesFailed, MovesLacks, MovesOn}
@@ -57,6 +60,17 @@ to_standing C h g place at conn e u k =
     let P : TraceState → Type 0 = λ l. Holds (setup_of C h) (around h) l conn in
     let Q : Setup → Type 0 = λ y. Holds y (around h) at conn in
     subst P (sym (stands_at C h g place at e u)) (subst Q (sym e) k)
+
+pub paid_standing : (C : Config) (h : Heard) (g : Setup) (place : List Item) (at : TraceState) (conn : Conn) (t p : ℕ) → setup_of C h ≡ g → Unfolds g (start_of g h) place at → Paid g at conn t p → Paid (setup_of C h) (stand_of C h place) conn t p
+paid_standing C h g place at conn t p e u k =
+    let P : TraceState → Type 0 = λ l. Paid (setup_of C h) l conn t p in
+    let Q : Setup → Type 0 = λ y. Paid y at conn t p in
+    subst P (sym (stands_at C h g place at e u)) (subst Q (sym e) k)
+
+-- what comes of it brings no reply
+none_replied : (input : Input) (finished : Bool) → (unless_finished finished (further_in input)).replies ≡ []
+none_replied input true = refl
+none_replied input false = refl
 
 pub ends_standing : (C : Config) (h : Heard) (g : Setup) (place : List Item) (at : TraceState) (e : BothEnds) → setup_of C h ≡ g → Unfolds g (start_of g h) place at → HoldsEnds (around h) at e → HoldsEnds (around h) (stand_of C h place) e
 ends_standing C h g place at e same u k = let P : TraceState → Type 0 = λ l. HoldsEnds (around h) l e in subst P (sym (stands_at C h g place at same u)) k
@@ -269,6 +283,11 @@ module _ (C : Config) (past : Past) (s : State) (c : ℕ) (input : Input) (k : S
       let Q : Around → Type 0 = λ y. Holds g y (longer (unless_finished l.finished (further_in input)) l) mid in
       let held : Holds g (around h') (longer f l) mid = subst P same (subst Q (ap (λ b. met_by input b (around h)) finished ∙ sym told) (w.hears.hears g (around h) l z.holds k.orderly)) in
       let standing : Holds (setup_of C h') (around h') (stand_of C h' place) mid = to_standing C h' g place (longer f l) mid (same_setup group) stands held in
+      let longer_now = longer (unless_finished l.finished (further_in input)) l in
+      let M : Conn → Type 0 = λ x. Paid g longer_now x (1991 * s.spent c) (paid_by place) in
+      let L : TraceState → Type 0 = λ x. Paid g x mid (1991 * s.spent c) (paid_by place) in
+      let grown = subst M (sym w.hears.is) (paid_longer g l old (ends_met input (has_finished old.stage) old.ends) (unless_finished l.finished (further_in input)) (1991 * s.spent c) (paid_by place) (none_replied input l.finished) z.paid) in
+      let paid = paid_standing C h' g place (longer f l) mid (1991 * s.spent c) (paid_by place) (same_setup group) stands (subst L same grown) in
       let ends_are : mid.ends ≡ ends_met input (has_finished old.stage) old.ends = ap (λ x. x.ends) w.hears.is in
       let same_end : has_finished old.stage ≡ h.finished = sym z.holds.finished ∙ finished in
       let R : BothEnds → Type 0 = λ e. HoldsQueues h' place e in
@@ -290,6 +309,7 @@ module _ (C : Config) (past : Past) (s : State) (c : ℕ) (input : Input) (k : S
           not_failed = (come_told c h input group).failed ∙ ap (λ b. b || failure_told (notes_about c group)) z.not_failed ∙ no_failure;
           holds = noted_holds (setup_of C h') (around h') (stand_of C h' place) c group mid due standing;
           queues = record { client = queues.client; server = queues.server };
+          paid = paid_ends (setup_of C h') (stand_of C h' place) mid (noted_in group mid).ends _ _ paid;
         }));
         about = due_about c group due;
         ended = ap ended_in notes ∙ ended_settling (is_over _) c (edges_met input h.edges) (took_all (stand_of C h' place) (taken h') Server) (took_all (stand_of C h' place) (taken h') Client) (untaken_all h' place) ∙ ap (λ (b : Bool). if b then c ∷ [] else []) (sym drained);

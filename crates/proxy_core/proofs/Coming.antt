@@ -62,9 +62,9 @@ arrives side bytes (Ok t) old new k is = bytes_heard side bytes old new k is
 arrives side bytes (Err e) old new k is = tt
 
 -- what a Run gave, and that one that found no memory before gave its last notes alone
-pub conn_runs : (s : given.Setup) (number : ℕ) (old new : Conn) (before group after : List Note) (t : ConnTurn) → after ≡ before ++ group → new.ends.edges ≡ edges_noted group old.ends.edges → Runs s number old new group t
-    → (old.stage ≡ OutOfMemory → DropsQueued number (queued_in old.ends) old new before after t) → ConnRuns s number old new group t
-conn_runs s number old new before group after t is edges runs failed = record {
+pub conn_runs : (s : given.Setup) (number : ℕ) (old new : Conn) (before group after : List Note) (t : ConnTurn) (steps : ℕ) → after ≡ before ++ group → new.ends.edges ≡ edges_noted group old.ends.edges → Runs s number old new group t steps
+    → (old.stage ≡ OutOfMemory → DropsQueued number (queued_in old.ends) old new before after t) → ConnRuns s number old new group t steps
+conn_runs s number old new before group after t steps is edges runs failed = record {
   runs = runs;
   edges = edges;
   failed = λ there. (let d = failed there in (append_cancel_left before group (closing number old.ends.edges (queued_in old.ends)) (sym is ∙ d.noted), d.over));

@@ -1,5 +1,5 @@
 -- An event changes one connection alone: the others see the same.
-use Rattle.std.proofs.Common.{◌≡◌, refl, sym, ap, subst, ◌∙◌, ℕ, List, [], ◌∷◌, ◌++◌, Bool, true, false, nat_eq, inl, inr, ◌⊎◌, if◌then◌else◌}
+use Rattle.std.proofs.Common.{◌≡◌, refl, sym, ap, subst, ◌∙◌, ℕ, List, [], ◌∷◌, ◌++◌, length, Bool, true, false, nat_eq, inl, inr, ◌⊎◌, if◌then◌else◌}
 use Rattle.std.specs.Bool.{MatchBool}
 use Rattle.core_events.specs.declared.note.Cause.TheVariants.{Memory}
 use Rattle.core_events.specs.declared.note.Note.{Note}
@@ -23,7 +23,7 @@ use Rattle.proxy_core.specs.declared.call.Asked.{Asked}
 use Rattle.proxy_core.specs.Others.{about, front}
 use Rattle.record_model.specs.Past.{Past, heard, ended_in, without_all, with_accepted, shared}
 use Rattle.proxy_core.specs.Ready.{is_in, ring_behind, with_ready, without}
-use Rattle.conn.specs.RunsItems.{is_resting, out_of_memory, told_behind}
+use Rattle.conn.specs.RunsItems.{is_resting, out_of_memory, slices_in, told_behind}
 use Rattle.conn.specs.Settling.{closing, resting, settling_at}
 use Rattle.core_events.specs.Edges.{edges_noted}
 use Rattle.conn_trace.specs.Gates.{TakenCounts}
@@ -72,6 +72,7 @@ pub record Touches (c : ℕ) (group : List Note) (old new : State) : Type 0 wher
   pub ready : (q : ℕ) → nat_eq c q ≡ false → entries q new.ring ≡ entries q old.ring
   pub asked : (q : ℕ) → nat_eq c q ≡ false → calls_of q new.queue ≡ calls_of q old.queue
   pub place : (q : ℕ) → nat_eq c q ≡ false → new.places q ≡ old.places q
+  pub spent : (q : ℕ) → nat_eq c q ≡ false → new.spent q ≡ old.spent q
 
 touched : (c : ℕ) (group notes : List Note) (old new after : State) → group ≡ notes → new ≡ after → Touches c notes old after → Touches c group old new
 touched c group notes old new after e f t =
@@ -80,10 +81,10 @@ touched c group notes old new after e f t =
     subst P (sym e) (subst Q (sym f) t)
 
 rests : (c : ℕ) (group : List Note) (old new : State) → Rests group old new → Touches c group old new
-rests c group old new m = touched c group [] old new old m.0 m.1 (record { notes = tt; ready = λ q e. refl; asked = λ q e. refl; place = λ q e. refl })
+rests c group old new m = touched c group [] old new old m.0 m.1 (record { notes = tt; ready = λ q e. refl; asked = λ q e. refl; place = λ q e. refl; spent = λ q e. refl })
 
 comes_touch : (over : Bool) (c : ℕ) (group notes : List Note) (old new : State) → About c notes → group ≡ notes → new ≡ came c over old → Touches c group old new
-comes_touch over c group notes old new a e f = touched c group notes old new (came c over old) e f (record { notes = a; ready = λ q h. by_end over q h; asked = λ q h. refl; place = λ q h. refl })
+comes_touch over c group notes old new a e f = touched c group notes old new (came c over old) e f (record { notes = a; ready = λ q h. by_end over q h; asked = λ q h. refl; place = λ q h. refl; spent = λ q h. refl })
   where
     by_end : (b : Bool) (q : ℕ) → nat_eq c q ≡ false → entries q (came c b old).ring ≡ entries q old.ring
     by_end true q h = entries_without c q old.ring (eq_turned c q h)
@@ -101,13 +102,14 @@ about_behind t g took at c e d = by_rest (is_resting t)
     by_rest false = tt
 
 -- the front ran: its notes are about it
-ran_touch : (c : ℕ) (rest after : List ℕ) (queue : List Asked) (more : List Item) (group notes : List Note) (old new : State) → old.ring ≡ c ∷ rest → ((q : ℕ) → nat_eq q c ≡ false → entries q after ≡ entries q rest) → ((q : ℕ) → nat_eq q c ≡ false → calls_of q queue ≡ calls_of q old.queue) → group ≡ notes → About c notes → new ≡ ran c after queue more old → Touches c group old new
-ran_touch c rest after queue more group notes old new front_is others calls e a f =
-    touched c group notes old new (ran c after queue more old) e f (record {
+ran_touch : (c : ℕ) (rest after : List ℕ) (queue : List Asked) (more : List Item) (slices : ℕ) (group notes : List Note) (old new : State) → old.ring ≡ c ∷ rest → ((q : ℕ) → nat_eq q c ≡ false → entries q after ≡ entries q rest) → ((q : ℕ) → nat_eq q c ≡ false → calls_of q queue ≡ calls_of q old.queue) → group ≡ notes → About c notes → new ≡ ran c after queue more old → Touches c group old new
+ran_touch c rest after queue more slices group notes old new front_is others calls e a f =
+    touched c group notes old new (ran c after queue more slices old) e f (record {
       notes = a;
       ready = λ q h. others q (eq_turned c q h) ∙ entries_rest c q rest (eq_turned c q h) ∙ ap (entries q) (sym front_is);
       asked = λ q h. calls q (eq_turned c q h);
       place = λ q h. rw h refl;
+      spent = λ q h. rw h refl;
     })
 
 by_ring : (C : Config) (past : Past) (ring : List ℕ) (group : List Note) (old new : State) → old.ring ≡ ring → MovesRing C past ring group old new → Touches (front ring) group old new
@@ -117,19 +119,19 @@ by_ring C past (c ∷ rest) group old new e m = by_failed (heard c past).failed 
     by_failed : (b : Bool) → MatchBool b (RunsFailed (heard c past) c rest group old new) (RunsOn C (heard c past) c rest group old new ⊎ RunsOut C (heard c past) c rest group old new) → Touches c group old new
     by_failed true k =
         let notes = closing c (heard c past).edges (untaken_all (heard c past) (old.places c)) in
-        touched c group notes old new (record old { ring = rest }) k.notes k.state (record { notes = due_about c notes (closing_due c (heard c past).edges (untaken_all (heard c past) (old.places c))); ready = λ q h. entries_rest c q rest (eq_turned c q h) ∙ ap (entries q) (sym e); asked = λ q h. refl; place = λ q h. refl })
+        touched c group notes old new (record old { ring = rest }) k.notes k.state (record { notes = due_about c notes (closing_due c (heard c past).edges (untaken_all (heard c past) (old.places c))); ready = λ q h. entries_rest c q rest (eq_turned c q h) ∙ ap (entries q) (sym e); asked = λ q h. refl; place = λ q h. refl; spent = λ q h. refl })
     by_failed false (inl k) =
         let h = heard c past in
         let ends = edges_noted (notes_of c k.more) h.edges in
         let d = untaken_all h (old.places c ++ k.more) in
         let behind = told_behind k.turn (setup_of C h) (taken h) k.at c ends d in
-        ran_touch c rest (ring_behind k.turn c rest) (queue_behind k.turn c old.queue) k.more group (notes_of c k.more ++ behind) old new e (λ q h. entries_behind k.turn c q rest h) (λ q h. calls_behind k.turn c q old.queue h) k.items.noted
+        ran_touch c rest (ring_behind k.turn c rest) (queue_behind k.turn c old.queue) k.more (slices_in k.turn (length group)) group (notes_of c k.more ++ behind) old new e (λ q h. entries_behind k.turn c q rest h) (λ q h. calls_behind k.turn c q old.queue h) k.items.noted
         (about_joined c (notes_of c k.more) behind (about_items c (notes_of c k.more) (of_items c k.more)) (about_behind k.turn (setup_of C h) (taken h) k.at c ends d)) k.state
     by_failed false (inr k) =
         let h = heard c past in
         let ends = edges_noted (notes_of c k.more) h.edges in
         let d = untaken_all h (old.places c ++ k.more) in
-        ran_touch c rest rest old.queue k.more group (out_of_memory c h.edges k.more d) old new e (λ q h. refl) (λ q h. refl) k.notes
+        ran_touch c rest rest old.queue k.more 0 group (out_of_memory c h.edges k.more d) old new e (λ q h. refl) (λ q h. refl) k.notes
         (about_joined c (notes_of c k.more) (Finish c Memory ∷ closing c ends d) (about_items c (notes_of c k.more) (of_items c k.more)) (refl, due_about c (closing c ends d) (closing_due c ends d))) k.state
 
 by_input : (C : Config) (past : Past) (c : ℕ) (input : Input) (group : List Note) (old new : State) → MovesCome C input (heard c past) (hears c (heard c past) (Comes c input) group) c group old new → Touches c group old new
@@ -145,13 +147,13 @@ by_input C past c input group old new m = by_failed (heard c past).failed m
         let e = edges_met input (heard c past).edges in
         let d = untaken_all now (old.places c) in
         comes_touch (is_drained_at C now (old.places c)) c group (settling_at (setup_of C now) (taken now) at c e d) old new (about_settling (setup_of C now) (taken now) at c e d) k.notes k.state
-    by_failed false (inr k) = touched c group (Finish c Memory ∷ []) old new (lacked c old) k.notes k.state (record { notes = (refl, tt); ready = λ q h. entries_ready c q old.ring (eq_turned c q h); asked = λ q h. calls_without c q old.queue (eq_turned c q h); place = λ q h. refl })
+    by_failed false (inr k) = touched c group (Finish c Memory ∷ []) old new (lacked c old) k.notes k.state (record { notes = (refl, tt); ready = λ q h. entries_ready c q old.ring (eq_turned c q h); asked = λ q h. calls_without c q old.queue (eq_turned c q h); place = λ q h. refl; spent = λ q h. refl })
 
 by_accept : (c : ℕ) (group : List Note) (old new : State) → (group ≡ []) ⊎ (group ≡ Finish c Memory ∷ []) → new ≡ record old { ring = old.ring ++ c ∷ [] } → Touches c group old new
 by_accept c group old new e f = by_notes e
   where
     pushed : (notes : List Note) → About c notes → group ≡ notes → Touches c group old new
-    pushed notes a k = touched c group notes old new (record old { ring = old.ring ++ c ∷ [] }) k f (record { notes = a; ready = λ q h. entries_pushed c q old.ring (eq_turned c q h); asked = λ q h. refl; place = λ q h. refl })
+    pushed notes a k = touched c group notes old new (record old { ring = old.ring ++ c ∷ [] }) k f (record { notes = a; ready = λ q h. entries_pushed c q old.ring (eq_turned c q h); asked = λ q h. refl; place = λ q h. refl; spent = λ q h. refl })
 
     by_notes : (group ≡ []) ⊎ (group ≡ Finish c Memory ∷ []) → Touches c group old new
     by_notes (inl k) = pushed [] tt k
@@ -171,6 +173,7 @@ by_queue store moment (a ∷ rest) group old new e m =
       ready = λ q h. entries_ready a.conn q old.ring (eq_turned a.conn q h);
       asked = λ q h. calls_rest q a rest (eq_turned a.conn q h) ∙ ap (calls_of q) (sym e);
       place = λ q h. refl;
+      spent = λ q h. refl;
     })
 
 pub touches : (C : Config) (past : Past) (v : EventKind) (group : List Note) (old new : State) → MovesBy C past v group old new → Touches (about v old) group old new
@@ -181,10 +184,11 @@ touches C past Turns group old new m = by_queue (store_of C past) (shared past).
 touches C past Runs group old new m = by_ring C past old.ring group old new refl m
 touches C past (Marks pool member up) group old new m = rests 0 group old new m
 
-pub same_seen : (z w : Seen) → z.heard ≡ w.heard → z.live ≡ w.live → z.ready ≡ w.ready → z.asked ≡ w.asked → z.place ≡ w.place → z ≡ w
-same_seen z w h l r a p =
-    let make : Heard → Bool → List ℕ → List (List (List ℕ)) → List Item → Seen = λ h l r a p. record { heard = h; live = l; ready = r; asked = a; place = p } in
-    ap (λ y. make y z.live z.ready z.asked z.place) h ∙ ap (λ y. make w.heard y z.ready z.asked z.place) l ∙ ap (λ y. make w.heard w.live y z.asked z.place) r ∙ ap (λ y. make w.heard w.live w.ready y z.place) a ∙ ap (λ y. make w.heard w.live w.ready w.asked y) p
+pub same_seen : (z w : Seen) → z.heard ≡ w.heard → z.live ≡ w.live → z.ready ≡ w.ready → z.asked ≡ w.asked → z.place ≡ w.place → z.spent ≡ w.spent → z ≡ w
+same_seen z w h l r a p n =
+    let make : Heard → Bool → List ℕ → List (List (List ℕ)) → List Item → ℕ → Seen = λ h l r a p n. record { heard = h; live = l; ready = r; asked = a; place = p; spent = n } in
+    ap (λ y. make y z.live z.ready z.asked z.place z.spent) h ∙ ap (λ y. make w.heard y z.ready z.asked z.place z.spent) l ∙ ap (λ y. make w.heard w.live y z.asked z.place z.spent) r ∙ ap (λ y. make w.heard w.live w.ready y z.place z.spent) a
+    ∙ ap (λ y. make w.heard w.live w.ready w.asked y z.spent) p ∙ ap (λ y. make w.heard w.live w.ready w.asked w.place y) n
 
 -- only connection c changed
 pub record OnlyChanged (c : ℕ) (past : Past) (v : EventKind) (group : List Note) (old new : State) : Type 0 where
@@ -196,7 +200,7 @@ only_changed past v group old new t = record {
       same_seen (seen_after past v group new q) (seen past old q)
       (others_not_heard q (heard q past) v group (not_concerned q v old e) (own_none (about v old) q group t.notes e))
       (ended_other (about v old) q group (with_accepted v (shared past).live) t.notes e ∙ accepted_other q v old (shared past).live e)
-      (t.ready q e) (t.asked q e) (t.place q e);
+      (t.ready q e) (t.asked q e) (t.place q e) (t.spent q e);
 }
 
 -- What holds of connection c after the event, and held of all before it, holds of all. `olds` and

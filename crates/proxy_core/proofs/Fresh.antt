@@ -31,6 +31,7 @@ fresh c a failed = record {
   ready = c ∷ [];
   asked = [];
   place = [];
+  spent = 0;
 }
 
 first_heard : (c : ℕ) (a : Accepted) (failed : Bool) → hears c nothing_heard (Accepts c a.virtual a.from) (first_notes c failed) ≡ (fresh c a failed).heard
@@ -50,7 +51,7 @@ seen_accept past c a failed group old new u e f =
     (ap (λ g. is_in (without_all (ended_in g) ((shared past).live ++ c ∷ [])) c) e ∙ ap (λ ns. is_in ns c) (first_ended c failed ((shared past).live ++ c ∷ [])) ∙ in_pushed_self c (shared past).live)
     (ap (λ s. entries c s.ring) f ∙ entries_pushed_self c old.ring ∙ ap (λ z. z.ready ++ c ∷ []) u)
     (ap (λ s. calls_of c s.queue) f ∙ ap (λ z. z.asked) u)
-    (ap (λ s. s.places c) f ∙ ap (λ z. z.place) u)
+    (ap (λ s. s.places c) f ∙ ap (λ z. z.place) u) (ap (λ s. s.spent c) f ∙ ap (λ z. z.spent) u)
 
 -- no row of a list holds
 abbrev pub NoneHolds : List Row → Type 0

@@ -73,6 +73,7 @@ promised C past s c f k = record {
     server_sent = f.kept;
     server_reset = f.gone;
   };
+  slices_are_paid = k.paid;
 }
   where
     z : Seen

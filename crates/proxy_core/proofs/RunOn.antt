@@ -1,7 +1,8 @@
 -- A connection of the code that runs: what it goes on with, for what was heard then.
-use Rattle.std.proofs.Common.{◌≡◌, ◌⊎◌, inl, inr, refl, sym, ap, subst, ◌∙◌, ℕ, ◌+◌, ◌-◌, ◌≤◌, List, [], ◌∷◌, ◌++◌, length, drop, Bool, true, false, ◌||◌, Option, Some, None, nat_eq, if◌then◌else◌, arith, length-append}
+use Rattle.std.proofs.Common.{◌≡◌, ◌⊎◌, inl, inr, refl, sym, ap, subst, ◌∙◌, ℕ, ◌+◌, ◌*◌, ◌-◌, ◌≤◌, ◌<◌, nat_lt, List, [], ◌∷◌, ◌++◌, length, drop, Bool, true, false, ◌||◌, Option, Some, None, nat_eq, if◌then◌else◌, arith, length-append}
 use Rattle.std.specs.Bool.{MatchBool}
 use Rattle.std.proofs.lemmas.List.{length-drop, drop-append-le}
+use Rattle.std.proofs.lemmas.Bool.Decides.{nat_tests}
 use Rattle.std.proofs.lemmas.Grind.{flat_map-append}
 use Rattle.core_events.specs.declared.edges.Edges.{Edges}
 use Rattle.core_events.specs.declared.note.Cause.TheVariants.{Memory}
@@ -13,17 +14,20 @@ use Rattle.conn_trace.specs.Gates.{Counts, TakenCounts, no_bytes, sent_after, se
 use Rattle.core_events.specs.declared.event_kind.EventKind.TheVariants.{Runs}
 use Rattle.conn_trace.specs.Heard.{Heard, taken, hears, start_of}
 use Rattle.conn_trace.specs.HeardLaws.{TellsNothing, taken_by_items}
+use Rattle.conn_trace.specs.Costs.{paid_by}
 use Rattle.conn_trace.specs.Item.{Item, to_client, to_server, client_output, server_output, notes_of}
 use Rattle.conn_trace.specs.Setup.{Setup}
 use Rattle.conn_trace.specs.State.{TraceState}
 use Rattle.conn_trace.specs.Tellings.{notes_about, failure_told}
 use Rattle.conn_trace.specs.Trace.{Unfolds}
+use Rattle.conn_trace.proofs.Costs.{paid_joins}
 use Rattle.conn_trace.proofs.Given.{sent_counted, sent_output}
 use Rattle.conn_trace.proofs.Sending.{sent_to_server}
 use Rattle.conn.specs.Ends.{is_up, number_by, queued_in}
 use Rattle.conn.specs.Holds.{Around, Holds, HoldsEnds}
-use Rattle.conn.specs.Runs.{GoesOnWith, StopsWithout}
-use Rattle.conn.specs.RunsItems.{Passes, StopsAt, asks, ends, is_resting, out_of_memory, told_behind}
+use Rattle.conn.specs.Paid.{Paid}
+use Rattle.conn.specs.Runs.{GoesOnWith, IsWhole, StopsWithout}
+use Rattle.conn.specs.RunsItems.{Passes, StopsAt, asks, ends, is_resting, out_of_memory, slices_in, told_behind}
 use Rattle.conn.specs.Settling.{closing, resting}
 use Rattle.conn.specs.Setups as conn
 use Rattle.conn.specs.declared.connection.Conn.{Conn}
@@ -42,7 +46,9 @@ use Rattle.proxy_core.specs.Represents.{ConnectionContinues, Continues, HoldsQue
 use Rattle.proxy_core.specs.Scheduler.{State, last_took, seen, seen_after, untaken_all}
 use Rattle.record_model.specs.Setup.{setup_of, stand_of}
 use Rattle.run_config.specs.declared.config.Config.{Config}
-use Rattle.proxy_core.proofs.CameOn.{Stood, queued_untaken, to_standing}
+use Rattle.conn.proofs.Affording.{affords}
+use Rattle.conn.proofs.Paying.{paid_within}
+use Rattle.proxy_core.proofs.CameOn.{Stood, paid_standing, queued_untaken, to_standing}
 use Rattle.proxy_core.proofs.Entries.{asked_behind, calls_behind_self}
 use Rattle.proxy_core.proofs.GroupNotes.{About, AreDue, about_items, about_joined, closing_due, due_about, due_failure, due_quiet, ended_behind, ended_closing, ended_resting, failure_behind, of_items, resting_due, tells_all}
 use Rattle.proxy_core.proofs.Meeting.{around_quiet}
@@ -113,6 +119,25 @@ module _ (g : Setup) (h : Heard) (place : List Item) (l : TraceState) (e : Ends)
       let now = ap (λ x. x.server) (sent_behind more at on) in
       omega (arith, client, all, client_within, k.server_untaken, sent, now)
 
+-- ---- slices
+
+-- a slice counted 1,991 steps at least
+pub slices_paid : (g : Setup) (at : TraceState) (conn : Conn) (t : ConnTurn) (steps notes spent : ℕ) (place more : List Item) → IsWhole t steps notes → Paid g at conn (1991 * spent + steps) (paid_by place + paid_by more) → Paid g at conn (1991 * (spent + slices_in t notes)) (paid_by (place ++ more))
+slices_paid g at conn t steps notes spent place more whole k =
+    let j = paid_joins place more in
+    paid_within g at conn (1991 * spent + steps) (1991 * (spent + slices_in t notes)) (paid_by place + paid_by more) (paid_by (place ++ more)) (by_turn t whole) (omega (arith, j)) k
+  where
+    by_test : (b : Bool) → nat_lt notes 64 ≡ b → (1990 < steps) ⊎ (64 ≤ notes) → 1991 * (spent + (if b then 1 else 0)) ≤ 1991 * spent + steps
+    by_test false many w = omega arith
+    by_test true few (inl counted) = omega (arith, counted)
+    by_test true few (inr many) = absurd (let less : notes < 64 = grind (arith, nat_tests, few) in omega (arith, less, many))
+
+    by_turn : (t : ConnTurn) → IsWhole t steps notes → 1991 * (spent + slices_in t notes) ≤ 1991 * spent + steps
+    by_turn turn.More w = by_test (nat_lt notes 64) refl w
+    by_turn (turn.Asks call) w = omega arith
+    by_turn turn.NotYet w = omega arith
+    by_turn turn.Over w = omega arith
+
 -- ---- a Run
 
 -- what the front comes to
@@ -169,12 +194,14 @@ module _ (C : Config) (past : Past) (s : State) (c : ℕ) (rest : List ℕ) wher
 
   module _ (k : Stood C (heard c past) (s.places c)) (ran_on : RunStood C c (heard c past) (s.places c)) where
     front_goes : (group : List Note) (t : ConnTurn) (old new : Conn) → Continues C (seen past s c) old → h.edges ≡ old.ends.edges → calls_of c s.queue ≡ []
-        → GoesOnWith (setup_of C h) (around h) (stand_of C h place) c old new group t → RanConn C past s c rest group t (Some new)
-    front_goes group t old new z edges none w =
+        → (steps : ℕ) → GoesOnWith (setup_of C h) (around h) (stand_of C h place) c old new group t steps → IsWhole t steps (length group) → RanConn C past s c rest group t (Some new)
+    front_goes group t old new z edges none steps w whole =
         let g = setup_of C h in
         let l = stand_of C h place in
         let all = place ++ w.more in
-        let next = ran c (ring_behind t c rest) (queue_behind t c s.queue) w.more s in
+        let slices = slices_in t (length group) in
+        let next = ran c (ring_behind t c rest) (queue_behind t c s.queue) w.more slices s in
+        let paid = slices_paid g w.at new t steps (length group) (s.spent c) place w.more whole (w.pays (1991 * s.spent c) (paid_by place) z.paid) in
         let queues = queues_joined g h place l old.ends z.holds.ends k.stands w.more new.ends z.queues w.client_queue w.server_queue in
         let sent = sent_behind g h place l old.ends z.holds.ends k.stands w.more w.at w.items.passes.passed in
         let left : queued_in new.ends ≡ untaken_all h all = queued_untaken h w.at all new.ends w.holds.ends queues sent in
@@ -192,25 +219,27 @@ module _ (C : Config) (past : Past) (s : State) (c : ℕ) (rest : List ℕ) wher
         let P : (if nat_eq c c then all else place) ≡ all = ap (λ (b : Bool). if b then all else place) (eq_self c) in
         let M : Bool → Type 0 = λ b. MatchBool b (RunsFailed h c rest group s next) (RunsOn C h c rest group s next ⊎ RunsOut C h c rest group s next) in
         let G : List Note → Type 0 = λ x. Continues C (seen_after past Runs x next c) new in
-        let Z : List Item → Type 0 = λ p. Continues C (record (seen_after past Runs (items ++ behind) next c) { place = p }) new in
+        let Z : List Item → ℕ → Type 0 = λ p n. Continues C (record (seen_after past Runs (items ++ behind) next c) { place = p; spent = n }) new in
+        let N : (if nat_eq c c then s.spent c + slices else s.spent c) ≡ s.spent c + slices = ap (λ (b : Bool). if b then s.spent c + slices else s.spent c) (eq_self c) in
         let A : List Note → Type 0 = λ x. About c x in
         record {
           next = next;
           ring = refl;
           queue = refl;
           asking = λ x. w.asking ∙ asks_behind t ∙ ap is_any (sym (calls_behind_self t c s.queue none));
-          moves = subst M (sym z.not_failed) (inl (record { more = w.more; at = w.at; turn = t; items = record { passes = w.items.passes; noted = noted; stops = w.items.stops; calls = w.items.calls }; state = refl }));
+          moves = subst M (sym z.not_failed) (inl (record { more = w.more; at = w.at; turn = t; items = record { passes = w.items.passes; noted = noted; stops = w.items.stops; forward = w.items.forward; calls = w.items.calls }; paid = affords g (around h) w.at new (1991 * (s.spent c + slices)) (paid_by all) w.holds paid; state = refl }));
           about = subst A (sym noted) about_all;
           ended = ap ended_in noted ∙ ended_behind c items behind ofs ∙ told_ends t g (taken h) w.at c (edges_noted items h.edges) (untaken_all h all) w.items.stops;
           setup = λ x. refl;
-          goes_on = λ x. inl (subst G (sym noted) (subst Z (sym P) (record {
+          goes_on = λ x. inl (subst G (sym noted) (subst (λ p. Z p (if nat_eq c c then s.spent c + slices else s.spent c)) (sym P) (subst (Z all) (sym N) (record {
             not_failed = ap (λ b. b || failure_told (notes_about c (items ++ behind))) z.not_failed ∙ ap failure_told (tells_all c (items ++ behind) about_all) ∙ failure_behind c items behind ofs ∙ due_failure c behind due;
             holds = to_standing C h' g all w.at new refl stands (subst T (sym around_same) w.holds);
             queues = record {
               client = queues.client ∙ ap (λ a. drop a.counted (client_output all)) (sym around_same);
               server = queues.server ∙ ap (λ a. drop a.counted_server (server_output 1 all)) (sym around_same);
             };
-          })));
+            paid = paid_standing C h' g all w.at new (1991 * (s.spent c + slices)) (paid_by all) refl stands paid;
+          }))));
         }
 
     front_stops : (group : List Note) (t : ConnTurn) (old : Conn) (o : Option Conn) → Continues C (seen past s c) old → h.edges ≡ old.ends.edges
@@ -219,7 +248,7 @@ module _ (C : Config) (past : Past) (s : State) (c : ℕ) (rest : List ℕ) wher
         let g = setup_of C h in
         let l = stand_of C h place in
         let all = place ++ w.more in
-        let next = ran c rest s.queue w.more s in
+        let next = ran c rest s.queue w.more 0 s in
         let items = notes_of c w.more in
         let given = queued_in old.ends + (length (client_output w.more) + length (server_output 1 w.more)) in
         let left : given ≡ untaken_all h all = out_untaken g h place l old.ends z.holds.ends k.stands w.more w.at z.queues w.passes.passed w.sent in
@@ -242,16 +271,16 @@ module _ (C : Config) (past : Past) (s : State) (c : ℕ) (rest : List ℕ) wher
           goes_on = λ x. absurd (over_stays t w.over x);
         }
 
-    pub front_runs : (group : List Note) (t : ConnTurn) (S : given.Setup) (edges : Edges) (o o' : Option Conn) → ConnectionContinues C (seen past s c) o → h.edges ≡ edges_by_conn o edges → calls_of c s.queue ≡ [] → asks_in o ≡ is_any (calls_of c s.queue)
-        → conn.Serves S (setup_of C h) → LiveRuns S c edges o o' group t → RanConn C past s c rest group t o'
-    front_runs group t S edges None o' z e none asks serves r =
+    pub front_runs : (group : List Note) (t : ConnTurn) (steps : ℕ) (S : given.Setup) (edges : Edges) (o o' : Option Conn) → ConnectionContinues C (seen past s c) o → h.edges ≡ edges_by_conn o edges → calls_of c s.queue ≡ [] → asks_in o ≡ is_any (calls_of c s.queue)
+        → conn.Serves S (setup_of C h) → LiveRuns S c edges o o' group t steps → IsWhole t steps (length group) → RanConn C past s c rest group t o'
+    front_runs group t steps S edges None o' z e none asks serves r whole =
         front_failed group t o' 0 z.failed (let n : untaken_all h [] ≡ 0 = omega arith in sym (ap (untaken_all h) z.no_items ∙ n)) (r.0 ∙ ap (λ x. closing c x 0) (sym e)) r.1
-    front_runs group t S edges (Some old) None z e none asks serves r = absurd r
-    front_runs group t S edges (Some old) (Some new) (inr z) e none asks serves r =
+    front_runs group t steps S edges (Some old) None z e none asks serves r whole = absurd r
+    front_runs group t steps S edges (Some old) (Some new) (inr z) e none asks serves r whole =
         let x = r.failed z.there in
         front_failed group t (Some new) (queued_in old.ends) z.failed (queued_untaken h (stand_of C h place) place old.ends z.ends z.queues (sent_at (setup_of C h) h place (stand_of C h place) k.stands)) (x.0 ∙ ap (λ y. closing c y (queued_in old.ends)) (sym e)) x.1
-    front_runs group t S edges (Some old) (Some new) (inl z) e none asks serves r = by_end (r.runs (setup_of C h) (around h) (stand_of C h place) serves z.holds (asks ∙ ap is_any none))
+    front_runs group t steps S edges (Some old) (Some new) (inl z) e none asks serves r whole = by_end (r.runs (setup_of C h) (around h) (stand_of C h place) serves z.holds (asks ∙ ap is_any none))
       where
-        by_end : GoesOnWith (setup_of C h) (around h) (stand_of C h place) c old new group t ⊎ StopsWithout (setup_of C h) (around h) (stand_of C h place) c old group t → RanConn C past s c rest group t (Some new)
-        by_end (inl w) = front_goes group t old new z e none w
+        by_end : GoesOnWith (setup_of C h) (around h) (stand_of C h place) c old new group t steps ⊎ StopsWithout (setup_of C h) (around h) (stand_of C h place) c old group t → RanConn C past s c rest group t (Some new)
+        by_end (inl w) = front_goes group t old new z e none steps w whole
         by_end (inr w) = front_stops group t old (Some new) z e w

@@ -45,6 +45,7 @@ fresh c a failed = record {
   ready = c ∷ [];
   asked = [];
   place = [];
+  spent = 0;
 }
 
 -- the calls of no item
@@ -74,8 +75,8 @@ first_ends c a true = record { while_live = λ e. refl; over = λ e. absurd (let
 first_ends c a false = record { while_live = λ e. refl; over = λ e. absurd (let f : true ≡ false = e in cc); closed_has_finished = λ e. absurd (let f : false ≡ true = e in cc); client_took_all = λ f e. absurd (none_closed Client e); server_took_all = λ f e. absurd (none_closed Server e) }
 
 pub fresh_sound : (C : Config) (c : ℕ) (a : Accepted) (failed : Bool) → SoundAt C c (fresh c a failed)
-fresh_sound C c a true = record { stands = refl; met = tt; within = record { client = took_nothing.client; servers = none_took }; linked = (let l = begins_at C (fresh c a true).heard in first_linked (setup_of C (fresh c a true).heard) l.client l.answers true refl); licensed = λ cut e. no_cut cut e; shown = refl; causes = refl; ends = first_ends c a true; closed_over = λ f side e. absurd (none_closed side e); told = no_calls true (Finish c Memory ∷ []) refl; spot = tt }
-fresh_sound C c a false = record { stands = refl; met = tt; within = record { client = took_nothing.client; servers = none_took }; linked = (let l = begins_at C (fresh c a false).heard in first_linked (setup_of C (fresh c a false).heard) l.client l.answers false refl); licensed = λ cut e. no_cut cut e; shown = refl; causes = refl; ends = first_ends c a false; closed_over = λ f side e. absurd (none_closed side e); told = no_calls false [] refl; spot = tt }
+fresh_sound C c a true = record { stands = refl; met = tt; within = record { client = took_nothing.client; servers = none_took }; paid = omega arith; linked = (let l = begins_at C (fresh c a true).heard in first_linked (setup_of C (fresh c a true).heard) l.client l.answers true refl); licensed = λ cut e. no_cut cut e; shown = refl; causes = refl; ends = first_ends c a true; closed_over = λ f side e. absurd (none_closed side e); told = no_calls true (Finish c Memory ∷ []) refl; spot = tt }
+fresh_sound C c a false = record { stands = refl; met = tt; within = record { client = took_nothing.client; servers = none_took }; paid = omega arith; linked = (let l = begins_at C (fresh c a false).heard in first_linked (setup_of C (fresh c a false).heard) l.client l.answers false refl); licensed = λ cut e. no_cut cut e; shown = refl; causes = refl; ends = first_ends c a false; closed_over = λ f side e. absurd (none_closed side e); told = no_calls false [] refl; spot = tt }
 
 first_heard : (c : ℕ) (a : Accepted) (failed : Bool) → hears c nothing_heard (Accepts c a.virtual a.from) (first_notes c failed) ≡ (fresh c a failed).heard
 first_heard c a true = rw (eq_self c) refl
@@ -94,4 +95,4 @@ seen_accept past c a failed group old new u e f =
     (ap (λ g. is_in (without_all (ended_in g) ((shared past).live ++ c ∷ [])) c) e ∙ ap (λ ns. is_in ns c) (first_ended c failed ((shared past).live ++ c ∷ [])) ∙ in_pushed_self c (shared past).live)
     (ap (λ s. entries c s.ring) f ∙ entries_pushed_self c old.ring ∙ ap (λ z. z.ready ++ c ∷ []) u)
     (ap (λ s. calls_of c s.queue) f ∙ ap (λ z. z.asked) u)
-    (ap (λ s. s.places c) f ∙ ap (λ z. z.place) u)
+    (ap (λ s. s.places c) f ∙ ap (λ z. z.place) u) (ap (λ s. s.spent c) f ∙ ap (λ z. z.spent) u)

@@ -53,7 +53,7 @@ use Rattle.proxy_core.proofs.Members.{not_in_without}
 use Rattle.proxy_core.proofs.Licensing.{come_licensed}
 use Rattle.proxy_core.proofs.LinkedComes.{come_linked}
 use Rattle.proxy_core.proofs.Overs.{over_at, over_stays}
-use Rattle.proxy_core.proofs.Standing.{served_at, sent_at}
+use Rattle.proxy_core.proofs.Standing.{longer_pays, sent_at, served_at}
 use Rattle.proxy_core.proofs.Sums.{causes_due, shown_due}
 use Rattle.proxy_core.proofs.SoundAccepts.{or_false}
 
@@ -283,6 +283,7 @@ come_served C past c input group over old distinct m found is drained =
       stands = stands;
       met = met_more no_bytes (taken h) took z.place more k.met;
       within = m.within group;
+      paid = longer_pays g z.place l f z.spent k.paid;
       shown = ap (filter shows) t.notes ∙ shown_due c h.notes group (notes_of c z.place) due k.shown;
       causes = ap causes_told t.notes ∙ causes_due c h.notes group (map cause_of (reasons_in z.place) ++ causes_behind h.failed) due k.causes ∙ ap (λ b. map cause_of (reasons_in z.place) ++ causes_behind b) (sym failed);
       ends = ends_told c z z' group over k.ends m.live t.notes live by

@@ -40,7 +40,7 @@ use Rattle.proxy_core.proofs.Hearing.{come_told, come_takes}
 use Rattle.proxy_core.proofs.Meeting.{come_further, last_further}
 use Rattle.proxy_core.proofs.Licensing.{come_licensed}
 use Rattle.proxy_core.proofs.Linking.{linked_over, longer_linked}
-use Rattle.proxy_core.proofs.Standing.{served_at}
+use Rattle.proxy_core.proofs.Standing.{longer_pays, served_at}
 use Rattle.proxy_core.proofs.Sums.{causes_due, causes_on, finish_of_causes, shown_due, shown_on}
 use Rattle.proxy_core.proofs.SoundAccepts.{or_false}
 use Rattle.proxy_core.proofs.SoundComes.{ring_came, calls_on, MayCome, or_true, or_first, ends_told}
@@ -95,6 +95,7 @@ failed_comes C past c input old m has_failed =
       stands = stands;
       met = met_more no_bytes (taken h) took z.place (come_takes c h input []) k.met;
       within = m.within [];
+      paid = longer_pays g z.place l f z.spent k.paid;
       shown = ap (filter shows) t.notes ∙ shown_due c h.notes [] (notes_of c z.place) tt k.shown;
       causes = ap causes_told t.notes ∙ causes_due c h.notes [] (map cause_of (reasons_in z.place) ++ causes_behind h.failed) tt k.causes ∙ ap (λ b. map cause_of (reasons_in z.place) ++ causes_behind b) (sym same);
       ends = ends_told c z z' [] false k.ends m.live t.notes m.live (none_ends c (untaken_all h' z.place)) (λ o. absurd (let x : false ≡ true = o in cc)) (λ o. t.finished ∙ or_first h.finished (finish_told (map tells [])) o) (λ o. absurd (let x : false ≡ true = o in cc)) (λ x side q. absurd (let y : true ≡ false = sym failed ∙ x in cc));
@@ -156,6 +157,7 @@ lack_served C past c input old m found =
       stands = stands;
       met = met_more no_bytes (taken h) took z.place (come_takes c h input group) k.met;
       within = m.within group;
+      paid = longer_pays g z.place l nothing_further z.spent k.paid;
       shown = ap (filter shows) t.notes ∙ shown_on h.notes group ∙ append-nil (filter shows h.notes) ∙ k.shown;
       causes = ap causes_told t.notes ∙ causes_on h.notes group ∙ ap (λ x. x ++ Memory ∷ []) (k.causes ∙ ap (λ b. causes ++ causes_behind b) found ∙ append-nil causes) ∙ ap (λ b. causes ++ causes_behind b) (sym failed);
       ends = ends_told c z z' group false k.ends m.live t.notes m.live (record { going = λ n. refl; last = λ o. absurd (let x : false ≡ true = o in cc) }) (λ o. absurd (let x : false ≡ true = o in cc)) (λ o. finished) (λ o. finished) (λ x side q. absurd (let y : true ≡ false = sym failed ∙ x in cc));

@@ -1,5 +1,5 @@
 -- What holds of every state that a past leads to.
-use Rattle.std.proofs.Common.{◌≡◌, refl, sym, ap, subst, ◌∙◌, ℕ, zero, suc, ◌+◌, ◌-◌, ◌≤◌, ◌<◌, List, [], ◌∷◌, ◌++◌, length, Bool, true, false, ◌⊎◌, inl, inr, Some, None, nat_eq, nat_lt, arith, zero-add, if◌then◌else◌}
+use Rattle.std.proofs.Common.{◌≡◌, refl, sym, ap, subst, ◌∙◌, ℕ, zero, suc, ◌+◌, ◌*◌, ◌-◌, ◌≤◌, ◌<◌, List, [], ◌∷◌, ◌++◌, length, Bool, true, false, ◌⊎◌, inl, inr, Some, None, nat_eq, nat_lt, arith, zero-add, if◌then◌else◌}
 use Rattle.std.specs.Prelude.{is_none, is_some, not}
 use Rattle.std.specs.Bool.{MatchBool}
 use Rattle.std.specs.List.{IsDistinct}
@@ -9,7 +9,9 @@ use Rattle.px_bytes.specs.declared.addr.Side.TheVariants.{Client, Server}
 use Rattle.core_events.specs.declared.note.Cause.TheVariants.{Memory}
 use Rattle.core_events.specs.declared.note.Note.{Note}
 use Rattle.core_events.specs.declared.note.Note.TheVariants.{Finish}
+use Rattle.conn_trace.specs.Costs.{SlicesPaid}
 use Rattle.conn_trace.specs.Gates.{TakenCounts, no_bytes, untaken}
+use Rattle.conn_trace.specs.HeardLaws.{taken_by_items}
 use Rattle.core_events.specs.Edges.{edges_noted}
 use Rattle.conn_trace.specs.Further.{longer}
 use Rattle.conn_trace.specs.Tellings.{finish_told}
@@ -41,7 +43,7 @@ use Rattle.proxy_core.specs.Ready.{is_in, ring_behind, without}
 use Rattle.record_model.specs.Refusal.{Row, answers_nothing, by_edges, takes_too_much, refusal_rows, first_of}
 use Rattle.proxy_core.specs.Refusal.{wants_at, standing_by, known, refused}
 use Rattle.proxy_core.specs.Servers.{took_of}
-use Rattle.conn.specs.RunsItems.{asked_at, ends, Passes, StopsAt, out_of_memory, told_behind}
+use Rattle.conn.specs.RunsItems.{asked_at, ends, Passes, StopsAt, out_of_memory, slices_in, told_behind}
 use Rattle.conn.specs.Settling.{closing, is_drained, is_over, resting, settling_at, took_all}
 use Rattle.conn_trace.specs.Item.{calls_in}
 use Rattle.conn.specs.declared.turn.ConnTurn.{ConnTurn}
@@ -71,7 +73,7 @@ use Rattle.proxy_core.proofs.SoundRuns.{Behind, ran_at, run_about, run_served, f
 use Rattle.proxy_core.proofs.LinkedComes.{closing_closes, due_state}
 use Rattle.proxy_core.proofs.ServerCounts.{TookBy, more_of, come_took}
 use Rattle.proxy_core.proofs.ServerLeft.{server_left}
-use Rattle.proxy_core.proofs.Standing.{drained_at, from_served, is_served, is_unseen, stands_at}
+use Rattle.proxy_core.proofs.Standing.{drained_at, from_served, is_served, is_unseen, more_pays, stands_at}
 
 -- no row holds
 abbrev pub NoneHolds : List Row → Type 0
@@ -171,7 +173,7 @@ unchanged past v group old new q m same live =
     same_seen (seen_after past v group new q) (seen past old q)
     (ap (hears q (heard q past) v) m.0 ∙ same (heard q past))
     (ap (λ g. is_in (without_all (ended_in g) (with_accepted v (shared past).live)) q) m.0 ∙ ap (λ ns. is_in ns q) live)
-    (ap (λ s. entries q s.ring) m.1) (ap (λ s. calls_of q s.queue) m.1) (ap (λ s. s.places q) m.1)
+    (ap (λ s. entries q s.ring) m.1) (ap (λ s. calls_of q s.queue) m.1) (ap (λ s. s.places q) m.1) (ap (λ s. s.spent q) m.1)
 
 own_rest : (C : Config) (past : Past) (v : EventKind) (group : List Note) (old new : State) (q : ℕ) → Rests group old new → ((h : Heard) → hears q h v [] ≡ h) → with_accepted v (shared past).live ≡ (shared past).live → SoundAt C q (seen past old q) → SoundAt C q (seen_after past v group new q)
 own_rest C past v group old new q m same live s = let P : Seen → Type 0 = λ z. SoundAt C q z in subst P (sym (unchanged past v group old new q m same live)) s
@@ -301,18 +303,19 @@ asks_alike (turn.Asks call) = refl
 asks_alike turn.NotYet = refl
 asks_alike turn.Over = refl
 
-run_sound : (C : Config) (past : Past) (c : ℕ) (rest after ready : List ℕ) (queue : List Asked) (called asked : List (List (List ℕ))) (old : State) (more : List Item) (at : TraceState) (behind : List Note) (fails over : Bool)
+run_sound : (C : Config) (past : Past) (c : ℕ) (rest after ready : List ℕ) (queue : List Asked) (called asked : List (List (List ℕ))) (old : State) (more : List Item) (slices : ℕ) (at : TraceState) (behind : List Note) (fails over : Bool)
     → IsDistinct nat_eq (shared past).live → old.ring ≡ c ∷ rest → (heard c past).failed ≡ false → is_some (heard c past).accepted ≡ true → Served C c (seen past old c)
     → Passes (setup_of C (heard c past)) (taken (heard c past)) (stand_of C (heard c past) (old.places c)) more at
     → Behind (setup_of C (heard c past)) (taken (heard c past)) at c (untaken_all (heard c past) (old.places c ++ more)) (edges_noted (notes_of c more) (heard c past).edges) behind fails over
     → (entries c rest ≡ [] → entries c after ≡ ready) → (calls_of c old.queue ≡ [] → calls_of c queue ≡ asked) → calls_in more ≡ called → length called ≤ 1 → (fails ≡ false → called ≡ asked)
     → Spot fails (not over) ready asked (setup_of C (heard c past)) (taken (heard c past)) at (edges_noted behind (edges_noted (notes_of c more) (heard c past).edges))
-    → SoundAt C c (seen_after past Runs (notes_of c more ++ behind) (ran c after queue more old) c)
-run_sound C past c rest after ready queue called asked old more at behind fails over distinct e f a v p b put puts all few opens spot =
+    → SlicesPaid (setup_of C (heard c past)) (old.places c ++ more) at (old.spent c + slices)
+    → SoundAt C c (seen_after past Runs (notes_of c more ++ behind) (ran c after queue more slices old) c)
+run_sound C past c rest after ready queue called asked old more slices at behind fails over distinct e f a v p b put puts all few opens spot pays =
     let group = notes_of c more ++ behind in
-    from_served C c (seen_after past Runs group (ran c after queue more old) c)
+    from_served C c (seen_after past Runs group (ran c after queue more slices old) c)
     (still_accepted c (heard c past) Runs group (run_told c (heard c past) group (run_about c more behind b.about)) a)
-    (run_served C past c rest after ready queue called asked old more at behind fails over distinct e f v p b put puts all few opens spot)
+    (run_served C past c rest after ready queue called asked old more slices at behind fails over distinct e f v p b put puts all few opens spot pays)
 
 failed_sound : (C : Config) (past : Past) (c : ℕ) (rest : List ℕ) (old : State) → IsDistinct nat_eq (shared past).live → old.ring ≡ c ∷ rest → (heard c past).failed ≡ true → is_some (heard c past).accepted ≡ true → Served C c (seen past old c)
     → SoundAt C c (seen_after past Runs (closing c (heard c past).edges (untaken_all (heard c past) (old.places c))) (record old { ring = rest }) c)
@@ -346,15 +349,17 @@ own_run C past c rest group old new d e s m = by_failed (heard c past).failed re
         let left = untaken_all h (old.places c ++ k.more) in
         let e' = edges_noted (notes_of c k.more) h.edges in
         let behind = told_behind k.turn (setup_of C h) (taken h) k.at c e' left in
-        moved (notes_of c k.more ++ behind) (ran c (ring_behind k.turn c rest) (queue_behind k.turn c old.queue) k.more old) k.items.noted k.state
-        (run_sound C past c rest (ring_behind k.turn c rest) (ready_behind k.turn c) (queue_behind k.turn c old.queue) (asked_at k.turn) (asked_behind k.turn) old k.more k.at behind false (ends k.turn) d e f v.0 v.1 k.items.passes
-        (stop_behind k.turn (setup_of C h) (taken h) k.at c left e' k.items.stops) (entries_behind_self k.turn c rest) (calls_behind_self k.turn c old.queue) k.items.calls (few_asked k.turn) (λ x. asks_alike k.turn) (spot_ran k.turn c left (setup_of C h) (taken h) k.at e' k.items.stops))
+        moved (notes_of c k.more ++ behind) (ran c (ring_behind k.turn c rest) (queue_behind k.turn c old.queue) k.more (slices_in k.turn (length group)) old) k.items.noted k.state
+        (run_sound C past c rest (ring_behind k.turn c rest) (ready_behind k.turn c) (queue_behind k.turn c old.queue) (asked_at k.turn) (asked_behind k.turn) old k.more (slices_in k.turn (length group)) k.at behind false (ends k.turn) d e f v.0 v.1 k.items.passes
+        (stop_behind k.turn (setup_of C h) (taken h) k.at c left e' k.items.stops) (entries_behind_self k.turn c rest) (calls_behind_self k.turn c old.queue) k.items.calls (few_asked k.turn) (λ x. asks_alike k.turn) (spot_ran k.turn c left (setup_of C h) (taken h) k.at e' k.items.stops) k.paid)
     by_failed false f (inr k) =
         let v = front_served C past c rest old e s in
         let left = untaken_all h (old.places c ++ k.more) in
         let e' = edges_noted (notes_of c k.more) h.edges in
-        moved (out_of_memory c h.edges k.more left) (ran c rest old.queue k.more old) k.notes k.state
-        (run_sound C past c rest rest [] old.queue [] [] old k.more k.at (Finish c Memory ∷ closing c e' left) true true d e f v.0 v.1 k.passes (memory_behind (setup_of C h) (taken h) k.at c left e') (λ x. x) (λ x. x) k.no_call (omega arith) (λ x. refl) tt)
+        let kept = more_pays (setup_of C h) (old.places c) k.more (stand_of C h (old.places c)) k.at (taken_by_items (taken h) k.more) (old.spent c) v.1.paid k.passes.passed in
+        let unspent : SlicesPaid (setup_of C h) (old.places c ++ k.more) k.at (old.spent c + 0) = omega (arith, kept) in
+        moved (out_of_memory c h.edges k.more left) (ran c rest old.queue k.more 0 old) k.notes k.state
+        (run_sound C past c rest rest [] old.queue [] [] old k.more 0 k.at (Finish c Memory ∷ closing c e' left) true true d e f v.0 v.1 k.passes (memory_behind (setup_of C h) (taken h) k.at c left e') (λ x. x) (λ x. x) k.no_call (omega arith) (λ x. refl) tt unspent)
 
 -- where items and what is told behind them lead
 pub ran_on : (C : Config) (past : Past) (s : State) (c : ℕ) → Served C c (seen past s c) → RunStood C c (heard c past) (s.places c)

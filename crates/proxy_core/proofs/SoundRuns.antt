@@ -1,5 +1,5 @@
 -- What a Run owes: the connection that is first in the ring.
-use Rattle.std.proofs.Common.{◌≡◌, refl, sym, ap, subst, ◌∙◌, ℕ, ◌≤◌, List, [], ◌∷◌, ◌++◌, length, map, Bool, true, false, ◌||◌, not, Option, Some, None, nat_eq, append-nil, append_assoc, if◌then◌else◌, ◌⊎◌, inl, inr, eqb-true}
+use Rattle.std.proofs.Common.{◌≡◌, refl, sym, ap, subst, ◌∙◌, ℕ, ◌+◌, ◌*◌, ◌≤◌, List, [], ◌∷◌, ◌++◌, length, map, Bool, true, false, ◌||◌, not, Option, Some, None, nat_eq, append-nil, append_assoc, if◌then◌else◌, ◌⊎◌, inl, inr, eqb-true}
 use Rattle.std.specs.List.{IsDistinct, filter, list_any}
 use Rattle.std.proofs.lemmas.Grind.{flat_map-append}
 use Rattle.px_bytes.specs.declared.addr.Side.{Side}
@@ -9,6 +9,7 @@ use Rattle.core_events.specs.declared.note.Note.{Note}
 use Rattle.core_events.specs.Edges.{edge_of, edges_noted}
 use Rattle.conn_trace.specs.Further.{Further, Same, longer, first_cut, replies_only, choosing, CutMeets, nothing_further}
 use Rattle.conn_trace.specs.Further as further
+use Rattle.conn_trace.specs.Costs.{SlicesPaid}
 use Rattle.conn_trace.specs.Gates.{Counts, TakenCounts, no_bytes, sent_from, to_take, Met}
 use Rattle.core_events.specs.declared.event_kind.EventKind.TheVariants.{Runs}
 use Rattle.conn_trace.specs.Heard.{Heard, taken, hears, start_of}
@@ -52,7 +53,7 @@ use Rattle.proxy_core.proofs.ServerLeft.{unserved_at}
 use Rattle.proxy_core.proofs.Overs.{over_at, over_done, still_over}
 use Rattle.proxy_core.proofs.Drains.{drained_items, longer_orderly}
 use Rattle.std.proofs.lemmas.List.{map-append}
-use Rattle.proxy_core.proofs.Standing.{served_at, sent_at}
+use Rattle.proxy_core.proofs.Standing.{longer_pays, served_at, sent_at}
 use Rattle.proxy_core.proofs.Sums.{causes_due, causes_of_items, causes_on, shown_items, shown_due, shown_on}
 use Rattle.proxy_core.proofs.SoundAccepts.{or_false}
 use Rattle.proxy_core.proofs.SoundComes.{calls_on, calls_more, took_each, or_split, or_true, or_first, unless, ends_told, ended_if, ClosedNow, either}
@@ -126,6 +127,7 @@ failed_served C past c rest old distinct front_is has_failed k =
       stands = stands;
       met = subst M (sym s.taken) k.met;
       within = same_within h h' z.place s.client s.connects k.within;
+      paid = longer_pays g z.place l (replies_only []) z.spent k.paid;
       shown = ap (filter shows) t.notes ∙ shown_due c h.notes group (notes_of c z.place) due k.shown;
       causes = ap causes_told t.notes ∙ causes_due c h.notes group (map cause_of (reasons_in z.place) ++ causes_behind h.failed) due k.causes ∙ ap (λ b. map cause_of (reasons_in z.place) ++ causes_behind b) (sym same);
       ends = ends_told c z z' group true k.ends f.is_live t.notes live (subst D (sym left) (closing_ends c h.edges d))
@@ -187,14 +189,15 @@ some_on (x ∷ xs) ys = refl
 pub run_about : (c : ℕ) (more : List Item) (behind : List Note) → About c behind → About c (notes_of c more ++ behind)
 run_about c more behind a = about_joined c (notes_of c more) behind (about_items c (notes_of c more) (of_items c more)) a
 
-pub run_served : (C : Config) (past : Past) (c : ℕ) (rest after ready : List ℕ) (queue : List Asked) (called asked : List (List (List ℕ))) (old : State) (more : List Item) (at : TraceState) (behind : List Note) (fails over : Bool)
+pub run_served : (C : Config) (past : Past) (c : ℕ) (rest after ready : List ℕ) (queue : List Asked) (called asked : List (List (List ℕ))) (old : State) (more : List Item) (slices : ℕ) (at : TraceState) (behind : List Note) (fails over : Bool)
     → IsDistinct nat_eq (shared past).live → old.ring ≡ c ∷ rest → (heard c past).failed ≡ false → Served C c (seen past old c)
     → Passes (setup_of C (heard c past)) (taken (heard c past)) (stand_of C (heard c past) (old.places c)) more at
     → Behind (setup_of C (heard c past)) (taken (heard c past)) at c (untaken_all (heard c past) (old.places c ++ more)) (edges_noted (notes_of c more) (heard c past).edges) behind fails over
     → (entries c rest ≡ [] → entries c after ≡ ready) → (calls_of c old.queue ≡ [] → calls_of c queue ≡ asked) → calls_in more ≡ called → length called ≤ 1 → (fails ≡ false → called ≡ asked)
     → Spot fails (not over) ready asked (setup_of C (heard c past)) (taken (heard c past)) at (edges_noted behind (edges_noted (notes_of c more) (heard c past).edges))
-    → Served C c (seen_after past Runs (notes_of c more ++ behind) (ran c after queue more old) c)
-run_served C past c rest after ready queue called asked old more at behind fails over distinct front_is not_failed k p b put puts all few opens spot =
+    → SlicesPaid (setup_of C (heard c past)) (old.places c ++ more) at (old.spent c + slices)
+    → Served C c (seen_after past Runs (notes_of c more ++ behind) (ran c after queue more slices old) c)
+run_served C past c rest after ready queue called asked old more slices at behind fails over distinct front_is not_failed k p b put puts all few opens spot pays =
     let z = seen past old c in
     let h = z.heard in
     let notes = notes_of c more in
@@ -208,7 +211,7 @@ run_served C past c rest after ready queue called asked old more at behind fails
     let about = run_about c more behind b.about in
     let t = run_told c h group about in
     let s = run_stays c h group in
-    let z' = seen_after past Runs group (ran c after queue more old) c in
+    let z' = seen_after past Runs group (ran c after queue more slices old) c in
     let place : z'.place ≡ z.place ++ more = ap (λ x. if x then z.place ++ more else z.place) (eq_self c) in
     let front : z.ready ≡ c ∷ entries c rest = ap (entries c) front_is ∙ ap (λ x. if x then c ∷ entries c rest else entries c rest) (eq_self c) in
     let S : List ℕ → Type 0 = λ r. Spot h.failed z.live r z.asked g (taken h) l h.edges in
@@ -238,7 +241,8 @@ run_served C past c rest after ready queue called asked old more at behind fails
     let closed_finishes : list_any closes behind ≡ true → h'.finished ≡ true = λ o. by_opens (b.opens o) t.finished over_finishes in
     let M : TakenCounts → Type 0 = λ y. Met no_bytes y (z.place ++ more) in
     let N : Counts → Type 0 = λ x. Met x (taken h) more in
-    let W : List Item → Type 0 = λ place. ServedAt g c (record z' { place = place }) at in
+    let W : List Item → ℕ → Type 0 = λ place n. ServedAt g c (record z' { place = place; spent = n }) at in
+    let spent : z'.spent ≡ z.spent + slices = ap (λ x. if x then z.spent + slices else z.spent) (eq_self c) in
     let F : Bool → Type 0 = λ x. Spot x z'.live z'.ready z'.asked g (taken h') at h'.edges in
     let L : Bool → Type 0 = λ x. Spot fails x z'.ready z'.asked g (taken h') at h'.edges in
     let R : List ℕ → Type 0 = λ r. Spot fails (not over) r z'.asked g (taken h') at h'.edges in
@@ -253,10 +257,11 @@ run_served C past c rest after ready queue called asked old more at behind fails
     let none_told : entries_in group ≡ [] = entries_on notes behind ∙ ap (λ es. es ++ entries_in behind) (entries_items c notes items) ∙ b.entries in
     let D : ℕ → Type 0 = λ n. EndsBy c n over group in
     let causes = map cause_of (reasons_in z.place) in
-    served_at C c z' g at (ap (setup_in C) t.accepted) (subst W (sym place) (record {
+    served_at C c z' g at (ap (setup_in C) t.accepted) (subst (λ x. W x z'.spent) (sym place) (subst (W (z.place ++ more)) (sym spent) (record {
       stands = stands;
       met = subst M (sym s.taken) (met_joins no_bytes (taken h) z.place more k.met (subst N (sent_at g h z.place l k.stands) p.met));
       within = within_same h h' z.place more s.client s.connects k.within;
+      paid = pays;
       shown =
           ap (filter shows) t.notes ∙ shown_on h.notes group ∙ ap (λ x. x ++ filter shows group) k.shown
           ∙ ap (λ x. notes_of c z.place ++ x) (shown_on notes behind ∙ ap (λ x. x ++ filter shows behind) (shown_items c more) ∙ ap (λ x. notes ++ x) b.hidden ∙ append-nil notes)
@@ -267,7 +272,7 @@ run_served C past c rest after ready queue called asked old more at behind fails
           ∙ sym (append_assoc causes (map cause_of (reasons_in more)) (causes_behind fails))
           ∙ ap (λ x. x ++ causes_behind fails) (sym (ap (map cause_of) (flat_map-append (λ i. listed (shown i).reason) z.place more) ∙ map-append cause_of (reasons_in z.place) (reasons_in more)))
           ∙ ap (λ x. map cause_of (reasons_in (z.place ++ more)) ++ causes_behind x) (sym failed);
-      ends = ends_told c z (record z' { place = z.place ++ more }) group over k.ends f.is_live t.notes live (subst D (sym (left_same h h' (z.place ++ more) s.client s.connects)) (ends_behind c d over notes behind (items_go_on c notes items) b.by))
+      ends = ends_told c z (record z' { place = z.place ++ more; spent = z.spent + slices }) group over k.ends f.is_live t.notes live (subst D (sym (left_same h h' (z.place ++ more) s.client s.connects)) (ends_behind c d over notes behind (items_go_on c notes items) b.by))
           (λ o. (let x = b.gone o in (ap (λ y. is_there y.client.state) edges ∙ x.0, ap (λ y. is_there y.server.state) edges ∙ x.1)))
           (λ o. t.finished ∙ or_first h.finished (finish_told (map tells group)) o)
           (λ o. by_opens (b.opens (sym (none_on closes notes behind (items_open c notes items)) ∙ o)) t.finished over_finishes)
@@ -278,7 +283,7 @@ run_served C past c rest after ready queue called asked old more at behind fails
       licensed = run_licensed g c h z.place more behind l at h.edges k.stands was_linked b.quiet p k.licensed;
       told = subst K (sym t.notes) (calls_more h'.failed called z'.asked z.place more h.notes group was none_told all few (λ e. opens (sym failed ∙ e) ∙ sym asks));
       spot = subst F (sym failed) (subst L (sym live) (subst R (sym (put f.once)) (subst A (sym asks) (subst T (sym s.taken) (subst E (sym edges) spot)))));
-    }))
+    })))
   where
     finish_group : finish_told (map tells (notes_of c more ++ behind)) ≡ (further.is_some_of (reasons_in more) || finish_told (map tells behind))
     finish_group =

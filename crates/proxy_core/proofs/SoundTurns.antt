@@ -34,7 +34,7 @@ use Rattle.proxy_core.proofs.GroupNotes.{About, tells_all}
 use Rattle.proxy_core.proofs.Hearing.{turn_told, turn_stays, turn_further}
 use Rattle.proxy_core.proofs.Licensing.{cut_stays, stays_licensed}
 use Rattle.proxy_core.proofs.Linking.{linked_now, longer_linked}
-use Rattle.proxy_core.proofs.Standing.{served_at}
+use Rattle.proxy_core.proofs.Standing.{longer_pays, served_at}
 use Rattle.proxy_core.proofs.Sums.{causes_on, shown_on}
 use Rattle.proxy_core.proofs.SoundComes.{calls_on, calls_answered, or_first, or_none, ends_told}
 
@@ -155,6 +155,7 @@ turn_served C past a rest old group fails e k b entry =
       stands = stands;
       met = subst M (sym s.taken) k.met;
       within = same_within h h' z.place s.client s.connects k.within;
+      paid = longer_pays g z.place l (replies_only (replies_told (notes_about c group))) z.spent k.paid;
       shown = ap (filter shows) t.notes ∙ shown_on h.notes group ∙ ap (λ x. filter shows h.notes ++ x) b.hidden ∙ append-nil (filter shows h.notes) ∙ k.shown;
       causes = ap causes_told t.notes ∙ causes_on h.notes group ∙ ap (λ x. x ++ causes_told group) (k.causes ∙ ap (λ x. causes ++ causes_behind x) f.found ∙ append-nil causes) ∙ ap (λ x. causes ++ x) b.causes ∙ ap (λ x. causes ++ causes_behind x) (sym failed);
       ends = ends_told c z z' group false k.ends f.is_live t.notes live (record { going = λ n. b.goes_on; last = λ o. absurd (let x : false ≡ true = o in cc) }) (λ o. absurd (let x : false ≡ true = o in cc)) (λ o. t.finished ∙ or_first h.finished (finish_told (map tells group)) o) (λ o. absurd (let x : false ≡ true = sym b.opens ∙ o in cc)) (λ x side q. absurd (none side q));

@@ -1,14 +1,18 @@
 -- Where a connection stands, and what is not taken of what it sent.
-use Rattle.std.proofs.Common.{◌≡◌, refl, sym, ap, subst, ◌∙◌, ℕ, ◌+◌, ◌-◌, List, length, Bool, true, false, arith}
+use Rattle.std.proofs.Common.{◌≡◌, refl, sym, ap, subst, ◌∙◌, ℕ, ◌+◌, ◌*◌, ◌-◌, ◌≤◌, ◌++◌, List, length, Bool, true, false, arith}
 use Rattle.std.specs.Prelude.{is_some}
 use Rattle.std.specs.Bool.{MatchBool}
+use Rattle.conn_trace.specs.Costs.{SlicesPaid}
+use Rattle.conn_trace.specs.Further.{Further, longer}
 use Rattle.conn_trace.specs.Gates.{no_bytes, sent_from}
 use Rattle.conn_trace.specs.Heard.{Heard, taken, start_of}
 use Rattle.conn_trace.specs.Item.{Item}
 use Rattle.conn_trace.specs.Setup.{Setup}
 use Rattle.conn_trace.specs.State.{TraceState}
 use Rattle.conn_trace.specs.Trace.{Unfolds, behind}
+use Rattle.conn_trace.proofs.Costs.{paid_joins}
 use Rattle.conn_trace.proofs.Given.{unfolds_behind, sent_counted}
+use Rattle.conn_trace.proofs.PaidOn.{items_pay, there_longer}
 use Rattle.proxy_core.specs.Moves.{is_drained_at}
 use Rattle.conn.specs.Settling.{is_drained}
 use Rattle.proxy_core.specs.Scheduler.{Seen}
@@ -51,6 +55,16 @@ as_live C c z e s = (is_served C c z (λ u. let n : z.live ≡ false = ap (λ y.
 -- what was sent is in the state
 pub sent_at : (g : Setup) (h : Heard) (place : List Item) (at : TraceState) → Unfolds g (start_of g h) place at → at.sent ≡ sent_from no_bytes place
 sent_at g h place at u = sent_counted g (start_of g h) at place u
+
+-- what pays for its slices grows with its input, and along its items
+pub longer_pays : (g : Setup) (place : List Item) (l : TraceState) (f : Further) (n : ℕ) → SlicesPaid g place l n → SlicesPaid g place (longer f l) n
+longer_pays g place l f n k = let t = there_longer g l f in omega (arith, k, t)
+
+pub more_pays : (g : Setup) (place more : List Item) (l at : TraceState) (f : Further) (n : ℕ) → SlicesPaid g place l n → Unfolds g (longer f l) more at → SlicesPaid g (place ++ more) at n
+more_pays g place more l at f n k u =
+    let t = there_longer g l f in
+    let i = items_pay g (longer f l) at more u in
+    let j = paid_joins place more in omega (arith, k, t, i, j)
 
 -- of one that was sent so much, so much is left
 pub rest_left : (n t sent : ℕ) → n + t ≡ sent → n ≡ sent - t

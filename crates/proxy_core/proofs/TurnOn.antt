@@ -1,5 +1,5 @@
 -- A connection of the code whose shared call is answered: what it goes on with, for what was heard then.
-use Rattle.std.proofs.Common.{◌≡◌, ◌⊎◌, inl, inr, refl, sym, ap, subst, ◌∙◌, ℕ, List, [], ◌∷◌, drop, map, append-nil, Bool, true, false, ◌||◌, Option, Some, None, if◌then◌else◌}
+use Rattle.std.proofs.Common.{◌≡◌, ◌⊎◌, inl, inr, refl, sym, ap, subst, ◌∙◌, ℕ, ◌*◌, List, [], ◌∷◌, drop, map, append-nil, Bool, true, false, ◌||◌, Option, Some, None, if◌then◌else◌}
 use Rattle.px_bytes.specs.declared.fault.Reply.{Reply}
 use Rattle.core_events.specs.declared.edges.Edges.{Edges}
 use Rattle.core_events.specs.declared.note.Cause.TheVariants.{Memory}
@@ -11,6 +11,7 @@ use Rattle.conn_trace.specs.Gates.{TakenCounts, no_bytes}
 use Rattle.core_events.specs.declared.event_kind.EventKind.TheVariants.{Turns}
 use Rattle.conn_trace.specs.Heard.{Heard, as_answer, Brought, brought_nothing, hears, hears_event}
 use Rattle.conn_trace.specs.Heard.{further_of, start_of, taken}
+use Rattle.conn_trace.specs.Costs.{paid_by}
 use Rattle.conn_trace.specs.Item.{Choice, Item, client_output, server_output}
 use Rattle.conn_trace.specs.Setup.{Setup}
 use Rattle.conn_trace.specs.State.{Cut, TraceState}
@@ -35,7 +36,7 @@ use Rattle.record_model.specs.Setup.{setup_of, stand_of}
 use Rattle.proxy_core.specs.declared.call.Asked.{Asked}
 use Rattle.run_config.specs.declared.config.Config.{Config}
 use Rattle.proxy_core.proofs.CameAt.{UncutOr, heard_uncut}
-use Rattle.proxy_core.proofs.CameOn.{Stood, ends_standing, to_standing}
+use Rattle.proxy_core.proofs.CameOn.{Stood, ends_standing, paid_standing, to_standing}
 use Rattle.proxy_core.proofs.GroupNotes.{About, tells_all}
 use Rattle.proxy_core.proofs.Meeting.{around_quiet}
 
@@ -130,10 +131,12 @@ module _ (C : Config) (past : Past) (s : State) (a : Asked) (ring : List ℕ) (q
       let told : replies_told (notes_about c group) ≡ r ∷ [] = ap replies_told all in
       let U : List Reply → Type 0 = λ rs. Unfolds g (start_of g h') place (longer (replies_only rs) l) in
       let Q : Around → Type 0 = λ x. Holds g x (longer (replies_only (r ∷ [])) l) new in
+      let now = w.replies g (around h) l z.holds in
       inl (record {
         not_failed = ap (λ b. b || failure_told (notes_about c group)) z.not_failed ∙ ap failure_told all;
-        holds = to_standing C h' g place (longer (replies_only (r ∷ [])) l) new refl (subst U told (stands moment r group false n)) (subst Q (sym (around_same group)) (w.replies g (around h) l z.holds));
+        holds = to_standing C h' g place (longer (replies_only (r ∷ [])) l) new refl (subst U told (stands moment r group false n)) (subst Q (sym (around_same group)) now.0);
         queues = queues_same group old new w.ends z.queues;
+        paid = paid_standing C h' g place (longer (replies_only (r ∷ [])) l) new (1991 * s.spent c) (paid_by place) refl (subst U told (stands moment r group false n)) (now.1 (1991 * s.spent c) (paid_by place) z.paid);
       })
 
   -- it found no memory

@@ -128,7 +128,7 @@ pub record RunsFront (old new : Core) (number : ℕ) (rest : List ℕ) (group : 
   pub setup_is : IsSetup old.config old.statics.statics old.places before.vs setup
   pub turn : ConnTurn
   pub edges : ends turn ≡ false → edges_in after ≡ edges_noted group (edges_in before)
-  pub runs : LiveRuns setup number before.edges before.conn after.conn group turn
+  pub runs : LiveRuns setup number before.edges before.conn after.conn group turn steps
   pub whole : IsWhole turn steps (length group)
   pub bounded : steps ≤ 2000
   pub ring : new.live.ring ≡ ring_behind turn number rest

@@ -1,11 +1,12 @@
 -- The face of the core: what a loop may ask of it, for every past that it stands for.
-use Rattle.std.specs.Prelude.{◌≡◌, ◌-◌, ◌^◌, List, length, min, None, refl}
+use Rattle.std.specs.Prelude.{◌≡◌, ◌≤◌, ◌-◌, ◌^◌, ℕ, List, length, min, None, refl}
 use Rattle.core_events.specs.declared.event.Event.{Event}
 use Rattle.core_events.specs.declared.event.Event.TheVariants as event
 use Rattle.core_events.specs.Face.{Face}
 use Rattle.core_events.specs.Kinds.{kind_of}
 use Rattle.proxy_core.specs.Asked.{live_of, next_of, settled_of}
-use Rattle.record_model.specs.Past.{Past, shared}
+use Rattle.proxy_core.specs.Changes.{Changes}
+use Rattle.record_model.specs.Past.{Happened, Past, shared}
 use Rattle.proxy_core.specs.Questions.{next_number, name_at, listen_at, due_at}
 use Rattle.proxy_core.specs.Questions.{may_come, to_write, is_waiting}
 use Rattle.proxy_core.specs.Refusal.{refused}
@@ -26,6 +27,14 @@ pub record Stands (core : Core) : Type 0 where
 abbrev pub Always : Core → (Config → Past → State → Type 0) → Type 0
 Always core P = (C : Config) (past : Past) (s : State) → Represents C past s core → P C past s
 
+-- An event with its notes: whatever it stood for before, it stands for then, with the event's effect
+-- on its fields, and it counted 2,000 steps at most.
+pub record Moved (old new : Core) (x : Happened) : Type 0 where
+  pub keeps : KeepsStanding old new x
+  pub steps : ℕ
+  pub bounded : steps ≤ 2000
+  pub changes : Changes old new x.event x.group steps
+
 -- the event isn't refused, whatever it stands for
 abbrev pub TakesEvent : Core → Event → Type 0
 TakesEvent core e = Always core (λ C past s. refused C past s (kind_of e) ≡ None)
@@ -37,7 +46,7 @@ always_taken core stands = (λ C past s r. refl, λ C past s r. refl)
 abbrev pub core_face : Face Core
 core_face = record {
   stands = Stands;
-  moved = λ old e group new. KeepsStanding old new (record { event = e; group = group });
+  moved = λ old e group new. Moved old new (record { event = e; group = group });
   takes = TakesEvent;
   next = λ s o. Always s (λ C past st. o ≡ next_number C past);
   live = λ s n. Always s (λ C past st. n ≡ live_of past);

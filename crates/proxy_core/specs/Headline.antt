@@ -8,6 +8,7 @@ use Rattle.px_bytes.specs.declared.addr.Side.TheVariants.{Client, Server}
 use Rattle.core_events.specs.declared.note.Cause.{Cause}
 use Rattle.core_events.specs.declared.note.Cause.TheVariants.{Memory}
 use Rattle.core_events.specs.declared.note.CutReason.{CutReason}
+use Rattle.conn_trace.specs.Costs.{SlicesPaid}
 use Rattle.conn_trace.specs.Gates.{no_bytes, sent_from}
 use Rattle.conn_trace.specs.Heard.{Heard, taken}
 use Rattle.core_events.specs.Edges.{edge_of}
@@ -142,6 +143,9 @@ pub record OpenCounts (past : Past) (s : State) (c : ℕ) : Type 0 where
       ≡ (sent_from no_bytes (s.places c)).server
   pub server_reset : last_reset (heard c past).connects ≡ true → pending past s c Server ≡ 0
 
+-- What all is promised of an accepted connection. Each Run that stopped in the middle behind fewer
+-- than 64 notes spent a slice of 1,991 steps: all of them are paid for, by three times the cost of
+-- the bodies that ended and of the one that runs or waits, and two for each body.
 pub record ConnectionPromise (C : Config) (past : Past) (s : State) (c : ℕ)
     (z : Seen) : Type 0 where
   pub sent_is_prefix : SentIsPrefix C z.heard z.place
@@ -150,6 +154,7 @@ pub record ConnectionPromise (C : Config) (past : Past) (s : State) (c : ℕ)
   pub closes_rightly : ClosesRightly c z
   pub entries_are_calls : EntriesAreCalls z.heard z.asked z.place
   pub open_line_counts : OpenCounts past s c
+  pub slices_are_paid : SlicesPaid (setup_of C z.heard) z.place (stand_of C z.heard z.place) z.spent
 
 -- what the program's past and state promise: a list of scheduler states leads to this one, the
 -- shared answers are one history of a sequential store, and each accepted connection's bytes and

@@ -157,17 +157,19 @@ LiveComes input number old new group over = ⊥
 -- dropped. Another one gives the items of its trace from wherever that stands. What is told of its
 -- ends is in its notes.
 pub record ConnRuns (s : Setup) (number : ℕ) (old new : Conn) (group : List Note) (t : ConnTurn)
-    : Type 0 where
-  pub runs : Runs s number old new group t
+    (steps : ℕ) : Type 0 where
+  pub runs : Runs s number old new group t steps
   pub edges : new.ends.edges ≡ edges_noted group old.ends.edges
   pub failed : old.stage ≡ OutOfMemory
       → (group ≡ closing number old.ends.edges (queued_in old.ends)) × (t ≡ turn.Over)
 
-abbrev pub LiveRuns :
-    Setup → ℕ → Edges → Option Conn → Option Conn → List Note → ConnTurn → Type 0
-LiveRuns s number edges None new group t = (group ≡ closing number edges 0) × (t ≡ turn.Over)
-LiveRuns s number edges (Some old) None group t = ⊥
-LiveRuns s number edges (Some old) (Some new) group t = ConnRuns s number old new group t
+abbrev pub LiveRuns : Setup → ℕ → Edges → Option Conn → Option Conn → List Note → ConnTurn
+    → (steps : ℕ) → Type 0
+LiveRuns s number edges None new group t steps =
+    (group ≡ closing number edges 0) × (t ≡ turn.Over)
+LiveRuns s number edges (Some old) None group t steps = ⊥
+LiveRuns s number edges (Some old) (Some new) group t steps =
+    ConnRuns s number old new group t steps
 
 -- the reply came to its call: it goes on
 pub record ConnReplies (r : Reply) (old new : Conn) : Type 0 where

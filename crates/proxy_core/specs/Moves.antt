@@ -1,6 +1,6 @@
 -- How one event moves the scheduler, and which states a past leads to.
-use Rattle.std.specs.Prelude.{◌≡◌, ◌⊎◌, ℕ, List, [], ◌∷◌, ◌++◌, Bool, true, false, None}
-use Rattle.std.specs.Prelude.{if◌then◌else◌}
+use Rattle.std.specs.Prelude.{◌≡◌, ◌⊎◌, ℕ, ◌+◌, List, [], ◌∷◌, ◌++◌, length, Bool, true, false}
+use Rattle.std.specs.Prelude.{None, if◌then◌else◌}
 use Rattle.std.specs.Bool.{MatchBool}
 use Rattle.px_bytes.specs.declared.fault.Reply.{Reply}
 use Rattle.core_events.specs.declared.note.Cause.TheVariants.{Memory}
@@ -13,9 +13,10 @@ use Rattle.core_events.specs.declared.event_kind.EventKind.TheVariants.{Turns, R
 use Rattle.conn_trace.specs.Heard.{Heard, taken}
 use Rattle.conn_trace.specs.Heard.{edges_met, hears}
 use Rattle.core_events.specs.declared.edges.Edges.{Edges}
+use Rattle.conn_trace.specs.Costs.{SlicesPaid}
 use Rattle.conn_trace.specs.Item.{Item, calls_in}
 use Rattle.conn_trace.specs.State.{TraceState}
-use Rattle.conn.specs.RunsItems.{Passes, RunsItems}
+use Rattle.conn.specs.RunsItems.{Passes, RunsItems, slices_in}
 use Rattle.conn.specs.Settling.{closing, is_drained, settling_at}
 use Rattle.conn.specs.RunsItems.{out_of_memory}
 use Rattle.conn.specs.declared.turn.ConnTurn.{ConnTurn}
@@ -28,7 +29,7 @@ use Rattle.core_events.specs.Kinds.{kind_of}
 use Rattle.record_model.specs.Past.{Happened, Past, heard, shared}
 use Rattle.proxy_core.specs.Ready.{ring_behind, with_ready, without}
 use Rattle.proxy_core.specs.Refusal.{refused}
-use Rattle.proxy_core.specs.Scheduler.{State, no_connections, with_place, untaken_all}
+use Rattle.proxy_core.specs.Scheduler.{State, no_connections, with_place, with_spent, untaken_all}
 use Rattle.record_model.specs.Setup.{setup_of, stand_of}
 use Rattle.proxy_core.specs.declared.call.Asked.{Asked}
 use Rattle.run_config.specs.declared.config.Config.{Config}
@@ -86,17 +87,19 @@ MovesCome C input before now c group old new =
     (MovesOn C now c (edges_met input before.edges) group old new
     ⊎ MovesLacks input c group old new)
 
--- the front passed items
-abbrev pub ran : ℕ → List ℕ → List Asked → List Item → State → State
-ran c ring queue more old = record {
+-- the front passed items, and spent so many slices
+abbrev pub ran : ℕ → List ℕ → List Asked → List Item → (slices : ℕ) → State → State
+ran c ring queue more slices old = record {
   ring = ring;
   queue = queue;
   places = with_place c (old.places c ++ more) old.places;
+  spent = with_spent c (old.spent c + slices) old.spent;
 }
 
 -- The front gives items of its trace, until no more may be given or in slices: where it stops in
 -- the middle it goes to the back of the ready queue, and where it stops at a shared call that goes
--- to the back of the calls.
+-- to the back of the calls. It stops in the middle behind 64 notes, or spends a slice, and all
+-- slices that it spent are paid for by what its bodies cost.
 pub record RunsOn (C : Config) (h : Heard) (c : ℕ) (rest : List ℕ) (group : List Note)
     (old new : State) : Type 0 where
   pub more : List Item
@@ -105,7 +108,11 @@ pub record RunsOn (C : Config) (h : Heard) (c : ℕ) (rest : List ℕ) (group : 
   pub items :
       RunsItems (setup_of C h) (taken h) h.edges (stand_of C h (old.places c)) c more at group turn
       (untaken_all h (old.places c ++ more))
-  pub state : new ≡ ran c (ring_behind turn c rest) (queue_behind turn c old.queue) more old
+  pub paid : SlicesPaid (setup_of C h) (old.places c ++ more) at
+      (old.spent c + slices_in turn (length group))
+  pub state : new
+      ≡ ran c (ring_behind turn c rest) (queue_behind turn c old.queue) more
+      (slices_in turn (length group)) old
 
 -- The front gives items, no call among them, finds no memory, and ends: what was sent and not taken
 -- is dropped.
@@ -116,7 +123,7 @@ pub record RunsOut (C : Config) (h : Heard) (c : ℕ) (rest : List ℕ) (group :
   pub passes : Passes (setup_of C h) (taken h) (stand_of C h (old.places c)) more at
   pub no_call : calls_in more ≡ []
   pub notes : group ≡ out_of_memory c h.edges more (untaken_all h (old.places c ++ more))
-  pub state : new ≡ ran c rest old.queue more old
+  pub state : new ≡ ran c rest old.queue more 0 old
 
 -- one that found no memory before ends
 pub record RunsFailed (h : Heard) (c : ℕ) (rest : List ℕ) (group : List Note)

@@ -1,8 +1,10 @@
 -- What a core stands for: a configuration, a past and a state of the scheduler.
-use Rattle.std.specs.Prelude.{◌≡◌, ◌⊎◌, ℕ, List, [], true, false, Option, Some, None, drop}
+use Rattle.std.specs.Prelude.{◌≡◌, ◌⊎◌, ℕ, ◌*◌, List, [], true, false, Option, Some, None, drop}
 use Rattle.conn_trace.specs.Heard.{Heard, taken}
+use Rattle.conn_trace.specs.Costs.{paid_by}
 use Rattle.conn_trace.specs.Item.{Item, client_output, server_output}
 use Rattle.conn.specs.Holds.{Around, Holds, HoldsEnds}
+use Rattle.conn.specs.Paid.{Paid}
 use Rattle.conn.specs.declared.connection.Conn.{Conn}
 use Rattle.conn.specs.declared.ends.Ends.{Ends}
 use Rattle.conn.specs.declared.stage.Stage.TheVariants.{OutOfMemory}
@@ -35,11 +37,14 @@ pub record HoldsQueues (h : Heard) (place : List Item) (e : Ends) : Type 0 where
   pub client : e.client.queued ≡ drop h.client.took (client_output place)
   pub server : e.server.queued ≡ drop (last_took h.connects) (server_output 1 place)
 
--- the connection goes on with its trace from where it stands
+-- the connection goes on with its trace from where it stands, and the slices that it spent are paid
+-- for, each with 1,991 steps
 pub record Continues (C : Config) (z : Seen) (conn : Conn) : Type 0 where
   pub not_failed : z.heard.failed ≡ false
   pub holds : Holds (setup_of C z.heard) (around z.heard) (stand_of C z.heard z.place) conn
   pub queues : HoldsQueues z.heard z.place conn.ends
+  pub paid : Paid (setup_of C z.heard) (stand_of C z.heard z.place) conn (1991 * z.spent)
+      (paid_by z.place)
 
 -- It found no memory for bytes that came, or for a reply: nothing of it runs any more, and its
 -- queues are kept until its Run.

@@ -14,32 +14,39 @@ use Rattle.record_model.specs.Past.{Past, heard, shared, shared_after}
 use Rattle.proxy_core.specs.Ready.{is_in}
 use Rattle.proxy_core.specs.declared.call.Asked.{Asked}
 
--- The ready queue and the queue of shared calls, the next in front, and the place of each
--- connection: the items of its trace that it passed.
+-- The ready queue and the queue of shared calls, the next in front; the place of each connection: the
+-- items of its trace that it passed; and how many slices it spent: Runs that stopped in the middle of
+-- a body behind fewer than 64 notes.
 pub record State : Type 0 where
   pub ring : List ℕ
   pub queue : List Asked
   pub places : ℕ → List Item
+  pub spent : ℕ → ℕ
 
 abbrev pub no_connections : State
-no_connections = record { ring = []; queue = []; places = λ c. [] }
+no_connections = record { ring = []; queue = []; places = λ c. []; spent = λ c. 0 }
 
 -- the places, with another one of connection c
 abbrev pub with_place : ℕ → List Item → (ℕ → List Item) → ℕ → List Item
 with_place c place places q = if nat_eq c q then place else places q
+
+-- the spent slices, with another number of connection c
+abbrev pub with_spent : ℕ → ℕ → (ℕ → ℕ) → ℕ → ℕ
+with_spent c slices spent q = if nat_eq c q then slices else spent q
 
 -- the entries of connection c
 abbrev pub entries : ℕ → List ℕ → List ℕ
 entries c ring = filter (nat_eq c) ring
 
 -- all that concerns one connection: what was heard, whether it is live, its entries in the ready
--- queue, its calls that wait, and its place
+-- queue, its calls that wait, its place, and its spent slices
 pub record Seen : Type 0 where
   pub heard : Heard
   pub live : Bool
   pub ready : List ℕ
   pub asked : List (List (List ℕ))
   pub place : List Item
+  pub spent : ℕ
 
 abbrev pub see : Heard → List ℕ → State → ℕ → Seen
 see h live s c = record {
@@ -48,6 +55,7 @@ see h live s c = record {
   ready = entries c s.ring;
   asked = calls_of c s.queue;
   place = s.places c;
+  spent = s.spent c;
 }
 
 abbrev pub seen : Past → State → ℕ → Seen

@@ -7,6 +7,7 @@ use Rattle.px_bytes.specs.declared.addr.Side.{Side}
 use Rattle.px_bytes.specs.declared.addr.Side.TheVariants.{Client, Server}
 use Rattle.core_events.specs.declared.note.Note.{Note}
 use Rattle.core_events.specs.declared.note.Note.TheVariants as note
+use Rattle.conn_trace.specs.Costs.{SlicesPaid}
 use Rattle.conn_trace.specs.Gates.{TakenCounts, no_bytes, Met}
 use Rattle.conn_trace.specs.Heard.{Heard, nothing_heard, taken, start_of}
 use Rattle.core_events.specs.declared.edges.Edges.{Edges}
@@ -31,7 +32,14 @@ use Rattle.run_config.specs.declared.config.Config.{Config}
 
 -- no connection of this number was accepted
 abbrev pub unseen : Seen
-unseen = record { heard = nothing_heard; live = false; ready = []; asked = []; place = [] }
+unseen = record {
+  heard = nothing_heard;
+  live = false;
+  ready = [];
+  asked = [];
+  place = [];
+  spent = 0;
+}
 
 -- it is over: its last note tells so, with so many bytes dropped, and both ends are closed
 pub record EndsClosed (c dropped : ℕ) (h : Heard) : Type 0 where
@@ -90,13 +98,14 @@ pub record CallsTold (failed : Bool) (asked : List (List (List ℕ))) (place : L
   pub few : length unanswered ≤ 1
   pub open_now : failed ≡ false → unanswered ≡ asked
 
--- A connection that was accepted, by the state where it stands. While nothing failed an end is
+-- A connection that was accepted, by the state where it stands. The slices that it spent are paid for. While nothing failed an end is
 -- closed where its trace is over alone; its server's end stands where the trace says; a cut was
 -- allowed.
 pub record ServedAt (g : Setup) (c : ℕ) (z : Seen) (at : TraceState) : Type 0 where
   pub stands : Unfolds g (start_of g z.heard) z.place at
   pub met : Met no_bytes (taken z.heard) z.place
   pub within : TookWithin z.heard z.place
+  pub paid : SlicesPaid g z.place at z.spent
   pub shown : filter shows z.heard.notes ≡ notes_of c z.place
   pub causes : causes_told z.heard.notes
       ≡ map cause_of (reasons_in z.place) ++ causes_behind z.heard.failed

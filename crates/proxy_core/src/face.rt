@@ -3,9 +3,8 @@
 ghost use Rattle.std.specs.Prelude.{◌≡◌, ◌≤◌, ◌<◌, ◌++◌, List, None, true, IsTrue};
 ghost use Rattle.core_events.specs.declared.note.Note.{Note};
 ghost use Rattle.core_events.specs.Kinds.{kind_of};
-ghost use Rattle.proxy_core.specs.Face.{Always, Stands, always_taken, core_face};
+ghost use Rattle.proxy_core.specs.Face.{Always, Moved, Stands, always_taken, core_face};
 ghost use Rattle.proxy_core.specs.Refusal.{refused};
-ghost use Rattle.proxy_core.specs.Steps.{KeepsStanding};
 
 use crate::core_state::Core;
 use core_events::{EdgeState, Event, Notes};
@@ -119,7 +118,7 @@ fn counted<L: Ledger>(core: &mut Core, event: Event, notes: &mut Notes, blank: B
         → Always core.old (λ C past s. refused C past s (kind_of event) ≡ None) → result ≡ true }
     ensures moved { IsTrue result → ((group : List Note)
         × (notes.new.items ≡ notes.old.items ++ group)
-        × KeepsStanding core.old core.new (record { event = event; group = group })) }
+        × Moved core.old core.new (record { event = event; group = group })) }
     ensures stands { Stands core.old → Stands core.new }
 {
     let mut steps = Steps::<L>::new(blank);

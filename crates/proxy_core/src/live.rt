@@ -268,7 +268,7 @@ impl Live {
         ensures same { KeepsPlace self.old self.new }
         ensures runs { (group : List Note) × (notes.new.items ≡ notes.old.items ++ group)
             × LiveRuns setup.now self.old.number self.old.edges self.old.conn self.new.conn group
-            result
+            result (steps.new - steps.old)
             × (ends result ≡ false → edges_in self.new ≡ edges_noted group (edges_in self.old)) }
         ensures slice { let given = length notes.new.items - length notes.old.items in
             IsWhole result (steps.new - steps.old) given }

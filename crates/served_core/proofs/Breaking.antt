@@ -49,11 +49,11 @@ broken_past C conns short (Ungiven call e) past took a core it p =
     same_took C past took (λ side c. took side c ++ []) core (λ side c. append-nil (took side c))
     (subst (λ (x : Core). StandsFor C past took x) (sym it.2) p)
 broken_past C conns short (OwnSome g) past took a core it p =
-    event_past C past took (λ side c. []) g.event a.core g core refl it.1.taken it.1.moved (λ s r. own_pieces past s g.event it.0) p
+    event_past C past took (λ side c. []) g.event a.core g core refl it.1.taken it.1.moved.keeps (λ s r. own_pieces past s g.event it.0) p
 broken_past C conns short (AskedSome call g) past took a core it p =
     same_took C _ (λ side c. took side c ++ piece_of c side call g.event) (λ side c. took side c ++ (piece_of c side call g.event ++ [])) core
     (λ side c. ap (λ (l : List ℕ). took side c ++ l) (append-nil (piece_of c side call g.event)))
-    (event_past C past took (told_pieces call g.event) it.event a.core g core it.gives.event_is it.gives.taken it.gives.moved
+    (event_past C past took (told_pieces call g.event) it.event a.core g core it.gives.event_is it.gives.taken it.gives.moved.keeps
     (λ s r. subst (λ (x : Event). PiecesAre past s it.event (told_pieces call x)) (sym it.gives.event_is)
     (call_pieces C past s conns a call it.event r it.may)) p)
 

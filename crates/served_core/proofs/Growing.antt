@@ -41,14 +41,14 @@ pub record Grows (old new : State) (c : ℕ) : Type 0 where
 stays : (old new : State) (c : ℕ) → new.places c ≡ old.places c → Grows old new c
 stays old new c e = record { more = []; place = e ∙ sym (append-nil (old.places c)) }
 
-ran_grows : (old new : State) (d : ℕ) (ring : List ℕ) (queue : List Asked) (more : List Item) → new ≡ ran d ring queue more old → (c : ℕ)
+ran_grows : (old new : State) (d : ℕ) (ring : List ℕ) (queue : List Asked) (more : List Item) (slices : ℕ) → new ≡ ran d ring queue more slices old → (c : ℕ)
     → (b : Bool) → nat_eq d c ≡ b → Grows old new c
-ran_grows old new d ring queue more e c true is = record {
+ran_grows old new d ring queue more slices e c true is = record {
   more = more;
   place = ap (λ (y : State). y.places c) e ∙ ap (λ (b : Bool). if b then old.places d ++ more else old.places c) is
       ∙ ap (λ n. old.places n ++ more) (eq_same d c is);
 }
-ran_grows old new d ring queue more e c false is =
+ran_grows old new d ring queue more slices e c false is =
     stays old new c (ap (λ (y : State). y.places c) e ∙ ap (λ (b : Bool). if b then old.places d ++ more else old.places c) is)
 
 pub come_stays : (C : Config) (input : Input) (before now : Heard) (d : ℕ) (group : List Note) (old new : State) (c : ℕ) → (b : Bool)
@@ -61,8 +61,8 @@ come_stays C input before now d group old new c false (inr k) = ap (λ (y : Stat
 front_grows : (C : Config) (h : Heard) (d : ℕ) (rest : List ℕ) (group : List Note) (old new : State) (c : ℕ) → (b : Bool)
     → MatchBool b (RunsFailed h d rest group old new) (RunsOn C h d rest group old new ⊎ RunsOut C h d rest group old new) → Grows old new c
 front_grows C h d rest group old new c true k = stays old new c (ap (λ (y : State). y.places c) k.state)
-front_grows C h d rest group old new c false (inl k) = ran_grows old new d _ _ k.more k.state c (nat_eq d c) refl
-front_grows C h d rest group old new c false (inr k) = ran_grows old new d _ _ k.more k.state c (nat_eq d c) refl
+front_grows C h d rest group old new c false (inl k) = ran_grows old new d _ _ k.more _ k.state c (nat_eq d c) refl
+front_grows C h d rest group old new c false (inr k) = ran_grows old new d _ _ k.more _ k.state c (nat_eq d c) refl
 
 ring_grows : (C : Config) (past : Past) (ring : List ℕ) (group : List Note) (old new : State) (c : ℕ) → MovesRing C past ring group old new → Grows old new c
 ring_grows C past [] group old new c k = stays old new c (ap (λ (y : State). y.places c) k.1)

@@ -88,7 +88,7 @@ event_past C past took piece e a g b event_is taken moved pieces p =
 gives_past : (C : Config) (past : Past) (took piece : Side → ℕ → List ℕ) (e : Event) (a : Around Core) (g : Given) (b : Around Core)
     → Gives core_face e a g b → ((s : State) → Represents C past s a.core → PiecesAre past s e piece)
     → StandsFor C past took a.core → StandsFor C (happened g ∷ past) (λ side c. took side c ++ piece side c) b.core
-gives_past C past took piece e a g b it pieces p = event_past C past took piece e a.core g b.core it.event_is it.taken it.moved pieces p
+gives_past C past took piece e a g b it pieces p = event_past C past took piece e a.core g b.core it.event_is it.taken it.moved.keeps pieces p
 
 none_past : (C : Config) (o : Option Event) (past : Past) (took : Side → ℕ → List ℕ) (a b : Around Core) → Becomes core_face o a None b
     → StandsFor C past took a.core → StandsFor C past took b.core

@@ -17,11 +17,10 @@ returns-clause-moved g c =
     let got : body_at s c.args.at c.args.body ≡ Some (handler_of c.in-Some.handler) = sym c.body.ensures ∙ ap (option_map handler_of) c.in-Some.is in
     let stepped : Conn = record { stage = old.stage; body = c.step.new.self; vars = c.step.new.vars; host = c.step.new.host; ends = old.ends } in
     let G : Said → Type 0 = λ x. GoesOn s c.args.at c.args.body x c.do_made.new.self c.go_on.new.self c.go_on.result in
-    let steps : BodySteps s (handler_of c.in-Some.handler) c.args.number c.args.at c.args.body old c.go_on.new.self c.args.notes.now.items c.do_made.new.notes.items c.go_on.result = record {
+    let steps : BodySteps s (handler_of c.in-Some.handler) c.args.number c.args.at c.args.body old c.go_on.new.self c.args.notes.now.items c.do_made.new.notes.items c.go_on.result (c.step.new.steps - c.args.steps.now) = record {
       stepped = stepped;
       mid = c.do_made.new.self;
       turned = c.in_ok-turn.turn;
-      ticks = c.step.new.steps - c.args.steps.now;
       there = refl;
       ends = refl;
       went = rw c.clear.ensures at c.in_ok-turn.ensures.went;
@@ -29,5 +28,5 @@ returns-clause-moved g c =
       does = c.in_ok-do_made.ensures.ok;
       goes_on = subst G c.in_ok-said.ensures c.go_on.ensures;
     } in
-    let P : Option Handler → Type 0 = λ v. BodyMovedBy s v c.args.number c.args.at c.args.body old c.go_on.new.self c.args.notes.now.items c.do_made.new.notes.items c.go_on.result in
+    let P : Option Handler → Type 0 = λ v. BodyMovedBy s v c.args.number c.args.at c.args.body old c.go_on.new.self c.args.notes.now.items c.do_made.new.notes.items c.go_on.result (c.step.new.steps - c.args.steps.now) in
     subst P (sym got) steps
