@@ -293,7 +293,7 @@ queued_ends a l at e es h first client server connects to_client to_server numbe
 pub acts_gave : (g : Setup) (a : Around) (l at : TraceState) (c : ℕ) (old new : Conn) (xs : List Act) (tail : List Item) {called : List (List (List ℕ))} → Silent c a.took tail → Holds g a l old → DoesActs g l.sent.number xs old new called
     → Unfolds g l (map (act_item l.sent.number) xs ++ tail) at → Stands g new.stage at new → l.finished ≡ has_finished new.stage → fits new.stage new.ends.link ≡ true → HostIn new.stage new.host.event → SameBeside l at
     → (gave : Gave g a l at c old new (logs_of c (effects_in xs)) called) × (gave.more ≡ map (act_item l.sent.number) xs ++ tail)
-acts_gave g a l at c old new xs tail t h made u stands finished fit ev same =
+acts_gave g a l at c old new xs tail {called = called} t h made u stands finished fit ev same =
     let number = l.sent.number in
     let items = map (act_item number) xs ++ tail in
     let sent : at.sent ≡ sent_from l.sent items = sent_counted g l at items u in

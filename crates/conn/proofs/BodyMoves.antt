@@ -232,8 +232,8 @@ module _ (s : code_setup.Setup) (g : Setup) (serves : Serves s g) (a : Around) (
       let gone = ended_gone L refl refl behind new (uncaught_of code) did n in
       let same_link : link_by mid.ends.link ≡ link_of l.server = ap (λ x. link_by x.link) done_acts.ends ∙ sym (link_is a l old.ends holds.ends) in
       let stands : Stands g new.stage at2 new = subst (λ k'. Stands g new.stage (put (after_body g e l.finished k' b bs (uncaught_of code) (seen_host mid.host)) L) new) same_link gone.0.stands in
-      let made : DoesActs g l.sent.number w.acts old new [] = record { calls = done_acts.calls; first = done_acts.first; ends = gone.0.ends ∙ done_acts.ends; told = gone.0.told } in
-      let given = acts_gave g a l at2 c old new w.acts (Ran e st.cost ∷ []) (end_tail c a.took e st.cost) holds made
+      let acted : DoesActs g l.sent.number w.acts old new [] = record { calls = done_acts.calls; first = done_acts.first; ends = gone.0.ends ∙ done_acts.ends; told = gone.0.told } in
+      let given = acts_gave g a l at2 c old new w.acts (Ran e st.cost ∷ []) (end_tail c a.took e st.cost) holds acted
       (unfolds_on g l at1 at2 (map (act_item l.sent.number) w.acts) (Ran e st.cost ∷ []) u (unfolds_one g at1 at2 (Ran e st.cost) last))
       stands gone.0.finished gone.0.fits gone.0.event (record { finished = refl; client = refl; server = refl; connects = refl; choices = refl; cut = refl }) in
       let items = map (act_item l.sent.number) w.acts in

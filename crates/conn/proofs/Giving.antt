@@ -51,7 +51,7 @@ edges_on [] second e = refl
 edges_on (n ∷ first) second e = edges_on first second (edges_by n e)
 
 -- a flag that isn't true
-other_way : (x y : Bool) → (x ≡ true → y ≡ true) → y ≡ false → x ≡ false
+pub other_way : (x y : Bool) → (x ≡ true → y ≡ true) → y ≡ false → x ≡ false
 other_way true y f e = absurd (let t = sym (f refl) ∙ e in cc)
 other_way false y f e = refl
 

@@ -8,15 +8,15 @@ use Rattle.px_bytes.specs.declared.fault.TclFault.{TclFault}
 use Rattle.core_events.specs.declared.note.CutReason.{CutReason}
 use Rattle.core_events.specs.declared.note.Note.{Note}
 use Rattle.conn_trace.specs.Relay.{meets}
-use Rattle.conn_trace.specs.Setup.{Handler}
+use Rattle.conn_trace.specs.Setup.{Handler, uncaught_line}
 use Rattle.irule_net.specs.declared.state.NetState.{NetState}
 use Rattle.irule_net.specs.declared.state.Selected.{Selected}
 use Rattle.conn.specs.Acts.{Acted, ActedAt, AnswersBy, BehindFault, CollectsBy, RelaysBy, Rests, RestsBy, cut_of, has_room}
 use Rattle.conn.specs.Bodies.{Fresh}
-use Rattle.conn.specs.Changes.{Closes, ClosesClient, ClosesServer, Enters, GoesTo, Leaves, NextBody, StartsBody}
+use Rattle.conn.specs.Changes.{Closes, ClosesClient, ClosesServer, Enters, GoesTo, Leaves, NextBody, StartsBody, left_stage}
 use Rattle.conn.specs.Choosing.{ChoosesBy, TakesChosen, plan_of}
 use Rattle.conn.specs.Ends.{is_sought, is_up}
-use Rattle.conn.specs.Events.{is_closed}
+use Rattle.conn.specs.Events.{event_of, is_closed}
 use Rattle.conn.specs.Hosts.{begun_host}
 use Rattle.conn.specs.Relaying.{Releases, relay_plan, round_begun}
 use Rattle.conn.specs.Setups.{places_at}
@@ -65,14 +65,14 @@ closes_client s old new k = by_test (nat_lt 0 (length (places_at s event.Closed)
     by_test false c = goes_to s stage.Draining k.mid new refl c
 
 leaves : (s : code.Setup) (at : At) (old new : Conn) → Leaves s at old new → Starts s new
-leaves s event.Accepted old new k = goes_to s _ old new (after_no_body event.Accepted old.ends.link old.host.net) k
-leaves s event.ClientData old new k = goes_to s _ old new (after_no_body event.ClientData old.ends.link old.host.net) k
-leaves s event.Selected old new k = goes_to s _ old new (after_no_body event.Selected old.ends.link old.host.net) k
-leaves s event.Failed old new k = goes_to s _ old new (after_no_body event.Failed old.ends.link old.host.net) k
-leaves s event.Connected old new k = goes_to s _ old new (after_no_body event.Connected old.ends.link old.host.net) k
-leaves s event.ServerData old new k = goes_to s _ old new (after_no_body event.ServerData old.ends.link old.host.net) k
+leaves s event.Accepted old new k = goes_to s (left_stage event.Accepted old) old new (after_no_body event.Accepted old.ends.link old.host.net) k
+leaves s event.ClientData old new k = goes_to s (left_stage event.ClientData old) old new (after_no_body event.ClientData old.ends.link old.host.net) k
+leaves s event.Selected old new k = goes_to s (left_stage event.Selected old) old new (after_no_body event.Selected old.ends.link old.host.net) k
+leaves s event.Failed old new k = goes_to s (left_stage event.Failed old) old new (after_no_body event.Failed old.ends.link old.host.net) k
+leaves s event.Connected old new k = goes_to s (left_stage event.Connected old) old new (after_no_body event.Connected old.ends.link old.host.net) k
+leaves s event.ServerData old new k = goes_to s (left_stage event.ServerData old) old new (after_no_body event.ServerData old.ends.link old.host.net) k
 leaves s event.ServerClosed old new k = closes_client s old new k
-leaves s event.Closed old new k = goes_to s _ old new (after_no_body event.Closed old.ends.link old.host.net) k
+leaves s event.Closed old new k = goes_to s (left_stage event.Closed old) old new (after_no_body event.Closed old.ends.link old.host.net) k
 
 next : (s : code.Setup) (at : At) (n : ℕ) (old new : Conn) → NextBody s at n old new → Starts s new
 next s at n old new k = by_test (nat_lt n (length (places_at s at))) k
@@ -101,7 +101,7 @@ enters s at h e old new k = inl (ap has_body k.there ∙ entered_no_body at e.li
 -- behind a body that ended
 pub ended_starts : (s : code.Setup) (h : Handler) (at : At) (n : ℕ) (mid new : Conn) (f : Option TclFault) (did : Act) → GoesOn s at n (ended_of h at f) mid new did → Starts s new
 ended_starts s h at n mid new None did k = next s at (n + 1) mid new k.1
-ended_starts s h at n mid new (Some fault) did k = goes_to s _ mid new refl k.1
+ended_starts s h at n mid new (Some fault) did k = goes_to s (stage.Failing at (n + 1) fault.kind (uncaught_line h.rule (event_of at) fault.text)) mid new refl k.1
 
 -- how many actions may come without a note before a body runs, or bytes are passed on
 abbrev pub rank : Stage → ℕ

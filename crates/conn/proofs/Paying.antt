@@ -26,7 +26,7 @@ use Rattle.conn.specs.Hosts.{seen_host}
 use Rattle.conn.specs.Paid.{BodyPaid, FirstPaid, Paid, PaidAt}
 use Rattle.conn.specs.Stages.{has_body, is_running}
 use Rattle.conn.specs.declared.connection.Conn.{Conn}
-use Rattle.conn.specs.declared.ends.Ends.{Ends}
+use Rattle.conn.specs.declared.ends.Ends.{Ends as BothEnds}
 use Rattle.conn.specs.declared.setup.Setup as code
 use Rattle.conn.specs.declared.stage.Stage.{Stage}
 use Rattle.conn.specs.declared.stage.Stage.TheVariants as stage
@@ -95,11 +95,11 @@ module _ (g : Setup) (l m : TraceState) (c d : Conn) (vars : m.vars ≡ l.vars) 
   paid_moved k = subst (λ st. PaidAt st g m d t p) (sym there) (stage_moved c.stage k)
 
 -- as where more comes of its sides, and its ends change
-pub paid_longer : (g : Setup) (l : TraceState) (c : Conn) (e : Ends) (f : Further) (t p : ℕ) → f.replies ≡ [] → Paid g l c t p → Paid g (longer f l) (with_ends e c) t p
+pub paid_longer : (g : Setup) (l : TraceState) (c : Conn) (e : BothEnds) (f : Further) (t p : ℕ) → f.replies ≡ [] → Paid g l c t p → Paid g (longer f l) (with_ends e c) t p
 paid_longer g l c e f t p none k =
     paid_moved g l (longer f l) c (with_ends e c) refl refl (ap (λ r. l.answers.replies ++ r) none ∙ append-nil l.answers.replies) refl refl refl refl t p k
 
-pub paid_ends : (g : Setup) (l : TraceState) (c : Conn) (e : Ends) (t p : ℕ) → Paid g l c t p → Paid g l (with_ends e c) t p
+pub paid_ends : (g : Setup) (l : TraceState) (c : Conn) (e : BothEnds) (t p : ℕ) → Paid g l c t p → Paid g l (with_ends e c) t p
 paid_ends g l c e t p k = paid_moved g l l c (with_ends e c) refl refl refl refl refl refl refl t p k
 
 -- a body that has just begun owes one step

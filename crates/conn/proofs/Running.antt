@@ -152,7 +152,7 @@ went_forward g a at c new group more steps noted h busy k = forward_by more at (
 
     by_case : more ≡ [] → (0 < steps) ⊎ (0 < length group) → in_body at.phase ≡ true
     by_case none (inl some) = by_busy none (busy some)
-    by_case none (inr some) = absurd (let n = ap length (noted ∙ ap (notes_of c) none) in omega (arith, n, some))
+    by_case none (inr some) = absurd (let n = ap length (noted ∙ ap (λ x. notes_of c x) none) in omega (arith, n, some))
 
 pub runs_more : (s : code.Setup) (c : ℕ) (old new : Conn) (before after : List Note) (steps : ℕ) → RunsOn s c old new before after steps → (0 < steps) ⊎ (length before < length after) → RunsBy s c old new before after turn.More steps
 runs_more s c old new before after steps r whole = (
@@ -222,10 +222,6 @@ told_holds : (g : Setup) (a : Around) (l : TraceState) (c : ℕ) (conn : Conn) �
 told_holds g a l c conn h =
     holds g a a l l.client l.server l.answers.connects conn (noted_in (rest_notes c conn) conn).ends h (with_edges a l conn.ends h.ends (edges_noted (rest_notes c conn) conn.ends.edges) (rest_asks c conn conn.ends.edges)) h.fits (λ u. u)
 
--- the items are the same whatever its calls are said to be
-by_calls : (g : Setup) (a : Around) (l at : TraceState) (c : ℕ) (old new : Conn) (group : List Note) (some other : List (List (List ℕ))) (e : some ≡ other) (gave : Gave g a l at c old new group some) → (subst (Gave g a l at c old new group) e gave).more ≡ gave.more
-by_calls g a l at c old new group some other refl gave = refl
-
 pub runs_rests : (s : code.Setup) (c : ℕ) (old mid new last : Conn) (before notes after told : List Note) (t : ConnTurn) (steps ticks : ℕ) → RunsOn s c old mid before notes steps → Acted s c mid new notes after done.Rests ticks → CountsBodies mid ticks → Rested c new last after told t → RunsBy s c old last before told t (steps + ticks)
 runs_rests s c old mid new last before notes after told t steps ticks r acted counts rested = by_turn t rested
   where
@@ -248,13 +244,13 @@ runs_rests s c old mid new last before notes after told t steps ticks r acted co
         let second = q.act.gave.more in
         let rest = noted_in (rest_notes c new) new in
         let gave = gave_more g a l p.at q.act.at c old mid new r.group k.group h.no_cut p.gave q.act.gave in
-        let all = subst (Gave g a l q.act.at c old new (r.group ++ k.group)) (sym none) gave in
-        let same_items : all.more ≡ first ++ second = by_calls g a l q.act.at c old new (r.group ++ k.group) [] (asked_at t) (sym none) gave in
+        let Items : List (List (List ℕ)) → Type 0 = λ called. (x : Gave g a l q.act.at c old new (r.group ++ k.group) called) × (x.more ≡ first ++ second) in
+        let all = subst Items (sym none) (gave, refl) in
         let pays = λ (t' x : ℕ) (y : Paid g l old t' x).
         (let both = pays_on g q.act.at new t' steps ticks x first second (q.pays (t' + steps) (x + paid_by first) (p.pays t' x y)) in
-        subst (λ items. Paid g q.act.at rest (t' + (steps + ticks)) (x + paid_by items)) (sym same_items) (paid_ends g q.act.at new rest.ends (t' + (steps + ticks)) (x + paid_by (first ++ second)) both)) in
-        gives g a l q.act.at c old new rest (r.group ++ k.group) (rest_notes c new) t (steps + ticks) all
-        (rests_with c new g a q.act.at q.act.gave.holds q.act.stops.1.1 ∙ sym (ap (λ f. f g a.took q.act.at c new.ends.edges (queued_in new.ends)) is)) (stops q.act.at (q.act.stops.0, q.act.stops.1.0) q.act.gave.holds) (forward all.more q.act.at) (told_holds g a q.act.at c new q.act.gave.holds) refl refl
+        subst (λ items. Paid g q.act.at rest (t' + (steps + ticks)) (x + paid_by items)) (sym all.1) (paid_ends g q.act.at new rest.ends (t' + (steps + ticks)) (x + paid_by (first ++ second)) both)) in
+        gives g a l q.act.at c old new rest (r.group ++ k.group) (rest_notes c new) t (steps + ticks) all.0
+        (rests_with c new g a q.act.at q.act.gave.holds q.act.stops.1.1 ∙ sym (ap (λ f. f g a.took q.act.at c new.ends.edges (queued_in new.ends)) is)) (stops q.act.at (q.act.stops.0, q.act.stops.1.0) q.act.gave.holds) (forward all.0.more q.act.at) (told_holds g a q.act.at c new q.act.gave.holds) refl refl
         (rests_asking s c mid new notes after ticks acted ∙ p.awake ∙ sym quiet) pays
 
     by_turn : (t : ConnTurn) → Rested c new last after told t → RunsBy s c old last before told t (steps + ticks)

@@ -9,6 +9,7 @@ use Rattle.core_events.specs.declared.event_kind.EventKind.{EventKind}
 use Rattle.core_events.specs.declared.event_kind.EventKind.TheVariants as kind
 use Rattle.conn_trace.specs.Tellings.{tells, finish_told}
 use Rattle.proxy_core.specs.Changes.{Changes, ChangesBy}
+use Rattle.proxy_core.specs.Face.{Moved}
 use Rattle.proxy_core.specs.Live.{pending_in, wanted_of}
 use Rattle.core_events.specs.Kinds.{kind_of}
 use Rattle.record_model.specs.Past.{Past, Shared, shared}
@@ -117,3 +118,7 @@ steps_of old new e v is before after steps (Err why) h k few = tt
 pub refused_of : (core : Core) (e : Event) (v : EventKind) → v ≡ kind_of e → (res : Result (Unit {0}) BadEvent) → IfErr res (λ why. refusal_of core v ≡ Some why) → IfErr res (λ why. IsRefused core e why)
 refused_of core e v is (Ok u) h = tt
 refused_of core e v is (Err why) h = is_refused core e why (ap (refusal_of core) (sym is) ∙ h)
+
+-- what a step did, as a loop knows it
+pub moved_by : (old new : Core) (e : Event) (before after : List Note) (steps : ℕ) → Steps old new e before after steps → steps ≤ 2000 → (group : List Note) × (after ≡ before ++ group) × Moved old new (record { event = e; group = group })
+moved_by old new e before after steps k few = (k.group, k.notes, record { keeps = k.stands; steps = steps; bounded = few; changes = k.changes })

@@ -42,7 +42,8 @@ pub returns-then-len-given-ge-MOST_NOTES-clause-ran : goal.returns-then-len-give
 returns-then-len-given-ge-MOST_NOTES-clause-ran g c =
     let k = c.loop-moved.invariant in
     let R : ℕ → Type 0 = λ n. RunsBy c.args.setup.now c.args.number c.args.self.now c.loop-moved.self c.args.notes.now.items c.loop-moved.notes.items turn.More n in
-    subst R (omega (arith, k.4)) (runs_more c.args.setup.now c.args.number c.args.self.now c.loop-moved.self c.args.notes.now.items c.loop-moved.notes.items c.loop-moved.spent k.0 (inr (omega (arith, c.if-len-given-ge-MOST_NOTES.true, c.len.ensures, c.len-given.ensures, k.1))))
+    let same : c.loop-moved.spent ≡ c.loop-moved.steps - c.args.steps.now = omega (arith, k.4) in
+    subst R same (runs_more c.args.setup.now c.args.number c.args.self.now c.loop-moved.self c.args.notes.now.items c.loop-moved.notes.items c.loop-moved.spent k.0 (inr (omega (arith, c.if-len-given-ge-MOST_NOTES.true, c.len.ensures, c.len-given.ensures, k.1))))
 
 pub returns-in-Ok-Asks-clause-ran : goal.returns-in-Ok-Asks-clause-ran
 returns-in-Ok-Asks-clause-ran g c =
@@ -52,7 +53,8 @@ returns-in-Ok-Asks-clause-ran g c =
     let counts = counts_on c.loop-moved.self c.loop-moved.spent c.advance.new.spent c.loop-moved.steps c.advance.new.steps c.in-Ok-Asks.ensures.inside c.advance.ensures.outside c.in-Ok-Asks.ensures.counted in
     let R : ℕ → Type 0 = λ n. RunsBy c.args.setup.now c.args.number c.args.self.now c.advance.new.self c.args.notes.now.items c.advance.new.notes.items (turn.Asks c.in-Ok-Asks.call) n in
     let spent = counts.1 in
-    subst R (omega (arith, k.4, spent, c.in-Ok-Asks.ensures.counted)) (runs_asks c.args.setup.now c.args.number c.args.self.now c.loop-moved.self c.advance.new.self c.args.notes.now.items c.loop-moved.notes.items c.advance.new.notes.items c.in-Ok-Asks.call c.loop-moved.spent ticks k.0 acted counts.0)
+    let same : c.loop-moved.spent + ticks ≡ c.advance.new.steps - c.args.steps.now = omega (arith, k.4, spent, c.in-Ok-Asks.ensures.counted) in
+    subst R same (runs_asks c.args.setup.now c.args.number c.args.self.now c.loop-moved.self c.advance.new.self c.args.notes.now.items c.loop-moved.notes.items c.advance.new.notes.items c.in-Ok-Asks.call c.loop-moved.spent ticks k.0 acted counts.0)
 
 pub returns-in-Ok-Rests-clause-ran : goal.returns-in-Ok-Rests-clause-ran
 returns-in-Ok-Rests-clause-ran g c =
@@ -62,7 +64,8 @@ returns-in-Ok-Rests-clause-ran g c =
     let counts = counts_on c.loop-moved.self c.loop-moved.spent c.advance.new.spent c.loop-moved.steps c.advance.new.steps c.in-Ok-Rests.ensures.inside c.advance.ensures.outside c.in-Ok-Rests.ensures.counted in
     let R : ℕ → Type 0 = λ n. RunsBy c.args.setup.now c.args.number c.args.self.now c.comes_to_rest.new.self c.args.notes.now.items c.comes_to_rest.new.notes.items c.comes_to_rest.result n in
     let spent = counts.1 in
-    subst R (omega (arith, k.4, spent, c.in-Ok-Rests.ensures.counted)) (runs_rests c.args.setup.now c.args.number c.args.self.now c.loop-moved.self c.advance.new.self c.comes_to_rest.new.self c.args.notes.now.items c.loop-moved.notes.items c.advance.new.notes.items c.comes_to_rest.new.notes.items c.comes_to_rest.result c.loop-moved.spent ticks k.0 acted counts.0 c.comes_to_rest.ensures.rested)
+    let same : c.loop-moved.spent + ticks ≡ c.advance.new.steps - c.args.steps.now = omega (arith, k.4, spent, c.in-Ok-Rests.ensures.counted) in
+    subst R same (runs_rests c.args.setup.now c.args.number c.args.self.now c.loop-moved.self c.advance.new.self c.comes_to_rest.new.self c.args.notes.now.items c.loop-moved.notes.items c.advance.new.notes.items c.comes_to_rest.new.notes.items c.comes_to_rest.result c.loop-moved.spent ticks k.0 acted counts.0 c.comes_to_rest.ensures.rested)
 
 pub returns-in-Err-clause-ran : goal.returns-in-Err-clause-ran
 returns-in-Err-clause-ran g c =
@@ -78,14 +81,18 @@ pub returns-clause-ran : goal.returns-clause-ran
 returns-clause-ran g c =
     let k = c.loop-moved.invariant in
     let R : ℕ → Type 0 = λ n. RunsBy c.args.setup.now c.args.number c.args.self.now c.loop-moved.self c.args.notes.now.items c.loop-moved.notes.items turn.More n in
-    subst R (omega (arith, k.4)) (runs_more c.args.setup.now c.args.number c.args.self.now c.loop-moved.self c.args.notes.now.items c.loop-moved.notes.items c.loop-moved.spent k.0 (some_counted c.loop-moved._moved (rank c.loop-moved.self.stage) c.len-given.result c.loop-moved.spent (length c.loop-moved.notes.items) (length c.args.notes.now.items) c.len-given.ensures k.3 (omega arith)))
+    let same : c.loop-moved.spent ≡ c.loop-moved.steps - c.args.steps.now = omega (arith, k.4) in
+    subst R same (runs_more c.args.setup.now c.args.number c.args.self.now c.loop-moved.self c.args.notes.now.items c.loop-moved.notes.items c.loop-moved.spent k.0 (some_counted c.loop-moved._moved (rank c.loop-moved.self.stage) c.len-given.result c.loop-moved.spent (length c.loop-moved.notes.items) (length c.args.notes.now.items) c.len-given.ensures k.3 (omega arith)))
 
 pub returns-clause-slice : goal.returns-clause-slice
 returns-clause-slice g c =
     let k = c.loop-moved.invariant in
     let given = c.len-given.ensures in
-    let W : ℕ → ℕ → Type 0 = λ m n. IsWhole turn.More m n in
-    subst (λ m. W m (length c.loop-moved.notes.items - length c.args.notes.now.items)) (omega (arith, k.4)) (subst (λ x. W c.loop-moved.spent (length c.loop-moved.notes.items - x)) given (whole_at_last c.loop-moved._moved (rank c.loop-moved.self.stage) c.len-given.result c.loop-moved.spent (length c.loop-moved.notes.items) k.3 (omega arith)))
+    let same : c.loop-moved.spent ≡ c.loop-moved.steps - c.args.steps.now = omega (arith, k.4) in
+    let whole = whole_at_last c.loop-moved._moved (rank c.loop-moved.self.stage) c.len-given.result c.loop-moved.spent (length c.loop-moved.notes.items) k.3 (omega arith) in
+    let N : ℕ → Type 0 = λ x. IsWhole turn.More c.loop-moved.spent (length c.loop-moved.notes.items - x) in
+    let S : ℕ → Type 0 = λ x. IsWhole turn.More x (length c.loop-moved.notes.items - length c.args.notes.now.items) in
+    subst S same (subst N given whole)
 
 pub returns-in-Ok-Rests-clause-slice : goal.returns-in-Ok-Rests-clause-slice
 returns-in-Ok-Rests-clause-slice g c = rests_whole c.args.number c.advance.new.self c.comes_to_rest.new.self c.advance.new.notes.items c.comes_to_rest.new.notes.items c.comes_to_rest.result _ _ c.comes_to_rest.ensures.rested
@@ -97,7 +104,8 @@ pub returns-then-spent-gt-MOST_STEPS-clause-ran : goal.returns-then-spent-gt-MOS
 returns-then-spent-gt-MOST_STEPS-clause-ran g c =
     let k = c.loop-moved.invariant in
     let R : ℕ → Type 0 = λ n. RunsBy c.args.setup.now c.args.number c.args.self.now c.loop-moved.self c.args.notes.now.items c.loop-moved.notes.items turn.More n in
-    subst R (omega (arith, k.4)) (runs_more c.args.setup.now c.args.number c.args.self.now c.loop-moved.self c.args.notes.now.items c.loop-moved.notes.items c.loop-moved.spent k.0 (inl (omega (arith, c.if-spent-gt-MOST_STEPS.true))))
+    let same : c.loop-moved.spent ≡ c.loop-moved.steps - c.args.steps.now = omega (arith, k.4) in
+    subst R same (runs_more c.args.setup.now c.args.number c.args.self.now c.loop-moved.self c.args.notes.now.items c.loop-moved.notes.items c.loop-moved.spent k.0 (inl (omega (arith, c.if-spent-gt-MOST_STEPS.true))))
 
 pub returns-in-Ok-Asks-clause-bounded : goal.returns-in-Ok-Asks-clause-bounded
 returns-in-Ok-Asks-clause-bounded g c =
