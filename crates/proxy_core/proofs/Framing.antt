@@ -102,7 +102,7 @@ about_behind t g took at c e d = by_rest (is_resting t)
     by_rest false = tt
 
 -- the front ran: its notes are about it
-ran_touch : (c : ℕ) (rest after : List ℕ) (queue : List Asked) (more : List Item) (slices : ℕ) (group notes : List Note) (old new : State) → old.ring ≡ c ∷ rest → ((q : ℕ) → nat_eq q c ≡ false → entries q after ≡ entries q rest) → ((q : ℕ) → nat_eq q c ≡ false → calls_of q queue ≡ calls_of q old.queue) → group ≡ notes → About c notes → new ≡ ran c after queue more old → Touches c group old new
+ran_touch : (c : ℕ) (rest after : List ℕ) (queue : List Asked) (more : List Item) (slices : ℕ) (group notes : List Note) (old new : State) → old.ring ≡ c ∷ rest → ((q : ℕ) → nat_eq q c ≡ false → entries q after ≡ entries q rest) → ((q : ℕ) → nat_eq q c ≡ false → calls_of q queue ≡ calls_of q old.queue) → group ≡ notes → About c notes → new ≡ ran c after queue more slices old → Touches c group old new
 ran_touch c rest after queue more slices group notes old new front_is others calls e a f =
     touched c group notes old new (ran c after queue more slices old) e f (record {
       notes = a;
