@@ -54,9 +54,10 @@ begins s from net new made there vars host ends g serves came =
     let same : new.host.net ≡ net = ap (λ h. h.net) host in
     let is_from : net.from ≡ g.from = ap (λ n. n.from) made ∙ sym came in
     let k = enters_gone g (before_start g) s serves Accepted (fresh_host net) fresh_ends new new (record { there = there ∙ ap (entered_stage s Accepted link.Absent) (sym same); vars = refl; host = begins_so; ends = ends }) (sym vars) refl is_from refl refl (λ e. absurd (cc)) in
-    let P : HostState → Type 0 = λ h. Holds g fresh (put (enter g ClientAccepted Absent h) (before_start g)) new in
-    (subst P first (gone_holds g fresh false (enter g ClientAccepted Absent (seen_host (fresh_host net))) (before_start g) fresh_ends new k refl (first_ends g (seen_host (fresh_host net))) refl refl),
-    plain_paid g (start g no_stream no_answers) new 0 0 new.stage (ap has_body there ∙ entered_no_body Accepted link.Absent net (places_at s Accepted)) (omega arith))
+    let P : HostState → Type 0 = λ h. Holds g fresh (put (enter g ClientAccepted Absent h) (before_start g)) new in (
+      subst P first (gone_holds g fresh false (enter g ClientAccepted Absent (seen_host (fresh_host net))) (before_start g) fresh_ends new k refl (first_ends g (seen_host (fresh_host net))) refl refl),
+      plain_paid g (start g no_stream no_answers) new 0 0 new.stage (ap has_body there ∙ entered_no_body Accepted link.Absent net (places_at s Accepted)) (omega arith),
+    )
   where
     begins_so : new.host ≡ begun_host Accepted false (fresh_host net)
     begins_so = host ∙ ap fresh_host made ∙ sym (ap (λ n. begun_host Accepted false (fresh_host n)) made)
