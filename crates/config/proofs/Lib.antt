@@ -1,9 +1,12 @@
 mod Documents
 mod FirstTold
 mod Firsts
+pub mod Filling
+mod Fitting
 mod Found
 mod Items
 mod LineEnds
+mod MayBeMembers
 mod MisplacedWords
 mod OneReading
 mod Readings

@@ -1,12 +1,15 @@
 -- What holds of the fault that is told, and of the configurations that a document is.
 use Rattle.std.specs.Prelude.{◌≡◌, ℕ, ◌<◌, ◌≤◌, List, [], ◌∷◌, ◌++◌, Option, IsSome, Contains}
-use Rattle.std.specs.Prelude.{MatchOption, map}
+use Rattle.std.specs.Prelude.{MatchOption, None, Some, map}
 use Rattle.toml.specs.Data.{Members}
+use Rattle.config.specs.Documents.{document_fault}
 use Rattle.config.specs.Faults.{number_of, told_of}
+use Rattle.config.specs.Filled.{filled}
 use Rattle.config.specs.Outcomes.{Configures}
 use Rattle.config.specs.declared.fault.Fault.{Fault}
 use Rattle.config.specs.declared.reader.Config.{Config}
 use Rattle.config.specs.declared.rule_text.LoadedRule.{LoadedRule}
+use Rattle.run_config.specs.declared.config.Config as run
 
 abbrev pub number : Fault → ℕ
 number f = number_of f.kind
@@ -37,3 +40,10 @@ abbrev pub OneConfiguration : Type 0
 OneConfiguration = (told : List ℕ → Option (List ℕ)) (top : Members) (C D : Config)
     → ((file : List ℕ) → IsSome (told file))
     → Configures told top C → Configures told top D → AreSame C D
+
+-- for each configuration of a document without faults there is one that runs: the keys of its data
+-- groups are of their kinds, and the members of its pools may be
+abbrev pub LoadedIsFilled : Type 0
+LoadedIsFilled = (told : List ℕ → Option (List ℕ)) (top : Members) (C : Config)
+    → document_fault top ≡ None → Configures told top C
+    → (K : run.Config) × (filled C ≡ Some K)

@@ -1,6 +1,7 @@
 pub mod Documents
 pub mod EventWords
 pub mod Faults
+pub mod Filled
 pub mod Forms
 pub mod GroupView
 pub mod Groups

@@ -20,8 +20,8 @@ use Rattle.config.specs.Texts.{text_at}
 use Rattle.config.specs.Values.{in_range}
 use Rattle.config.specs.declared.config.NamedGroup.{NamedGroup}
 use Rattle.config.specs.declared.config.NamedPool.{NamedPool}
-use Rattle.config.specs.declared.config.Persist.{Persist}
-use Rattle.config.specs.declared.config.Persist.TheVariants as persist
+use Rattle.run_config.specs.declared.config.Persist.{Persist}
+use Rattle.run_config.specs.declared.config.Persist.TheVariants as persist
 use Rattle.config.specs.declared.config.Settings.{Settings}
 use Rattle.config.specs.declared.config.Virtual.{Virtual}
 

@@ -3,14 +3,7 @@
 use data_groups::{GroupKind, GroupRows};
 use pools::{Members, Method};
 use px_bytes::{Addr, Seq, Text, Texts};
-
-/// How a client's member is found again: it isn't, by the client's address, or by a cookie.
-#[derive(Clone, Copy, PartialEq, Eq)]
-pub enum Persist {
-    None,
-    SourceAddr,
-    Cookie,
-}
+use run_config::Persist;
 
 /// A virtual server.
 #[derive(Drop)]

@@ -7,12 +7,13 @@ ghost use Rattle.config.specs.Keys as key;
 ghost use Rattle.config.specs.Settings.{each, persist_of, server_item, server_of, text_item};
 ghost use Rattle.config.specs.Texts.{text_at};
 
-use crate::config::{Persist, Virtual};
+use crate::config::Virtual;
 use crate::keys::{HTTP, LISTEN, NAME, PERSIST, PERSIST_TIMEOUT, POOL_NAME, RULES};
 use crate::read::{addr_at, given, whole_at};
 use crate::table::{array_at, text_at};
 use crate::words::{chosen, truth_at};
 use px_bytes::{M, Seq, Text, Texts};
+use run_config::Persist;
 use std::alloc::Global;
 use toml::value::Array;
 use toml::{Table, Value};

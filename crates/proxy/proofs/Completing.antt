@@ -1,6 +1,5 @@
 -- From what the program promises of its end to when that is the whole text.
-use Rattle.std.proofs.Common.{◌≡◌, ◌⊎◌, inl, inr, refl, sym, ap, subst, ◌∙◌, ℕ, List, Option, true, false}
-use Rattle.std.specs.Prelude.{is_none}
+use Rattle.std.proofs.Common.{◌≡◌, ◌⊎◌, inl, inr, refl, subst, ◌∙◌, ℕ, List, Option, true, false}
 use Rattle.config.specs.declared.reader.Config as loaded
 use Rattle.run_config.specs.declared.config.Config as core
 use Rattle.proxy.specs.declared.end.End.{End}
@@ -10,7 +9,8 @@ use Rattle.proxy.specs.Command.{Command}
 use Rattle.proxy.specs.Complete.{Completes, IsRefused, MayCheck, MayLoad, MayReplay}
 use Rattle.proxy.specs.Offline.{ChecksFile, IsNotBuilt, IsRefusal, OfCommand, Offline, ReplaysFiles, Runs, TellsFault}
 use Rattle.proxy.specs.Replayed.{MeetsFault, MeetsRefusal, Replayed}
-use Rattle.proxy.specs.Runnable.{IsRun, run_of}
+use Rattle.proxy.specs.Runnable.{IsBuilt, can_run}
+use Rattle.config.proofs.Filling.{is_filled}
 use Rattle.proxy.proofs.OneRun.{told_is, same_run, not_faulty}
 use Rattle.proxy.proofs.WholeReading.{whole_has_no_fault}
 
@@ -18,15 +18,16 @@ module _ (told : List ℕ → Option (List ℕ)) (rb rn : ℕ) (name : List ℕ)
   loads_rightly : (text : List ℕ) → TellsFault told rb rn name text → ⊥
   loads_rightly text t = not_faulty told name C m rb rn t.fault t.faulty.was_read t.faulty.answers
 
-  runs_rightly : (K : core.Config) → IsRun C K → IsNotBuilt told name → ⊥
-  runs_rightly K is n =
-      let none : is_none (run_of C) ≡ true = sym (same_run told name C m n.C n.loads) ∙ ap is_none n.not_built in
-      let some : is_none (run_of C) ≡ false = ap is_none is in
-      cc
-
-  pub no_refusal : (K : core.Config) → IsRun C K → (text : List ℕ) → IsRefusal told rb rn name text → ⊥
-  no_refusal K is text (inl t) = loads_rightly text t
-  no_refusal K is text (inr n) = runs_rightly K is n.0
+  pub no_refusal : IsBuilt C → (text : List ℕ) → IsRefusal told rb rn name text → ⊥
+  no_refusal built text (inl t) = loads_rightly text t
+  no_refusal built text (inr n) = runs_rightly n.0
+    where
+      runs_rightly : IsNotBuilt told name → ⊥
+      runs_rightly n =
+          let fills = is_filled told m.top C m.faultless m.configures in
+          let can : can_run n.K ≡ true = same_run told name C m n.C n.loads fills.0 n.K fills.1 n.fills ∙ built fills.0 fills.1 in
+          let cannot : can_run n.K ≡ false = n.not_built in
+          cc
 
 module _ (words : List (List ℕ)) (told : List ℕ → Option (List ℕ)) (old new : Option (List ℕ)) (rb rn b n : ℕ) where
   checks : (end : End) (m : MayCheck words told rb rn b n) → ChecksFile m.name told old new rb rn b n end → (end ≡ Done) ⊎ (end ≡ Memory)
@@ -47,7 +48,7 @@ module _ (words : List (List ℕ)) (told : List ℕ → Option (List ℕ)) (old 
   replays : (end : End) (m : MayReplay words told rb rn b n) → ReplaysFiles m.named told old new rb rn b n end → (end ≡ Done) ⊎ (end ≡ Memory) ⊎ ((end ≡ Schedule) × IsRefused told m.named m.schedule old new)
   replays Done m k = inl refl
   replays Usage m k = absurd k
-  replays Config m k = absurd (no_refusal told rb rn m.named.config m.C m.loads m.K m.is_run k.0 k.1)
+  replays Config m k = absurd (no_refusal told rb rn m.named.config m.C m.loads m.built k.0 k.1)
   replays Schedule m k =
       let same : k.schedule ≡ m.schedule = told_is (told m.named.schedule) k.schedule m.schedule m.schedule_is k.runs.schedule_contents in
       refusal m k.K (subst (λ s. Runs told m.named k.K s) same k.runs) (subst (λ s. Replayed k.K s old new b n Schedule) same k.replayed)

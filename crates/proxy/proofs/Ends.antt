@@ -20,6 +20,7 @@ use Rattle.proxy.specs.Offline.{ChecksFile, IsCheck, IsDue, IsNotBuilt, LoadsSom
 use Rattle.proxy.specs.Replayed.{Replayed}
 use Rattle.proxy.specs.Report.{ok_text}
 use Rattle.proxy.specs.Runnable.{IsRun, run_of}
+use Rattle.proxy.proofs.Building.{not_run}
 use Rattle.proxy.specs.Says.{Refuses, Says, Tells, TellsBy, fault_text}
 use Rattle.proxy.specs.Written.{WritesFrontOf}
 use Rattle.proxy.proofs.ConfigAnswers.{loads, read_rose}
@@ -86,7 +87,7 @@ module _ (told : List ℕ → Option (List ℕ)) (old new : Option (List ℕ)) (
 
     pub not_built : (C : loaded.Config) → Answers told rb rn named.config (Ok C) → run_of C ≡ None → (end : End) → Tells not_built_text Config old new b n end → ReplaysFiles named told old new rb rn b n end
     not_built C answers none end t =
-        let is : IsNotBuilt told named.config = record { C = C; loads = loads told rb rn named.config C answers; not_built = none } in
+        let is : IsNotBuilt told named.config = not_run told named.config C (loads told rb rn named.config C answers) none in
         by_end not_built_text Config old new b n (λ e. ReplaysFiles named told old new rb rn b n e)
         (λ written. (not_built_text, inr (is, refl), written)) (λ rose front. (rose, (not_built_text, inl (inr (is, refl)), front)))
         (λ part. cut_due not_built_text (IsDue told rb rn named) old new (inl (inr (is, refl))) part) end t

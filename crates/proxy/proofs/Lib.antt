@@ -11,7 +11,7 @@ pub mod ReportRows
 pub mod DocumentFaults
 pub mod ConfigAnswers
 pub mod OneRun
-pub mod MayBeMembers
+pub mod Building
 pub mod Ends
 pub mod Stopping
 pub mod LineStops

@@ -1,7 +1,7 @@
 -- What is read of files that are told: a configuration that loads isn't faulty, and what the core
 -- runs for it is told by its document alone.
 use Rattle.std.proofs.Common.{◌≡◌, ◌⊎◌, ℕ, ◌+◌, zero, suc, Bool, true, false, if◌then◌else◌, ◌&&◌, List, [], ◌∷◌, Option, Some, None, IfSome, IsSome, inl, inr, refl, sym, ap, ap₂, subst, ◌∙◌, map}
-use Rattle.std.specs.Prelude.{Result, Ok, Err, is_none, option_map, option_and_then, slice_get}
+use Rattle.std.specs.Prelude.{Result, Ok, Err, not, option_map, option_and_then, slice_get}
 use Rattle.std.specs.List.{list_all}
 use Rattle.std.specs.Option.{option_or}
 use Rattle.event_order.specs.Event.{every_event}
@@ -33,10 +33,12 @@ use Rattle.config.specs.declared.reader.Config.{Config}
 use Rattle.config.specs.declared.rule_text.LoadedRule.{LoadedRule}
 use Rattle.proxy.specs.Complete.{AreTold, IsTold, MayLoad}
 use Rattle.proxy.specs.Loads.{Loads, is_read_fault}
-use Rattle.proxy.specs.Groups.{made_groups}
-use Rattle.proxy.specs.declared.groups.Made.{Made}
-use Rattle.proxy.specs.Runnable.{are_built, bodies_at, can_run, core_of, has_built_bodies, has_few, is_plain, is_rule_built, run_of}
+use Rattle.config.specs.Filled.{filled, server_of}
+use Rattle.config.proofs.Filling.{parts_of}
+use Rattle.run_config.specs.declared.config.Config as core
+use Rattle.proxy.specs.Runnable.{are_built, bodies_at, can_run, has_built_bodies, has_few, is_plain, is_rule_built, keeps_none}
 use Rattle.proxy.proofs.ConfigAnswers.{other_kind}
+use Rattle.proxy.proofs.ListTests.{all_map}
 
 -- the contents of a file that is told
 pub told_is : (o : Option (List ℕ)) (bytes held : List ℕ) → o ≡ Some held → IfSome o (λ h. bytes ≡ h) → bytes ≡ held
@@ -131,14 +133,15 @@ all_built : (rs : List LoadedRule) → list_all built rs ≡ list_all (λ b. b) 
 all_built [] = refl
 all_built (r ∷ rs) = ap (λ b. built r && b) (all_built rs)
 
-none_run : (C : Config) → is_none (run_of C) ≡ (if can_run C then is_none (made_groups C.settings) else true)
-unfolding run_of
-none_run C = by_test (can_run C) (made_groups C.settings)
-  where
-    by_test : (b : Bool) (groups : Option Made) → is_none (if b then option_map (core_of C) groups else None) ≡ (if b then is_none groups else true)
-    by_test true None = refl
-    by_test true (Some groups) = refl
-    by_test false groups = refl
+-- whether a virtual server can be run
+abbrev plain : Virtual → Bool
+plain v = not v.http && keeps_none v.persist
+
+can_of : (C : Config) (K : core.Config) → filled C ≡ Some K → can_run K ≡ (list_all plain C.settings.virtuals && list_all built C.rules)
+can_of C K e =
+    let parts = parts_of C K e in
+    ap₂ (λ vs rs. list_all is_plain vs && list_all is_rule_built rs) parts.0 parts.1
+    ∙ ap₂ (λ a b. a && b) (all_map is_plain (server_of C.rules) C.settings.virtuals) (all_map is_rule_built (λ r. r.rule) C.rules)
 
 module _ (told : List ℕ → Option (List ℕ)) (name : List ℕ) (C : Config) (m : MayLoad told name C) where
   same_bytes : (bytes : List ℕ) → IsContents told name bytes → bytes ≡ m.bytes
@@ -148,17 +151,15 @@ module _ (told : List ℕ → Option (List ℕ)) (name : List ℕ) (C : Config) 
   same_document bytes top contents document =
       some_is top m.top (sym document.table ∙ ap parse_document (same_bytes bytes contents) ∙ m.document.table)
 
-  -- another one that loads can be run, or not, alike
-  pub same_run : (D : Config) → Loads told name D → is_none (run_of D) ≡ is_none (run_of C)
-  same_run D l =
+  -- what is filled of another one that loads can be run, or not, alike
+  pub same_run : (D : Config) → Loads told name D → (K L : core.Config) → filled C ≡ Some K → filled D ≡ Some L → can_run L ≡ can_run K
+  same_run D l K L of_C of_D =
       let top : l.top ≡ m.top = same_document l.holds.bytes l.top l.holds.contents l.holds.document in
       let D_is : Configures told m.top D = subst (λ t. Configures told t D) top l.configures in
       let settings : D.settings ≡ C.settings = D_is.settings ∙ sym m.configures.settings in
       let alike : map built D.rules ≡ map built C.rules = all_same told built (same_rule told) (items_at rules m.top) D.rules C.rules m.texts D_is.loaded m.configures.loaded in
       let all : list_all built D.rules ≡ list_all built C.rules = all_built D.rules ∙ ap (λ bs. list_all (λ b. b) bs) alike ∙ sym (all_built C.rules) in
-      none_run D
-      ∙ ap₂ (λ st b. if list_all is_plain st.virtuals && b then is_none (made_groups st) else true) settings all
-      ∙ sym (none_run C)
+      can_of D L of_D ∙ ap₂ (λ st b. list_all plain st.virtuals && b) settings all ∙ sym (can_of C K of_C)
 
   -- it isn't faulty
   module _ (before now : ℕ) (f : Fault) (was : is_read_fault f.kind ≡ false) where

@@ -21,6 +21,7 @@ use Rattle.proxy.specs.declared.outcome.Outcome.TheVariants as is
 use Rattle.proxy.specs.Loads.{is_read_fault}
 use Rattle.proxy.specs.Offline.{IsRefusal}
 use Rattle.proxy.specs.Runnable.{IsRun, run_of}
+use Rattle.proxy.proofs.Building.{not_run}
 use Rattle.proxy.specs.Says.{fault_text}
 use Rattle.proxy.specs.Serving.{MayServe, OfServe, OfWords, Outside, ServeCompletes, ServesTo, Untouched, end_of, read_end, refused_end}
 use Rattle.proxy.proofs.Completing.{no_refusal}
@@ -48,7 +49,7 @@ module _ {S T : Type 0} (did : S → Call → S → Type 0) (gave : S → ℕ �
 
     pub not_built : (C : loaded.Config) → Answers told old.reads new.reads s.config (Ok C) → run_of C ≡ None → Untouched old new → To is.Config
     not_built C answers none same =
-        ((_, inr (record { C = C; loads = loads told old.reads new.reads s.config C answers; not_built = none }, refl)), same)
+        ((_, inr (not_run told s.config C (loads told old.reads new.reads s.config C answers) none, refl)), same)
 
     pub served : (C : loaded.Config) (K : core.Config) → Answers told old.reads new.reads s.config (Ok C) → IsRun C K → (r : Result ServeEnd ServeFault)
         → IfOk r (ServesConfig did gave ticked K s.conns s.turns old.net new.net old.clock new.clock old.written new.written)
@@ -82,7 +83,7 @@ module _ {S T : Type 0} (did : S → Call → S → Type 0) (gave : S → ℕ �
 
     config_refused : (m : MayServe told words old new) → OfServe did gave ticked told words old new is.Config → ⊥
     config_refused m k =
-        no_refusal told old.reads new.reads m.serve.config m.C m.loads m.K m.is_run k.2.0.0
+        no_refusal told old.reads new.reads m.serve.config m.C m.loads m.built k.2.0.0
         (subst (λ (name : List ℕ). IsRefusal told old.reads new.reads name k.2.0.0) (same_config m.serve k.0 m.is_serve k.1) k.2.0.1)
 
     pub serve_completes : (end : Outcome) → OfWords did gave ticked told words old new end → ServeCompletes told words old new end

@@ -16,7 +16,7 @@ use Rattle.proxy.specs.Command.{Checks, Replays, Named, command_of}
 use Rattle.proxy.specs.Lines.{IsEnd, Reads}
 use Rattle.proxy.specs.Offline.{Runs}
 use Rattle.proxy.specs.Replayed.{MeetsRefusal}
-use Rattle.proxy.specs.Runnable.{IsRun}
+use Rattle.proxy.specs.Runnable.{IsBuilt}
 
 -- the files tell the text of a rule, where it doesn't stand in the document
 abbrev pub IsTold : (List ℕ → Option (List ℕ)) → Data → Type 0
@@ -59,8 +59,7 @@ pub record MayReplay (words : List (List ℕ)) (told : List ℕ → Option (List
   pub command : command_of words ≡ Some (Replays named)
   pub C : loaded.Config
   pub loads : MayLoad told named.config C
-  pub K : core.Config
-  pub is_run : IsRun C K
+  pub built : IsBuilt C
   pub schedule : List ℕ
   pub schedule_is : told named.schedule ≡ Some schedule
   pub text : List ℕ

@@ -9,7 +9,6 @@ pub mod Written
 pub mod Stops
 pub mod Replayed
 pub mod Loads
-pub mod Groups
 pub mod Runnable
 pub mod Says
 pub mod Complete

@@ -7,6 +7,8 @@ use Rattle.config.specs.declared.fault.ConfigFault.TheVariants as refused
 use Rattle.config.specs.declared.fault.Fault.{Fault}
 use Rattle.config.specs.declared.fault.FaultKind.{FaultKind}
 use Rattle.config.specs.declared.reader.Config.{Config}
+use Rattle.run_config.specs.declared.config.Config as run
+use Rattle.proxy.specs.Runnable.{IsBuilt, IsRun}
 use Rattle.toml.specs.Data.{Members}
 
 -- the file holds a document without faults, and this is what it configures
@@ -31,3 +33,8 @@ pub record IsFaulty (told : List ℕ → Option (List ℕ)) (before now : ℕ) (
     : Type 0 where
   pub answers : Answers told before now name (Err (refused.Fault f))
   pub was_read : is_read_fault f.kind ≡ false
+
+-- a configuration that loads is what runs, but for what isn't built
+abbrev pub LoadedIsRun : Type 0
+LoadedIsRun = (told : List ℕ → Option (List ℕ)) (name : List ℕ) (C : Config)
+    → Loads told name C → IsBuilt C → (K : run.Config) × IsRun C K

@@ -1,5 +1,6 @@
 -- What the commands that wait for nobody come to: the program's promise.
-use Rattle.std.specs.Prelude.{◌≡◌, ◌⊎◌, ℕ, List, Option, Some, None, codes}
+use Rattle.std.specs.Prelude.{◌≡◌, ◌⊎◌, ℕ, List, Option, Some, None, codes, false}
+use Rattle.config.specs.Filled.{filled}
 use Rattle.config.specs.Loading.{IsContents}
 use Rattle.config.specs.declared.fault.Fault.{Fault}
 use Rattle.config.specs.declared.reader.Config as loaded
@@ -14,7 +15,7 @@ use Rattle.proxy.specs.Command.{Command, Checks as Checking, Replays as Replayin
 use Rattle.proxy.specs.Command.{command_of}
 use Rattle.proxy.specs.Loads.{Loads, IsFaulty, IsUnread}
 use Rattle.proxy.specs.Report.{config_fault, ok_text, usage_fault}
-use Rattle.proxy.specs.Runnable.{IsRun, run_of}
+use Rattle.proxy.specs.Runnable.{IsRun, can_run}
 use Rattle.proxy.specs.Says.{fault_text}
 use Rattle.proxy.specs.Written.{IsWritten, WritesFrontOf}
 use Rattle.proxy.specs.Replayed.{Replayed}
@@ -40,11 +41,13 @@ pub record TellsFault (told : List ℕ → Option (List ℕ)) (before now : ℕ)
 abbrev pub LoadsSome : (List ℕ → Option (List ℕ)) → List ℕ → Type 0
 LoadsSome told name = (C : loaded.Config) × Loads told name C
 
--- it loads, and can't be run today
+-- it loads, and what is filled of it can't be run today
 pub record IsNotBuilt (told : List ℕ → Option (List ℕ)) (name : List ℕ) : Type 0 where
   pub C : loaded.Config
   pub loads : Loads told name C
-  pub not_built : run_of C ≡ None
+  pub K : core.Config
+  pub fills : filled C ≡ Some K
+  pub not_built : can_run K ≡ false
 
 -- the line of what can't be run
 abbrev pub not_built_text : List ℕ

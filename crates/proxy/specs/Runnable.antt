@@ -1,26 +1,22 @@
 -- Which of the configurations that load can be run today, and what the core runs for them: virtual
 -- servers without HTTP and persistence, and rules that name no command of the host but those that a
 -- connection has today, and have 65,536 procedures at most.
-use Rattle.std.specs.Prelude.{◌≡◌, ℕ, List, [], ◌∷◌, map, flat_map, Bool, true, false, not, ◌&&◌}
+use Rattle.std.specs.Prelude.{◌≡◌, ℕ, List, map, Bool, true, false, not, ◌&&◌}
 use Rattle.std.specs.Prelude.{Option}
-use Rattle.std.specs.Prelude.{Some, None, option_map, is_none, slice_get, unwrap_or, if◌then◌else◌}
-use Rattle.std.specs.List.{list_all, position_from}
-use Rattle.std.specs.Str.{bytes_eq}
-use Rattle.config.specs.declared.config.Persist.{Persist}
-use Rattle.config.specs.declared.config.Persist.TheVariants as persist
-use Rattle.config.specs.declared.config.Virtual.{Virtual}
+use Rattle.std.specs.Prelude.{Some, None, is_none, slice_get, if◌then◌else◌}
+use Rattle.std.specs.List.{list_all}
+use Rattle.run_config.specs.declared.config.Persist.{Persist}
+use Rattle.run_config.specs.declared.config.Persist.TheVariants as persist
+use Rattle.config.specs.Filled.{filled}
 use Rattle.config.specs.declared.reader.Config as loaded
-use Rattle.config.specs.declared.rule_text.LoadedRule.{LoadedRule}
 use Rattle.event_order.specs.Event.{every_event}
 use Rattle.event_order.specs.declared.event.EventName.{EventName}
 use Rattle.proxy.specs.HostCommands.{is_built}
-use Rattle.run_config.specs.declared.config.Config as core
-use Rattle.run_config.specs.declared.config.Virtual as served
+use Rattle.run_config.specs.declared.config.Config.{Config}
+use Rattle.run_config.specs.declared.config.Virtual.{Virtual}
 use Rattle.rule_loader.specs.Handlers.{Handled, handler_view, handlers_at}
 use Rattle.rule_loader.specs.declared.rule.Rule.{Rule}
 use Rattle.tcl_trees.specs.Procedures.{Procedure, procs_view}
-use Rattle.proxy.specs.Groups.{made_groups}
-use Rattle.proxy.specs.declared.groups.Made.{Made}
 
 -- ---- a rule
 
@@ -55,50 +51,23 @@ keeps_none persist.Cookie = false
 abbrev pub is_plain : Virtual → Bool
 is_plain v = not v.http && keeps_none v.persist
 
--- the number of a rule by its name, and those of a virtual server
-abbrev pub number_of : List LoadedRule → List ℕ → Option ℕ
-number_of rules name = position_from (λ r. bytes_eq r.rule.name name) 0 rules
-
-abbrev pub listed : Option ℕ → List ℕ
-listed None = []
-listed (Some n) = n ∷ []
-
-abbrev pub numbers_of : List LoadedRule → List (List ℕ) → List ℕ
-numbers_of rules names = flat_map (λ name. listed (number_of rules name)) names
-
--- the name of its default pool, empty where it has none
-abbrev pub pool_of : Virtual → List ℕ
-pool_of v = unwrap_or v.pool []
-
-abbrev pub server_of : List LoadedRule → Virtual → served.Virtual
-server_of rules v = record {
-  name = v.name;
-  listen = v.listen;
-  pool = pool_of v;
-  rules = numbers_of rules v.rules;
-}
-
 -- ---- a configuration
 
-abbrev pub can_run : loaded.Config → Bool
-can_run C =
-    list_all is_plain C.settings.virtuals && list_all (λ r. is_rule_built r.rule) C.rules
+abbrev pub can_run : Config → Bool
+can_run K = list_all is_plain K.virtuals && list_all is_rule_built K.rules
 
--- what the core runs, with these groups and pools
-abbrev pub core_of : loaded.Config → Made → core.Config
-core_of C made = record {
-  budget = C.settings.budget;
-  connections = C.settings.connections;
-  groups = made.groups;
-  pools = made.pools;
-  rules = map (λ r. r.rule) C.rules;
-  virtuals = map (server_of C.rules) C.settings.virtuals;
-}
+abbrev pub if_built : Option Config → Option Config
+if_built None = None
+if_built (Some K) = if can_run K then Some K else None
 
--- what the core runs for a configuration, if it can be run
-unfoldable pub run_of : loaded.Config → Option core.Config
-run_of C = if can_run C then option_map (core_of C) (made_groups C.settings) else None
+-- what the core runs for a configuration that loaded, if it can be run
+unfoldable pub run_of : loaded.Config → Option Config
+run_of C = if_built (filled C)
 
 -- the core runs this configuration for that one
-abbrev pub IsRun : loaded.Config → core.Config → Type 0
+abbrev pub IsRun : loaded.Config → Config → Type 0
 IsRun C K = run_of C ≡ Some K
+
+-- what is filled of it can be run
+abbrev pub IsBuilt : loaded.Config → Type 0
+IsBuilt C = (K : Config) → filled C ≡ Some K → can_run K ≡ true

@@ -18,7 +18,7 @@ use Rattle.proxy.specs.declared.outcome.Outcome.TheVariants as is
 use Rattle.proxy.specs.Complete.{MayLoad}
 use Rattle.proxy.specs.Loads.{Loads, IsUnread, is_read_fault}
 use Rattle.proxy.specs.Offline.{IsRefusal}
-use Rattle.proxy.specs.Runnable.{IsRun}
+use Rattle.proxy.specs.Runnable.{IsBuilt, IsRun}
 
 abbrev pub status_of : Outcome → ℕ
 status_of is.Conns = 0
@@ -144,8 +144,7 @@ pub record MayServe {S T : Type 0} (told : List ℕ → Option (List ℕ)) (word
   pub is_serve : IsServe words serve
   pub C : loaded.Config
   pub loads : MayLoad told serve.config C
-  pub K : core.Config
-  pub is_run : IsRun C K
+  pub built : IsBuilt C
   pub no_read_fault : Rose old.reads new.reads → ⊥
   pub no_net_fault : Rose old.net_faults new.net_faults → ⊥
   pub no_write_fault : Rose old.writes new.writes → ⊥

@@ -1,6 +1,12 @@
-// What holds of every journal.
+// What holds of every configuration that loads, and of every journal.
 
 ghost use Rattle.proxy.specs.Journal.{JournalHasNoFault, JournalIsRead, JournalReplays};
+ghost use Rattle.proxy.specs.Loads.{LoadedIsRun};
+
+/// A configuration that loads is what the core runs, unless something of it isn't built.
+pub fn loaded_is_run()
+    ensures { LoadedIsRun }
+{}
 
 /// The journal of what was served is a schedule, each line of which is read, and its events are
 /// exactly those that were served, where a line can write them.

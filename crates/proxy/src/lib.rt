@@ -5,7 +5,6 @@
 mod command;
 mod end;
 mod finish;
-mod groups;
 mod interim_rules;
 mod laws;
 mod lines;
@@ -21,7 +20,7 @@ mod server_bytes;
 mod taken;
 
 pub use end::Status;
-pub use laws::{journal_has_no_fault, journal_is_read, journal_replays};
+pub use laws::{journal_has_no_fault, journal_is_read, journal_replays, loaded_is_run};
 pub use offline_commands::offline;
 pub use serve::serve_command;
 pub use serve_words::{Serve, UsageFault, serve_of};

@@ -1,23 +1,20 @@
 // What can be run today of the configurations that load.
 
-ghost use Rattle.std.specs.Prelude.{◌≡◌, ◌<◌, ◌++◌, IfOk, IfSome, OnOk, length, map, option_map};
-ghost use Rattle.std.specs.Prelude.{slice_get, true};
-ghost use Rattle.std.specs.List.{list_all, position_from};
+ghost use Rattle.std.specs.Prelude.{◌≡◌, IfOk, Some, option_map, slice_get, true};
+ghost use Rattle.std.specs.List.{list_all};
 ghost use Rattle.event_order.specs.Event.{every_event};
 ghost use Rattle.proxy.specs.HostCommands.{is_built};
 ghost use Rattle.tcl_trees.specs.Procedures.{procs_view};
 ghost use Rattle.tcl_trees.specs.TreeView.{node_view};
-ghost use Rattle.proxy.specs.Runnable.{are_built, can_run, core_of, has_built_bodies, has_few};
-ghost use Rattle.proxy.specs.Runnable.{is_plain, is_rule_built, keeps_none, listed, number_of};
-ghost use Rattle.proxy.specs.Runnable.{numbers_of, pool_of, run_of, server_of};
+ghost use Rattle.proxy.specs.Runnable.{are_built, can_run, has_built_bodies, has_few, if_built};
+ghost use Rattle.proxy.specs.Runnable.{is_plain, is_rule_built, keeps_none, run_of};
 
-use crate::groups::{Made, core_groups};
 use crate::interim_rules::is_built;
-use config::{Config as Loaded, LoadedRule, Persist, Virtual};
+use config::Config as Loaded;
 use event_order::EventName;
-use px_bytes::{M, Seq, Text};
+use px_bytes::M;
 use rule_loader::{Handler, Rule};
-use run_config::{Config, Virtual as CoreVirtual};
+use run_config::{Config, Persist, Virtual};
 use std::alloc::Global;
 use tcl_trees::Procs;
 
@@ -103,102 +100,31 @@ fn are_plain(servers: &[Virtual]) -> bool
     servers.iter().all(is_plain)
 }
 
-fn are_rules_built(rules: &[LoadedRule]) -> bool
-    ensures { result ≡ list_all (λ r. is_rule_built r.rule) rules.now }
+fn are_rules_built(rules: &[Rule]) -> bool
+    ensures { result ≡ list_all is_rule_built rules.now }
 {
-    rules.iter().all(|rule| is_rule_built(&rule.rule))
+    rules.iter().all(is_rule_built)
 }
 
-fn can_run(loaded: &Loaded) -> bool
-    ensures { result ≡ can_run loaded.now }
+fn can_run(config: &Config) -> bool
+    ensures { result ≡ can_run config.now }
 {
-    are_plain(loaded.settings.virtuals.as_slice()) && are_rules_built(loaded.rules.as_slice())
+    are_plain(config.virtuals.as_slice()) && are_rules_built(config.rules.as_slice())
 }
 
-fn number_of(rules: &[LoadedRule], name: &[u8]) -> Option<usize>
-    ensures number { result ≡ number_of rules.now name.now }
-    ensures within { IfSome result (λ at. at < length rules.now) }
-{
-    rules.iter().position(|r| r.rule.name.as_bytes() == name)
-}
-
-fn add_number(numbers: &mut Seq<usize>, rules: &[LoadedRule], name: &[u8]) -> M<()>
-    ensures { OnOk result (numbers.new ≡ numbers.old ++ listed (number_of rules.now name.now)) }
-{
-    match number_of(rules, name) {
-        Some(number) => numbers.push(number),
-        None => Ok(()),
-    }
-}
-
-fn numbers_of(alloc: Global, rules: &[LoadedRule], names: &[Text]) -> M<Seq<usize>>
-    ensures { IfOk result (λ numbers. numbers ≡ numbers_of rules.now names.now) }
-{
-    let mut numbers = Seq::new(alloc);
-    for name in names {
-        add_number(&mut numbers, rules, name.as_bytes())?;
-    }
-    Ok(numbers)
-}
-
-// The name of its default pool, empty where it has none.
-fn pool_of(alloc: Global, server: &Virtual) -> M<Text>
-    ensures { IfOk result (λ pool. pool ≡ pool_of server.now) }
-{
-    match &server.pool {
-        Some(name) => name.copy(),
-        None => Ok(Text::empty(alloc)),
-    }
-}
-
-fn server_of(alloc: Global, rules: &[LoadedRule], server: &Virtual) -> M<CoreVirtual>
-    ensures { IfOk result (λ v. v ≡ server_of rules.now server.now) }
-{
-    Ok(CoreVirtual {
-        name: server.name.copy()?,
-        listen: server.listen,
-        pool: pool_of(alloc, server)?,
-        rules: numbers_of(alloc, rules, server.rules.as_slice())?,
-    })
-}
-
-fn servers_of(alloc: Global, rules: &[LoadedRule], servers: &[Virtual]) -> M<Seq<CoreVirtual>>
-    ensures { IfOk result (λ made. made ≡ map (server_of rules.now) servers.now) }
-{
-    let mut made = Seq::new(alloc);
-    for server in servers {
-        made.push(server_of(alloc, rules, server)?)?;
-    }
-    Ok(made)
-}
-
-// The core's configuration, with these groups and pools.
-fn core_of(alloc: Global, loaded: Loaded, made: Made) -> M<Config>
-    ensures { IfOk result (λ K. K ≡ core_of loaded made) }
-{
-    let Loaded { settings, rules } = loaded;
-    let Made { groups, pools } = made;
-    let virtuals = servers_of(alloc, rules.as_slice(), settings.virtuals.as_slice())?;
-    Ok(Config {
-        budget: settings.budget,
-        connections: settings.connections,
-        groups,
-        pools,
-        rules: rules.into_rules(alloc)?,
-        virtuals,
-    })
-}
-
-/// What the core runs for a configuration, if that can be run.
+/// What the core runs for a configuration that loaded, if that can be run.
 #[tactic(auto, unfolding(crate::specs::Runnable::run_of))]
 pub fn core_config(alloc: Global, loaded: Loaded) -> M<Option<Config>>
     ensures { IfOk result (λ K. K ≡ run_of loaded) }
 {
-    if !can_run(&loaded) {
-        return Ok(None);
+    match loaded.filled(alloc)? {
+        Some(config) => Ok(if_built(config)),
+        None => Ok(None),
     }
-    let Some(made) = core_groups(alloc, &loaded.settings)? else {
-        return Ok(None);
-    };
-    Ok(Some(core_of(alloc, loaded, made)?))
+}
+
+fn if_built(config: Config) -> Option<Config>
+    ensures { result ≡ if_built (Some config) }
+{
+    if can_run(&config) { Some(config) } else { None }
 }

@@ -3,4 +3,4 @@
 
 mod config;
 
-pub use config::{Config, Virtual};
+pub use config::{Config, Persist, Virtual};

@@ -6,7 +6,7 @@ use Rattle.std.proofs.lemmas.Bool.{and_parts}
 use Rattle.std.proofs.lemmas.Bool.Decides.{nat_tests}
 use Rattle.pools.specs.Pools.{AreMembers, are_apart, ratio_fits}
 use Rattle.pools.specs.declared.member.Member.{Member}
-use Rattle.proxy.specs.Groups.{may_be_members}
+use Rattle.config.specs.Filled.{may_be_members}
 
 pub members_by : (ms : List Member) → may_be_members ms ≡ true → AreMembers ms
 members_by ms h =

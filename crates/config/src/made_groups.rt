@@ -1,12 +1,12 @@
 // The data groups and pools that rules name.
 
 ghost use Rattle.std.specs.Prelude.{◌≡◌, IfOk, map};
-ghost use Rattle.proxy.specs.Groups.{made_class, made_classes, made_groups, made_pool, made_pools};
-ghost use Rattle.proxy.specs.Groups.{may_be_members, members_of};
+ghost use Rattle.config.specs.Filled.{made_class, made_classes, made_groups, made_pool, made_pools};
+ghost use Rattle.config.specs.Filled.{may_be_members, members_of};
 ghost use Rattle.std.specs.Prelude.{true};
 ghost use Rattle.pools.specs.Pools.{new_pool};
 
-use config::{NamedGroup as LoadedGroup, NamedPool, Settings};
+use crate::config::{NamedGroup as LoadedGroup, NamedPool, Settings};
 use data_groups::{Group, GroupFault, GroupRows};
 use irule_net::{Groups, NamedGroup, PoolMembers};
 use pools::{Member, Members, Pool, are_members};
@@ -16,14 +16,14 @@ use std::alloc::Global;
 
 /// The data groups and pools that rules name, and the pools of the store.
 #[derive(Drop)]
-pub struct Made {
+pub(crate) struct Made {
     pub groups: Groups,
     pub pools: Pools,
 }
 
 /// The data groups and pools of a configuration, if each key is of its group's kind and the members
 /// of each pool may be.
-pub fn core_groups(alloc: Global, settings: &Settings) -> M<Option<Made>>
+pub(crate) fn made_groups(alloc: Global, settings: &Settings) -> M<Option<Made>>
     ensures { IfOk result (λ groups. groups ≡ made_groups settings.now) }
 {
     let Some(classes) = classes_of(alloc, settings.groups.as_slice())? else {

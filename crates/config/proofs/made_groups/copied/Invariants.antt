@@ -1,5 +1,5 @@
 use Rattle.std.proofs.Common.{◌≡◌, take}
-use Rattle.proxy.proofs.groups.copied.Given as goal
+use Rattle.config.proofs.made_groups.copied.Given as goal
 
 abbrev pub invariant-loop-row : goal.invariant-loop-row
 invariant-loop-row l = l.copy ≡ take l.row-index l.rows

@@ -1,6 +1,6 @@
 use Rattle.std.proofs.Common.{◌≡◌, take}
-use Rattle.proxy.specs.Runnable.{numbers_of}
-use Rattle.proxy.proofs.runnable.numbers_of.Given as goal
+use Rattle.config.specs.Filled.{numbers_of}
+use Rattle.config.proofs.filled.numbers_of.Given as goal
 
 abbrev pub invariant-loop-name : goal.invariant-loop-name
 invariant-loop-name l = l.numbers ≡ numbers_of l.rules (take l.name-index l.names)
