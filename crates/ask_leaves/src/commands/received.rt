@@ -53,7 +53,7 @@ pub fn response(question: &mut Question<'_>, text: &Text, asked: &Request) -> Op
 }
 
 /// Whether it is HTTP/1.1.
-pub fn is_later(version: Version) -> bool {
+fn is_later(version: Version) -> bool {
     matches!(version, Version::Http11)
 }
 

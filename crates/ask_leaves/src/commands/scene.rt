@@ -1,16 +1,16 @@
 // A connection with one request, on which rules call HTTP commands.
 
-use crate::commands::left::{closes, say_request, say_response};
+use crate::commands::left::{closes, say_head, say_sent};
 use crate::commands::received::{request, request_head, response, response_head};
 use crate::question::Question;
 use event_order::{EventName, read_event};
 use http_frames::start;
-use irule_http::{Http, http_command};
+use irule_http::{Http, http_command, sent_head};
 use irule_net::{Effects, Groups, NetState, net_command};
-use px_bytes::{Addr, HostAnswer, Seq, Text, Texts};
+use px_bytes::{Addr, HostAnswer, Memory, Seq, Side, Text, Texts};
 
-/// What the request and its response are known by, the event that runs, the length of the request's body as the
-/// rules changed it, and what was sent to the client.
+/// What the request and its response are known by, the event that runs, the request's head as it went out once its
+/// response is there, and what was sent to the client.
 #[derive(Drop)]
 pub struct HttpScene {
     pub http: Http,
@@ -19,7 +19,7 @@ pub struct HttpScene {
     made: Effects,
     event: EventName,
     response: Text,
-    request_change: (usize, usize),
+    request: Option<Text>,
     sent: Text,
     detached: bool,
 }
@@ -45,7 +45,7 @@ impl HttpScene {
             made: Effects::new(alloc),
             event: EventName::RuleInit,
             response,
-            request_change: (0, 0),
+            request: None,
             sent: Text::empty(alloc),
             detached: false,
         }
@@ -77,7 +77,7 @@ impl HttpScene {
 
     // The response comes.
     fn answered(&mut self, question: &mut Question<'_>) {
-        self.request_change = self.change();
+        self.request = sent_request(question, &self.http);
         let Some(came) = &self.http.came else {
             return;
         };
@@ -98,14 +98,6 @@ impl HttpScene {
         let gathered = self.http.gathered.unwrap_or(0);
         self.http.gathered = Some(gathered.saturating_add(bytes.len()));
         question.note(self.http.payload.push(bytes.as_bytes()));
-    }
-
-    // How many bytes of the body were gathered, and how many the payload has.
-    fn change(&self) -> (usize, usize) {
-        match self.http.gathered {
-            Some(gathered) => (gathered, self.http.payload.len()),
-            None => (0, 0),
-        }
     }
 
     fn command(&mut self, question: &mut Question<'_>, step: &[&str]) {
@@ -133,17 +125,13 @@ impl HttpScene {
 
     /// What is left behind the steps.
     pub fn say_end(&self, question: &mut Question<'_>, with_detach: bool) {
-        let of_response = self.http.response.is_some();
-        let change = self.change();
         question.say("request");
-        let request_change = if of_response {
-            self.request_change
-        } else {
-            change
-        };
-        say_request(question, &self.http, request_change);
+        match self.http.response {
+            Some(_) => say_sent(question, &self.request),
+            None => say_head(question, Side::Client, &self.http),
+        }
         question.say("response");
-        say_response(question, &self.http, change);
+        say_head(question, Side::Server, &self.http);
         question.say("sent");
         question.say_text(self.sent.as_bytes());
         question.say("closes");
@@ -167,6 +155,17 @@ impl HttpScene {
                 question.say_text(self.http.payload.as_bytes());
             }
             _ => question.say("none"),
+        }
+    }
+}
+
+fn sent_request(question: &mut Question<'_>, http: &Http) -> Option<Text> {
+    http.request.as_ref()?;
+    match sent_head(question.alloc, Side::Client, http) {
+        Ok(text) => Some(text),
+        Err(Memory) => {
+            question.refuse();
+            None
         }
     }
 }
