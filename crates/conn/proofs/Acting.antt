@@ -13,7 +13,8 @@ use Rattle.conn_trace.specs.Places.{Place, at as put, closed}
 use Rattle.conn_trace.specs.Queries.{is_reset}
 use Rattle.conn_trace.specs.Setup.{Setup}
 use Rattle.conn_trace.specs.State.{ForReply, TraceState, Does, Over, Waits}
-use Rattle.conn_trace.specs.Trace.{finish, next_item, Unfolds, GivesNoMore}
+use Rattle.conn_trace.specs.Places.{finish}
+use Rattle.conn_trace.specs.Trace.{next_item, Unfolds, GivesNoMore}
 use Rattle.core_events.specs.declared.note.CutReason.{CutReason}
 use Rattle.core_events.specs.declared.note.CutReason.TheVariants.{ClientReset, ServerReset, Idle}
 use Rattle.core_events.specs.declared.note.Note.{Note}

@@ -1,10 +1,11 @@
 -- A connection that begins stands where its trace does.
-use Rattle.std.proofs.Common.{◌≡◌, refl, sym, ap, subst, ◌∙◌, ℕ, List, Bool, false, arith}
+use Rattle.std.proofs.Common.{◌≡◌, refl, sym, ap, subst, ◌∙◌, ℕ, List, Bool, false, arith, if◌then◌else◌, Some, None}
 use Rattle.px_bytes.specs.declared.addr.Addr.{Addr}
 use Rattle.event_order.specs.declared.event.EventName.TheVariants.{ClientAccepted}
 use Rattle.tcl_vars.specs.Scopes.{no_scopes}
 use Rattle.irule_net.specs.State.{new_state}
 use Rattle.irule_net.specs.declared.state.NetState.{NetState}
+use Rattle.irule_http.specs.State.{no_http}
 use Rattle.conn_trace.specs.Gates.{no_bytes}
 use Rattle.conn_trace.specs.Host.{HostState, first_host}
 use Rattle.conn_trace.specs.Places.{at as put, enter}
@@ -47,7 +48,7 @@ first_ends g h = record {
 
 pub begins : (s : code.Setup) (from : Addr) (net : NetState) (new : Conn) → net ≡ new_state from s.port s.pool.now false → new.stage ≡ entered_stage s Accepted link.Absent net → new.vars ≡ no_scopes → new.host ≡ fresh_host net → new.ends ≡ fresh_ends → Begins s from new
 begins s from net new made there vars host ends g serves came =
-    let S : Addr → ℕ → List ℕ → Bool → HostState = λ a n p b. record { event = ClientAccepted; net = new_state a n p b } in
+    let S : Addr → ℕ → List ℕ → Bool → HostState = λ a n p b. record { event = ClientAccepted; net = new_state a n p b; http = if b then Some no_http else None } in
     let first : seen_host (fresh_host net) ≡ first_host g =
     ap (λ n. seen_host (fresh_host n)) made
     ∙ sym (ap (λ a. S a g.port g.pool g.http) came ∙ ap (λ n. S from n g.pool g.http) serves.port ∙ ap (λ p. S from s.port p g.http) serves.pool ∙ ap (λ b. S from s.port s.pool.now b) serves.http) in

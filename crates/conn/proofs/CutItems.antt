@@ -9,7 +9,8 @@ use Rattle.conn_trace.specs.Host.{HostState}
 use Rattle.conn_trace.specs.Places.{at as put, closed}
 use Rattle.conn_trace.specs.Setup.{Setup}
 use Rattle.conn_trace.specs.State.{Cut, Link, link_of, TraceState, Does, Over}
-use Rattle.conn_trace.specs.Trace.{finish, next_item, GivesNoMore}
+use Rattle.conn_trace.specs.Places.{finish}
+use Rattle.conn_trace.specs.Trace.{next_item, GivesNoMore}
 use Rattle.conn_trace.proofs.Cutting.{rest_is_cut}
 use Rattle.conn_trace.proofs.Furthering.{cut_ends}
 use Rattle.conn_trace.proofs.Given.{only_cut_is}

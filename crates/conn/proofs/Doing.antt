@@ -73,7 +73,7 @@ record Called (number : ℕ) (h after : HostState) (acts : List Act) : Type 0 wh
   calls : calls_made acts ≡ []
   event : after.event ≡ h.event
 
-module _ (number : ℕ) (h : HostState) (to_server : side_of h.event ≡ Server → number ≡ 1) (relays : h.net.relays ≡ true → number ≡ 1) where
+module _ (number : ℕ) (h : HostState) (to_server : side_of h.event ≡ Server → number ≡ 1) (relays : h.net.relays ≡ true → number ≡ 1) (plain : h.http ≡ None) where
   answered : (t after : HostState) (acts : List Act) (es : List Effect) → (t.event ≡ h.event) × KeepsCollects h.event h.net t.net × OneTo (side_of h.event) h.net.relays es → (after ≡ t) × (acts ≡ map Did es) → Called number h after acts
   answered t after acts es k is =
       let made : effects_in acts ≡ es = ap effects_in is.1 ∙ effects_of es in
@@ -91,7 +91,7 @@ module _ (number : ℕ) (h : HostState) (to_server : side_of h.event ≡ Server 
       record { keeps = subst (λ x. KeepsCollects h.event h.net x.net) (sym same) (keeps_all h.event h.net); first = made.0; one = made.1; calls = ap calls_made none; event = ap (λ x. x.event) same }
   called_once groups setting is after (Some words) acts call =
       let T : (HostState → List (List ℕ) → HostStep HostState) → Type 0 = λ t. IsCall (t h words) after acts in
-      call_answers (commands groups h words) after acts (commands_quick groups h words) (subst T is call)
+      call_answers (commands groups h words) after acts (commands_quick groups h words plain) (subst T is call)
 
 -- there is no more than one
 all_of : (es : List Effect) → OneAtMost es → one_of es ≡ es
@@ -110,7 +110,7 @@ pub acts_done : (g : Setup) (number : ℕ) (setting : given.Setting HostState) �
     → (side_of (event_of old.host.event) ≡ Server → number ≡ 1) → (old.host.net.relays ≡ true → number ≡ 1) → (acts : List Act) (called : Option (List (List ℕ))) → CalledBy setting (seen_host old.host) (seen_host mid.host) called acts → Made (cleared_host old.host) (effects_in acts) stepped.host
     → ActsDone g number old stepped mid acts
 acts_done g number setting is c old stepped mid before after d ends told to_server relays acts called once by =
-    let one = called_once number (seen_host old.host) to_server relays g.groups setting is (seen_host mid.host) called acts once in
+    let one = called_once number (seen_host old.host) to_server relays refl g.groups setting is (seen_host mid.host) called acts once in
     let taken : one_of stepped.host.made ≡ effects_in acts = ap one_of by ∙ all_of (effects_in acts) one.one in
     record {
       taken = sym taken;

@@ -6,7 +6,7 @@ use Rattle.core_events.specs.declared.note.CutReason.{CutReason}
 use Rattle.conn_trace.specs.Further.{CutMeets, choosing, first_cut, longer, nothing_comes}
 use Rattle.conn_trace.specs.Gates.{Counts, TakenCounts, Met}
 use Rattle.conn_trace.specs.HeardLaws.{cut_for, cut_in, taken_by_items}
-use Rattle.conn_trace.specs.Item.{Item, Choice, Reason, Closed, Tcl, Unselected, Rejected, CutBy, Finished, shown, listed, choices_in}
+use Rattle.conn_trace.specs.Item.{Item, Choice, Reason, Closed, Tcl, Http, Unselected, Rejected, CutBy, Finished, shown, listed, choices_in}
 use Rattle.conn_trace.specs.Setup.{Setup}
 use Rattle.conn_trace.specs.State.{Cut, ServerSide, Stream, TraceState}
 use Rattle.conn_trace.specs.Trace.{Unfolds}
@@ -38,6 +38,7 @@ for_joins t None a b = refl
 for_joins t (Some (CutBy reason)) a b = refl
 for_joins t (Some Closed) a b = refl
 for_joins t (Some (Tcl kind)) a b = refl
+for_joins t (Some (Http fault)) a b = refl
 for_joins t (Some Unselected) a b = refl
 for_joins t (Some Rejected) a b = refl
 
@@ -58,6 +59,7 @@ meets_for t sent others None later met k = k
 meets_for t sent others (Some (CutBy reason)) later met k = met
 meets_for t sent others (Some Closed) later met k = k
 meets_for t sent others (Some (Tcl kind)) later met k = k
+meets_for t sent others (Some (Http fault)) later met k = k
 meets_for t sent others (Some Unselected) later met k = k
 meets_for t sent others (Some Rejected) later met k = k
 

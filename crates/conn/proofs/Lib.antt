@@ -5,6 +5,7 @@ pub mod FramesKeep
 pub mod Giving
 pub mod Fitting
 pub mod Untaken
+pub mod HttpNexts
 pub mod Settling
 pub mod Places
 pub mod ActItems

@@ -20,7 +20,8 @@ use Rattle.irule_net.specs.declared.state.Selected.{Selected}
 use Rattle.conn_trace.specs.Host.{body_setting}
 use Rattle.conn_trace.specs.Item.{Unselected}
 use Rattle.conn_trace.specs.Places as model
-use Rattle.conn_trace.specs.Places.{Place, place, at as put, after_event, begun, behind_accepted, behind_connected, behind_data, bodies_left, closed, closed_client, closed_server, connecting, enter, entered, next_body}
+use Rattle.conn_trace.specs.Routing.{behind_accepted, behind_connected}
+use Rattle.conn_trace.specs.Places.{Place, place, at as put, after_event, begun, behind_data, bodies_left, closed, closed_client, closed_server, connecting, enter, entered, next_body}
 use Rattle.conn_trace.specs.Setup.{Handler, Setup}
 use Rattle.conn_trace.specs.State.{Choosing, Collecting, Finishing, Gated, Relaying, Running, InEvent, Phase, Stream, TraceState, link_of}
 use Rattle.conn_trace.specs.State as state

@@ -37,7 +37,7 @@ use Rattle.irule_net.specs.declared.state.Target.{Target}
 use Rattle.irule_net.specs.declared.state.Target.TheVariants.{PoolOf}
 use Rattle.conn.specs.Events.{collects_in}
 use Rattle.conn.specs.Hosts.{KeepsCollects}
-use Rattle.conn_trace.specs.Host.{HostState, commands, first_word, host_step, is_there, names_one}
+use Rattle.conn_trace.specs.Host.{HostState, commands, commands_by, first_word, host_step, is_there, names_one}
 
 -- in an event of this side, where there is a server or none, bytes may be sent to a side
 abbrev pub MaySend : Side → (relays : Bool) → Side → Type 0
@@ -400,9 +400,9 @@ step_quick h (Gives v s es) q = (refl, q.0, q.1)
 step_quick h (Faults f s es) q = (refl, q.0, q.1)
 step_quick h (Asks call s) q = (refl, q)
 
-pub commands_quick : (groups : Groups) (h : HostState) (words : List (List ℕ)) → QuickHost h (commands groups h words)
+pub commands_quick : (groups : Groups) (h : HostState) (words : List (List ℕ)) → h.http ≡ None → QuickHost h (commands groups h words)
 unfolding commands
-commands_quick groups h words = by_test (names_one (command_of (first_word words))) refl
+commands_quick groups h words plain = subst (λ o. QuickHost h (commands_by o groups h words)) (sym plain) (by_test (names_one (command_of (first_word words))) refl)
   where
     by_test : (b : Bool) → names_one (command_of (first_word words)) ≡ b → QuickHost h (if b then host_step h (net_step groups h.event h.net words) else Faults (no_command (first_word words)) h [])
     by_test true is = step_quick h (net_step groups h.event h.net words) (net_quick groups h.event h.net words is)

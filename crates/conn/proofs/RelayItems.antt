@@ -11,7 +11,8 @@ use Rattle.conn_trace.specs.Item.{Choice, PassesOn, Fires, Closed}
 use Rattle.conn_trace.specs.Relay.{Incoming, by_side, firing, is_done, meets, passes, ready, ready_of, BothDone, Firing, Passing, Resting, chosen_act, relay_act}
 use Rattle.conn_trace.specs.Setup.{Setup}
 use Rattle.conn_trace.specs.State.{Relaying, ServerSide, Stream, There, link_of, TraceState, Next, Waits, ForRelay, IsMet, Nothing, stream_of}
-use Rattle.conn_trace.specs.Trace.{counted, finish, may_relay, next_item, relay_next, rests}
+use Rattle.conn_trace.specs.Places.{finish}
+use Rattle.conn_trace.specs.Trace.{counted, may_relay, next_item, relay_next, rests}
 use Rattle.conn.proofs.SelectItems.{next_in}
 
 -- it relays, and these are the collects in force and what came of both sides and wasn't read

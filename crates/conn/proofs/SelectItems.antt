@@ -15,7 +15,7 @@ use Rattle.conn_trace.specs.Places.{Place, at as put, enter}
 use Rattle.conn_trace.specs.Selected.{addr_of, any_member, only_member, select_call}
 use Rattle.conn_trace.specs.Setup.{Setup}
 use Rattle.conn_trace.specs.State.{Answering, Choosing, Connecting, Phase, Selecting, Absent, Up, Link, link_of, NoServer, Sought, There, Stream, TraceState, Next, Does, Waits, ForConnect, ForReply, with_replies, with_connects}
-use Rattle.conn_trace.specs.Trace.{answering_next, choosing_next, counted, default_next, next_item, phase_next, selected_next, selecting_next}
+use Rattle.conn_trace.specs.Trace.{answering_next, choosing_next, counted, default_next, next_item, phase_next, selected_next, selecting_next, serving}
 use Rattle.conn_trace.proofs.Longer.{plain_next}
 use Rattle.conn.specs.Stages.{selects}
 
@@ -111,11 +111,11 @@ module _ (g : Setup) (k : Link) (h : HostState) (l : TraceState) where
 
   -- the connection was made
   pub made_item : (a : Addr) (s' : Stream) → StandsIn (Answering a) h k l → l.answers.connects ≡ Some s' ∷ []
-      → next_item g l ≡ Does (Answered true) (record (put (enter g ServerConnected Up h) (with_connects [] (record l { server = There s' }))) { sent = sent_after (Answered true) l.sent })
+      → next_item g l ≡ Does (Answered true) (record (put (enter g ServerConnected Up (serving h)) (with_connects [] (record l { server = There s' }))) { sent = sent_after (Answered true) l.sent })
   made_item a s' s came =
       next_in g (Answering a) h k l s
       ∙ ap (λ cs. counted l.sent (answering_next g l cs)) came
-      ∙ ap (λ x. Does (Answered true) (record (put (enter g ServerConnected Up x) (with_connects [] (record l { server = There s' }))) { sent = sent_after (Answered true) l.sent })) s.host
+      ∙ ap (λ x. Does (Answered true) (record (put (enter g ServerConnected Up (serving x)) (with_connects [] (record l { server = There s' }))) { sent = sent_after (Answered true) l.sent })) s.host
 
   -- or refused
   pub refused_item : (a : Addr) → StandsIn (Answering a) h k l → l.answers.connects ≡ None ∷ []

@@ -10,6 +10,7 @@ use Rattle.px_bytes.specs.declared.fault.Reply.TheVariants as reply
 use Rattle.seg_buffer.specs.Bytes.{is_empty}
 use Rattle.event_order.specs.declared.event.EventName.{EventName}
 use Rattle.event_order.specs.declared.event.EventName.TheVariants.{ClientData, ServerData}
+use Rattle.http_frames.specs.Parts.{part_of}
 use Rattle.irule_net.specs.State.{collected}
 use Rattle.irule_net.specs.declared.state.Asks.{Asks}
 use Rattle.irule_net.specs.declared.state.Asks.TheVariants.{NotAsked, Stated}
@@ -21,16 +22,18 @@ use Rattle.conn_trace.specs.Bodies.{act_next, bodies_next, ended_next, run_body}
 use Rattle.core_events.specs.Edges.{edge_of}
 use Rattle.conn_trace.specs.Gates.{other, taken_of, to_take}
 use Rattle.conn_trace.specs.Heard.{taken_by}
+use Rattle.conn_trace.specs.Fronts.{head_part}
 use Rattle.conn_trace.specs.Host.{HostState, with_selected}
 use Rattle.conn_trace.specs.Queries.{half_close_due, is_reset, relays_at}
 use Rattle.conn_trace.specs.Queries as query
 use Rattle.conn_trace.specs.Relay.{RelayAct, BothDone, Passing, Firing, Resting, behind_fires, collect_act, incoming, relay_act}
 use Rattle.conn_trace.specs.Selected.{addr_of}
 use Rattle.conn_trace.specs.Setup.{Handler, Setup}
-use Rattle.conn_trace.specs.State.{Bodies, Gated, Running, Failing, Carrying, Fate, Phase, InEvent, Choosing, Selecting, Connecting, Answering, Releasing, Relaying, Collecting, Finishing, Draining, Link, Next, ServerSide, Stream, There, TraceState, link_of, server_stream, stream_of}
+use Rattle.conn_trace.specs.State.{Bodies, Gated, Running, Failing, Phase, InEvent, AtHead, Continuing, Gathering, AtReuse, GivingUp, Retiring, Heading, Forwarding, Dropping, AtResponse, Choosing, Selecting, Connecting, Answering, Releasing, Relaying, Collecting, Finishing, Draining, Link, Next, ServerSide, Stream, There, TraceState, link_of, server_stream, stream_of}
 use Rattle.conn_trace.specs.State as next
-use Rattle.conn_trace.specs.Trace.{answering_next, carrying_next, choosing_next, collect_next, collecting_next, counted, default_next, next_item, phase_next, relay_next, selected_next, selecting_next, unit_next}
+use Rattle.conn_trace.specs.Trace.{answering_next, choosing_next, collect_next, collecting_next, counted, default_next, next_item, phase_next, relay_next, selected_next, selecting_next}
 use Rattle.conn_trace.proofs.Longer.{plain_next}
+use Rattle.conn.proofs.HttpNexts.{answer_goes, dropping_goes, gathering_goes, head_goes, reuse_goes, sending_goes}
 use Rattle.conn.specs.Ends.{arrived, end_of, is_done, is_up, lost_at, number_by, queued_in, server_by, servers_by}
 use Rattle.conn.specs.Events.{event_of, is_data}
 use Rattle.conn.specs.Holds.{Around, Between, GatedBefore, Holds, RunsFirst, Stands}
@@ -51,7 +54,7 @@ use Rattle.conn.specs.declared.stage.Stage.TheVariants as stage
 use Rattle.conn.proofs.Untaken.{took_all, client_reset, server_reset}
 
 -- a trace is over in its last phase alone
-abbrev is_last : Phase → Bool
+abbrev pub is_last : Phase → Bool
 is_last Draining = true
 is_last other = false
 
@@ -105,17 +108,17 @@ collecting_goes : (g : Setup) (l : TraceState) (asks : Asks) → is_over (collec
 collecting_goes g l NotAsked = refl
 collecting_goes g l (Stated n) = collect_goes g l (collect_act n l.client.unread (behind_fires l.answers.choices))
 
-unit_goes : (g : Setup) (l : TraceState) (fate : Fate) (side : Side) (left : ℕ) (ended : Bool) (bytes : List ℕ) → is_over (unit_next g l fate side left ended bytes) ≡ false
-unit_goes g l fate side left true [] = refl
-unit_goes g l fate side left false [] = refl
-unit_goes g l fate side left ended (b ∷ bs) = refl
-
-carrying_goes : (g : Setup) (l : TraceState) (fate : Fate) (side : Side) (left : ℕ) (s : Stream) → is_over (carrying_next g l fate side left s) ≡ false
-carrying_goes g l fate side zero s = refl
-carrying_goes g l fate side (suc left) s = unit_goes g l fate side left s.ended s.unread
-
-phase_goes : (g : Setup) (p : Phase) (l : TraceState) → is_over (phase_next g p l) ≡ is_last p
-phase_goes g (Carrying fate side left) l = carrying_goes g l fate side left (stream_of side l)
+pub phase_goes : (g : Setup) (p : Phase) (l : TraceState) → is_over (phase_next g p l) ≡ is_last p
+phase_goes g AtHead l = head_goes g l (head_part l.client.unread l.client.ended)
+phase_goes g Continuing l = refl
+phase_goes g (Gathering side wanted s) l = gathering_goes g l side wanted s (part_of s (stream_of side l).unread (stream_of side l).ended)
+phase_goes g AtReuse l = reuse_goes g l l.answers.choices
+phase_goes g (GivingUp b) l = refl
+phase_goes g (Retiring b) l = refl
+phase_goes g (Heading side) l = refl
+phase_goes g (Forwarding side s standing) l = sending_goes g l side s standing (part_of s (stream_of side l).unread (stream_of side l).ended)
+phase_goes g (Dropping s) l = dropping_goes g l s (part_of s l.client.unread l.client.ended)
+phase_goes g AtResponse l = answer_goes g l (head_part (stream_of Server l).unread (stream_of Server l).ended)
 phase_goes g (InEvent e bodies) l = bodies_go g e bodies l
 phase_goes g Choosing l = choosing_goes g l (with_selected None l.host) l.host.net.target
 phase_goes g (Selecting call) l = selecting_goes g call l l.answers.replies

@@ -8,7 +8,7 @@ use Rattle.irule_net.specs.declared.state.Asks.{Asks}
 use Rattle.conn_trace.specs.Queries as query
 use Rattle.conn_trace.specs.Queries.{arriving, first_some, held_under, last_made, own_stream, unread_at, unread_limit}
 use Rattle.conn_trace.specs.Setup.{Handler, Setup}
-use Rattle.conn_trace.specs.State.{Bodies, Failing, Gated, Running, Phase, Carrying, InEvent, Choosing, Selecting, Connecting, Answering, Releasing, Relaying, Collecting, Finishing, Draining, TraceState}
+use Rattle.conn_trace.specs.State.{Bodies, Failing, Gated, Running, Phase, InEvent, Choosing, Selecting, Connecting, Answering, Releasing, Relaying, Collecting, Finishing, Draining, TraceState}
 use Rattle.conn.specs.Calls.{Wants, counted_held, wanted_in}
 use Rattle.conn.specs.Ends.{connects_by, end_of, fresh_end, has_stream, server_by}
 use Rattle.conn.specs.Events.{collects_in, event_of}
@@ -48,28 +48,9 @@ is_in_event (InEvent e bodies) = true
 is_in_event other = false
 
 not_in : (side : Side) (p : Phase) → is_in_event p ≡ false → query.in_event_of side p ≡ false
-not_in Client (Carrying fate from left) e = refl
-not_in Client (InEvent event bodies) e = absurd (true≢false e)
-not_in Client Choosing e = refl
-not_in Client (Selecting call) e = refl
-not_in Client (Connecting a) e = refl
-not_in Client (Answering a) e = refl
-not_in Client Releasing e = refl
-not_in Client Relaying e = refl
-not_in Client Collecting e = refl
-not_in Client (Finishing r) e = refl
-not_in Client Draining e = refl
-not_in Server (Carrying fate from left) e = refl
-not_in Server (InEvent event bodies) e = absurd (true≢false e)
-not_in Server Choosing e = refl
-not_in Server (Selecting call) e = refl
-not_in Server (Connecting a) e = refl
-not_in Server (Answering a) e = refl
-not_in Server Releasing e = refl
-not_in Server Relaying e = refl
-not_in Server Collecting e = refl
-not_in Server (Finishing r) e = refl
-not_in Server Draining e = refl
+not_in side (InEvent event bodies) e = absurd (true≢false e)
+not_in Client p e = refl
+not_in Server p e = refl
 
 -- what counts as held is read of the same event, and where that is none of this side, of the same collect
 record SameHeld (side : Side) (l : TraceState) (c : Conn) (st : Stage) : Type 0 where

@@ -1,5 +1,5 @@
 -- The host of a connection's rules: what its commands see of it, and what is done of what they made.
-use Rattle.std.specs.Prelude.{◌≡◌, ℕ, List, [], ◌∷◌, ◌++◌, Bool, true, false, Option}
+use Rattle.std.specs.Prelude.{◌≡◌, ℕ, List, [], ◌∷◌, ◌++◌, Bool, true, false, Option, None}
 use Rattle.px_bytes.specs.Host.{Effect, Logged, Sent}
 use Rattle.px_bytes.specs.declared.addr.Side.{Side}
 use Rattle.px_bytes.specs.declared.addr.Side.TheVariants.{Client, Server}
@@ -19,8 +19,9 @@ use Rattle.conn.specs.declared.host.RuleHost.{RuleHost}
 use Rattle.conn.specs.Ends.{is_up}
 use Rattle.conn.specs.Events.{collects_in, event_of}
 
+-- it speaks no HTTP
 abbrev pub seen_net : EventName → NetState → HostState
-seen_net e net = record { event = e; net = net }
+seen_net e net = record { event = e; net = net; http = None }
 
 abbrev pub seen_host : RuleHost → HostState
 seen_host h = seen_net (event_of h.event) h.net

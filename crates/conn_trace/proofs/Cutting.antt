@@ -5,9 +5,12 @@ use Rattle.conn_trace.specs.Item.{CutBy}
 use Rattle.conn_trace.specs.Gates.{Counts, TakenCounts, may_give, sent_after}
 use Rattle.conn_trace.specs.Setup.{Setup}
 use Rattle.conn_trace.specs.State.{Cut, TraceState, WaitKind, ForBytes, ForConnect, ForReply, ForRelay, ForReuse, ForCut, Next, Does, Waits, Over}
-use Rattle.conn_trace.specs.Trace.{finish, phase_next, cut_takes, uncut, cut_open, cut_next, counted, next_item, rests, GivesNoMore}
+use Rattle.conn_trace.specs.Places.{finish}
+use Rattle.conn_trace.specs.Trace.{phase_next, cut_takes, uncut, cut_open, cut_next, counted, next_item, rests, GivesNoMore}
 use Rattle.conn_trace.specs.Further.{longer, with_cut, Same}
-use Rattle.conn_trace.specs.Laws.{takes_cut, cut_is_taken, cut_kept}
+use Rattle.px_bytes.specs.declared.addr.Side.TheVariants.{Client, Server}
+use Rattle.core_events.specs.declared.note.CutReason.TheVariants.{ServerReset}
+use Rattle.conn_trace.specs.Laws.{ends_rests, takes_cut, cut_is_taken, cut_kept}
 use Rattle.conn_trace.proofs.Fair.{FairNext, fair_of, phase_fair}
 use Rattle.conn_trace.proofs.Longer.{plain_next, phase_same}
 use Rattle.conn_trace.proofs.Given.{only_cut, only_cut_is}
@@ -63,3 +66,25 @@ pub rest_is_cut : (g : Setup) (c : Cut) (sent : Counts) (o : Next) → g.http �
 rest_is_cut g c sent (Does i m) plain shut = inl (ap (λ b. not b && cut_takes g.http c.reason None) shut ∙ ap (λ h. cut_takes h c.reason None) plain)
 rest_is_cut g c sent (Waits k) plain rest = inl (ap (λ h. cut_takes h c.reason (Some k)) plain ∙ takes_at c.reason k sent c.took rest)
 rest_is_cut g c sent Over plain rest = inr refl
+
+takes_also : (http : Bool) (reason : CutReason) (k : WaitKind) (sent : Counts) (took : TakenCounts) → ends_rests http reason ≡ true → rests false k sent took ≡ true → cut_takes http reason (Some k) ≡ true
+takes_also http reason (ForReply call) sent took ends is = absurd (true≢false (sym is))
+takes_also http reason ForReuse sent took ends is = absurd (true≢false (sym is))
+takes_also true ServerReset k sent took ends is = absurd (true≢false (sym ends))
+takes_also http reason (ForBytes Client) sent took ends is = refl
+takes_also http reason (ForBytes Server) sent took ends is = refl
+takes_also http reason ForConnect sent took ends is = refl
+takes_also http reason (ForRelay r s) sent took ends is = refl
+takes_also http reason ForCut sent took ends is = refl
+
+gate_also : (http : Bool) (reason : CutReason) → ends_rests http reason ≡ true → cut_takes http reason None ≡ true
+gate_also true ServerReset ends = absurd (true≢false (sym ends))
+gate_also http reason ends = refl
+
+pub rest_is_cut_also : (g : Setup) (c : Cut) (sent : Counts) (o : Next) → ends_rests g.http c.reason ≡ true → GivesNoMore false sent c.took o → (takes_cut g c sent o ≡ true) ⊎ (o ≡ Over)
+rest_is_cut_also g c sent (Does i m) ends shut = inl (ap (λ b. not b && cut_takes g.http c.reason None) shut ∙ gate_also g.http c.reason ends)
+rest_is_cut_also g c sent (Waits k) ends rest = inl (takes_also g.http c.reason k sent c.took ends rest)
+rest_is_cut_also g c sent Over ends rest = inr refl
+
+pub server_reset_ends : (g : Setup) (took : TakenCounts) (sent : Counts) → g.http ≡ true → takes_cut g (record { reason = ServerReset; took = took }) sent (Waits (ForBytes Server)) ≡ true
+server_reset_ends g took sent is = ap (λ h. cut_takes h ServerReset (Some (ForBytes Server))) is

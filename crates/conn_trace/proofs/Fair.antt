@@ -17,10 +17,10 @@ use Rattle.irule_net.specs.declared.state.Asks.TheVariants.{NotAsked, Stated}
 use Rattle.irule_net.specs.declared.state.Target.{Target}
 use Rattle.irule_net.specs.declared.state.Target.TheVariants.{Default, PoolOf, MemberOf, NodeAt}
 use Rattle.conn_trace.specs.Setup.{Handler, Setup}
-use Rattle.conn_trace.specs.Host.{HostState, with_selected}
+use Rattle.conn_trace.specs.Host.{HostState, with_selected, http_of}
 use Rattle.conn_trace.specs.Selected.{addr_of}
-use Rattle.conn_trace.specs.State.{Bodies, Gated, Running, Failing, Fate, Forwards, Drops}
-use Rattle.conn_trace.specs.State.{Phase, Carrying, InEvent, Choosing, Selecting, Connecting}
+use Rattle.conn_trace.specs.State.{Bodies, Gated, Running, Failing}
+use Rattle.conn_trace.specs.State.{Phase, InEvent, Choosing, Selecting, Connecting}
 use Rattle.conn_trace.specs.State.{Answering, Releasing, Relaying, Collecting, Finishing}
 use Rattle.conn_trace.specs.State.{Draining, Stream, Cut, TraceState, Next, Does, Waits, Over}
 use Rattle.conn_trace.specs.State.{stream_of, read_side, read_of, read_part}
@@ -28,7 +28,21 @@ use Rattle.conn_trace.specs.Bodies.{act_item, peer_of, run_body, ended_next, act
 use Rattle.conn_trace.specs.Bodies.{bodies_next}
 use Rattle.conn_trace.specs.Relay.{incoming, RelayAct, BothDone, Passing, Firing, Resting}
 use Rattle.conn_trace.specs.Relay.{relay_act, collect_act, behind_fires}
-use Rattle.conn_trace.specs.Trace.{unit_item, unit_next, carrying_next, choosing_next, default_next}
+use Rattle.std.proofs.Common.{Result, Ok, Err, nat_eq}
+use Rattle.px_bytes.specs.declared.fault.HttpFault.{HttpFault}
+use Rattle.http_frames.specs.declared.state.BodyState.{BodyState}
+use Rattle.conn_trace.specs.Item.{Choice, PassesOn, Fires, Reuses}
+use Rattle.conn_trace.specs.Fronts.{HeadPart, HeadOf, StreamEnds, Faulty, NoHead, head_part}
+use Rattle.conn_trace.specs.SentBodies.{is_answered}
+use Rattle.http_frames.specs.Parts.{Part, Byte, Chunk, End, Pending, Bad, part_of}
+use Rattle.irule_http.specs.declared.state.Request.{Request}
+use Rattle.irule_http.specs.declared.state.Response.{Response}
+use Rattle.conn_trace.specs.State.{AtHead, Continuing, Gathering, AtReuse, GivingUp, Retiring, Heading, Forwarding, Dropping, AtResponse}
+use Rattle.conn_trace.specs.Places.{Place}
+use Rattle.http_heads.specs.declared.line.Version.{Version}
+use Rattle.http_heads.specs.declared.line.Version.TheVariants.{Http10, Http11}
+use Rattle.conn_trace.specs.Messages.{reads_next, fault_by, fault_next, request_next, head_next, interim_next, asked_version, is_interim, status_next, response_next, answer_next, moves_next, body_end_next, is_counted, sending_next, gathering_next, dropping_next, reuse_next, heading_next}
+use Rattle.conn_trace.specs.Trace.{choosing_next, default_next}
 use Rattle.conn_trace.specs.Trace.{selected_next, selecting_next, answering_next, relay_next}
 use Rattle.conn_trace.specs.Trace.{collect_next, collecting_next, phase_next}
 
@@ -139,24 +153,101 @@ collecting_fair : (g : Setup) (l : TraceState) (asks : Asks) → FairNext l.answ
 collecting_fair g l NotAsked = tt
 collecting_fair g l (Stated n) = collect_fair g l (collect_act n l.client.unread (behind_fires l.answers.choices))
 
-carrying_fair : (g : Setup) (l : TraceState) (fate : Fate) (side : Side) (left : ℕ) (s : Stream) → FairNext l.answers.cut l.sent.number l.client (carrying_next g l fate side left s)
-carrying_fair g l fate side zero s = record { cut = refl; sends = tt; reads = refl }
-carrying_fair g l fate side (suc left) s = by_unread s.ended s.unread where
-  by_unread : (ended : Bool) (unread : List ℕ) → FairNext l.answers.cut l.sent.number l.client (unit_next g l fate side left ended unread)
-  by_unread true [] = record { cut = refl; sends = tt; reads = refl }
-  by_unread false [] = tt
-  by_unread ended (b ∷ bs) = record { cut = read_fair side 1 l; sends = by_fate fate; reads = read_by fate } where
-    by_fate : (f : Fate) → SendsTo l.sent.number (shown (unit_item l.sent.number f side b)).sends
-    by_fate Forwards = other_side l.sent.number side
-    by_fate Drops = tt
+-- ---- HTTP
 
-    read_by : (f : Fate) → (read_side side 1 l).client ≡ read_part (shown (unit_item l.sent.number f side b)).reads l.client
-    read_by Forwards = read_left side 1 l
-    read_by Drops = read_left side 1 l
+abbrev Fairly : TraceState → Next → Type 0
+Fairly l o = FairNext l.answers.cut l.sent.number l.client o
+
+reads_fair : (l : TraceState) (side : Side) (n : ℕ) (p : Place) → Fairly l (reads_next l side n p)
+reads_fair l side n p = record { cut = read_fair side n l; sends = tt; reads = read_left side n l }
+
+moves_fair : (l : TraceState) (side : Side) (n : ℕ) (bytes : List ℕ) (phase : Phase) → Fairly l (moves_next l side n bytes phase)
+moves_fair l side n bytes phase = record { cut = read_fair side n l; sends = other_side l.sent.number side; reads = read_left side n l }
+
+fault_fair : (g : Setup) (l : TraceState) (side : Side) (f : HttpFault) → Fairly l (fault_next g l side f)
+fault_fair g l side f = by_answer (is_answered side f)
+  where
+    by_answer : (b : Bool) → Fairly l (fault_by g l f b)
+    by_answer true = record { cut = refl; sends = tt; reads = refl }
+    by_answer false = record { cut = refl; sends = tt; reads = refl }
+
+request_fair : (g : Setup) (l : TraceState) (n : ℕ) (r : Result Request HttpFault) → Fairly l (request_next g l n r)
+request_fair g l n (Err f) = fault_fair g l Client f
+request_fair g l n (Ok r) = reads_fair l Client n _
+
+head_fair : (g : Setup) (l : TraceState) (p : HeadPart) → Fairly l (head_next g l p)
+head_fair g l (HeadOf n) = request_fair g l n (g.heads.request (take n l.client.unread))
+head_fair g l StreamEnds = record { cut = refl; sends = tt; reads = refl }
+head_fair g l (Faulty f) = fault_fair g l Client f
+head_fair g l NoHead = tt
+
+interim_fair : (g : Setup) (l : TraceState) (n : ℕ) (r : Response) (v : Version) → Fairly l (interim_next g l n r v)
+interim_fair g l n r Http10 = reads_fair l Server n _
+interim_fair g l n r Http11 = record { cut = read_fair Server n l; sends = tt; reads = refl }
+
+status_fair : (g : Setup) (l : TraceState) (n : ℕ) (r : Response) (switches interim : Bool) → Fairly l (status_next g l n r switches interim)
+status_fair g l n r true interim = record { cut = refl; sends = tt; reads = refl }
+status_fair g l n r false true = interim_fair g l n r (asked_version (http_of l.host).came)
+status_fair g l n r false false = reads_fair l Server n _
+
+response_fair : (g : Setup) (l : TraceState) (n : ℕ) (r : Result Response HttpFault) → Fairly l (response_next g l n r)
+response_fair g l n (Err f) = record { cut = refl; sends = tt; reads = refl }
+response_fair g l n (Ok r) = status_fair g l n r (nat_eq r.head.status 101) (is_interim r.head)
+
+answer_fair : (g : Setup) (l : TraceState) (p : HeadPart) → Fairly l (answer_next g l p)
+answer_fair g l (HeadOf n) = response_fair g l n (g.heads.response (http_of l.host).came (take n (stream_of Server l).unread))
+answer_fair g l StreamEnds = record { cut = refl; sends = tt; reads = refl }
+answer_fair g l (Faulty f) = record { cut = refl; sends = tt; reads = refl }
+answer_fair g l NoHead = tt
+
+reuse_fair : (g : Setup) (l : TraceState) (choices : List Choice) → Fairly l (reuse_next g l choices)
+reuse_fair g l [] = tt
+reuse_fair g l (Reuses true ∷ more) = record { cut = refl; sends = tt; reads = refl }
+reuse_fair g l (Reuses false ∷ more) = record { cut = refl; sends = tt; reads = refl }
+reuse_fair g l (PassesOn side n ∷ more) = tt
+reuse_fair g l (Fires side ∷ more) = tt
+
+body_end_fair : (l : TraceState) (side : Side) (n : ℕ) (counted standing : Bool) → Fairly l (body_end_next l side n counted standing)
+body_end_fair l side n true standing = reads_fair l side n _
+body_end_fair l side n false standing = moves_fair l side n _ _
+
+sending_fair : (g : Setup) (l : TraceState) (side : Side) (s : BodyState) (standing : Bool) (p : Part) → Fairly l (sending_next g l side s standing p)
+sending_fair g l side s standing Byte = moves_fair l side 1 _ _
+sending_fair g l side s standing (Chunk n size) = moves_fair l side n _ _
+sending_fair g l side s standing (End n) = body_end_fair l side n (is_counted s) standing
+sending_fair g l side s standing Pending = tt
+sending_fair g l side s standing (Bad f) = fault_fair g l side f
+
+gathering_fair : (g : Setup) (l : TraceState) (side : Side) (wanted : ℕ) (s : BodyState) (p : Part) → Fairly l (gathering_next g l side wanted s p)
+gathering_fair g l side wanted s Byte = reads_fair l side 1 _
+gathering_fair g l side wanted s (Chunk n size) = reads_fair l side n _
+gathering_fair g l side wanted s (End n) = reads_fair l side n _
+gathering_fair g l side wanted s Pending = tt
+gathering_fair g l side wanted s (Bad f) = fault_fair g l side f
+
+dropping_fair : (g : Setup) (l : TraceState) (s : BodyState) (p : Part) → Fairly l (dropping_next g l s p)
+dropping_fair g l s Byte = reads_fair l Client 1 _
+dropping_fair g l s (Chunk n size) = reads_fair l Client n _
+dropping_fair g l s (End n) = reads_fair l Client n _
+dropping_fair g l s Pending = tt
+dropping_fair g l s (Bad f) = fault_fair g l Client f
+
+heading_fair : (g : Setup) (l : TraceState) (side : Side) → Fairly l (heading_next g l side)
+heading_fair g l Client = record { cut = refl; sends = refl; reads = refl }
+heading_fair g l Server = record { cut = refl; sends = tt; reads = refl }
 
 pub phase_fair : (g : Setup) (p : Phase) (l : TraceState) → FairNext l.answers.cut l.sent.number l.client (phase_next g p l)
 phase_fair g (InEvent e bodies) l = bodies_fair g e bodies l
-phase_fair g (Carrying fate side left) l = carrying_fair g l fate side left (stream_of side l)
+phase_fair g AtHead l = head_fair g l (head_part l.client.unread l.client.ended)
+phase_fair g Continuing l = record { cut = refl; sends = tt; reads = refl }
+phase_fair g (Gathering side wanted s) l = gathering_fair g l side wanted s (part_of s (stream_of side l).unread (stream_of side l).ended)
+phase_fair g AtReuse l = reuse_fair g l l.answers.choices
+phase_fair g (GivingUp b) l = record { cut = refl; sends = tt; reads = refl }
+phase_fair g (Retiring b) l = record { cut = refl; sends = tt; reads = refl }
+phase_fair g (Heading side) l = heading_fair g l side
+phase_fair g (Forwarding side s standing) l = sending_fair g l side s standing (part_of s (stream_of side l).unread (stream_of side l).ended)
+phase_fair g (Dropping s) l = dropping_fair g l s (part_of s l.client.unread l.client.ended)
+phase_fair g AtResponse l = answer_fair g l (head_part (stream_of Server l).unread (stream_of Server l).ended)
 phase_fair g Choosing l = choosing_fair g l (with_selected None l.host) l.host.net.target
 phase_fair g (Selecting call) l = selecting_fair g call l l.answers.replies
 phase_fair g (Connecting a) l = record { cut = refl; sends = tt; reads = refl }

@@ -8,7 +8,8 @@ use Rattle.conn_trace.specs.Gates.{may_give}
 use Rattle.conn_trace.specs.Setup.{Setup}
 use Rattle.conn_trace.specs.State.{Cut, TraceState, WaitKind, ForBytes, ForConnect, ForReply}
 use Rattle.conn_trace.specs.State.{ForRelay, ForReuse, ForCut, Next, Does, Waits, Over}
-use Rattle.conn_trace.specs.Trace.{finish, phase_next, cut_takes, uncut, cut_open, counted}
+use Rattle.conn_trace.specs.Places.{finish}
+use Rattle.conn_trace.specs.Trace.{phase_next, cut_takes, uncut, cut_open, counted}
 use Rattle.conn_trace.specs.Trace.{next_item, Unfolds}
 use Rattle.conn_trace.specs.Further.{Further, nothing_comes, longer, first_cut, with_cut}
 use Rattle.conn_trace.specs.Further.{replies_only, CutMeets, choosing, brings, Same}

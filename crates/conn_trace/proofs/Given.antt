@@ -12,7 +12,8 @@ use Rattle.conn_trace.specs.Setup.{Setup}
 use Rattle.conn_trace.specs.State.{Stream, ServerSide, Cut, TraceState, WaitKind, ForBytes}
 use Rattle.conn_trace.specs.State.{ForConnect, ForReply, ForRelay, ForReuse, ForCut, Next}
 use Rattle.conn_trace.specs.State.{Does, Waits, Over}
-use Rattle.conn_trace.specs.Trace.{finish, phase_next, cut_takes, uncut, cut_open, cut_next}
+use Rattle.conn_trace.specs.Places.{finish}
+use Rattle.conn_trace.specs.Trace.{phase_next, cut_takes, uncut, cut_open, cut_next}
 use Rattle.conn_trace.specs.Trace.{counted, next_item, Unfolds, behind_from, behind}
 use Rattle.conn_trace.specs.Further.{Further, nothing_comes, longer, first_cut, brings, Same}
 use Rattle.conn_trace.specs.Further.{replies_only, with_cut}

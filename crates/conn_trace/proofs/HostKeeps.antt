@@ -1,6 +1,6 @@
 -- What the commands that are there leave of the host's state: in an event of a side only the collect of
 -- that side changes, and what they send is counted; in any other event they collect and send nothing.
-use Rattle.std.proofs.Common.{◌≡◌, refl, sym, subst, ◌∙◌, ℕ, ◌+◌, ◌≤◌, List, [], ◌∷◌, length, ◌==◌, ℤ, Bool, true, false, ◌&&◌, not, true≢false, if◌then◌else◌, Option, Some, None, Result, Ok, Err, arith}
+use Rattle.std.proofs.Common.{◌≡◌, refl, sym, ap, subst, ◌∙◌, ℕ, ◌+◌, ◌≤◌, List, [], ◌∷◌, length, ◌==◌, ℤ, Bool, true, false, ◌&&◌, not, true≢false, if◌then◌else◌, Option, Some, None, Result, Ok, Err, arith}
 use Rattle.std.specs.Prelude.{codes, nat_lt}
 use Rattle.std.specs.List.{list_any}
 use Rattle.std.specs.Option.{is_some}
@@ -38,13 +38,26 @@ use Rattle.irule_net.specs.declared.state.Target.{Target}
 use Rattle.irule_net.specs.declared.state.Target.TheVariants.{PoolOf}
 use Rattle.irule_net.proofs.Holding.{holding}
 use Rattle.irule_net.proofs.Moves.{moves}
-use Rattle.conn_trace.specs.Host.{HostState, commands, first_word, host_step, is_there, names_one}
+use Rattle.event_order.specs.declared.event.EventName.TheVariants.{ClientClosed, ServerClosed}
+use Rattle.http_answers.specs.Limits.{head_limit}
+use Rattle.irule_http.specs.Laws.{HeadsWithin}
+use Rattle.irule_http.specs.Payload.{payload_limit}
+use Rattle.conn_trace.specs.Host.{HostState, net_command, first_word, host_step, is_there, names_one, http_of}
+use Rattle.conn_trace.specs.Places.{is_closing}
 
 -- ---- what a step leaves
 
 -- an event in which bytes of its side are collected, released and sent
 abbrev pub is_stream : EventName → Bool
 is_stream event = list_any (same_event event) stream_events
+
+-- with HTTP they do so in none
+abbrev pub flows : EventName → (http : Bool) → Bool
+flows event http = is_stream event && not http
+
+not_web : (http : Bool) → not (http && true) ≡ not http
+not_web true = refl
+not_web false = refl
 
 -- it collects nothing, and sends nothing
 record Quiet (s : NetState) (step : Step) : Type 0 where
@@ -60,7 +73,7 @@ record OwnSide (side : Side) (s : NetState) (step : Step) : Type 0 where
 
 record Leaves (event : EventName) (s : NetState) (step : Step) : Type 0 where
   own : OwnSide (side_of event) s step
-  outside : is_stream event ≡ false → Quiet s step
+  outside : flows event s.http ≡ false → Quiet s step
 
 same_side : (side : Side) (s t : NetState) → t.client ≡ s.client → t.server ≡ s.server → collected side t ≡ collected side s
 same_side Client s t client server = client
@@ -320,11 +333,12 @@ module _ (groups : Groups) (event : EventName) (s : NetState) (words : List (Lis
   bad_leaves : (e : TclFault) → L (Err e)
   bad_leaves e = silent (bad e)
 
-  stream : {A : Type 0} (k : A → Asked) (may free arity : Bool) (f : A) (x y : TclFault) → is_stream event ≡ may → Own (k f) → L (with_value (if may && free then (if arity then Ok f else Err x) else Err y) k)
-  stream k false free arity f x y e q = bad_leaves y
-  stream k true false arity f x y e q = bad_leaves y
-  stream k true true false f x y e q = bad_leaves x
-  stream k true true true f x y e q = record { is = record { own = q.is; outside = λ n. absurd (true≢false (sym e ∙ n)) } }
+  stream : {A : Type 0} (k : A → Asked) (may free arity : Bool) (f : A) (x y : TclFault) → is_stream event ≡ may → free ≡ not s.http → Own (k f) → L (with_value (if may && free then (if arity then Ok f else Err x) else Err y) k)
+  stream k false free arity f x y e w q = bad_leaves y
+  stream k true false arity f x y e w q = bad_leaves y
+  stream k true true false f x y e w q = bad_leaves x
+  stream k true true true f x y e w q =
+      record { is = record { own = q.is; outside = λ n. absurd (true≢false (sym (ap (λ b. b && not s.http) e ∙ sym w) ∙ n)) } }
 
   payload_leaves : (ws : List (List ℕ)) → L (with_value (if allowed command.TcpPayload then shaped command.TcpPayload (payload_form ws) (length words) else Err (not_here (codes "TCP::payload"))) (λ form. request_of groups s.port form words))
   payload_leaves [] = silent (fitting P _ (allowed command.TcpPayload) _ _ _ _ (tell_request (some_of (payload_form []) refl) _ refl) bad)
@@ -338,7 +352,7 @@ module _ (groups : Groups) (event : EventName) (s : NetState) (words : List (Lis
   payload_leaves (word ∷ (at ∷ (n ∷ (text ∷ [])))) =
       single (λ o. L (with_value (if allowed command.TcpPayload then shaped command.TcpPayload o (length words) else Err (not_here (codes "TCP::payload"))) (λ form. request_of groups s.port form words)))
       (bytes_eq word (codes "replace")) _ _
-      (stream _ (is_stream event) _ _ _ _ _ refl (replace_own words))
+      (stream _ (is_stream event) _ _ _ _ _ refl (not_web s.http) (replace_own words))
       (silent (unnamed P _ (allowed command.TcpPayload) _ _ _ _ bad))
   payload_leaves (word ∷ (at ∷ (n ∷ (text ∷ (more ∷ ws))))) = silent (unnamed P _ (allowed command.TcpPayload) _ _ _ _ bad)
 
@@ -349,9 +363,9 @@ module _ (groups : Groups) (event : EventName) (s : NetState) (words : List (Lis
   command_leaves command.IpClientAddr there = silent (fitting P _ (allowed command.IpClientAddr) _ _ _ _ (tell_request (some_of (form_of command.IpClientAddr []) refl) _ refl) bad)
   command_leaves command.TcpClientPort there = silent (fitting P _ (allowed command.TcpClientPort) _ _ _ _ (tell_request (some_of (form_of command.TcpClientPort []) refl) _ refl) bad)
   command_leaves command.IpServerAddr there = silent (fitting P _ (allowed command.IpServerAddr) _ _ _ _ (tell_request (some_of (form_of command.IpServerAddr []) refl) _ refl) bad)
-  command_leaves command.TcpRespond there = stream _ (is_stream event) _ _ _ _ _ refl (respond_own words)
-  command_leaves command.TcpCollect there = stream _ (is_stream event) _ _ _ _ _ refl (collect_own words)
-  command_leaves command.TcpRelease there = stream _ (is_stream event) _ _ _ _ _ refl (owns (releases_own (side_of event) s))
+  command_leaves command.TcpRespond there = stream _ (is_stream event) _ _ _ _ _ refl (not_web s.http) (respond_own words)
+  command_leaves command.TcpCollect there = stream _ (is_stream event) _ _ _ _ _ refl (not_web s.http) (collect_own words)
+  command_leaves command.TcpRelease there = stream _ (is_stream event) _ _ _ _ _ refl (not_web s.http) (owns (releases_own (side_of event) s))
   command_leaves command.TcpPayload there = payload_leaves words
   command_leaves command.ActiveMembers there = silent (fitting P _ (allowed command.ActiveMembers) _ _ _ _ (members_quiet words) bad)
   command_leaves command.Pool there = silent (fitting P _ (allowed command.Pool) _ _ _ _ pool_quiet bad)
@@ -399,18 +413,46 @@ net_made h (Gives v s effects) = refl
 net_made h (Faults f s effects) = refl
 net_made h (Asks call s) = refl
 
--- What a command does of the bytes of a host's state: what it sends to the event's side is counted, what it
--- releases to the other side too, and what is held fits.
+-- what counts as sent to a side in an event of this side: what its commands send, and what they release
+abbrev pub net_credited : Side → Side → NetState → ℕ
+net_credited Client Client s = s.wishes.sent
+net_credited Client Server s = s.wishes.let_go
+net_credited Server Client s = s.wishes.let_go
+net_credited Server Server s = s.wishes.sent
+
+-- and to the client what a rule answers
+abbrev pub credited : Side → Side → HostState → ℕ
+credited own Client h = net_credited own Client h.net + (http_of h).made
+credited own Server h = net_credited own Server h.net
+
+-- What a command does of the bytes of a host's state: what it sends and releases to a side is counted, and what
+-- is held fits.
 pub record Commands (h t : HostState) (effects : List Effect) : Type 0 where
   pub event : t.event ≡ h.event
-  pub sent : t.net.wishes.sent ≡ h.net.wishes.sent + sent_to (side_of h.event) effects
+  pub credits : (side : Side) → credited (side_of h.event) side h + sent_to side effects ≤ credited (side_of h.event) side t
   pub within : h.net.wishes.sent ≤ respond_limit → t.net.wishes.sent ≤ respond_limit
-  pub released : h.net.wishes.let_go + sent_to (other (side_of h.event)) effects ≤ t.net.wishes.let_go
+  pub answers : (http_of h).made ≤ respond_limit → (http_of t).made ≤ respond_limit
   pub fits : Fits (side_of h.event) h.net → Fits (side_of h.event) t.net
   pub others : collected (other (side_of h.event)) t.net ≡ collected (other (side_of h.event)) h.net
   pub loose : side_of h.event ≡ Server → t.net.loose ≡ h.net.loose
-  pub silent : is_stream h.event ≡ false → (side : Side) → sent_to side effects ≡ 0
-  pub outside : is_stream h.event ≡ false → (side : Side) → collected side t.net ≡ collected side h.net
+  pub silent : is_closing h.event ≡ true → (side : Side) → sent_to side effects ≡ 0
+  pub http : t.net.http ≡ h.net.http
+  pub outside : flows h.event h.net.http ≡ false → (side : Side) → collected side t.net ≡ collected side h.net
+  pub payload : length (http_of h).payload ≤ payload_limit → length (http_of t).payload ≤ payload_limit
+  pub heads : (most : ℕ) → head_limit ≤ most → HeadsWithin most (http_of h) → HeadsWithin most (http_of t)
+
+-- in a closing event no bytes of a side flow
+pub closing_still : (e : EventName) (http : Bool) → is_closing e ≡ true → flows e http ≡ false
+closing_still ServerClosed http c = refl
+closing_still ClientClosed http c = refl
+closing_still e http c = absurd (true≢false (sym c))
+
+counted : (own side : Side) (h : HostState) (t : NetState) (effects : List Effect) → t.wishes.sent ≡ h.net.wishes.sent + sent_to own effects
+    → h.net.wishes.let_go + sent_to (other own) effects ≤ t.wishes.let_go → credited own side h + sent_to side effects ≤ credited own side (record h { net = t })
+counted Client Client h t effects a b = omega (arith, a)
+counted Client Server h t effects a b = b
+counted Server Client h t effects a b = omega (arith, b)
+counted Server Server h t effects a b = omega (arith, a)
 
 net_commands : (groups : Groups) (h : HostState) (words : List (List ℕ)) → names_one (command_of (first_word words)) ≡ true
     → Commands h (record h { net = left_by (net_step groups h.event h.net words) }) (made_by (net_step groups h.event h.net words))
@@ -421,33 +463,48 @@ net_commands groups h words there =
     let l = net_leaves groups h.event h.net words there in
     record {
       event = refl;
-      sent = m.sent;
+      credits = λ side. counted (side_of h.event) side h (left_by x) (made_by x) m.sent d.passes;
       within = m.within;
-      released = d.passes;
+      http = m.given.http;
+      answers = λ f. f;
       fits = d.fits;
       others = l.own.others;
       loose = l.own.loose;
-      silent = λ e. (l.outside e).sends;
+      silent = λ e. (l.outside (closing_still h.event h.net.http e)).sends;
       outside = λ e side. same_side side h.net (left_by x) (l.outside e).client (l.outside e).server;
+      payload = λ f. f;
+      heads = λ most m w. w;
     }
 
-pub commands_leave : (groups : Groups) (h : HostState) (words : List (List ℕ)) → Commands h (left (commands groups h words)) (made (commands groups h words))
-unfolding commands
-commands_leave groups h words = by_name (names_one (command_of (first_word words))) refl
+pub nothing_done : (h : HostState) → Commands h h []
+nothing_done h = record {
+  event = refl;
+  credits = λ side. omega arith;
+  within = λ f. f;
+  http = refl;
+  answers = λ f. f;
+  fits = λ f. f;
+  others = refl;
+  loose = λ f. refl;
+  silent = λ f side. refl;
+  outside = λ f side. refl;
+  payload = λ f. f;
+  heads = λ most m w. w;
+}
+
+pub net_leaves_host : (groups : Groups) (h : HostState) (words : List (List ℕ)) → Commands h (left (net_command groups h words)) (made (net_command groups h words))
+net_leaves_host groups h words = by_name (names_one (command_of (first_word words))) refl
   where
     by_name : (b : Bool) → names_one (command_of (first_word words)) ≡ b
         → let x = if b then host_step h (net_step groups h.event h.net words) else Faults (no_command (first_word words)) h [] in Commands h (left x) (made x)
     by_name true e =
         let x = net_step groups h.event h.net words in
         subst (λ t. Commands h t (made (host_step h x))) (sym (net_left h x)) (subst (λ es. Commands h (record h { net = left_by x }) es) (sym (net_made h x)) (net_commands groups h words e))
-    by_name false e = record {
-      event = refl;
-      sent = omega arith;
-      within = λ f. f;
-      released = omega arith;
-      fits = λ f. f;
-      others = refl;
-      loose = λ f. refl;
-      silent = λ f side. refl;
-      outside = λ f side. refl;
-    }
+    by_name false e = nothing_done h
+
+pub net_knows : (groups : Groups) (h : HostState) (words : List (List ℕ)) → (left (net_command groups h words)).http ≡ h.http
+net_knows groups h words = by_name (names_one (command_of (first_word words)))
+  where
+    by_name : (b : Bool) → (left (if b then host_step h (net_step groups h.event h.net words) else Faults (no_command (first_word words)) h [])).http ≡ h.http
+    by_name true = ap (λ (t : HostState). t.http) (net_left h (net_step groups h.event h.net words))
+    by_name false = refl

@@ -7,6 +7,7 @@ pub mod Stepping
 pub mod Given
 pub mod Spelling
 pub mod Rows
+pub mod HttpRows
 pub mod HeardRows
 pub mod TableRows
 pub mod Telling
@@ -16,12 +17,16 @@ pub mod BodyItems
 pub mod Furthering
 pub mod Cutting
 pub mod Querying
+pub mod Parts
 pub mod Units
+pub mod Slices
 pub mod Fair
 pub mod Sending
 pub mod HostKeeps
+pub mod HttpKeeps
 pub mod BodyKeeps
 pub mod HostFits
+pub mod Speaking
 pub mod Unread
 pub mod PlacesFit
 pub mod PendingFits

@@ -23,9 +23,9 @@ use Rattle.irule_net.specs.declared.state.Target.{Target}
 use Rattle.irule_net.specs.declared.state.Target.TheVariants.{Default, PoolOf, MemberOf, NodeAt}
 use Rattle.irule_net.specs.Steps.{target_pool}
 use Rattle.conn_trace.specs.Setup.{Handler, Setup}
-use Rattle.conn_trace.specs.Host.{HostState, body_setting, with_selected}
+use Rattle.conn_trace.specs.Host.{HostState, body_setting, with_selected, http_of}
 use Rattle.conn_trace.specs.Selected.{addr_of}
-use Rattle.conn_trace.specs.State.{Bodies, Gated, Running, Failing, Fate, Phase, Carrying}
+use Rattle.conn_trace.specs.State.{Bodies, Gated, Running, Failing, Phase}
 use Rattle.conn_trace.specs.State.{InEvent, Choosing, Selecting, Connecting, Answering}
 use Rattle.conn_trace.specs.State.{Releasing, Relaying, Collecting, Finishing, Draining}
 use Rattle.conn_trace.specs.State.{Stream, TraceState, ForBytes, ForReply, ForRelay, Nothing}
@@ -36,7 +36,31 @@ use Rattle.conn_trace.specs.Bodies.{run_body, ended_next, act_next, body_next, b
 use Rattle.conn_trace.specs.Bodies.{peer_of}
 use Rattle.conn_trace.specs.Relay.{incoming, ready_of, RelayAct, BothDone, Passing, Firing}
 use Rattle.conn_trace.specs.Relay.{Resting, relay_act, fired_host, collect_act, behind_fires}
-use Rattle.conn_trace.specs.Trace.{unit_item, unit_next, carrying_next, finish, choosing_next, default_next}
+use Rattle.std.proofs.Common.{sym, subst, Result, Ok, Err, nat_eq}
+use Rattle.event_order.specs.declared.event.EventName.TheVariants.{HttpRequest, HttpResponse}
+use Rattle.px_bytes.specs.declared.fault.HttpFault.{HttpFault}
+use Rattle.px_bytes.specs.declared.fault.HttpFault.TheVariants as fault
+use Rattle.http_frames.specs.declared.state.BodyState.{BodyState}
+use Rattle.conn_trace.specs.Item.{Choice, PassesOn, Fires, Reuses, Read, Moved, Sent, ToClient, Retires, Http as HttpReason}
+use Rattle.conn_trace.specs.Fronts.{HeadPart, HeadOf, StreamEnds, Faulty, NoHead, head_part, after_byte}
+use Rattle.conn_trace.specs.Http.{with_whole}
+use Rattle.conn_trace.specs.SentBodies.{chunk_line, last_line, continue_text, is_answered}
+use Rattle.http_frames.specs.Parts.{Part, Byte, Chunk, End, Pending, Bad, part_of}
+use Rattle.irule_http.specs.declared.state.Request.{Request}
+use Rattle.irule_http.specs.declared.state.Response.{Response}
+use Rattle.conn_trace.specs.State.{AtHead, Continuing, Gathering, AtReuse, GivingUp, Retiring, Heading, Forwarding, Dropping, AtResponse, Behind, ServerSide, NoServer, Sought, There, Leaving, Retired, leaving, retired}
+use Rattle.conn_trace.specs.Routing.{behind_asked, behind_retired}
+use Rattle.conn_trace.specs.Places.{Place, giving_up}
+use Rattle.http_heads.specs.declared.line.Version.{Version}
+use Rattle.http_heads.specs.declared.line.Version.TheVariants.{Http10, Http11}
+use Rattle.conn_trace.specs.Messages.{reads_next, fault_by, fault_next, request_host, response_host, request_next, head_next, interim_next, asked_version, is_interim, status_next, response_next, answer_next, moves_next, body_end_next, is_counted, sending_next, gathered_place, byte_gathered, http_at, gathering_next, dropping_next, reuse_next}
+use Rattle.conn_trace.specs.Trace.{serving}
+use Rattle.conn_trace.specs.Further.{longer_server, left_for}
+use Rattle.http_frames.specs.Parts.{PartIn, PartStays}
+use Rattle.http_frames.proofs.PartsStay.{parts_are_there}
+use Rattle.conn_trace.proofs.Parts.{part_grown, HeadStays, head_grown, HeadIn, head_inside}
+use Rattle.conn_trace.specs.Places.{finish}
+use Rattle.conn_trace.specs.Trace.{choosing_next, default_next}
 use Rattle.conn_trace.specs.Trace.{selected_next, selecting_next, answering_next, relay_next}
 use Rattle.conn_trace.specs.Trace.{fired_next, collect_next, collecting_next, phase_next}
 use Rattle.conn_trace.specs.Trace.{cut_next, counted, next_item}
@@ -185,31 +209,162 @@ collecting_same f g l (Stated n) =
     (collect_same n l.client (incoming Server l) (longer f l).client (grown Client f l) l.answers.choices f.choices)
     (λ q. ap (λ c. collect_act n c.stream.unread (behind_fires (l.answers.choices ++ f.choices))) q.client ∙ ap (λ x. collect_act n l.client.unread (behind_fires x)) (q.choices l.answers.choices))
 
-unit_same : (f : Further) (g : Setup) (l : TraceState) (fate : Fate) (side : Side) (left : ℕ) (s' : Stream) → Grown (stream_of side l) s' → (brings f (ForBytes side) ≡ false → s' ≡ stream_of side l)
-    → (ended : Bool) (unread : List ℕ) → (stream_of side l).ended ≡ ended → (stream_of side l).unread ≡ unread
-    → Same f (unit_next g l fate side left ended unread) (unit_next g (longer f l) fate side left s'.ended s'.unread)
-unit_same f g l fate side left s' more quiet ended (b ∷ bs) here is =
-    let within : 1 ≤ length (stream_of side l).unread = omega (arith, ap length is) in
-    ap (unit_next g (longer f l) fate side left s'.ended) (more.unread ∙ ap (λ x. x ++ more.more) is)
-    ∙ ap (λ m. Does (unit_item l.sent.number fate side b) (record m { phase = Carrying fate side left })) (read_longer side f l 1 within)
-unit_same f g l fate side left s' more quiet true [] here is =
-    ap (λ s. unit_next g (longer f l) fate side left s.ended s.unread) (more.ended here) ∙ (ap (λ e. unit_next g (longer f l) fate side left e (stream_of side l).unread) here
-    ∙ (ap (unit_next g (longer f l) fate side left true) is ∙ finish_same f g Rejected l))
-unit_same f g l fate side left s' more quiet false [] here is = λ idle.
-    ap (λ s. unit_next g (longer f l) fate side left s.ended s.unread) (quiet idle) ∙ (ap (λ e. unit_next g (longer f l) fate side left e (stream_of side l).unread) here
-    ∙ ap (unit_next g (longer f l) fate side left false) is)
-
 quiet_side : (f : Further) (l : TraceState) (side : Side) → brings f (ForBytes side) ≡ false → stream_of side (longer f l) ≡ stream_of side l
 quiet_side f l Client idle = nothing_stream f.client l.client idle
 quiet_side f l Server idle = ap server_stream (nothing_server f.server l.answers.connects l.server idle)
 
-carrying_same : (f : Further) (g : Setup) (l : TraceState) (fate : Fate) (side : Side) (left : ℕ) → Same f (carrying_next g l fate side left (stream_of side l)) (carrying_next g (longer f l) fate side left (stream_of side (longer f l)))
-carrying_same f g l fate side zero = refl
-carrying_same f g l fate side (suc left) = unit_same f g l fate side left (stream_of side (longer f l)) (grown side f l) (quiet_side f l side) (stream_of side l).ended (stream_of side l).unread refl refl
+reads_same : (f : Further) (l : TraceState) (side : Side) (n : ℕ) (p p' : Place) → n ≤ length (stream_of side l).unread → p' ≡ p → Same f (reads_next l side n p) (reads_next (longer f l) side n p')
+reads_same f l side n p p' within is =
+    ap (λ q. Does (Read side n) (at q (read_side side n (longer f l)))) is ∙ ap (λ m. Does (Read side n) (at p m)) (read_longer side f l n within)
+
+fault_same : (f : Further) (g : Setup) (l : TraceState) (side : Side) (fault : HttpFault) → Same f (fault_next g l side fault) (fault_next g (longer f l) side fault)
+fault_same f g l side fault = by_answer (is_answered side fault)
+  where
+    by_answer : (b : Bool) → Same f (fault_by g l fault b) (fault_by g (longer f l) fault b)
+    by_answer true = refl
+    by_answer false = finish_same f g (HttpReason fault) l
+
+-- what comes next where the longer stream's is the same
+by_same : (f : Further) (o x y : Next) → y ≡ x → Same f o x → Same f o y
+by_same f o x y is same = subst (Same f o) (sym is) same
+
+entered_same : (f : Further) (g : Setup) (e : EventName) (l : TraceState) (h : HostState) → enter g e (link_of (longer f l).server) h ≡ enter g e (link_of l.server) h
+entered_same f g e l h = ap (λ k. enter g e k h) (link_same f l)
+
+request_same : (f : Further) (g : Setup) (l : TraceState) (n : ℕ) (r : Result Request HttpFault) → n ≤ length l.client.unread → Same f (request_next g l n r) (request_next g (longer f l) n r)
+request_same f g l n (Err fault) within = fault_same f g l Client fault
+request_same f g l n (Ok r) within = reads_same f l Client n _ _ within (entered_same f g HttpRequest l (request_host r l.host))
+
+head_next_same : (f : Further) (g : Setup) (l : TraceState) (p p' : HeadPart) → HeadStays p p' → HeadIn l.client.unread p → (brings f (ForBytes Client) ≡ false → p' ≡ p)
+    → Same f (head_next g l p) (head_next g (longer f l) p')
+head_next_same f g l (HeadOf n) p' is within quiet =
+    by_same f (head_next g l (HeadOf n)) _ _
+    (ap (head_next g (longer f l)) is ∙ ap (λ bytes. request_next g (longer f l) n (g.heads.request bytes)) (take_longer Client f l n within))
+    (request_same f g l n (g.heads.request (take n l.client.unread)) within)
+head_next_same f g l StreamEnds p' is within quiet = ap (head_next g (longer f l)) is ∙ finish_same f g Closed l
+head_next_same f g l (Faulty fault) p' is within quiet = by_same f (fault_next g l Client fault) _ _ (ap (head_next g (longer f l)) is) (fault_same f g l Client fault)
+head_next_same f g l NoHead p' is within quiet = λ idle. ap (head_next g (longer f l)) (quiet idle)
+
+interim_same : (f : Further) (g : Setup) (l : TraceState) (n : ℕ) (r : Response) (v : Version) → n ≤ length (stream_of Server l).unread → Same f (interim_next g l n r v) (interim_next g (longer f l) n r v)
+interim_same f g l n r Http10 within = reads_same f l Server n _ _ within refl
+interim_same f g l n r Http11 within = ap (λ x. Does (Moved Server n ToClient (g.heads.interim r)) (record x { phase = AtResponse })) (read_longer Server f l n within)
+
+status_same : (f : Further) (g : Setup) (l : TraceState) (n : ℕ) (r : Response) (switches interim : Bool) → n ≤ length (stream_of Server l).unread → Same f (status_next g l n r switches interim) (status_next g (longer f l) n r switches interim)
+status_same f g l n r true interim within = finish_same f g (HttpReason fault.Switching) l
+status_same f g l n r false true within = interim_same f g l n r (asked_version (http_of l.host).came) within
+status_same f g l n r false false within = reads_same f l Server n _ _ within (entered_same f g HttpResponse l (response_host r l.host))
+
+response_same : (f : Further) (g : Setup) (l : TraceState) (n : ℕ) (r : Result Response HttpFault) → n ≤ length (stream_of Server l).unread → Same f (response_next g l n r) (response_next g (longer f l) n r)
+response_same f g l n (Err fault) within = finish_same f g (HttpReason fault) l
+response_same f g l n (Ok r) within = status_same f g l n r (nat_eq r.head.status 101) (is_interim r.head) within
+
+answer_next_same : (f : Further) (g : Setup) (l : TraceState) (p p' : HeadPart) → HeadStays p p' → HeadIn (stream_of Server l).unread p → (brings f (ForBytes Server) ≡ false → p' ≡ p)
+    → Same f (answer_next g l p) (answer_next g (longer f l) p')
+answer_next_same f g l (HeadOf n) p' is within quiet =
+    by_same f (answer_next g l (HeadOf n)) _ _
+    (ap (answer_next g (longer f l)) is ∙ ap (λ bytes. response_next g (longer f l) n (g.heads.response (http_of l.host).came bytes)) (take_longer Server f l n within))
+    (response_same f g l n (g.heads.response (http_of l.host).came (take n (stream_of Server l).unread)) within)
+answer_next_same f g l StreamEnds p' is within quiet = ap (answer_next g (longer f l)) is ∙ finish_same f g (HttpReason fault.ShortBody) l
+answer_next_same f g l (Faulty fault) p' is within quiet = ap (answer_next g (longer f l)) is ∙ finish_same f g (HttpReason fault) l
+answer_next_same f g l NoHead p' is within quiet = λ idle. ap (answer_next g (longer f l)) (quiet idle)
+
+moves_same : (f : Further) (l : TraceState) (side : Side) (n : ℕ) (bytes : List ℕ) (phase : Phase) → n ≤ length (stream_of side l).unread → Same f (moves_next l side n bytes phase) (moves_next (longer f l) side n bytes phase)
+moves_same f l side n bytes phase within =
+    ap (λ m. Does (Moved side n (peer_of l.sent.number (other side)) bytes) (record m { phase = phase })) (read_longer side f l n within)
+
+body_end_same : (f : Further) (l : TraceState) (side : Side) (n : ℕ) (counted standing : Bool) → n ≤ length (stream_of side l).unread → Same f (body_end_next l side n counted standing) (body_end_next (longer f l) side n counted standing)
+body_end_same f l side n true standing within = reads_same f l side n _ _ within refl
+body_end_same f l side n false standing within = moves_same f l side n (last_line standing) _ within
+
+sending_same : (f : Further) (g : Setup) (l : TraceState) (side : Side) (s : BodyState) (standing : Bool) (p p' : Part) → PartStays p p' → PartIn (stream_of side l).unread p → (brings f (ForBytes side) ≡ false → p' ≡ p)
+    → Same f (sending_next g l side s standing p) (sending_next g (longer f l) side s standing p')
+sending_same f g l side s standing Byte p' is within quiet =
+    by_same f (sending_next g l side s standing Byte) _ _
+    (ap (sending_next g (longer f l) side s standing) is ∙ ap (λ bytes. moves_next (longer f l) side 1 bytes (Forwarding side (after_byte s) standing)) (take_longer side f l 1 within))
+    (moves_same f l side 1 (take 1 (stream_of side l).unread) (Forwarding side (after_byte s) standing) within)
+sending_same f g l side s standing (Chunk n size) p' is within quiet =
+    by_same f (sending_next g l side s standing (Chunk n size)) _ _ (ap (sending_next g (longer f l) side s standing) is) (moves_same f l side n (chunk_line standing size) _ within)
+sending_same f g l side s standing (End n) p' is within quiet =
+    by_same f (sending_next g l side s standing (End n)) _ _ (ap (sending_next g (longer f l) side s standing) is) (body_end_same f l side n (is_counted s) standing within)
+sending_same f g l side s standing Pending p' is within quiet = λ idle. ap (sending_next g (longer f l) side s standing) (quiet idle)
+sending_same f g l side s standing (Bad fault) p' is within quiet =
+    by_same f (sending_next g l side s standing (Bad fault)) _ _ (ap (sending_next g (longer f l) side s standing) is) (fault_same f g l side fault)
+
+gathering_same : (f : Further) (g : Setup) (l : TraceState) (side : Side) (wanted : ℕ) (s : BodyState) (p p' : Part) → PartStays p p' → PartIn (stream_of side l).unread p → (brings f (ForBytes side) ≡ false → p' ≡ p)
+    → Same f (gathering_next g l side wanted s p) (gathering_next g (longer f l) side wanted s p')
+gathering_same f g l side wanted s Byte p' is within quiet =
+    by_same f (gathering_next g l side wanted s Byte) _ _ (ap (gathering_next g (longer f l) side wanted s) is)
+    (reads_same f l side 1 _ _ within
+    (ap (λ k. byte_gathered g side k wanted (after_byte s) (take 1 (stream_of side (longer f l)).unread) l.host) (link_same f l)
+    ∙ ap (λ bytes. byte_gathered g side (link_of l.server) wanted (after_byte s) bytes l.host) (take_longer side f l 1 within)))
+gathering_same f g l side wanted s (Chunk n size) p' is within quiet =
+    by_same f (gathering_next g l side wanted s (Chunk n size)) _ _ (ap (gathering_next g (longer f l) side wanted s) is) (reads_same f l side n _ _ within refl)
+gathering_same f g l side wanted s (End n) p' is within quiet =
+    by_same f (gathering_next g l side wanted s (End n)) _ _ (ap (gathering_next g (longer f l) side wanted s) is)
+    (reads_same f l side n _ _ within (ap (λ k. gathered_place g side k (http_at (with_whole (http_of l.host)) l.host)) (link_same f l)))
+gathering_same f g l side wanted s Pending p' is within quiet = λ idle. ap (gathering_next g (longer f l) side wanted s) (quiet idle)
+gathering_same f g l side wanted s (Bad fault) p' is within quiet =
+    by_same f (gathering_next g l side wanted s (Bad fault)) _ _ (ap (gathering_next g (longer f l) side wanted s) is) (fault_same f g l side fault)
+
+dropping_same : (f : Further) (g : Setup) (l : TraceState) (s : BodyState) (p p' : Part) → PartStays p p' → PartIn l.client.unread p → (brings f (ForBytes Client) ≡ false → p' ≡ p)
+    → Same f (dropping_next g l s p) (dropping_next g (longer f l) s p')
+dropping_same f g l s Byte p' is within quiet = by_same f (dropping_next g l s Byte) _ _ (ap (dropping_next g (longer f l) s) is) (reads_same f l Client 1 _ _ within refl)
+dropping_same f g l s (Chunk n size) p' is within quiet = by_same f (dropping_next g l s (Chunk n size)) _ _ (ap (dropping_next g (longer f l) s) is) (reads_same f l Client n _ _ within refl)
+dropping_same f g l s (End n) p' is within quiet = by_same f (dropping_next g l s (End n)) _ _ (ap (dropping_next g (longer f l) s) is) (reads_same f l Client n _ _ within refl)
+dropping_same f g l s Pending p' is within quiet = λ idle. ap (dropping_next g (longer f l) s) (quiet idle)
+dropping_same f g l s (Bad fault) p' is within quiet = by_same f (dropping_next g l s (Bad fault)) _ _ (ap (dropping_next g (longer f l) s) is) (fault_same f g l Client fault)
+
+reuse_same : (f : Further) (g : Setup) (l : TraceState) (choices : List Choice) → Same f (reuse_next g l choices) (reuse_next g (longer f l) (choices ++ f.choices))
+reuse_same f g l [] = λ idle. ap (reuse_next g (longer f l)) (none_of f.choices idle)
+reuse_same f g l (Reuses true ∷ more) = refl
+reuse_same f g l (Reuses false ∷ more) = refl
+reuse_same f g l (PassesOn side n ∷ more) = λ idle. refl
+reuse_same f g l (Fires side ∷ more) = λ idle. refl
+
+leaving_same : (b : Behind) (c : Option _) (v : ServerSide) → leaving b (longer_server c v) ≡ longer_server c (leaving b v)
+leaving_same b c NoServer = refl
+leaving_same b c Sought = refl
+leaving_same b c (There s) = refl
+leaving_same b c (Leaving d s) = refl
+leaving_same b c (Retired s) = refl
+
+retired_same : (c : Option _) (v : ServerSide) → retired (longer_server c v) ≡ longer_server c (retired v)
+retired_same c NoServer = refl
+retired_same c Sought = refl
+retired_same c (There s) = refl
+retired_same c (Leaving d s) = refl
+retired_same c (Retired s) = refl
 
 pub phase_same : (f : Further) (g : Setup) (phase : Phase) (l : TraceState) → Same f (phase_next g phase l) (phase_next g phase (longer f l))
 phase_same f g (InEvent e bodies) l = bodies_same f g e bodies l
-phase_same f g (Carrying fate side left) l = carrying_same f g l fate side left
+phase_same f g AtHead l =
+    head_next_same f g l (head_part l.client.unread l.client.ended) (head_part (longer f l).client.unread (longer f l).client.ended) (head_grown l.client (longer f l).client (grown Client f l)) (head_inside l.client.unread l.client.ended)
+    (λ idle. ap (λ s. head_part s.unread s.ended) (quiet_side f l Client idle))
+phase_same f g Continuing l = ap (λ k. Does (Moved Server 0 ToClient continue_text) (record (longer f l) { phase = behind_asked k l.host })) (link_same f l)
+phase_same f g (Gathering side wanted s) l =
+    let before = stream_of side l in
+    let behind = stream_of side (longer f l) in
+    gathering_same f g l side wanted s (part_of s before.unread before.ended) (part_of s behind.unread behind.ended) (part_grown s before behind (grown side f l)) (parts_are_there s before.unread before.ended)
+    (λ idle. ap (λ t. part_of s t.unread t.ended) (quiet_side f l side idle))
+phase_same f g AtReuse l = reuse_same f g l l.answers.choices
+phase_same f g (GivingUp b) l = ap (λ v. Does Resumed (at (giving_up g b l.host) (record (longer f l) { server = v }))) (leaving_same b (left_for f.server l.answers.connects) l.server)
+phase_same f g (Retiring b) l = ap (λ v. Does Retires (record (longer f l) { phase = behind_retired b l.host; server = v })) (retired_same (left_for f.server l.answers.connects) l.server)
+phase_same f g (Heading side) l = refl
+phase_same f g (Forwarding side s standing) l =
+    let before = stream_of side l in
+    let behind = stream_of side (longer f l) in
+    sending_same f g l side s standing (part_of s before.unread before.ended) (part_of s behind.unread behind.ended) (part_grown s before behind (grown side f l)) (parts_are_there s before.unread before.ended)
+    (λ idle. ap (λ t. part_of s t.unread t.ended) (quiet_side f l side idle))
+phase_same f g (Dropping s) l =
+    let before = l.client in
+    let behind = (longer f l).client in
+    dropping_same f g l s (part_of s before.unread before.ended) (part_of s behind.unread behind.ended) (part_grown s before behind (grown Client f l)) (parts_are_there s before.unread before.ended)
+    (λ idle. ap (λ t. part_of s t.unread t.ended) (quiet_side f l Client idle))
+phase_same f g AtResponse l =
+    let before = stream_of Server l in
+    let behind = stream_of Server (longer f l) in
+    answer_next_same f g l (head_part before.unread before.ended) (head_part behind.unread behind.ended) (head_grown before behind (grown Server f l)) (head_inside before.unread before.ended)
+    (λ idle. ap (λ s. head_part s.unread s.ended) (quiet_side f l Server idle))
 phase_same f g Choosing l = choosing_same f g l (with_selected None l.host) l.host.net.target
 phase_same f g (Selecting call) l = selecting_same f g call l l.answers.replies
 phase_same f g (Connecting a) l = refl

@@ -7,7 +7,7 @@ use Rattle.conn_trace.specs.Gates.{may_give, Counts, TakenCounts, other, sent_af
 use Rattle.conn_trace.specs.Gates.{sent_from, Met}
 use Rattle.conn_trace.specs.Setup.{Setup}
 use Rattle.conn_trace.specs.State.{Next, Does, Stream, ServerSide, NoServer, Sought, There}
-use Rattle.conn_trace.specs.State.{Retired, TraceState, stream_of, link_of}
+use Rattle.conn_trace.specs.State.{Leaving, Retired, TraceState, stream_of, link_of}
 use Rattle.conn_trace.specs.Trace.{next_item, Unfolds, GivesNoMore}
 use Rattle.conn_trace.specs.Further.{Coming, Further, longer, longer_stream, longer_where}
 use Rattle.conn_trace.specs.Further.{longer_server, left_for, on_last, coming_from}
@@ -30,6 +30,7 @@ arrives_by : (c : Coming) (connects : List (Option Stream)) (v : ServerSide)
 arrives_by c [] NoServer = refl
 arrives_by c [] Sought = refl
 arrives_by c [] (There s) = refl
+arrives_by c [] (Leaving b s) = refl
 arrives_by c [] (Retired s) = refl
 arrives_by c (None ∷ more) v = arrives_by c more v
 arrives_by c (Some s ∷ more) v = ap Some (last_longer c more s)

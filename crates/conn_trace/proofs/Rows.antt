@@ -24,6 +24,7 @@ use Rattle.irule_net.specs.declared.state.Collected.{Collected}
 use Rattle.irule_net.specs.declared.state.NetState.{NetState}
 use Rattle.irule_net.specs.declared.state.Target.{Target}
 use Rattle.irule_net.specs.declared.state.Target.TheVariants.{MemberOf, NodeAt}
+use Rattle.conn_trace.specs.Http.{no_heads}
 use Rattle.conn_trace.specs.Setup.{Handler, Setup}
 use Rattle.conn_trace.specs.Host.{HostState, first_host, commands}
 use Rattle.conn_trace.specs.Selected.{addr_of}
@@ -70,7 +71,7 @@ client_at = record { ip = 2 ^ 24 * 10 + 9; port = 4000 }
 
 abbrev pub setup : Level → (pool : List ℕ) → (EventName → List Handler) → Setup
 setup statics pool handlers =
-    record { name = codes "v"; port = 9000; pool = pool; http = false; from = client_at; budget = 20000; statics = statics; groups = no_groups; handlers = handlers }
+    record { name = codes "v"; port = 9000; pool = pool; http = false; from = client_at; budget = 20000; statics = statics; groups = no_groups; heads = no_heads; handlers = handlers }
 
 -- what the network commands left
 abbrev pub with_net : (NetState → NetState) → HostState → HostState

@@ -7,7 +7,8 @@ use Rattle.conn_trace.specs.Item.{server_output}
 use Rattle.conn_trace.specs.Gates.{Counts, may_give, renewed, sent_to, sent_part, sent_after}
 use Rattle.conn_trace.specs.Setup.{Setup}
 use Rattle.conn_trace.specs.State.{Stream, Cut, Answers, TraceState, Next, Does, Waits, Over, read_part, client_left}
-use Rattle.conn_trace.specs.Trace.{finish, uncut, phase_next, cut_takes, cut_open, cut_next}
+use Rattle.conn_trace.specs.Places.{finish}
+use Rattle.conn_trace.specs.Trace.{uncut, phase_next, cut_takes, cut_open, cut_next}
 use Rattle.conn_trace.specs.Trace.{counted, next_item, Unfolds, start}
 use Rattle.conn_trace.proofs.Fair.{PeerIs, SendsTo, FairNext, phase_fair}
 use Rattle.conn_trace.proofs.Given.{sent_step}

@@ -3,7 +3,7 @@ use Rattle.std.proofs.Common.{◌≡◌, refl, sym, ap, ◌∙◌, ℕ, ◌≤�
 use Rattle.std.proofs.lemmas.List.{take-append-le, drop-append-le}
 use Rattle.px_bytes.specs.declared.addr.Side.{Side}
 use Rattle.px_bytes.specs.declared.addr.Side.TheVariants.{Client, Server}
-use Rattle.conn_trace.specs.State.{Stream, ServerSide, NoServer, Sought, There, Retired}
+use Rattle.conn_trace.specs.State.{Stream, ServerSide, NoServer, Sought, There, Leaving, Retired}
 use Rattle.conn_trace.specs.State.{link_of, TraceState, server_stream, stream_of, read}
 use Rattle.conn_trace.specs.State.{read_server, read_side}
 use Rattle.conn_trace.specs.Further.{Coming, nothing_comes, Further, longer_by, longer_stream}
@@ -37,6 +37,7 @@ grown_server : (c : Option Coming) (v : ServerSide) → Grown (server_stream v) 
 grown_server c NoServer = grown_same _
 grown_server c Sought = grown_same _
 grown_server c (There s) = grown_where c s
+grown_server c (Leaving b s) = grown_same _
 grown_server c (Retired s) = grown_same _
 
 pub grown : (side : Side) (f : Further) (l : TraceState) → Grown (stream_of side l) (stream_of side (longer f l))
@@ -55,6 +56,7 @@ read_longer_server : (c : Option Coming) (v : ServerSide) (n : ℕ) → n ≤ le
 read_longer_server c NoServer n within = refl
 read_longer_server c Sought n within = refl
 read_longer_server c (There s) n within = ap There (read_where c s n within)
+read_longer_server c (Leaving b s) n within = refl
 read_longer_server c (Retired s) n within = refl
 
 -- what is read of a side is read on the longer input too
@@ -70,6 +72,7 @@ link_where : (c : Option Coming) (v : ServerSide) → link_of (longer_server c v
 link_where c NoServer = refl
 link_where c Sought = refl
 link_where c (There s) = refl
+link_where c (Leaving b s) = refl
 link_where c (Retired s) = refl
 
 pub link_same : (f : Further) (l : TraceState) → link_of (longer f l).server ≡ link_of l.server
@@ -97,6 +100,7 @@ pub nothing_server : (c : Coming) (connects : List (Option Stream)) (v : ServerS
 nothing_server c connects NoServer not = refl
 nothing_server c connects Sought not = refl
 nothing_server c connects (There s) not = ap There (nothing_where c connects s not)
+nothing_server c connects (Leaving b s) not = ap (Leaving b) (nothing_where c connects s not)
 nothing_server c connects (Retired s) not = ap Retired (nothing_where c connects s not)
 
 pub nothing_on_last : (c : Coming) (connects : List (Option Stream)) → comes c ≡ false → on_last c connects ≡ connects

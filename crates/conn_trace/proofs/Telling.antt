@@ -3,7 +3,7 @@ use Rattle.std.proofs.Common.{◌≡◌, refl, sym, ap, ◌∙◌, ℕ, List, []
 use Rattle.std.specs.Prelude.{is_some}
 use Rattle.core_events.specs.declared.note.Note.{Note}
 use Rattle.core_events.specs.declared.note.Note.TheVariants as note
-use Rattle.conn_trace.specs.Item.{Reason, Closed, Tcl, Unselected, Rejected, CutBy, Item, cause_of, Passed, Fired, Reused, Connected, Logged, Finished, shown, listed, noted, choices_in, notes_of, reasons_in}
+use Rattle.conn_trace.specs.Item.{Reason, Closed, Tcl, Http, Unselected, Rejected, CutBy, Item, cause_of, Passed, Fired, Reused, Connected, Logged, Finished, shown, listed, noted, choices_in, notes_of, reasons_in}
 use Rattle.conn_trace.specs.Gates.{TakenCounts}
 use Rattle.conn_trace.specs.State.{Cut}
 use Rattle.conn_trace.specs.Further.{is_some_of}
@@ -63,6 +63,7 @@ going_on c n i note conn choice reply finishes fails cut reason =
 cut_of_cause : (reason : Reason) (took : TakenCounts) (later : Option Cut) → cut_by (cut_of (cause_of reason)) took later ≡ cut_for (Some reason) took later
 cut_of_cause Closed took later = refl
 cut_of_cause (Tcl kind) took later = refl
+cut_of_cause (Http fault) took later = refl
 cut_of_cause Unselected took later = refl
 cut_of_cause Rejected took later = refl
 cut_of_cause (CutBy why) took later = refl
@@ -70,6 +71,7 @@ cut_of_cause (CutBy why) took later = refl
 never_memory : (reason : Reason) → is_memory (cause_of reason) ≡ false
 never_memory Closed = refl
 never_memory (Tcl kind) = refl
+never_memory (Http fault) = refl
 never_memory Unselected = refl
 never_memory Rejected = refl
 never_memory (CutBy why) = refl

@@ -19,13 +19,28 @@ use Rattle.irule_net.specs.declared.state.Target.TheVariants.{Default, PoolOf, M
 use Rattle.conn_trace.specs.Bodies.{act_item, run_body, ended_next, act_next, bodies_next}
 use Rattle.conn_trace.specs.Bounds.{FewOfServer, FewLie, UnreadWithin, passed_by, ReadsOnly}
 use Rattle.conn_trace.specs.Gates.{Counts, may_give}
-use Rattle.conn_trace.specs.Host.{HostState, with_selected}
+use Rattle.conn_trace.specs.Host.{HostState, with_selected, http_of}
 use Rattle.conn_trace.specs.Item.{Item, Choice, Reason, CutBy}
 use Rattle.conn_trace.specs.Relay.{incoming, RelayAct, BothDone, Passing, Firing, Resting, relay_act, collect_act, behind_fires}
 use Rattle.conn_trace.specs.Selected.{addr_of}
 use Rattle.conn_trace.specs.Setup.{Handler, Setup}
-use Rattle.conn_trace.specs.State.{Bodies, Gated, Running, Failing, Fate, Forwards, Drops, Phase, Carrying, InEvent, Choosing, Selecting, Connecting, Answering, Releasing, Relaying, Collecting, Finishing, Draining, Stream, ServerSide, NoServer, Sought, There, Retired, Cut, TraceState, Next, Does, Waits, Over, stream_of, server_stream, read_server, read_side}
-use Rattle.conn_trace.specs.Trace.{unit_item, unit_next, carrying_next, finish, choosing_next, default_next, selected_next, selecting_next, answering_next, relay_next, fired_next, collect_next, collecting_next, phase_next, cut_takes, uncut, cut_open, cut_next, counted, next_item, Unfolds}
+use Rattle.conn_trace.specs.State.{Bodies, Gated, Running, Failing, Phase, InEvent, Choosing, Selecting, Connecting, Answering, Releasing, Relaying, Collecting, Finishing, Draining, Stream, ServerSide, NoServer, Sought, There, Retired, Cut, TraceState, Next, Does, Waits, Over, stream_of, server_stream, read_server, read_side}
+use Rattle.std.proofs.Common.{Result, Ok, Err, nat_eq}
+use Rattle.px_bytes.specs.declared.fault.HttpFault.{HttpFault}
+use Rattle.http_frames.specs.declared.state.BodyState.{BodyState}
+use Rattle.conn_trace.specs.Item.{PassesOn, Fires, Reuses}
+use Rattle.conn_trace.specs.Fronts.{HeadPart, HeadOf, StreamEnds, Faulty, NoHead, head_part}
+use Rattle.conn_trace.specs.SentBodies.{is_answered}
+use Rattle.http_frames.specs.Parts.{Part, Byte, Chunk, End, Pending, Bad, part_of}
+use Rattle.irule_http.specs.declared.state.Request.{Request}
+use Rattle.irule_http.specs.declared.state.Response.{Response}
+use Rattle.conn_trace.specs.State.{AtHead, Continuing, Gathering, AtReuse, GivingUp, Retiring, Heading, Forwarding, Dropping, AtResponse, Behind, Leaving, leaving, retired}
+use Rattle.conn_trace.specs.Places.{Place}
+use Rattle.http_heads.specs.declared.line.Version.{Version}
+use Rattle.http_heads.specs.declared.line.Version.TheVariants.{Http10, Http11}
+use Rattle.conn_trace.specs.Messages.{reads_next, fault_by, fault_next, request_next, head_next, interim_next, asked_version, is_interim, status_next, response_next, answer_next, moves_next, body_end_next, is_counted, sending_next, gathering_next, dropping_next, reuse_next}
+use Rattle.conn_trace.specs.Places.{finish}
+use Rattle.conn_trace.specs.Trace.{choosing_next, default_next, selected_next, selecting_next, answering_next, relay_next, fired_next, collect_next, collecting_next, phase_next, cut_takes, uncut, cut_open, cut_next, counted, next_item, Unfolds}
 
 module _ (n : ℕ) where
   -- what comes next leaves no more unread, and passes on no more
@@ -92,6 +107,7 @@ module _ (n : ℕ) where
   server_read k NoServer w = tt
   server_read k Sought w = tt
   server_read k (There s) w = few_left k s.unread w
+  server_read k (Leaving b s) w = w
   server_read k (Retired s) w = w
 
   reads : (side : Side) (k : ℕ) (l : TraceState) → UnreadWithin n l → UnreadWithin n (read_side side k l)
@@ -102,6 +118,7 @@ module _ (n : ℕ) where
   of_server NoServer w = none
   of_server Sought w = none
   of_server (There s) w = w
+  of_server (Leaving b s) w = none
   of_server (Retired s) w = none
 
   of_stream : (side : Side) (l : TraceState) → UnreadWithin n l → length (stream_of side l).unread ≤ n
@@ -130,23 +147,110 @@ module _ (n : ℕ) where
   collecting_reads g l NotAsked w = tt
   collecting_reads g l (Stated k) w = collect_reads g l (collect_act k l.client.unread (behind_fires l.answers.choices)) w
 
-  unit_passes : (number : ℕ) (fate : Fate) (side : Side) (b : ℕ) → passed_by (unit_item number fate side b) ≤ n
-  unit_passes number Forwards side b = none
-  unit_passes number Drops side b = none
+  -- ---- HTTP
 
-  unit_reads : (g : Setup) (l : TraceState) (fate : Fate) (side : Side) (left : ℕ) (ended : Bool) (unread : List ℕ) → UnreadWithin n l → ReadsNext (unit_next g l fate side left ended unread)
-  unit_reads g l fate side left true [] w = (w, none)
-  unit_reads g l fate side left false [] w = tt
-  unit_reads g l fate Client left ended (b ∷ bs) w = (reads Client 1 l w, unit_passes l.sent.number fate Client b)
-  unit_reads g l fate Server left ended (b ∷ bs) w = (reads Server 1 l w, unit_passes l.sent.number fate Server b)
+  reads_reads : (l : TraceState) (side : Side) (k : ℕ) (p : Place) → UnreadWithin n l → ReadsNext (reads_next l side k p)
+  reads_reads l Client k p w = (reads Client k l w, none)
+  reads_reads l Server k p w = (reads Server k l w, none)
 
-  carrying_reads : (g : Setup) (l : TraceState) (fate : Fate) (side : Side) (left : ℕ) (s : Stream) → UnreadWithin n l → ReadsNext (carrying_next g l fate side left s)
-  carrying_reads g l fate side zero s w = (w, none)
-  carrying_reads g l fate side (suc left) s w = unit_reads g l fate side left s.ended s.unread w
+  moves_reads : (l : TraceState) (side : Side) (k : ℕ) (bytes : List ℕ) (phase : Phase) → UnreadWithin n l → ReadsNext (moves_next l side k bytes phase)
+  moves_reads l Client k bytes phase w = (reads Client k l w, none)
+  moves_reads l Server k bytes phase w = (reads Server k l w, none)
+
+  fault_reads : (g : Setup) (l : TraceState) (side : Side) (f : HttpFault) → UnreadWithin n l → ReadsNext (fault_next g l side f)
+  fault_reads g l side f w = by_answer (is_answered side f)
+    where
+      by_answer : (b : Bool) → ReadsNext (fault_by g l f b)
+      by_answer true = (w, none)
+      by_answer false = (w, none)
+
+  request_reads : (g : Setup) (l : TraceState) (k : ℕ) (r : Result Request HttpFault) → UnreadWithin n l → ReadsNext (request_next g l k r)
+  request_reads g l k (Err f) w = fault_reads g l Client f w
+  request_reads g l k (Ok r) w = (reads Client k l w, none)
+
+  head_reads : (g : Setup) (l : TraceState) (p : HeadPart) → UnreadWithin n l → ReadsNext (head_next g l p)
+  head_reads g l (HeadOf k) w = request_reads g l k (g.heads.request (take k l.client.unread)) w
+  head_reads g l StreamEnds w = (w, none)
+  head_reads g l (Faulty f) w = fault_reads g l Client f w
+  head_reads g l NoHead w = tt
+
+  interim_reads : (g : Setup) (l : TraceState) (k : ℕ) (r : Response) (v : Version) → UnreadWithin n l → ReadsNext (interim_next g l k r v)
+  interim_reads g l k r Http10 w = (reads Server k l w, none)
+  interim_reads g l k r Http11 w = (reads Server k l w, none)
+
+  status_reads : (g : Setup) (l : TraceState) (k : ℕ) (r : Response) (switches interim : Bool) → UnreadWithin n l → ReadsNext (status_next g l k r switches interim)
+  status_reads g l k r true interim w = (w, none)
+  status_reads g l k r false true w = interim_reads g l k r (asked_version (http_of l.host).came) w
+  status_reads g l k r false false w = (reads Server k l w, none)
+
+  response_reads : (g : Setup) (l : TraceState) (k : ℕ) (r : Result Response HttpFault) → UnreadWithin n l → ReadsNext (response_next g l k r)
+  response_reads g l k (Err f) w = (w, none)
+  response_reads g l k (Ok r) w = status_reads g l k r (nat_eq r.head.status 101) (is_interim r.head) w
+
+  answer_reads : (g : Setup) (l : TraceState) (p : HeadPart) → UnreadWithin n l → ReadsNext (answer_next g l p)
+  answer_reads g l (HeadOf k) w = response_reads g l k (g.heads.response (http_of l.host).came (take k (stream_of Server l).unread)) w
+  answer_reads g l StreamEnds w = (w, none)
+  answer_reads g l (Faulty f) w = (w, none)
+  answer_reads g l NoHead w = tt
+
+  reuse_reads : (g : Setup) (l : TraceState) (choices : List Choice) → UnreadWithin n l → ReadsNext (reuse_next g l choices)
+  reuse_reads g l [] w = tt
+  reuse_reads g l (Reuses true ∷ more) w = (w, none)
+  reuse_reads g l (Reuses false ∷ more) w = (w, none)
+  reuse_reads g l (PassesOn side k ∷ more) w = tt
+  reuse_reads g l (Fires side ∷ more) w = tt
+
+  server_leaves : (b : Behind) (v : ServerSide) → FewOfServer n v → FewOfServer n (leaving b v)
+  server_leaves b NoServer w = w
+  server_leaves b Sought w = w
+  server_leaves b (There s) w = w
+  server_leaves b (Leaving d s) w = w
+  server_leaves b (Retired s) w = w
+
+  server_retires : (v : ServerSide) → FewOfServer n v → FewOfServer n (retired v)
+  server_retires NoServer w = w
+  server_retires Sought w = w
+  server_retires (There s) w = w
+  server_retires (Leaving d s) w = w
+  server_retires (Retired s) w = w
+
+  body_end_reads : (l : TraceState) (side : Side) (k : ℕ) (counted standing : Bool) → UnreadWithin n l → ReadsNext (body_end_next l side k counted standing)
+  body_end_reads l side k true standing w = (reads side k l w, none)
+  body_end_reads l side k false standing w = (reads side k l w, none)
+
+  sending_reads : (g : Setup) (l : TraceState) (side : Side) (s : BodyState) (standing : Bool) (p : Part) → UnreadWithin n l → ReadsNext (sending_next g l side s standing p)
+  sending_reads g l side s standing Byte w = (reads side 1 l w, none)
+  sending_reads g l side s standing (Chunk k size) w = (reads side k l w, none)
+  sending_reads g l side s standing (End k) w = body_end_reads l side k (is_counted s) standing w
+  sending_reads g l side s standing Pending w = tt
+  sending_reads g l side s standing (Bad f) w = fault_reads g l side f w
+
+  gathering_reads : (g : Setup) (l : TraceState) (side : Side) (wanted : ℕ) (s : BodyState) (p : Part) → UnreadWithin n l → ReadsNext (gathering_next g l side wanted s p)
+  gathering_reads g l side wanted s Byte w = (reads side 1 l w, none)
+  gathering_reads g l side wanted s (Chunk k size) w = (reads side k l w, none)
+  gathering_reads g l side wanted s (End k) w = (reads side k l w, none)
+  gathering_reads g l side wanted s Pending w = tt
+  gathering_reads g l side wanted s (Bad f) w = fault_reads g l side f w
+
+  dropping_reads : (g : Setup) (l : TraceState) (s : BodyState) (p : Part) → UnreadWithin n l → ReadsNext (dropping_next g l s p)
+  dropping_reads g l s Byte w = (reads Client 1 l w, none)
+  dropping_reads g l s (Chunk k size) w = (reads Client k l w, none)
+  dropping_reads g l s (End k) w = (reads Client k l w, none)
+  dropping_reads g l s Pending w = tt
+  dropping_reads g l s (Bad f) w = fault_reads g l Client f w
 
   phase_reads : (g : Setup) (p : Phase) (l : TraceState) → UnreadWithin n l → ReadsNext (phase_next g p l)
   phase_reads g (InEvent e bodies) l w = bodies_reads g e bodies l w
-  phase_reads g (Carrying fate side left) l w = carrying_reads g l fate side left (stream_of side l) w
+  phase_reads g AtHead l w = head_reads g l (head_part l.client.unread l.client.ended) w
+  phase_reads g Continuing l w = (w, none)
+  phase_reads g (Gathering side wanted s) l w = gathering_reads g l side wanted s (part_of s (stream_of side l).unread (stream_of side l).ended) w
+  phase_reads g AtReuse l w = reuse_reads g l l.answers.choices w
+  phase_reads g (GivingUp b) l w = (record { of_client = w.of_client; of_server = server_leaves b l.server w.of_server; of_made = w.of_made }, none)
+  phase_reads g (Retiring b) l w = (record { of_client = w.of_client; of_server = server_retires l.server w.of_server; of_made = w.of_made }, none)
+  phase_reads g (Heading side) l w = (w, none)
+  phase_reads g (Forwarding side s standing) l w = sending_reads g l side s standing (part_of s (stream_of side l).unread (stream_of side l).ended) w
+  phase_reads g (Dropping s) l w = dropping_reads g l s (part_of s l.client.unread l.client.ended) w
+  phase_reads g AtResponse l w = answer_reads g l (head_part (stream_of Server l).unread (stream_of Server l).ended) w
   phase_reads g Choosing l w = choosing_reads g l (with_selected None l.host) l.host.net.target w
   phase_reads g (Selecting call) l w = selecting_reads g call l l.answers.replies w
   phase_reads g (Connecting a) l w = (record { of_client = w.of_client; of_server = tt; of_made = w.of_made }, none)

@@ -6,7 +6,8 @@ use Rattle.px_bytes.specs.declared.addr.Side.TheVariants.{Client, Server}
 use Rattle.px_bytes.specs.declared.fault.Reply.{Reply}
 use Rattle.conn_trace.specs.Item.{Item, Choice}
 use Rattle.conn_trace.specs.Gates.{Counts, Met}
-use Rattle.conn_trace.specs.State.{Stream, ServerSide, NoServer, Sought, There, Retired, Cut}
+use Rattle.conn_trace.specs.State.{Stream, ServerSide, NoServer, Sought, There, Leaving}
+use Rattle.conn_trace.specs.State.{Retired, Cut}
 use Rattle.conn_trace.specs.State.{Answers, TraceState, WaitKind, ForBytes, ForConnect}
 use Rattle.conn_trace.specs.State.{ForReply, ForRelay, ForReuse, ForCut}
 use Rattle.conn_trace.specs.State.{Next, Does, Waits, Over}
@@ -42,6 +43,7 @@ abbrev pub longer_server : Option Coming → ServerSide → ServerSide
 longer_server c NoServer = NoServer
 longer_server c Sought = Sought
 longer_server c (There s) = There (longer_where c s)
+longer_server c (Leaving b s) = Leaving b (longer_where c s)
 longer_server c (Retired s) = Retired (longer_where c s)
 
 -- what comes is for the server connection before these, where none of them was made

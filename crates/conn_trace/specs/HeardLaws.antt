@@ -2,7 +2,7 @@
 use Rattle.std.specs.Prelude.{◌≡◌, ℕ, List, [], ◌∷◌, ◌++◌, Bool, true, false}
 use Rattle.std.specs.Prelude.{Option, Some, None, nat_eq}
 use Rattle.core_events.specs.declared.note.Note.{Note}
-use Rattle.conn_trace.specs.Item.{Reason, Closed, Tcl, Unselected, Rejected, CutBy}
+use Rattle.conn_trace.specs.Item.{Reason, Closed, Tcl, Http, Unselected, Rejected, CutBy}
 use Rattle.conn_trace.specs.Item.{Item, shown, choices_in, notes_of, reasons_in}
 use Rattle.conn_trace.specs.Gates.{TakenCounts, no_bytes}
 use Rattle.conn_trace.specs.Setup.{Setup}
@@ -28,6 +28,7 @@ cut_for None took later = later
 cut_for (Some (CutBy reason)) took later = Some (record { reason = reason; took = took })
 cut_for (Some Closed) took later = later
 cut_for (Some (Tcl kind)) took later = later
+cut_for (Some (Http fault)) took later = later
 cut_for (Some Unselected) took later = later
 cut_for (Some Rejected) took later = later
 

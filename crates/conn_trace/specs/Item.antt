@@ -9,6 +9,7 @@ use Rattle.event_order.specs.declared.event.EventName.{EventName}
 use Rattle.core_events.specs.declared.note.Cause.{Cause}
 use Rattle.core_events.specs.declared.note.Cause.TheVariants as cause
 use Rattle.core_events.specs.declared.note.CutReason.{CutReason}
+use Rattle.px_bytes.specs.declared.fault.HttpFault.{HttpFault}
 use Rattle.core_events.specs.declared.note.Note.{Note}
 use Rattle.core_events.specs.declared.note.Note.TheVariants as note
 
@@ -30,6 +31,8 @@ pub data Reason : Type 0 where
   Closed : Reason
   -- a fault that no body caught
   Tcl : FaultKind → Reason
+  -- a message that could not be read
+  Http : HttpFault → Reason
   -- no server could be selected
   Unselected : Reason
   -- a rule rejected it
@@ -40,6 +43,7 @@ pub data Reason : Type 0 where
 abbrev pub cause_of : Reason → Cause
 cause_of Closed = cause.Closed
 cause_of (Tcl kind) = cause.Tcl kind
+cause_of (Http fault) = cause.Http fault
 cause_of Unselected = cause.Unselected
 cause_of Rejected = cause.Rejected
 cause_of (CutBy reason) = cause.Cut reason

@@ -3,6 +3,9 @@ use Rattle.std.specs.Prelude.{◌≡◌, ◌≤◌, ◌⊎◌, ℕ, ◌+◌, Lis
 use Rattle.std.specs.Prelude.{◌&&◌, not, Option, Some, None}
 use Rattle.px_bytes.specs.declared.addr.Side.TheVariants.{Client, Server}
 use Rattle.px_bytes.specs.declared.fault.Reply.{Reply}
+use Rattle.core_events.specs.declared.note.CutReason.{CutReason}
+use Rattle.core_events.specs.declared.note.CutReason.TheVariants.{ServerReset}
+use Rattle.conn_trace.specs.State.{ForBytes}
 use Rattle.conn_trace.specs.Item.{Item, CutBy, Choice}
 use Rattle.conn_trace.specs.Item.{client_output, server_output}
 use Rattle.conn_trace.specs.Gates.{Counts, TakenCounts, taken_of, to_take, may_give, Met}
@@ -10,7 +13,8 @@ use Rattle.conn_trace.specs.Gates.{sent_from}
 use Rattle.conn_trace.specs.Setup.{Setup}
 use Rattle.conn_trace.specs.State.{Stream, Cut, Answers, TraceState, client_left}
 use Rattle.conn_trace.specs.State.{Next, Does, Waits, Over}
-use Rattle.conn_trace.specs.Trace.{cut_takes, finish, next_item, Unfolds, trace, behind}
+use Rattle.conn_trace.specs.Places.{finish}
+use Rattle.conn_trace.specs.Trace.{cut_takes, next_item, Unfolds, trace, behind}
 use Rattle.conn_trace.specs.Trace.{start, GivesNoMore}
 use Rattle.conn_trace.specs.Further.{Further, longer, Same, replies_only, choosing, with_cut}
 use Rattle.conn_trace.specs.Further.{CutMeets}
@@ -119,6 +123,23 @@ abbrev pub Stops : Next → Type 0
 Stops (Does i m) = ⊥
 Stops (Waits kind) = Unit {0}
 Stops Over = Unit {0}
+
+-- a cut for this reason ends each rest: with HTTP one by the server doesn't
+abbrev pub ends_rests : (http : Bool) → CutReason → Bool
+ends_rests true ServerReset = false
+ends_rests http reason = true
+
+-- where no more may be given and no call is awaited, such a cut is taken, unless all is over
+abbrev pub RestIsCutAlso : Type 0
+RestIsCutAlso =
+    (g : Setup) (c : Cut) (sent : Counts) (o : Next) → ends_rests g.http c.reason ≡ true
+    → GivesNoMore false sent c.took o → (takes_cut g c sent o ≡ true) ⊎ (o ≡ Over)
+
+-- with HTTP a server's reset ends the waits for its bytes
+abbrev pub ServerResetEnds : Type 0
+ServerResetEnds =
+    (g : Setup) (took : TakenCounts) (sent : Counts) → g.http ≡ true
+    → takes_cut g (record { reason = ServerReset; took = took }) sent (Waits (ForBytes Server)) ≡ true
 
 -- where nothing comes next the items are the whole trace
 abbrev pub StoppedIsWhole : Type 0

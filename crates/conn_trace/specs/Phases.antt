@@ -9,9 +9,15 @@ use Rattle.event_order.specs.declared.event.EventName.TheVariants.{ClientAccepte
 use Rattle.event_order.specs.declared.event.EventName.TheVariants.{ClientClosed, ServerConnected}
 use Rattle.event_order.specs.declared.event.EventName.TheVariants.{ServerData, ServerClosed}
 use Rattle.event_order.specs.declared.event.EventName.TheVariants.{LbSelected, LbFailed}
+use Rattle.event_order.specs.declared.event.EventName.TheVariants.{HttpRequest, HttpRequestData}
+use Rattle.event_order.specs.declared.event.EventName.TheVariants.{HttpResponse, HttpResponseData}
+use Rattle.px_bytes.specs.declared.addr.Side.{Side}
+use Rattle.px_bytes.specs.declared.addr.Side.TheVariants.{Client, Server}
 use Rattle.conn_trace.specs.Item.{Item, Reason, shown, reasons_in}
 use Rattle.conn_trace.specs.Setup.{Setup}
-use Rattle.conn_trace.specs.State.{Gated, Running, Failing, Phase, Carrying, InEvent}
+use Rattle.conn_trace.specs.State.{Gated, Running, Failing, Phase, InEvent, AtHead, Continuing}
+use Rattle.conn_trace.specs.State.{Gathering, AtReuse, GivingUp, Retiring, Heading, Forwarding}
+use Rattle.conn_trace.specs.State.{Dropping, AtResponse, Behind, BeforeSelect, BehindMessage, Left}
 use Rattle.conn_trace.specs.State.{Choosing, Selecting, Connecting, Answering, Releasing}
 use Rattle.conn_trace.specs.State.{Relaying, Collecting, Finishing, Draining}
 use Rattle.conn_trace.specs.State.{Stream, Answers, Link, Up, link_of, TraceState, Does}
@@ -24,9 +30,22 @@ data_name Up = name.Relay
 data_name other = name.Collect
 
 -- a server connection closes with the client's, or before another is chosen
-abbrev pub closed_phase : (finished : Bool) → Name
-closed_phase true = name.Finish
-closed_phase false = name.Select
+abbrev pub left_phase : Behind → Name
+left_phase BeforeSelect = name.Select
+left_phase BehindMessage = name.Response
+
+abbrev pub closed_phase : (finished : Bool) → Link → Name
+closed_phase true link = name.Finish
+closed_phase false (Left b) = left_phase b
+closed_phase false link = name.Select
+
+abbrev pub message_phase : Side → Name
+message_phase Client = name.Passing
+message_phase Server = name.Response
+
+abbrev pub gather_phase : Side → Name
+gather_phase Client = name.Gather
+gather_phase Server = name.Response
 
 -- the phase in which the bodies of an event run
 abbrev pub event_phase : EventName → (finished : Bool) → Link → Name
@@ -35,13 +54,26 @@ event_phase ServerData finished link = name.Relay
 event_phase LbSelected finished link = name.Select
 event_phase LbFailed finished link = name.Select
 event_phase ServerConnected finished link = name.Connect
-event_phase ServerClosed finished link = closed_phase finished
+event_phase ServerClosed finished link = closed_phase finished link
 event_phase ClientClosed finished link = name.Finish
+event_phase HttpRequest finished link = name.Request
+event_phase HttpRequestData finished link = name.Gather
+event_phase HttpResponse finished link = name.Response
+event_phase HttpResponseData finished link = name.Response
 event_phase other finished link = name.Accepted
 
 abbrev pub phase_name : Phase → (finished : Bool) → Link → Name
 phase_name (InEvent e bodies) finished link = event_phase e finished link
-phase_name (Carrying fate side left) finished link = name.Select
+phase_name AtHead finished link = name.Request
+phase_name Continuing finished link = name.Request
+phase_name (Gathering side wanted s) finished link = gather_phase side
+phase_name AtReuse finished link = name.Reuse
+phase_name (GivingUp b) finished link = left_phase b
+phase_name (Retiring b) finished link = left_phase b
+phase_name (Heading side) finished link = message_phase side
+phase_name (Forwarding side s standing) finished link = message_phase side
+phase_name (Dropping s) finished link = name.Answered
+phase_name AtResponse finished link = name.Response
 phase_name Choosing finished link = name.Select
 phase_name (Selecting call) finished link = name.Select
 phase_name (Connecting a) finished link = name.Connect
@@ -73,8 +105,12 @@ finishes i = is_some (shown i).reason
 -- the events of a server connection run where there is one
 abbrev pub Fits : EventName → Link → Type 0
 Fits ClientAccepted link = is_up link ≡ false
+Fits LbSelected link = is_up link ≡ false
+Fits LbFailed link = is_up link ≡ false
 Fits ServerConnected link = is_up link ≡ true
 Fits ServerData link = is_up link ≡ true
+Fits HttpResponse link = is_up link ≡ true
+Fits HttpResponseData link = is_up link ≡ true
 Fits other link = Unit {0}
 
 -- whether a connection has finished while the bodies of an event run
@@ -83,15 +119,42 @@ RunsIn ServerClosed finished = Unit {0}
 RunsIn ClientClosed finished = finished ≡ true
 RunsIn other finished = finished ≡ false
 
+-- a server connection whose closing event runs before the connection has finished is being given up
+abbrev pub is_leaving : Link → Bool
+is_leaving (Left b) = true
+is_leaving other = false
+
+abbrev pub Leaves : EventName → (finished : Bool) → Link → Type 0
+Leaves ServerClosed false link = is_leaving link ≡ true
+Leaves e finished link = Unit {0}
+
+-- whether there must be a server: for its own message there must
+abbrev pub SideThere : Side → Link → Type 0
+SideThere Client link = Unit {0}
+SideThere Server link = is_up link ≡ true
+
 -- what holds in each phase of whether it has finished and of the server
 abbrev pub OrderlyIn : Phase → (finished : Bool) → Link → Type 0
 OrderlyIn (InEvent e (Gated b bs)) finished link =
     (finished ≡ false) × (is_closing e ≡ false) × Fits e link
-OrderlyIn (InEvent e (Running b bs n)) finished link = RunsIn e finished × Fits e link
-OrderlyIn (InEvent e (Failing kind line bs)) finished link = RunsIn e finished × Fits e link
+OrderlyIn (InEvent e (Running b bs n)) finished link =
+    RunsIn e finished × (Fits e link × Leaves e finished link)
+OrderlyIn (InEvent e (Failing kind line bs)) finished link =
+    RunsIn e finished × (Fits e link × Leaves e finished link)
+OrderlyIn Choosing finished link = (finished ≡ false) × (is_up link ≡ false)
+OrderlyIn (Selecting call) finished link = (finished ≡ false) × (is_up link ≡ false)
+OrderlyIn (Connecting a) finished link = (finished ≡ false) × (is_up link ≡ false)
+OrderlyIn (Answering a) finished link = (finished ≡ false) × (is_up link ≡ false)
 OrderlyIn Releasing finished link = (finished ≡ false) × (is_up link ≡ true)
 OrderlyIn Relaying finished link = (finished ≡ false) × (is_up link ≡ true)
 OrderlyIn Collecting finished link = (finished ≡ false) × (is_up link ≡ false)
+OrderlyIn (Gathering side wanted s) finished link = (finished ≡ false) × SideThere side link
+OrderlyIn AtReuse finished link = (finished ≡ false) × (is_up link ≡ true)
+OrderlyIn (GivingUp b) finished link = (finished ≡ false) × (is_up link ≡ true)
+OrderlyIn (Retiring b) finished link = (finished ≡ false) × (link ≡ Left b)
+OrderlyIn (Heading side) finished link = (finished ≡ false) × (is_up link ≡ true)
+OrderlyIn (Forwarding side s standing) finished link = (finished ≡ false) × (is_up link ≡ true)
+OrderlyIn AtResponse finished link = (finished ≡ false) × (is_up link ≡ true)
 OrderlyIn Draining finished link = finished ≡ true
 OrderlyIn other finished link = finished ≡ false
 

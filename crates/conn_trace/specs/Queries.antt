@@ -11,7 +11,7 @@ use Rattle.irule_net.specs.State.{collected}
 use Rattle.irule_net.specs.declared.state.Asks.{Asks}
 use Rattle.irule_net.specs.declared.state.Asks.TheVariants.{NotAsked, Stated}
 use Rattle.conn_trace.specs.State.{Phase, InEvent, Relaying, Stream, ServerSide, NoServer}
-use Rattle.conn_trace.specs.State.{Sought, There, Retired, TraceState, stream_of, link_of}
+use Rattle.conn_trace.specs.State.{Sought, There, Leaving, Retired, TraceState, stream_of, link_of}
 use Rattle.conn_trace.specs.State.{Link, Up}
 use Rattle.conn_trace.specs.Further.{Further, longer_stream, longer, coming_from}
 
@@ -25,6 +25,7 @@ abbrev pub own_stream : ServerSide → Option Stream
 own_stream NoServer = None
 own_stream Sought = None
 own_stream (There s) = Some s
+own_stream (Leaving b s) = Some s
 own_stream (Retired s) = Some s
 
 abbrev pub first_some : Option Stream → Option Stream → Option Stream

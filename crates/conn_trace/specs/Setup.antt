@@ -8,6 +8,7 @@ use Rattle.tcl_vars.specs.Scopes.{Level}
 use Rattle.event_order.specs.Event.{event_text}
 use Rattle.event_order.specs.declared.event.EventName.{EventName}
 use Rattle.irule_net.specs.declared.groups.Groups.{Groups}
+use Rattle.conn_trace.specs.Http.{Heads}
 
 -- a body that a rule has for an event, with the rule's name and procedures
 pub record Handler : Type 0 where
@@ -18,7 +19,7 @@ pub record Handler : Type 0 where
 -- What a connection runs on: the name of its virtual server, its port, its default pool (empty
 -- where it has none) and whether it speaks HTTP; the address of its client; how many units each
 -- body may spend, and the static variables that RULE_INIT left; the data groups and pools that
--- rules name; and the bodies of each event in their order.
+-- rules name; how heads are read and written; and the bodies of each event in their order.
 pub record Setup : Type 0 where
   pub name : List ℕ
   pub port : ℕ
@@ -28,6 +29,7 @@ pub record Setup : Type 0 where
   pub budget : ℕ
   pub statics : Level
   pub groups : Groups
+  pub heads : Heads
   pub handlers : EventName → List Handler
 
 -- the line that an uncaught fault logs: the rule, the event and the fault's text

@@ -10,6 +10,7 @@ use Rattle.event_order.specs.declared.event.EventName.{EventName}
 use Rattle.core_events.specs.declared.note.CutReason.{CutReason}
 use Rattle.conn_trace.specs.Item.{Reason, Choice, Item, Taking, shown}
 use Rattle.conn_trace.specs.Gates.{Counts, TakenCounts}
+use Rattle.http_frames.specs.declared.state.BodyState.{BodyState}
 use Rattle.conn_trace.specs.Setup.{Handler}
 use Rattle.conn_trace.specs.Host.{HostState}
 
@@ -22,14 +23,32 @@ pub data Bodies : Type 0 where
   -- one left a fault uncaught, whose line is to be logged; these stand behind it
   Failing : FaultKind → (line : List ℕ) → List Handler → Bodies
 
--- what becomes of the bytes of a message's body
-pub data Fate : Type 0 where
-  Forwards : Fate
-  Drops : Fate
+-- when a server connection is given up: before another is selected, or behind a message
+pub data Behind : Type 0 where
+  BeforeSelect : Behind
+  BehindMessage : Behind
 
 pub data Phase : Type 0 where
-  -- so many bytes of a body are left, which go byte by byte
-  Carrying : Fate → Side → (left : ℕ) → Phase
+  -- the client's next head is read
+  AtHead : Phase
+  -- the client is told to go on with its request
+  Continuing : Phase
+  -- so many bytes more of a side's body are gathered
+  Gathering : Side → (wanted : ℕ) → BodyState → Phase
+  -- the server connection is used again, or not
+  AtReuse : Phase
+  -- the server connection is given up
+  GivingUp : Behind → Phase
+  -- its closing event has run
+  Retiring : Behind → Phase
+  -- the head of a side's message is sent on, with what was gathered
+  Heading : Side → Phase
+  -- the units of its body go behind that
+  Forwarding : Side → BodyState → (standing : Bool) → Phase
+  -- what is left of an answered request's body is dropped
+  Dropping : BodyState → Phase
+  -- the server's next head is read
+  AtResponse : Phase
   -- the bodies of an event run
   InEvent : EventName → Bodies → Phase
   -- a server is to be selected
@@ -61,6 +80,8 @@ pub data ServerSide : Type 0 where
   -- a connection was asked for
   Sought : ServerSide
   There : Stream → ServerSide
+  -- its closing event runs before it is given up
+  Leaving : Behind → Stream → ServerSide
   -- given up, and still draining
   Retired : Stream → ServerSide
 
@@ -69,12 +90,14 @@ pub data Link : Type 0 where
   Absent : Link
   Asked : Link
   Up : Link
+  Left : Behind → Link
   GivenUp : Link
 
 abbrev pub link_of : ServerSide → Link
 link_of NoServer = Absent
 link_of Sought = Asked
 link_of (There s) = Up
+link_of (Leaving b s) = Left b
 link_of (Retired s) = GivenUp
 
 -- that a connection was cut, and how many bytes were taken then
@@ -143,6 +166,7 @@ abbrev pub server_stream : ServerSide → Stream
 server_stream NoServer = no_stream
 server_stream Sought = no_stream
 server_stream (There s) = s
+server_stream (Leaving b s) = no_stream
 server_stream (Retired s) = no_stream
 
 abbrev pub stream_of : Side → TraceState → Stream
@@ -157,6 +181,7 @@ abbrev pub read_server : ℕ → ServerSide → ServerSide
 read_server n NoServer = NoServer
 read_server n Sought = Sought
 read_server n (There s) = There (read n s)
+read_server n (Leaving b s) = Leaving b s
 read_server n (Retired s) = Retired s
 
 abbrev pub read_side : Side → ℕ → TraceState → TraceState
@@ -175,6 +200,15 @@ read_part (Some t) s = read_of t.side t.amount s
 abbrev pub client_left : List Item → Stream → Stream
 client_left [] s = s
 client_left (i ∷ items) s = client_left items (read_part (shown i).reads s)
+
+-- it is being given up, and it is
+abbrev pub leaving : Behind → ServerSide → ServerSide
+leaving b (There s) = Leaving b s
+leaving b other = other
+
+abbrev pub retired : ServerSide → ServerSide
+retired (Leaving b s) = Retired s
+retired other = other
 
 abbrev pub with_choices : List Choice → TraceState → TraceState
 with_choices choices l = record l { answers = record l.answers { choices = choices } }

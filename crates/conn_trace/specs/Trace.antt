@@ -2,7 +2,8 @@
 -- unfolding of one function from where it stands to its next item (iRules reference: events run in
 -- the order of the connection's phases, and all bodies of an event in the order of their priority).
 use Rattle.std.specs.Prelude.{◌≡◌, ℕ, zero, suc, List, [], ◌∷◌, take, Bool, true, false}
-use Rattle.std.specs.Prelude.{◌||◌, not, Option, Some, None, if◌then◌else◌}
+use Rattle.std.specs.Prelude.{◌-◌, ◌||◌, not, Option, Some, None, option_map}
+use Rattle.std.specs.Prelude.{if◌then◌else◌}
 use Rattle.px_bytes.specs.declared.addr.Addr.{Addr}
 use Rattle.px_bytes.specs.declared.addr.Side.{Side}
 use Rattle.px_bytes.specs.declared.addr.Side.TheVariants.{Client, Server}
@@ -13,9 +14,10 @@ use Rattle.event_order.specs.declared.event.EventName.TheVariants.{ClientAccepte
 use Rattle.event_order.specs.declared.event.EventName.TheVariants.{LbSelected, LbFailed}
 use Rattle.core_events.specs.declared.note.CutReason.{CutReason}
 use Rattle.core_events.specs.declared.note.CutReason.TheVariants.{ServerReset}
-use Rattle.conn_trace.specs.Item.{ToServer, Reason, Closed, Rejected, CutBy, Choice, Item}
-use Rattle.conn_trace.specs.Item.{Resumed, Answered, Read, Moved, Passed, Fired, Called}
-use Rattle.conn_trace.specs.Item.{Connected, Finished}
+use Rattle.conn_trace.specs.Item.{ToServer, Closed, CutBy}
+use Rattle.conn_trace.specs.Item.{Choice, Item}
+use Rattle.conn_trace.specs.Item.{Resumed, Answered, Moved, Passed, Fired, Called}
+use Rattle.conn_trace.specs.Item.{Connected}
 use Rattle.conn_trace.specs.Gates.{Counts, no_bytes, TakenCounts, other, has_room, may_give}
 use Rattle.conn_trace.specs.Gates.{sent_after}
 use Rattle.irule_net.specs.Steps.{target_pool}
@@ -26,7 +28,12 @@ use Rattle.irule_net.specs.declared.state.Target.TheVariants.{Default, PoolOf, M
 use Rattle.conn_trace.specs.Setup.{Setup}
 use Rattle.conn_trace.specs.Host.{HostState, first_host, with_loose, with_selected}
 use Rattle.conn_trace.specs.Selected.{any_member, only_member, select_call, addr_of}
-use Rattle.conn_trace.specs.State.{Fate, Forwards, Drops, Phase, Carrying, InEvent, Choosing}
+use Rattle.conn_trace.specs.State.{Phase, InEvent, Choosing}
+use Rattle.conn_trace.specs.State.{AtHead, Continuing, Gathering, AtReuse}
+use Rattle.conn_trace.specs.State.{GivingUp, Retiring, Heading, Forwarding, Dropping, AtResponse}
+use Rattle.conn_trace.specs.Fronts.{head_part}
+use Rattle.http_frames.specs.Parts.{part_of}
+use Rattle.irule_http.specs.declared.state.Http.{Http}
 use Rattle.conn_trace.specs.State.{Selecting, Connecting, Answering, Releasing, Relaying}
 use Rattle.conn_trace.specs.State.{Collecting, Finishing, Draining, Stream, NoServer, Sought}
 use Rattle.conn_trace.specs.State.{There, Absent, Up, link_of, Cut, Answers, TraceState}
@@ -34,15 +41,14 @@ use Rattle.conn_trace.specs.State.{Ready, Nothing, Passable, IsMet, WaitKind, Fo
 use Rattle.conn_trace.specs.State.{ForConnect, ForReply, ForRelay, ForReuse, ForCut}
 use Rattle.conn_trace.specs.State.{Next, Does, Waits, Over, stream_of, read_side}
 use Rattle.conn_trace.specs.State.{with_choices, with_replies, with_connects}
-use Rattle.conn_trace.specs.Places.{at, closed, enter, data_event}
+use Rattle.conn_trace.specs.Places.{place, at, closed, enter, data_event, finish}
+use Rattle.conn_trace.specs.Messages.{answer_next, continuing_next, dropping_next, gathering_next}
+use Rattle.conn_trace.specs.Messages.{giving_up_next, head_next, heading_next, retiring_next}
+use Rattle.conn_trace.specs.Messages.{reuse_next, sending_next}
+use Rattle.conn_trace.specs.Routing.{chosen}
 use Rattle.conn_trace.specs.Bodies.{peer_of, bodies_next}
 use Rattle.conn_trace.specs.Relay.{incoming, ready_of, RelayAct, BothDone, Passing, Firing}
 use Rattle.conn_trace.specs.Relay.{Resting, relay_act, fired_host, behind_fires, collect_act}
-
--- it finishes
-abbrev pub finish : Setup → Reason → TraceState → Next
-finish g r l =
-    Does (Finished r) (at (closed g (link_of l.server) l.host) (record l { finished = true }))
 
 -- no server is selected, or this one, of a pool or by itself
 abbrev pub failed_next : Setup → TraceState → HostState → Next
@@ -84,11 +90,18 @@ selecting_next g call l [] = Waits (ForReply call)
 selecting_next g call l (reply.Ok v ∷ more) = selected_next g l more (addr_of v)
 selecting_next g call l (reply.Fault f ∷ more) = selected_next g l more None
 
+-- the choice by which the server connection was made
+abbrev pub served_by : Target → Http → Http
+served_by target http = record http { serves = Some target }
+
+abbrev pub serving : HostState → HostState
+serving h = record h { http = option_map (served_by (chosen h)) h.http }
+
 abbrev pub answering_next : Setup → TraceState → List (Option Stream) → Next
 answering_next g l [] = Waits ForConnect
 answering_next g l (Some s ∷ more) =
     let made = with_connects more (record l { server = There s }) in
-    Does (Answered true) (at (enter g ServerConnected Up l.host) made)
+    Does (Answered true) (at (enter g ServerConnected Up (serving l.host)) made)
 answering_next g l (None ∷ more) =
     let refused = with_connects more (record l { server = NoServer }) in
     Does (Answered false) (at (enter g LbFailed Absent l.host) refused)
@@ -122,22 +135,6 @@ collecting_next g l NotAsked = Waits ForCut
 collecting_next g l (Stated n) =
     collect_next g l (collect_act n l.client.unread (behind_fires l.answers.choices))
 
--- the item that a byte of a body is
-abbrev pub unit_item : ℕ → Fate → Side → ℕ → Item
-unit_item number Forwards side b = Moved side 1 (peer_of number (other side)) (b ∷ [])
-unit_item number Drops side b = Read side 1
-
-abbrev pub unit_next : Setup → TraceState → Fate → Side → ℕ → Bool → List ℕ → Next
-unit_next g l fate side left ended [] =
-    if ended then finish g Rejected l else Waits (ForBytes side)
-unit_next g l fate side left ended (b ∷ bs) =
-    Does (unit_item l.sent.number fate side b)
-    (record (read_side side 1 l) { phase = Carrying fate side left })
-
-abbrev pub carrying_next : Setup → TraceState → Fate → Side → ℕ → Stream → Next
-carrying_next g l fate side zero s = Does Resumed (record l { phase = Choosing })
-carrying_next g l fate side (suc left) s = unit_next g l fate side left s.ended s.unread
-
 -- the client's released bytes go to the server before any that it sends later
 abbrev pub releasing_next : TraceState → Next
 releasing_next l =
@@ -146,8 +143,21 @@ releasing_next l =
 
 abbrev pub phase_next : Setup → Phase → TraceState → Next
 phase_next g (InEvent e bodies) l = bodies_next g e bodies l
-phase_next g (Carrying fate side left) l =
-    carrying_next g l fate side left (stream_of side l)
+phase_next g AtHead l = head_next g l (head_part l.client.unread l.client.ended)
+phase_next g Continuing l = continuing_next g l
+phase_next g (Gathering side wanted s) l =
+    gathering_next g l side wanted s
+    (part_of s (stream_of side l).unread (stream_of side l).ended)
+phase_next g AtReuse l = reuse_next g l l.answers.choices
+phase_next g (GivingUp b) l = giving_up_next g l b
+phase_next g (Retiring b) l = retiring_next l b
+phase_next g (Heading side) l = heading_next g l side
+phase_next g (Forwarding side s standing) l =
+    sending_next g l side s standing
+    (part_of s (stream_of side l).unread (stream_of side l).ended)
+phase_next g (Dropping s) l = dropping_next g l s (part_of s l.client.unread l.client.ended)
+phase_next g AtResponse l =
+    answer_next g l (head_part (stream_of Server l).unread (stream_of Server l).ended)
 phase_next g Choosing l = choosing_next g l (with_selected None l.host) l.host.net.target
 phase_next g (Selecting call) l = selecting_next g call l l.answers.replies
 phase_next g (Connecting a) l =

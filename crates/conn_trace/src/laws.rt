@@ -16,9 +16,11 @@ ghost use Rattle.conn_trace.specs.Laws.{
   NextIsSameOnReplies,
   RepliesKeepTrace,
   RestIsCut,
+  RestIsCutAlso,
   SentIsCounted,
   SentIsOutput,
   SentToServer,
+  ServerResetEnds,
   StoppedIsWhole,
   TakenAllOpens,
   TraceIsUnfolding,
@@ -36,8 +38,9 @@ ghost use Rattle.conn_trace.specs.HeardLaws.{
   OthersAreNotHeard,
   RunStands,
 };
+ghost use Rattle.conn_trace.specs.Spoken.{HttpIsSpoken};
 ghost use Rattle.conn_trace.specs.Queries.{ComesWhereItArrives, HalfCloseStays};
-ghost use Rattle.conn_trace.specs.Units.{UnitsMet, UnitsUnfold};
+ghost use Rattle.conn_trace.specs.Units.{DroppedUnfold, GatheredAtOnce, GatheredUnfold, UnitsMet, UnitsUnfold};
 ghost use Rattle.conn_trace.specs.Selected.{SelectedIsSpelled, WrittenIsSelected};
 
 /// On a longer input the next item is the same, unless it waits.
@@ -225,6 +228,31 @@ pub fn units_met()
     ensures { UnitsMet }
 {}
 
+/// What is left of an answered request's body is dropped byte by byte.
+pub fn dropped_unfold()
+    ensures { DroppedUnfold }
+{}
+
+/// And gathered so, while more are wanted.
+pub fn gathered_unfold()
+    ensures { GatheredUnfold }
+{}
+
+/// Which is as good as all of them at once.
+pub fn gathered_at_once()
+    ensures { GatheredAtOnce }
+{}
+
+/// Where no more may be given a cut is taken, but one by the server with HTTP.
+pub fn rest_is_cut_also()
+    ensures { RestIsCutAlso }
+{}
+
+/// With HTTP a server's reset ends the waits for its bytes.
+pub fn server_reset_ends()
+    ensures { ServerResetEnds }
+{}
+
 /// The address that a reply selects is the one that it spells.
 pub fn selected_is_spelled()
     ensures { SelectedIsSpelled }
@@ -243,4 +271,10 @@ pub fn unread_stays_within()
 /// Where each item met its gate fewer than 2,400,000 bytes are pending to a side.
 pub fn pending_is_bounded()
     ensures { PendingIsBounded }
+{}
+
+/// HTTP is spoken by a connection throughout, or never: with it no collect of a side is asked, and without it no
+/// phase of HTTP is reached and no server connection is given up.
+pub fn http_is_spoken()
+    ensures { HttpIsSpoken }
 {}

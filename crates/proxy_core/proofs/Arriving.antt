@@ -8,20 +8,19 @@ use Rattle.px_bytes.specs.declared.addr.Side.TheVariants.{Client, Server}
 use Rattle.irule_net.specs.State.{asked_bytes, collected}
 use Rattle.irule_net.specs.declared.state.Asks.{Asks}
 use Rattle.irule_net.specs.declared.state.Asks.TheVariants.{NotAsked, Stated}
-use Rattle.conn_trace.specs.Bounds.{FewUnread, FewOfServer, FewOfMade, PassWithin}
+use Rattle.conn_trace.specs.Bounds.{HeadsFit, FewUnread, FewOfServer, FewOfMade, PassWithin}
 use Rattle.conn_trace.specs.Further.{Coming, nothing_comes, Further, longer_by, longer_stream, longer_where, longer_server, left_for, on_last, longer}
 use Rattle.conn_trace.specs.Item.{Item}
 use Rattle.conn_trace.specs.Phases.{OrderlyIn}
 use Rattle.conn_trace.specs.Places.{is_up}
 use Rattle.conn_trace.specs.Queries.{arriving, counted_held, first_some, held_under, in_event_of, last_made, own_stream, unread_at, unread_limit}
 use Rattle.conn_trace.specs.Setup.{Setup}
-use Rattle.conn_trace.specs.State.{Stream, ServerSide, NoServer, Sought, There, Retired, Phase, Answering, TraceState, link_of}
+use Rattle.conn_trace.specs.State.{Stream, ServerSide, NoServer, Sought, There, Leaving, Retired, Phase, Answering, TraceState, link_of}
 use Rattle.conn_trace.specs.Trace.{Unfolds}
 use Rattle.core_events.specs.declared.edges.EdgeState.{EdgeState}
 use Rattle.conn_trace.proofs.Lying.{Before, Lies, allowed, item_lies}
 use Rattle.conn_trace.proofs.Streams.{link_same}
 use Rattle.proxy_core.specs.Servers.{Linked, awaits}
-use Rattle.proxy_core.proofs.ServerGone.{unlinked}
 use Rattle.proxy_core.proofs.ServerLaws.{Unserved, unserved_step}
 
 few_more : (n : ℕ) (c : Coming) (s : Stream) → FewUnread n s → length s.unread + length c.bytes ≤ n → FewUnread n (longer_stream c s)
@@ -82,12 +81,14 @@ server_more n c cs v w room = by_last (last_of c cs)
     lasting NoServer w = tt
     lasting Sought w = tt
     lasting (There s) w = w
+    lasting (Leaving b s) w = w
     lasting (Retired s) w = w
 
     growing : (v : ServerSide) → FewOfServer n v → length (unread_at (own_stream v)) + length c.bytes ≤ n → FewOfServer n (longer_server (Some c) v)
     growing NoServer w room = tt
     growing Sought w room = tt
     growing (There s) w room = few_more n c s w room
+    growing (Leaving b s) w room = few_more n c s w room
     growing (Retired s) w room = few_more n c s w room
 
     by_last : Unmade c cs ⊎ Last c cs → FewOfServer n (longer_server (left_for c cs) v)
@@ -107,6 +108,7 @@ arriving_lies l w Server = by_made (last_made l.answers.connects) (made_last unr
     own NoServer w = omega arith
     own Sought w = omega arith
     own (There s) w = w
+    own (Leaving b s) w = w
     own (Retired s) w = w
 
     by_made : (o : Option Stream) → length (unread_at o) ≤ unread_limit → length (unread_at (first_some o (own_stream l.server))) ≤ unread_limit + allowed Server l
@@ -173,15 +175,15 @@ longer_lies l f w waits room = record {
 before : (l : TraceState) → Unserved l → Before l
 before l u = record {
   orderly = u.orderly;
-  connecting = λ to e. u.not_up (subst (λ p. OrderlyIn p l.finished (link_of l.server)) e u.orderly) (ap unlinked e);
-  answering = λ to e. u.not_up (subst (λ p. OrderlyIn p l.finished (link_of l.server)) e u.orderly) (ap unlinked e);
+  spoken = false;
+  speaks = u.plain;
 }
 
-pub lies_along : (g : Setup) (l m : TraceState) (items : List Item) → Unserved l → Lies l → Unfolds g l items m → Lies m × PassWithin unread_limit items
-lies_along g l m [] u w is = (subst Lies is w, tt)
-lies_along g l m (i ∷ items) u w (mid, step, rest) =
-    let one = item_lies g l mid i w (before l u) step in
-    let more = lies_along g mid m items (unserved_step g l mid i u step) one.0 rest in
+pub lies_along : (g : Setup) → HeadsFit g → (l m : TraceState) (items : List Item) → Unserved l → Lies l → Unfolds g l items m → Lies m × PassWithin unread_limit items
+lies_along g fits l m [] u w is = (subst Lies is w, tt)
+lies_along g fits l m (i ∷ items) u w (mid, step, rest) =
+    let one = item_lies g fits l mid i w (before l u) step in
+    let more = lies_along g fits mid m items (unserved_step g l mid i u step) one.0 rest in
     (more.0, (one.1, more.1))
 
 -- an answer waits only where there is no server yet
@@ -190,7 +192,7 @@ waiting_at l finished edge u w k = by_phase l.phase refl k.waits
   where
     calm : (to : Addr) → l.phase ≡ Answering to → allowed Server l ≤ 0
     calm to e =
-        let asks = w.calm ((before l u).answering to e) in
+        let asks = w.calm (subst (λ p. OrderlyIn p l.finished (link_of l.server)) e u.orderly).1 in
         let none : allowed Server l ≡ asked_bytes (collected Server l.host.net).asks = ap (λ p. if in_event_of Server p then 0 else asked_bytes (collected Server l.host.net).asks) e in
         let zero_asked = ap asked_bytes asks in
         omega (arith, none, zero_asked)

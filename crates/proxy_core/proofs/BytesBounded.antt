@@ -53,6 +53,7 @@ use Rattle.proxy_core.specs.Shown.{causes_behind}
 use Rattle.proxy_core.specs.Sound.{unseen, Served, Sound, SoundAt}
 use Rattle.proxy_core.specs.declared.call.Asked.{Asked}
 use Rattle.run_config.specs.declared.config.Config.{Config}
+use Rattle.proxy_core.proofs.Setups.{heads_fit, plain_setup}
 use Rattle.proxy_core.proofs.Arriving.{HeldOf, Room, Waiting, held_of, lies_along, longer_lies, nothing_fits, waiting_at}
 use Rattle.proxy_core.proofs.CameAt.{UncutOr, heard_uncut}
 use Rattle.proxy_core.proofs.Entries.{calls_front}
@@ -80,7 +81,7 @@ joined n (i ∷ place) more w v = (w.0, joined n place more w.1 v)
 
 -- an answer waits only where nothing of the server is collected
 waits_for : (C : Config) (c : ℕ) (z : Seen) → Served C c z → Lies (stand_of C z.heard z.place) → Waiting (stand_of C z.heard z.place)
-waits_for C c z k w = waiting_at (stand_of C z.heard z.place) z.heard.finished z.heard.edges.server.state (unserved_at (setup_of C z.heard) z.heard z.place (stand_of C z.heard z.place) k.stands) w k.linked
+waits_for C c z k w = waiting_at (stand_of C z.heard z.place) z.heard.finished z.heard.edges.server.state (unserved_at (setup_of C z.heard) (plain_setup C z.heard) z.heard z.place (stand_of C z.heard z.place) k.stands) w k.linked
 
 -- ---- what comes has room
 
@@ -235,7 +236,7 @@ module _ (C : Config) (past : Past) (old : State) (c : ℕ) where
   gave more at last group new found k p quiet is same few =
       let all = notes_of c more ++ last in
       let f = taken_by_items (taken h) more in
-      let r = lies_along g (longer f l) at more (unserved_longer f l (unserved_at g h place l k.stands)) (longer_lies l f few.lies (waits_for C c z k few.lies) (nothing_fits l few.lies)) p.passed in
+      let r = lies_along g (heads_fit C h) (longer f l) at more (unserved_longer f l (unserved_at g (plain_setup C h) h place l k.stands)) (longer_lies l f few.lies (waits_for C c z k few.lies) (nothing_fits l few.lies)) p.passed in
       let stands = ran_on C past old c k found more at last quiet p in
       let there : FewBytes C (hears c h Runs all) (place ++ more) = record {
         lies = subst Lies (sym (stands_at C (hears c h Runs all) g (place ++ more) at refl stands)) r.0;
@@ -295,7 +296,7 @@ accept_few C past old c vs from group new u e f = by_notes e
     begun failed k =
         let a : Accepted = record { virtual = vs; from = from } in
         let P : Seen → Type 0 = λ z. FewBytes C z.heard z.place in
-        subst P (sym (seen_accept past c a failed group old new u k f)) (record { lies = start_lies (setup_of C (fresh c a failed).heard) no_stream no_answers (omega arith) tt; passes = tt })
+        subst P (sym (seen_accept past c a failed group old new u k f)) (record { lies = start_lies (setup_of C (fresh c a failed).heard) (heads_fit C (fresh c a failed).heard) no_stream no_answers (omega arith) tt; passes = tt })
 
     by_notes : (group ≡ []) ⊎ (group ≡ Finish c Memory ∷ []) → FewBytes C (hears c (heard c past) (Accepts c vs from) group) (new.places c)
     by_notes (inl k) = begun false k
@@ -340,7 +341,7 @@ module _ (C : Config) (past : Past) (old : State) (sound : Sound C past old) whe
 -- ---- behind every past
 
 pub few_bytes : (C : Config) (past : Past) (s : State) → Leads C past s → (c : ℕ) → FewBytes C (heard c past) (s.places c)
-few_bytes C [] s leads c = subst (λ x. FewBytes C (heard c []) (x.places c)) (sym leads) (record { lies = start_lies (setup_of C nothing_heard) no_stream no_answers (omega arith) tt; passes = tt })
+few_bytes C [] s leads c = subst (λ x. FewBytes C (heard c []) (x.places c)) (sym leads) (record { lies = start_lies (setup_of C nothing_heard) (heads_fit C nothing_heard) no_stream no_answers (omega arith) tt; passes = tt })
 few_bytes C (x ∷ past) s (before, leads, fine, moves) c =
     let v = kind_of x.event in
     let first = few_bytes C past before leads in
@@ -356,5 +357,5 @@ bytes_bounded C past s leads c accepted side =
     let began = begins_at C z.heard in
     record {
       unread_is_bounded = (held_of side l few.lies).rest;
-      pending_is_bounded = pending_bounded (setup_of C z.heard) began.client began.answers l z.place (taken z.heard) side k.stands k.met few.passes;
+      pending_is_bounded = pending_bounded (setup_of C z.heard) (heads_fit C z.heard) began.client began.answers l z.place (taken z.heard) side k.stands k.met few.passes;
     }

@@ -14,7 +14,7 @@ use Rattle.conn_trace.specs.Host.{HostState}
 use Rattle.conn_trace.specs.Item.{Reason, Item, shown, listed, choices_in}
 use Rattle.conn_trace.specs.Phases.{finishes, Orderly, OrderlyIn}
 use Rattle.conn_trace.specs.Setup.{Handler, Setup}
-use Rattle.conn_trace.specs.State.{Gated, Running, Failing, Phase, Carrying, InEvent, Choosing, Selecting, Connecting, Answering, Releasing, Relaying, Collecting, Finishing, Draining, ServerSide, NoServer, Sought, There, Retired, TraceState, Next, Does, Waits, Over, link_of}
+use Rattle.conn_trace.specs.State.{Gated, Running, Failing, Phase, AtHead, Continuing, Gathering, AtReuse, GivingUp, Retiring, Heading, Forwarding, Dropping, AtResponse, Leaving, InEvent, Choosing, Selecting, Connecting, Answering, Releasing, Relaying, Collecting, Finishing, Draining, ServerSide, NoServer, Sought, There, Retired, TraceState, Next, Does, Waits, Over, link_of}
 use Rattle.conn_trace.specs.Trace.{counted, phase_next, next_item, Unfolds}
 use Rattle.conn_trace.proofs.Stepping.{steps}
 use Rattle.proxy_core.proofs.Overs.{finished_plain}
@@ -39,11 +39,20 @@ phase_plain : (g : Setup) (p : Phase) (l : TraceState) → OrderlyIn p true (lin
 phase_plain g (InEvent e (Gated b bs)) l o = refl
 phase_plain g (InEvent e (Running b bs n)) l o = body_plain g e b bs n l (slice_get (state_after (run_body g b l)).acts n) (run_body g b l)
 phase_plain g (InEvent e (Failing kind line bs)) l o = refl
-phase_plain g (Carrying fate side left) l o = absurd (let e : true ≡ false = o in cc)
-phase_plain g Choosing l o = absurd (let e : true ≡ false = o in cc)
-phase_plain g (Selecting call) l o = absurd (let e : true ≡ false = o in cc)
-phase_plain g (Connecting a) l o = absurd (let e : true ≡ false = o in cc)
-phase_plain g (Answering a) l o = absurd (let e : true ≡ false = o in cc)
+phase_plain g AtHead l o = absurd (let e : true ≡ false = o in cc)
+phase_plain g Continuing l o = absurd (let e : true ≡ false = o in cc)
+phase_plain g (Gathering side wanted s) l o = absurd (let e : true ≡ false = o.0 in cc)
+phase_plain g AtReuse l o = absurd (let e : true ≡ false = o.0 in cc)
+phase_plain g (GivingUp b) l o = absurd (let e : true ≡ false = o.0 in cc)
+phase_plain g (Retiring b) l o = absurd (let e : true ≡ false = o.0 in cc)
+phase_plain g (Heading side) l o = absurd (let e : true ≡ false = o.0 in cc)
+phase_plain g (Forwarding side s standing) l o = absurd (let e : true ≡ false = o.0 in cc)
+phase_plain g (Dropping s) l o = absurd (let e : true ≡ false = o in cc)
+phase_plain g AtResponse l o = absurd (let e : true ≡ false = o.0 in cc)
+phase_plain g Choosing l o = absurd (let e : true ≡ false = o.0 in cc)
+phase_plain g (Selecting call) l o = absurd (let e : true ≡ false = o.0 in cc)
+phase_plain g (Connecting a) l o = absurd (let e : true ≡ false = o.0 in cc)
+phase_plain g (Answering a) l o = absurd (let e : true ≡ false = o.0 in cc)
 phase_plain g Releasing l o = absurd (let e : true ≡ false = o.0 in cc)
 phase_plain g Relaying l o = absurd (let e : true ≡ false = o.0 in cc)
 phase_plain g Collecting l o = absurd (let e : true ≡ false = o.0 in cc)
@@ -94,6 +103,7 @@ same_link : (c : Option Coming) (s : ServerSide) → link_of (longer_server c s)
 same_link c NoServer = refl
 same_link c Sought = refl
 same_link c (There s) = refl
+same_link c (Leaving b s) = refl
 same_link c (Retired s) = refl
 
 pub longer_orderly : (f : Further) (l : TraceState) → Orderly l → Orderly (longer f l)

@@ -26,7 +26,7 @@ use Rattle.conn_trace.specs.Phases.{Orderly}
 use Rattle.conn_trace.specs.Places.{is_up}
 use Rattle.conn_trace.specs.Queries.{half_close_due, relays_at}
 use Rattle.conn_trace.specs.Setup.{Setup}
-use Rattle.conn_trace.specs.State.{Phase, InEvent, Relaying, Link, Absent, Asked, Up, GivenUp, TraceState, link_of}
+use Rattle.conn_trace.specs.State.{Phase, InEvent, Relaying, Link, Absent, Asked, Up, Left, GivenUp, TraceState, link_of}
 use Rattle.conn_trace.specs.Tellings.{own}
 use Rattle.conn_trace.specs.Trace.{next_item, Unfolds}
 use Rattle.conn_trace.proofs.Stepping.{steps}
@@ -48,6 +48,7 @@ use Rattle.record_model.specs.Setup.{setup_of, stand_of}
 use Rattle.proxy_core.specs.Sound.{is_closed, Served, Sound}
 use Rattle.proxy_core.specs.declared.call.Asked.{Asked as Call}
 use Rattle.run_config.specs.declared.config.Config.{Config}
+use Rattle.proxy_core.proofs.Setups.{plain_setup}
 use Rattle.proxy_core.proofs.Drains.{longer_orderly}
 use Rattle.proxy_core.proofs.EdgeNotes.{edges_joined}
 use Rattle.proxy_core.proofs.Finished.{heard_finish, stands_orderly, trace_finished}
@@ -72,14 +73,17 @@ up_only : (p : Phase) (k : Link) → relays_at p k ≡ true → is_up k ≡ true
 up_only Relaying Up e = refl
 up_only Relaying Absent e = never e
 up_only Relaying Asked e = never e
+up_only Relaying (Left b) e = never e
 up_only Relaying GivenUp e = never e
 up_only (InEvent ClientData bodies) Up e = refl
 up_only (InEvent ClientData bodies) Absent e = never e
 up_only (InEvent ClientData bodies) Asked e = never e
+up_only (InEvent ClientData bodies) (Left b) e = never e
 up_only (InEvent ClientData bodies) GivenUp e = never e
 up_only (InEvent ServerData bodies) Up e = refl
 up_only (InEvent ServerData bodies) Absent e = never e
 up_only (InEvent ServerData bodies) Asked e = never e
+up_only (InEvent ServerData bodies) (Left b) e = never e
 up_only (InEvent ServerData bodies) GivenUp e = never e
 up_only other k e = never e
 
@@ -152,7 +156,7 @@ module _ (C : Config) (past : Past) (old : State) (sound : Sound C past old) whe
       ran : RunLinked at c more h.edges
       ran =
           let f = taken_by_items (taken h) more in
-          run_linked g (longer f l) at more c h.edges (unserved_longer f l (unserved_at g h z.place l k.stands)) (longer_linked l.finished f l s refl was) p.passed
+          run_linked g (longer f l) at more c h.edges (unserved_longer f l (unserved_at g (plain_setup C h) h z.place l k.stands)) (longer_linked l.finished f l s refl was) p.passed
 
       ends : Edges
       ends = edges_noted (notes_of c more) h.edges

@@ -18,7 +18,7 @@ use Rattle.conn.specs.Settling.{close_notes, client_notes, closing, half_close, 
 use Rattle.px_bytes.specs.declared.addr.Side.{Side}
 use Rattle.px_bytes.specs.declared.addr.Side.TheVariants.{Client, Server}
 use Rattle.conn_trace.specs.HeardLaws.{TellsNothing}
-use Rattle.conn_trace.specs.Item.{Item, Reason, Closed, Tcl, Unselected, Rejected, CutBy, cause_of, Passed, Fired, Reused, Connected, Logged, Finished, note_of, notes_of}
+use Rattle.conn_trace.specs.Item.{Item, Reason, Closed, Tcl, Http, Unselected, Rejected, CutBy, cause_of, Passed, Fired, Reused, Connected, Logged, Finished, note_of, notes_of}
 use Rattle.conn_trace.specs.Tellings.{tells, conn_of, own, notes_about, replies_told, choices_told, cut_by, cut_told, finish_told, failure_told}
 use Rattle.record_model.specs.History.{called_in, entries_in, entry_in}
 use Rattle.record_model.specs.Past.{ended_in}
@@ -62,6 +62,7 @@ OfItems c (n ∷ notes) = OfItem c n × OfItems c notes
 finish_of_item : (c : ℕ) (r : Reason) → OfItem c (note.Finish c (cause_of r))
 finish_of_item c Closed = record { about = refl; reply = refl; fails = refl; ends = refl; shown = refl; quiet = refl; none = refl }
 finish_of_item c (Tcl kind) = record { about = refl; reply = refl; fails = refl; ends = refl; shown = refl; quiet = refl; none = refl }
+finish_of_item c (Http fault) = record { about = refl; reply = refl; fails = refl; ends = refl; shown = refl; quiet = refl; none = refl }
 finish_of_item c Unselected = record { about = refl; reply = refl; fails = refl; ends = refl; shown = refl; quiet = refl; none = refl }
 finish_of_item c Rejected = record { about = refl; reply = refl; fails = refl; ends = refl; shown = refl; quiet = refl; none = refl }
 finish_of_item c (CutBy why) = record { about = refl; reply = refl; fails = refl; ends = refl; shown = refl; quiet = refl; none = refl }

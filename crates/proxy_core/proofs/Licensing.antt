@@ -16,7 +16,7 @@ use Rattle.conn_trace.specs.Heard.{hears_by, hears_more, at_last, brought_nothin
 use Rattle.conn_trace.specs.Heard.{brought, hear_brought, marks, event_marks, hears_event, hears}
 use Rattle.conn_trace.specs.Heard.{start_of}
 use Rattle.conn_trace.specs.HeardLaws.{cut_for, cut_in, TellsNothing}
-use Rattle.conn_trace.specs.Item.{Item, Reason, Closed, Tcl, Unselected, Rejected, CutBy, choices_in, notes_of, shown}
+use Rattle.conn_trace.specs.Item.{Item, Reason, Closed, Tcl, Http, Unselected, Rejected, CutBy, choices_in, notes_of, shown}
 use Rattle.conn_trace.specs.Setup.{Setup}
 use Rattle.conn_trace.specs.State.{Cut, TraceState}
 use Rattle.conn_trace.specs.Tellings.{notes_about, cut_told, finish_told}
@@ -138,6 +138,7 @@ cut_took took (i ∷ items) cut e = by_reason (shown i).reason e (cut_took took 
     by_reason None e rest = rest e
     by_reason (Some Closed) e rest = rest e
     by_reason (Some (Tcl kind)) e rest = rest e
+    by_reason (Some (Http fault)) e rest = rest e
     by_reason (Some Unselected) e rest = rest e
     by_reason (Some Rejected) e rest = rest e
     by_reason (Some (CutBy why)) e rest = let same : record { reason = why; took = took } ≡ cut = cc in ap (λ x. x.took) (sym same)
@@ -147,28 +148,28 @@ reset_by true n e = refl
 reset_by false n e = never e
 
 -- what licenses a cut at a rest was heard
-rest_licensed : (g : Setup) (c : ℕ) (h : Heard) (place more : List Item) (l : TraceState) (e : Edges) (r : CutReason) → Unfolds g (start_of g h) place l → Linked l.finished l e.server.state → CutAtRest g (taken h) l more r → licenses h r ≡ true
-rest_licensed g c h place more l e ClientReset u lk k = reset_by h.client.reset h.client.took k.licensed
-rest_licensed g c h place more l e ServerReset u lk k =
+rest_licensed : (g : Setup) → g.http ≡ false → (c : ℕ) (h : Heard) (place more : List Item) (l : TraceState) (e : Edges) (r : CutReason) → Unfolds g (start_of g h) place l → Linked l.finished l e.server.state → CutAtRest g (taken h) l more r → licenses h r ≡ true
+rest_licensed g plain c h place more l e ClientReset u lk k = reset_by h.client.reset h.client.took k.licensed
+rest_licensed g plain c h place more l e ServerReset u lk k =
     let f = choosing (choices_in k.first) None in
     let l' = longer f l in
-    let un = unserved_longer f l (unserved_at g h place l u) in
+    let un = unserved_longer f l (unserved_at g plain h place l u) in
     let there = unserved g l' k.mid k.first un k.passed in
     let linked = run_linked g l' k.mid k.first c e un (longer_linked l.finished f l e.server.state refl lk) k.passed in
     let same : l'.answers.connects ≡ l.answers.connects = append-nil (on_last nothing_comes l.answers.connects) ∙ nothing_on_last nothing_comes l.answers.connects refl in
     let count : made l.answers.connects + l.sent.number ≡ made k.mid.answers.connects + k.mid.sent.number = ap (λ cs. made cs + l.sent.number) (sym same) ∙ made_along g l' k.mid k.first un k.passed in
-    let none : k.mid.answers.connects ≡ [] = by_waits k.mid (awaits k.mid.phase) refl (rest_side g k.mid (taken h) there.orderly there.not_up k.rests) (none_waits k.mid.finished k.mid _ linked.linked) in
-    let number : made h.connects ≡ k.mid.sent.number = all_made g h place l u ∙ count ∙ ap (λ cs. made cs + k.mid.sent.number) none ∙ zero-add k.mid.sent.number in
+    let none : k.mid.answers.connects ≡ [] = by_waits k.mid (awaits k.mid.phase) refl (rest_side g k.mid (taken h) (there.plain.plain refl) there.orderly there.not_up k.rests) (none_waits k.mid.finished k.mid _ linked.linked) in
+    let number : made h.connects ≡ k.mid.sent.number = all_made g plain h place l u ∙ count ∙ ap (λ cs. made cs + k.mid.sent.number) none ∙ zero-add k.mid.sent.number in
     reset_by (last_reset h.connects) (last_took h.connects) (ap is_none (sym (ap (taken_of (servers_taken h.connects)) (sym number) ∙ taken_last h.connects)) ∙ k.licensed)
   where
     by_waits : (mid : TraceState) (b : Bool) → awaits mid.phase ≡ b → (awaits mid.phase ≡ true → mid.answers.connects ≡ []) → (awaits mid.phase ≡ false → mid.answers.connects ≡ []) → mid.answers.connects ≡ []
     by_waits mid true e there gone = there e
     by_waits mid false e there gone = gone e
-rest_licensed g c h place more l e Idle u lk k = k.licensed
+rest_licensed g plain c h place more l e Idle u lk k = k.licensed
 
-pub run_licensed : (g : Setup) (c : ℕ) (h : Heard) (place more : List Item) (behind : List Note) (l at : TraceState) (e : Edges) → Unfolds g (start_of g h) place l → Linked l.finished l e.server.state → TellsNothing c behind → Passes g (taken h) l more at → Licensed h
+pub run_licensed : (g : Setup) → g.http ≡ false → (c : ℕ) (h : Heard) (place more : List Item) (behind : List Note) (l at : TraceState) (e : Edges) → Unfolds g (start_of g h) place l → Linked l.finished l e.server.state → TellsNothing c behind → Passes g (taken h) l more at → Licensed h
     → Licensed (hears c h Runs (notes_of c more ++ behind))
-run_licensed g c h place more behind l at e u lk quiet p k = λ cut is. still_licensed h h' cut.reason (record { client = λ x. ap (λ s. s.reset) stays.client ∙ x; server = λ x. ap last_reset stays.connects ∙ x }) (by_cut h.cut refl cut is)
+run_licensed g plain c h place more behind l at e u lk quiet p k = λ cut is. still_licensed h h' cut.reason (record { client = λ x. ap (λ s. s.reset) stays.client ∙ x; server = λ x. ap last_reset stays.connects ∙ x }) (by_cut h.cut refl cut is)
   where
     group : List Note
     group = notes_of c more ++ behind
@@ -187,4 +188,4 @@ run_licensed g c h place more behind l at e u lk quiet p k = λ cut is. still_li
     by_cut None e0 cut is =
         let given : cut_in (taken h) more ≡ Some cut = sym told ∙ sym (ap (λ o. first_cut o (cut_told (taken h') (notes_about c group))) e0) ∙ is in
         let counts = cut_took (taken h) more cut given in
-        rest_licensed g c h place more l e cut.reason u lk (p.cut cut.reason (given ∙ ap (λ t. Some (record { reason = cut.reason; took = t })) counts))
+        rest_licensed g plain c h place more l e cut.reason u lk (p.cut cut.reason (given ∙ ap (λ t. Some (record { reason = cut.reason; took = t })) counts))

@@ -128,7 +128,7 @@ step_linked l m other c e s k lk = quiet_linked l m e.server.state (went_on l m 
 
 step_fits : (l m : TraceState) (i : Item) (c : ℕ) (e : Edges) → Unserved l → SideBy i l.phase l m → Linked l.finished l e.server.state → Fit (note_of c i) e
 step_fits l m (Connected to) c e h k lk =
-    let going : l.finished ≡ false = subst (λ p. OrderlyIn p l.finished (link_of l.server)) k.was h.orderly in
+    let going : l.finished ≡ false = (subst (λ p. OrderlyIn p l.finished (link_of l.server)) k.was h.orderly).0 in
     (subst (λ b. LinkedAt b e.server.state) (h.not_up going (ap unlinked k.was)) (linked_then l.finished l e.server.state lk (ap awaits k.was) going), tt)
 step_fits l m (Passed from to bytes) c e h k lk = (refl, tt)
 step_fits l m (Fired side n) c e h k lk = (refl, tt)
@@ -149,7 +149,7 @@ pub record RunLinked (m : TraceState) (c : ℕ) (items : List Item) (e : Edges) 
 pub run_linked : (g : Setup) (l m : TraceState) (items : List Item) (c : ℕ) (e : Edges) → Unserved l → Linked l.finished l e.server.state → Unfolds g l items m → RunLinked m c items e
 run_linked g l m [] c e h lk is = record { linked = subst (λ x. Linked x.finished x e.server.state) is lk; fits = tt }
 run_linked g l m (i ∷ items) c e h lk (mid, step, rest) =
-    let side = item_side g l mid i h.orderly h.not_up step in
+    let side = item_side g l mid i (h.plain.plain refl) h.orderly h.not_up step in
     let e' = edges_noted (note_of c i) e in
     let r = run_linked g mid m items c e' (unserved_step g l mid i h step) (step_linked l mid i c e (steps g l mid i h.orderly step) side lk) rest in
     record {

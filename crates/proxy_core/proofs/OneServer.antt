@@ -46,6 +46,7 @@ use Rattle.record_model.specs.Setup.{setup_of, stand_of}
 use Rattle.proxy_core.specs.Sound.{unseen, Served, Sound}
 use Rattle.proxy_core.specs.declared.call.Asked.{Asked as Call}
 use Rattle.run_config.specs.declared.config.Config.{Config}
+use Rattle.proxy_core.proofs.Setups.{plain_setup}
 use Rattle.proxy_core.proofs.EdgeNotes.{edges_joined, edges_told}
 use Rattle.proxy_core.proofs.Finished.{heard_finish, trace_finished}
 use Rattle.proxy_core.proofs.Framing.{only_changed, touches}
@@ -73,7 +74,7 @@ Makes l n = l.finished ≡ false → n ≡ made l.answers.connects + l.sent.numb
 
 item_asks : (l m : TraceState) (i : Item) (c n : ℕ) (e : Edges) → Unserved l → Linked l.finished l e.server.state → SideBy i l.phase l m → Makes l n → (IsSought e → n ≡ 0) → IsSought (edges_noted (note_of c i) e) → n ≡ 0
 item_asks l m (Connected to) c n e h lk k all before is =
-    let going : l.finished ≡ false = subst (λ p. OrderlyIn p l.finished (link_of l.server)) k.was h.orderly in
+    let going : l.finished ≡ false = (subst (λ p. OrderlyIn p l.finished (link_of l.server)) k.was h.orderly).0 in
     let number = h.first going (h.not_up going (ap unlinked k.was)) in
     all going ∙ ap (λ cs. made cs + l.sent.number) (none_waits l.finished l e.server.state lk (ap awaits k.was)) ∙ zero-add l.sent.number ∙ number
 item_asks l m (Answered b) c n e h lk k all before is = before is
@@ -82,7 +83,7 @@ item_asks l m other c n e h lk k all before is = before is
 items_ask : (g : Setup) (l m : TraceState) (items : List Item) (c n : ℕ) (e : Edges) → Unserved l → Linked l.finished l e.server.state → Unfolds g l items m → Makes l n → (IsSought e → n ≡ 0) → IsSought (edges_noted (notes_of c items) e) → n ≡ 0
 items_ask g l m [] c n e h lk u all before is = before is
 items_ask g l m (i ∷ items) c n e h lk (mid, step, rest) all before is =
-    let side = item_side g l mid i h.orderly h.not_up step in
+    let side = item_side g l mid i (h.plain.plain refl) h.orderly h.not_up step in
     let s = steps g l mid i h.orderly step in
     let one = run_linked g l mid (i ∷ []) c e h lk (mid, step, refl) in
     let alone : notes_of c (i ∷ []) ≡ note_of c i = append-nil (note_of c i) in
@@ -198,8 +199,8 @@ module _ (C : Config) (past : Past) (old : State) (sound : Sound C past old) whe
       let same = trace_finished C c z k (heard_finish c past) found in
       let lk : Linked l.finished l s = linked_now h.finished l.finished l s s (λ x. sym same ∙ x) (λ x. refl) k.linked in
       let cs : (longer f l).answers.connects ≡ l.answers.connects = append-nil (on_last nothing_comes l.answers.connects) ∙ nothing_on_last nothing_comes l.answers.connects refl in
-      let all : Makes (longer f l) (servers_made c past) = λ x. (heard_servers c past).all (sym same ∙ x) ∙ all_made g h z.place l k.stands ∙ ap (λ y. made y + l.sent.number) (sym cs) in
-      items_ask g (longer f l) at more c (servers_made c past) h.edges (unserved_longer f l (unserved_at g h z.place l k.stands)) (longer_linked l.finished f l s refl lk) p.passed all one.asked
+      let all : Makes (longer f l) (servers_made c past) = λ x. (heard_servers c past).all (sym same ∙ x) ∙ all_made g (plain_setup C h) h z.place l k.stands ∙ ap (λ y. made y + l.sent.number) (sym cs) in
+      items_ask g (longer f l) at more c (servers_made c past) h.edges (unserved_longer f l (unserved_at g (plain_setup C h) h z.place l k.stands)) (longer_linked l.finished f l s refl lk) p.passed all one.asked
 
   run_one : (c : ℕ) (rest : List ℕ) (group : List Note) (new : State) → old.ring ≡ c ∷ rest → OneMade (servers_made c past) (heard c past).edges → MovesFront C (heard c past) c rest group old new → OneMade (servers_made c past + 0) (hears c (heard c past) Runs group).edges
   run_one c rest group new ring one m = by_failed (heard c past).failed refl m
@@ -298,7 +299,7 @@ one_made C (x ∷ past) s (before, leads, fine, moves) c = by_test (one_made C p
 served_one : (C : Config) (past : Past) (s : State) (c : ℕ) → Leads C past s → Served C c (seen past s c) → OneServer past s c
 served_one C past s c leads k = record {
   once = once;
-  unsent = λ none. (let m = none_made h.connects none in let a = all_made g h (s.places c) l k.stands in none_sent g (start_of g h) l (s.places c) 1 k.stands (omega (arith, m, a)));
+  unsent = λ none. (let m = none_made h.connects none in let a = all_made g (plain_setup C h) h (s.places c) l k.stands in none_sent g (start_of g h) l (s.places c) 1 k.stands (omega (arith, m, a)));
   within = by_made (made h.connects) refl;
 }
   where

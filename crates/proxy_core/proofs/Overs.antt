@@ -7,7 +7,8 @@ use Rattle.conn_trace.specs.Item.{CutBy, Item}
 use Rattle.conn_trace.specs.Phases.{Orderly}
 use Rattle.conn_trace.specs.Setup.{Setup}
 use Rattle.conn_trace.specs.State.{Cut, TraceState, Next, Does, Waits, Over}
-use Rattle.conn_trace.specs.Trace.{cut_next, cut_open, cut_takes, uncut, finish, counted, phase_next, next_item, Unfolds}
+use Rattle.conn_trace.specs.Places.{finish}
+use Rattle.conn_trace.specs.Trace.{cut_next, cut_open, cut_takes, uncut, counted, phase_next, next_item, Unfolds}
 use Rattle.conn_trace.proofs.Longer.{phase_same}
 use Rattle.conn.specs.Settling.{is_over}
 use Rattle.proxy_core.proofs.Ending.{over_finished}

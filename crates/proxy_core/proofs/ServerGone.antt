@@ -1,17 +1,19 @@
 -- Behind an event no answer of a server is awaited, and there is no server connection where one is selected.
 use Rattle.std.proofs.Common.{◌≡◌, refl, sym, ℕ, List, [], ◌∷◌, Bool, true, false, true≢false, if◌then◌else◌, Option, Some, None}
 use Rattle.event_order.specs.declared.event.EventName.{EventName}
-use Rattle.event_order.specs.declared.event.EventName.TheVariants.{ClientAccepted, ClientData, ClientClosed, ServerConnected, ServerData, ServerClosed, LbSelected, LbFailed}
+use Rattle.event_order.specs.declared.event.EventName.TheVariants.{ClientAccepted, ClientData, ClientClosed, ServerConnected, ServerData, ServerClosed, LbSelected, LbFailed, HttpRequest, HttpRequestData, HttpResponse, HttpResponseData}
 use Rattle.irule_net.specs.declared.state.Asks.{Asks}
 use Rattle.irule_net.specs.declared.state.Asks.TheVariants.{NotAsked, Stated}
 use Rattle.irule_net.specs.declared.state.Ending.{Ending}
 use Rattle.irule_net.specs.declared.state.Ending.TheVariants.{Rejects, Closes}
 use Rattle.irule_net.specs.declared.state.Selected.{Selected}
-use Rattle.conn_trace.specs.Host.{HostState}
+use Rattle.conn_trace.specs.Host.{HostState, http_of, speaks_http}
 use Rattle.conn_trace.specs.Item.{Unselected}
-use Rattle.conn_trace.specs.Places.{place, is_up, begun, bodies_left, closed_client, closed, connecting, behind_accepted, behind_data, behind_connected, goes_on, unless_ended, after_event, entered, enter, next_body}
+use Rattle.conn_trace.specs.Routing.{behind_accept, behind_accepted, behind_connect, behind_connected, behind_failed}
+use Rattle.conn_trace.specs.Places.{place, is_up, begun, bodies_left, closed_client, closed, connecting, behind_data, goes_on, unless_ended, after_event, entered, enter, next_body}
 use Rattle.conn_trace.specs.Setup.{Handler, Setup}
-use Rattle.conn_trace.specs.State.{Phase, Carrying, InEvent, Choosing, Selecting, Connecting, Answering, Collecting, Finishing, Draining, Link, Absent, Asked, Up, GivenUp, link_of, TraceState}
+use Rattle.conn_trace.specs.State.{Phase, InEvent, Choosing, Selecting, Connecting, Answering, Collecting, Finishing, Draining, Link, Absent, Asked, Up, Left, GivenUp, link_of, TraceState}
+use Rattle.conn_trace.specs.Spoken.{is_http_event}
 use Rattle.proxy_core.specs.Servers.{awaits}
 
 pub never : {A : Type 0} → false ≡ true → A
@@ -28,7 +30,6 @@ event_unlinked other = false
 -- and in these phases
 abbrev pub unlinked : Phase → Bool
 unlinked (InEvent e bodies) = event_unlinked e
-unlinked (Carrying fate side left) = true
 unlinked Choosing = true
 unlinked (Selecting call) = true
 unlinked (Connecting a) = true
@@ -58,6 +59,8 @@ data_gone f Absent true = record { waits = refl; not_up = λ x e. refl }
 data_gone f Absent false = record { waits = refl; not_up = λ x e. refl }
 data_gone f Asked true = record { waits = refl; not_up = λ x e. refl }
 data_gone f Asked false = record { waits = refl; not_up = λ x e. refl }
+data_gone f (Left b) true = record { waits = refl; not_up = λ x e. refl }
+data_gone f (Left b) false = record { waits = refl; not_up = λ x e. refl }
 data_gone f GivenUp true = record { waits = refl; not_up = λ x e. refl }
 data_gone f GivenUp false = record { waits = refl; not_up = λ x e. refl }
 
@@ -77,14 +80,30 @@ connected_gone : (f : Bool) (k : Link) (loose : List ℕ) → Gone f k (behind_c
 connected_gone f k [] = record { waits = refl; not_up = λ x e. never e }
 connected_gone f k (b ∷ bs) = record { waits = refl; not_up = λ x e. never e }
 
-goes : (e : EventName) (f : Bool) (k : Link) (h : HostState) → (f ≡ false → event_unlinked e ≡ true → is_up k ≡ false) → Gone f k (goes_on e k h)
-goes ClientAccepted f k h n = accepted_gone f k h.net.client.asks (λ x. n x refl)
-goes ClientData f k h n = data_gone f k h.net.wishes.released
-goes LbSelected f k h n = selected_gone f k h.net.selected (λ x. n x refl)
-goes LbFailed f k h n = failed_gone f k h.net.wishes.reselects (λ x. n x refl)
-goes ServerConnected f k h n = connected_gone f k h.net.loose
-goes ServerData f k h n = record { waits = refl; not_up = λ x e. never e }
-goes other f k h n = record { waits = refl; not_up = λ x e. never e }
+accept_gone : (f : Bool) (k : Link) (h : HostState) (http : Bool) → (f ≡ false → is_up k ≡ false) → Gone f k (behind_accept http h)
+accept_gone f k h true n = record { waits = refl; not_up = λ x e. never e }
+accept_gone f k h false n = accepted_gone f k h.net.client.asks n
+
+connect_gone : (f : Bool) (k : Link) (h : HostState) (http : Bool) → Gone f k (behind_connect http h)
+connect_gone f k h true = record { waits = refl; not_up = λ x e. never e }
+connect_gone f k h false = connected_gone f k h.net.loose
+
+answer_gone : (f : Bool) (k : Link) (h : HostState) (answer : Option Bool) → (f ≡ false → is_up k ≡ false) → Gone f k (behind_failed answer h)
+answer_gone f k h (Some closing) n = record { waits = refl; not_up = λ x e. never e }
+answer_gone f k h None n = failed_gone f k h.net.wishes.reselects n
+
+goes : (e : EventName) (f : Bool) (k : Link) (h : HostState) → is_http_event e ≡ false → (f ≡ false → event_unlinked e ≡ true → is_up k ≡ false) → Gone f k (goes_on e k h)
+goes ClientAccepted f k h plain n = accept_gone f k h (speaks_http h) (λ x. n x refl)
+goes ClientData f k h plain n = data_gone f k h.net.wishes.released
+goes LbSelected f k h plain n = selected_gone f k h.net.selected (λ x. n x refl)
+goes LbFailed f k h plain n = answer_gone f k h (http_of h).answer (λ x. n x refl)
+goes ServerConnected f k h plain n = connect_gone f k h (speaks_http h)
+goes ServerData f k h plain n = record { waits = refl; not_up = λ x e. never e }
+goes HttpRequest f k h plain n = absurd (true≢false plain)
+goes HttpRequestData f k h plain n = absurd (true≢false plain)
+goes HttpResponse f k h plain n = absurd (true≢false plain)
+goes HttpResponseData f k h plain n = absurd (true≢false plain)
+goes other f k h plain n = record { waits = refl; not_up = λ x e. never e }
 
 client_gone : (g : Setup) (k : Link) (h : HostState) (f : Bool) → Gone f k (closed_client g k h).phase
 client_gone g k h f = by_bodies (g.handlers ClientClosed)
@@ -93,21 +112,25 @@ client_gone g k h f = by_bodies (g.handlers ClientClosed)
     by_bodies [] = record { waits = refl; not_up = λ x e. never e }
     by_bodies (b ∷ bs) = record { waits = refl; not_up = λ x e. never e }
 
-after : (g : Setup) (e : EventName) (f : Bool) (k : Link) (h : HostState) → (f ≡ false → event_unlinked e ≡ true → is_up k ≡ false) → Gone f k (after_event g e f k h).phase
-after g ServerClosed true k h n = client_gone g k h true
-after g ServerClosed false k h n = record { waits = refl; not_up = λ x e. n x refl }
-after g ClientClosed f k h n = record { waits = refl; not_up = λ x e. never e }
-after g other f k h n = ended_gone f k h.net.wishes.ends (goes_on other k h) (goes other f k h n)
+after : (g : Setup) (e : EventName) (f : Bool) (k : Link) (h : HostState) → is_http_event e ≡ false → (f ≡ false → event_unlinked e ≡ true → is_up k ≡ false) → Gone f k (after_event g e f k h).phase
+after g ServerClosed true k h plain n = client_gone g k h true
+after g ServerClosed false Absent h plain n = record { waits = refl; not_up = λ x e. n x refl }
+after g ServerClosed false Asked h plain n = record { waits = refl; not_up = λ x e. n x refl }
+after g ServerClosed false Up h plain n = record { waits = refl; not_up = λ x e. n x refl }
+after g ServerClosed false (Left b) h plain n = record { waits = refl; not_up = λ x e. never e }
+after g ServerClosed false GivenUp h plain n = record { waits = refl; not_up = λ x e. n x refl }
+after g ClientClosed f k h plain n = record { waits = refl; not_up = λ x e. never e }
+after g other f k h plain n = ended_gone f k h.net.wishes.ends (goes_on other k h) (goes other f k h plain n)
 
-pub next_gone : (g : Setup) (e : EventName) (f : Bool) (k : Link) (bs : List Handler) (h : HostState) → (f ≡ false → event_unlinked e ≡ true → is_up k ≡ false) → Gone f k (next_body g e f k bs h).phase
-next_gone g e f k [] h n = after g e f k h n
-next_gone g e f k (b ∷ bs) h n = record { waits = refl; not_up = n }
+pub next_gone : (g : Setup) (e : EventName) (f : Bool) (k : Link) (bs : List Handler) (h : HostState) → is_http_event e ≡ false → (f ≡ false → event_unlinked e ≡ true → is_up k ≡ false) → Gone f k (next_body g e f k bs h).phase
+next_gone g e f k [] h plain n = after g e f k h plain n
+next_gone g e f k (b ∷ bs) h plain n = record { waits = refl; not_up = n }
 
-pub enter_gone : (g : Setup) (e : EventName) (f : Bool) (k : Link) (h : HostState) → (event_unlinked e ≡ true → is_up k ≡ false) → Gone f k (enter g e k h).phase
-enter_gone g e f k h n = by_bodies (g.handlers e)
+pub enter_gone : (g : Setup) (e : EventName) (f : Bool) (k : Link) (h : HostState) → is_http_event e ≡ false → (event_unlinked e ≡ true → is_up k ≡ false) → Gone f k (enter g e k h).phase
+enter_gone g e f k h plain n = by_bodies (g.handlers e)
   where
     by_bodies : (bs : List Handler) → Gone f k (entered g e k bs (begun e k h)).phase
-    by_bodies [] = let a = after g e false k (begun e k h) (λ x. n) in record { waits = a.waits; not_up = λ x. a.not_up refl }
+    by_bodies [] = let a = after g e false k (begun e k h) plain (λ x. n) in record { waits = a.waits; not_up = λ x. a.not_up refl }
     by_bodies (b ∷ bs) = record { waits = refl; not_up = λ x. n }
 
 pub closed_waits : (g : Setup) (k : Link) (h : HostState) → awaits (closed g k h).phase ≡ false
@@ -121,8 +144,9 @@ closed_waits g k h = by_link k
     by_link Absent = (client_gone g Absent h true).waits
     by_link Asked = by_bodies Asked (g.handlers ServerClosed)
     by_link Up = by_bodies Up (g.handlers ServerClosed)
+    by_link (Left b) = (client_gone g (Left b) h true).waits
     by_link GivenUp = (client_gone g GivenUp h true).waits
 
 -- where a trace begins no answer is awaited
-pub enter_waits : (g : Setup) (e : EventName) (k : Link) (h : HostState) → is_up k ≡ false → awaits (enter g e k h).phase ≡ false
-enter_waits g e k h n = (enter_gone g e false k h (λ x. n)).waits
+pub enter_waits : (g : Setup) (e : EventName) (k : Link) (h : HostState) → is_http_event e ≡ false → is_up k ≡ false → awaits (enter g e k h).phase ≡ false
+enter_waits g e k h plain n = (enter_gone g e false k h plain (λ x. n)).waits

@@ -8,9 +8,12 @@ use Rattle.conn_trace.specs.Phases.{finishes, Orderly, Steps}
 use Rattle.conn_trace.specs.Places.{is_up}
 use Rattle.conn_trace.specs.Setup.{Setup}
 use Rattle.conn_trace.specs.State.{Answers, link_of, Cut, Stream, TraceState, Next, Does, Waits, Over}
-use Rattle.conn_trace.specs.Trace.{finish, uncut, phase_next, cut_takes, cut_open, cut_next, counted, next_item, Unfolds, start}
+use Rattle.conn_trace.specs.Places.{finish}
+use Rattle.conn_trace.specs.Trace.{uncut, phase_next, cut_takes, cut_open, cut_next, counted, next_item, Unfolds, start}
 use Rattle.conn_trace.proofs.Fair.{PeerIs, SendsTo, FairNext, phase_fair}
 use Rattle.conn_trace.proofs.Given.{sent_step}
+use Rattle.conn_trace.specs.Spoken.{Speaks}
+use Rattle.conn_trace.proofs.Speaking.{item_speaks, longer_speaks, start_speaks}
 use Rattle.conn_trace.proofs.Stepping.{start_orderly, steps}
 use Rattle.conn_trace.proofs.Streams.{link_same}
 use Rattle.proxy_core.specs.Servers.{awaits, made}
@@ -29,11 +32,12 @@ or_right false b e = e
 -- there was none.
 pub record Unserved (l : TraceState) : Type 0 where
   pub orderly : Orderly l
+  pub plain : Speaks false l
   pub not_up : NotUp l
   pub first : l.finished ≡ false → is_up (link_of l.server) ≡ false → l.sent.number ≡ 0
 
-pub start_unserved : (g : Setup) (client : Stream) (answers : Answers) → Unserved (start g client answers)
-start_unserved g client answers = record { orderly = start_orderly g client answers; not_up = λ x e. refl; first = λ x e. refl }
+pub start_unserved : (g : Setup) → g.http ≡ false → (client : Stream) (answers : Answers) → Unserved (start g client answers)
+start_unserved g plain client answers = record { orderly = start_orderly g client answers; plain = subst (λ b. Speaks b (start g client answers)) plain (start_speaks g client answers); not_up = λ x e. refl; first = λ x e. refl }
 
 -- what is sent doesn't change the number
 part_number : (s : Option Sending) (sent : Counts) → (sent_part s sent).number ≡ sent.number
@@ -51,30 +55,34 @@ same_number i sent e = part_number (shown i).sends (renewed (shown i).renews sen
 pub went_on : (l m : TraceState) (i : Item) → Steps l i m → m.finished ≡ false → l.finished ≡ false
 went_on l m i s e = or_right (finishes i) l.finished (sym s.finished ∙ e)
 
-unserved_by : (l m : TraceState) (i : Item) → Unserved l → Steps l i m → m.sent ≡ sent_after i l.sent → SideBy i l.phase l m → Unserved m
-unserved_by l m (Connected to) h s sent k = record {
+unserved_by : (l m : TraceState) (i : Item) → Unserved l → Speaks false m → Steps l i m → m.sent ≡ sent_after i l.sent → SideBy i l.phase l m → Unserved m
+unserved_by l m (Connected to) h plain s sent k = record {
   orderly = s.orderly;
+  plain = plain;
   not_up = λ x e. ap (λ v. is_up (link_of v)) k.server;
   first = λ x e. ap (λ c. c.number) sent ∙ h.first (went_on l m (Connected to) s x) (h.not_up (went_on l m (Connected to) s x) (ap unlinked k.was));
 }
-unserved_by l m (Answered true) h s sent k = record {
+unserved_by l m (Answered true) h plain s sent k = record {
   orderly = s.orderly;
+  plain = plain;
   not_up = k.not_up;
   first = λ x e. never (sym e ∙ ap is_up k.link);
 }
-unserved_by l m (Answered false) h s sent k = record {
+unserved_by l m (Answered false) h plain s sent k = record {
   orderly = s.orderly;
+  plain = plain;
   not_up = k.not_up;
   first = λ x e. ap (λ c. c.number) sent ∙ h.first (went_on l m (Answered false) s x) (h.not_up (went_on l m (Answered false) s x) (ap unlinked k.was));
 }
-unserved_by l m other h s sent k = record {
+unserved_by l m other h plain s sent k = record {
   orderly = s.orderly;
+  plain = plain;
   not_up = k.not_up;
   first = λ x e. ap (λ c. c.number) sent ∙ same_number other l.sent refl ∙ h.first (went_on l m other s x) (ap is_up (sym k.link) ∙ e);
 }
 
 pub unserved_step : (g : Setup) (l m : TraceState) (i : Item) → Unserved l → next_item g l ≡ Does i m → Unserved m
-unserved_step g l m i h is = unserved_by l m i h (steps g l m i h.orderly is) (sent_step g l m i is) (item_side g l m i h.orderly h.not_up is)
+unserved_step g l m i h is = unserved_by l m i h (item_speaks g false l m i h.plain is) (steps g l m i h.orderly is) (sent_step g l m i is) (item_side g l m i (h.plain.plain refl) h.orderly h.not_up is)
 
 pub unserved : (g : Setup) (l m : TraceState) (items : List Item) → Unserved l → Unfolds g l items m → Unserved m
 unserved g l m [] h is = subst Unserved is h
@@ -84,6 +92,7 @@ unserved g l m (i ∷ items) h (mid, step, rest) = unserved g mid m items (unser
 pub unserved_longer : (f : Further) (l : TraceState) → Unserved l → Unserved (longer f l)
 unserved_longer f l h = record {
   orderly = longer_orderly f l h.orderly;
+  plain = longer_speaks false f l h.plain;
   not_up = λ x e. ap is_up (link_same f l) ∙ h.not_up x e;
   first = λ x e. h.first x (ap is_up (sym (link_same f l)) ∙ e);
 }
@@ -110,7 +119,7 @@ made_by l m other sent k =
 pub made_along : (g : Setup) (l m : TraceState) (items : List Item) → Unserved l → Unfolds g l items m → made l.answers.connects + l.sent.number ≡ made m.answers.connects + m.sent.number
 made_along g l m [] h is = ap all_made is
 made_along g l m (i ∷ items) h (mid, step, rest) =
-    made_by l mid i (sent_step g l mid i step) (item_side g l mid i h.orderly h.not_up step) ∙ made_along g mid m items (unserved_step g l mid i h step) rest
+    made_by l mid i (sent_step g l mid i step) (item_side g l mid i (h.plain.plain refl) h.orderly h.not_up step) ∙ made_along g mid m items (unserved_step g l mid i h step) rest
 
 -- ---- while an answer is awaited the server before took all
 
@@ -126,10 +135,10 @@ took_along : (g : Setup) (took : TakenCounts) (l m : TraceState) (items : List I
 took_along g took l m [] h k met is = subst (TookAll took) is k
 took_along g took l m (i ∷ items) h k met (mid, step, rest) =
     let sent = sent_step g l mid i step in
-    took_along g took mid m items (unserved_step g l mid i h step) (took_by took l mid i sent met.0 (item_side g l mid i h.orderly h.not_up step)) (subst (λ s. Met s took items) (sym sent) met.1) rest
+    took_along g took mid m items (unserved_step g l mid i h step) (took_by took l mid i sent met.0 (item_side g l mid i (h.plain.plain refl) h.orderly h.not_up step)) (subst (λ s. Met s took items) (sym sent) met.1) rest
 
-pub awaits_taken : (g : Setup) (took : TakenCounts) (client : Stream) (answers : Answers) (m : TraceState) (items : List Item) → Met no_bytes took items → Unfolds g (start g client answers) items m → awaits m.phase ≡ true → to_take m.sent took Server ≡ 0
-awaits_taken g took client answers m items met is = took_along g took (start g client answers) m items (start_unserved g client answers) (λ e. refl) met is
+pub awaits_taken : (g : Setup) → g.http ≡ false → (took : TakenCounts) (client : Stream) (answers : Answers) (m : TraceState) (items : List Item) → Met no_bytes took items → Unfolds g (start g client answers) items m → awaits m.phase ≡ true → to_take m.sent took Server ≡ 0
+awaits_taken g plain took client answers m items met is = took_along g took (start g client answers) m items (start_unserved g plain client answers) (λ e. refl) met is
 
 -- ---- nothing is sent to a server connection that isn't there yet
 

@@ -21,14 +21,16 @@ use Rattle.irule_net.specs.declared.state.Target.{Target}
 use Rattle.irule_net.specs.declared.state.Target.TheVariants.{Default, PoolOf, MemberOf, NodeAt}
 use Rattle.conn_trace.specs.Bodies.{run_body, act_item, ended_next, act_next, bodies_next}
 use Rattle.conn_trace.specs.Host.{HostState, with_selected}
-use Rattle.conn_trace.specs.Item.{Item, Reason, Closed, Rejected, Tcl, Choice, Answered, Connected}
+use Rattle.conn_trace.specs.Item.{Item, Reason, Closed, Tcl, Choice, Answered, Connected}
 use Rattle.conn_trace.specs.Phases.{OrderlyIn}
 use Rattle.conn_trace.specs.Places.{at as put, place, is_up, is_closing, next_body, after_body, data_event}
 use Rattle.conn_trace.specs.Relay.{incoming, RelayAct, BothDone, Passing, Firing, Resting, relay_act, fired_host, collect_act, behind_fires}
 use Rattle.conn_trace.specs.Selected.{addr_of}
 use Rattle.conn_trace.specs.Setup.{Handler, Setup}
-use Rattle.conn_trace.specs.State.{Bodies, Gated, Running, Failing, Fate, Forwards, Drops, Phase, Carrying, InEvent, Choosing, Selecting, Connecting, Answering, Releasing, Relaying, Collecting, Finishing, Draining, Stream, ServerSide, NoServer, Sought, There, Retired, Link, Absent, Up, link_of, TraceState, Next, Does, Waits, Over, stream_of, read_server, read_side}
-use Rattle.conn_trace.specs.Trace.{finish, choosing_next, default_next, selected_next, selecting_next, answering_next, fired_next, relay_next, collect_next, collecting_next, unit_item, unit_next, carrying_next, phase_next}
+use Rattle.conn_trace.specs.State.{Bodies, Gated, Running, Failing, Phase, AtHead, Continuing, Gathering, AtReuse, GivingUp, Retiring, Heading, Forwarding, Dropping, AtResponse, Leaving, InEvent, Choosing, Selecting, Connecting, Answering, Releasing, Relaying, Collecting, Finishing, Draining, Stream, ServerSide, NoServer, Sought, There, Retired, Link, Absent, Up, link_of, TraceState, Next, Does, Waits, Over, stream_of, read_server, read_side}
+use Rattle.conn_trace.specs.Places.{finish}
+use Rattle.conn_trace.specs.Trace.{serving, choosing_next, default_next, selected_next, selecting_next, answering_next, fired_next, relay_next, collect_next, collecting_next, phase_next}
+use Rattle.conn_trace.specs.Spoken.{is_http_phase, is_http_event}
 use Rattle.proxy_core.specs.Servers.{awaits}
 use Rattle.proxy_core.proofs.ServerGone.{never, event_unlinked, NotUpIn, NotUp, Gone, next_gone, enter_gone, closed_waits}
 
@@ -92,47 +94,47 @@ act_side e b bs n l number (Did (effect.Logged text)) k = record { connects = re
 act_side e b bs n l number (Did (effect.Sent side bytes)) k = record { connects = refl; link = refl; waits = refl; not_up = k; waited = λ x. never x }
 act_side e b bs n l number (act.Called path call) k = record { connects = refl; link = refl; waits = refl; not_up = k; waited = λ x. never x }
 
-ended_side : (g : Setup) (e : EventName) (b : Handler) (bs : List Handler) (n : ℕ) (l : TraceState) (o : Outcome HostState) → NotUpIn (InEvent e (Running b bs n)) l.finished (link_of l.server)
+ended_side : (g : Setup) (e : EventName) (b : Handler) (bs : List Handler) (n : ℕ) (l : TraceState) (o : Outcome HostState) → is_http_event e ≡ false → NotUpIn (InEvent e (Running b bs n)) l.finished (link_of l.server)
     → SideNext (InEvent e (Running b bs n)) l (ended_next g e b bs l o)
-ended_side g e b bs n l (Stops path call st) k = λ x. never x
-ended_side g e b bs n l (Ends code st) k = by_fault (uncaught_of code)
+ended_side g e b bs n l (Stops path call st) plain k = λ x. never x
+ended_side g e b bs n l (Ends code st) plain k = by_fault (uncaught_of code)
   where
     by_fault : (fault : Option TclFault) → Quiet (InEvent e (Running b bs n)) l (put (after_body g e l.finished (link_of l.server) b bs fault st.host) (record l { vars = st.vars; answers = record l.answers { replies = st.replies } }))
-    by_fault None = quiet_by (InEvent e (Running b bs n)) l _ refl refl refl refl (next_gone g e l.finished (link_of l.server) bs st.host k)
+    by_fault None = quiet_by (InEvent e (Running b bs n)) l _ refl refl refl refl (next_gone g e l.finished (link_of l.server) bs st.host plain k)
     by_fault (Some fault) = record { connects = refl; link = refl; waits = refl; not_up = k; waited = λ x. never x }
 
-body_side : (g : Setup) (e : EventName) (b : Handler) (bs : List Handler) (n : ℕ) (l : TraceState) (v : Option Act) (o : Outcome HostState) → NotUpIn (InEvent e (Running b bs n)) l.finished (link_of l.server)
+body_side : (g : Setup) (e : EventName) (b : Handler) (bs : List Handler) (n : ℕ) (l : TraceState) (v : Option Act) (o : Outcome HostState) → is_http_event e ≡ false → NotUpIn (InEvent e (Running b bs n)) l.finished (link_of l.server)
     → SideNext (InEvent e (Running b bs n)) l (act_next e b bs n l v (ended_next g e b bs l o))
-body_side g e b bs n l None o k = ended_side g e b bs n l o k
-body_side g e b bs n l (Some a) o k = act_side e b bs n l l.sent.number a k
+body_side g e b bs n l None o plain k = ended_side g e b bs n l o plain k
+body_side g e b bs n l (Some a) o plain k = act_side e b bs n l l.sent.number a k
 
-failing_side : (g : Setup) (e : EventName) (kind : FaultKind) (line : List ℕ) (bs : List Handler) (l : TraceState) → NotUpIn (InEvent e (Failing kind line bs)) l.finished (link_of l.server)
+failing_side : (g : Setup) (e : EventName) (kind : FaultKind) (line : List ℕ) (bs : List Handler) (l : TraceState) → is_http_event e ≡ false → NotUpIn (InEvent e (Failing kind line bs)) l.finished (link_of l.server)
     → SideNext (InEvent e (Failing kind line bs)) l (bodies_next g e (Failing kind line bs) l)
-failing_side g e kind line bs l k = by_closing (is_closing e)
+failing_side g e kind line bs l plain k = by_closing (is_closing e)
   where
     by_closing : (c : Bool) → Quiet (InEvent e (Failing kind line bs)) l (put (if c then next_body g e l.finished (link_of l.server) bs l.host else place (Finishing (Tcl kind)) l.host) l)
-    by_closing true = quiet_by (InEvent e (Failing kind line bs)) l _ refl refl refl refl (next_gone g e l.finished (link_of l.server) bs l.host k)
+    by_closing true = quiet_by (InEvent e (Failing kind line bs)) l _ refl refl refl refl (next_gone g e l.finished (link_of l.server) bs l.host plain k)
     by_closing false = record { connects = refl; link = refl; waits = refl; not_up = λ x e. never e; waited = λ x. never x }
 
-bodies_side : (g : Setup) (e : EventName) (bodies : Bodies) (l : TraceState) → NotUpIn (InEvent e bodies) l.finished (link_of l.server) → SideNext (InEvent e bodies) l (bodies_next g e bodies l)
-bodies_side g e (Gated b bs) l k = record { connects = refl; link = refl; waits = refl; not_up = k; waited = λ x. never x }
-bodies_side g e (Running b bs n) l k = body_side g e b bs n l (slice_get (state_after (run_body g b l)).acts n) (run_body g b l) k
-bodies_side g e (Failing kind line bs) l k = failing_side g e kind line bs l k
+bodies_side : (g : Setup) (e : EventName) (bodies : Bodies) (l : TraceState) → is_http_event e ≡ false → NotUpIn (InEvent e bodies) l.finished (link_of l.server) → SideNext (InEvent e bodies) l (bodies_next g e bodies l)
+bodies_side g e (Gated b bs) l plain k = record { connects = refl; link = refl; waits = refl; not_up = k; waited = λ x. never x }
+bodies_side g e (Running b bs n) l plain k = body_side g e b bs n l (slice_get (state_after (run_body g b l)).acts n) (run_body g b l) plain k
+bodies_side g e (Failing kind line bs) l plain k = failing_side g e kind line bs l plain k
 
 choosing_side : (g : Setup) (l : TraceState) (h : HostState) (target : Target) → l.finished ≡ false → NotUpIn Choosing l.finished (link_of l.server) → SideNext Choosing l (choosing_next g l h target)
 choosing_side g l h Default was k = by_pool h.net.pool
   where
     by_pool : (pool : List ℕ) → SideNext Choosing l (default_next g l h pool)
-    by_pool [] = quiet_by Choosing l _ refl refl refl refl (enter_gone g LbFailed l.finished (link_of l.server) h (k was))
+    by_pool [] = quiet_by Choosing l _ refl refl refl refl (enter_gone g LbFailed l.finished (link_of l.server) h refl (k was))
     by_pool (b ∷ bs) = record { connects = refl; link = refl; waits = refl; not_up = k; waited = λ x. never x }
 choosing_side g l h (PoolOf pool) was k = record { connects = refl; link = refl; waits = refl; not_up = k; waited = λ x. never x }
 choosing_side g l h (MemberOf pool a) was k = record { connects = refl; link = refl; waits = refl; not_up = k; waited = λ x. never x }
-choosing_side g l h (NodeAt a) was k = quiet_by Choosing l _ refl refl refl refl (enter_gone g LbSelected l.finished (link_of l.server) (with_selected (Some (record { pool = []; addr = a })) h) (k was))
+choosing_side g l h (NodeAt a) was k = quiet_by Choosing l _ refl refl refl refl (enter_gone g LbSelected l.finished (link_of l.server) (with_selected (Some (record { pool = []; addr = a })) h) refl (k was))
 
 selected_side : (g : Setup) (call : List (List ℕ)) (l : TraceState) (more : List Reply) (o : Option Addr) → l.finished ≡ false → NotUpIn (Selecting call) l.finished (link_of l.server) → SideNext (Selecting call) l (selected_next g l more o)
-selected_side g call l more None was k = quiet_by (Selecting call) l _ refl refl refl refl (enter_gone g LbFailed l.finished (link_of l.server) l.host (k was))
+selected_side g call l more None was k = quiet_by (Selecting call) l _ refl refl refl refl (enter_gone g LbFailed l.finished (link_of l.server) l.host refl (k was))
 selected_side g call l more (Some a) was k =
-    quiet_by (Selecting call) l _ refl refl refl refl (enter_gone g LbSelected l.finished (link_of l.server) (with_selected (Some (record { pool = target_pool l.host.net.pool l.host.net.target; addr = a })) l.host) (k was))
+    quiet_by (Selecting call) l _ refl refl refl refl (enter_gone g LbSelected l.finished (link_of l.server) (with_selected (Some (record { pool = target_pool l.host.net.pool l.host.net.target; addr = a })) l.host) refl (k was))
 
 selecting_side : (g : Setup) (call : List (List ℕ)) (l : TraceState) (replies : List Reply) → l.finished ≡ false → NotUpIn (Selecting call) l.finished (link_of l.server) → SideNext (Selecting call) l (selecting_next g call l replies)
 selecting_side g call l [] was k = λ x. never x
@@ -142,16 +144,17 @@ selecting_side g call l (reply.Fault fault ∷ more) was k = selected_side g cal
 answering_side : (g : Setup) (a : Addr) (l : TraceState) (connects : List (Option Stream)) → l.finished ≡ false → l.answers.connects ≡ connects → SideNext (Answering a) l (answering_next g l connects)
 answering_side g a l [] was is = λ x. is
 answering_side g a l (Some s ∷ more) was is =
-    let gone = enter_gone g ServerConnected false Up l.host (λ x. never x) in
+    let gone = enter_gone g ServerConnected false Up (serving l.host) refl (λ x. never x) in
     record { asked = a; was = refl; answer = Some s; more = more; is = is; made_is = refl; connects = refl; link = refl; waits = gone.waits; not_up = λ x. gone.not_up refl }
 answering_side g a l (None ∷ more) was is =
-    let gone = enter_gone g LbFailed false Absent l.host (λ x. refl) in
+    let gone = enter_gone g LbFailed false Absent l.host refl (λ x. refl) in
     record { asked = a; was = refl; answer = None; more = more; is = is; made_is = refl; connects = refl; link = refl; waits = gone.waits; not_up = λ x. gone.not_up refl }
 
 read_link : (n : ℕ) (v : ServerSide) → link_of (read_server n v) ≡ link_of v
 read_link n NoServer = refl
 read_link n Sought = refl
 read_link n (There s) = refl
+read_link n (Leaving b s) = refl
 read_link n (Retired s) = refl
 
 record Stays (l m : TraceState) : Type 0 where
@@ -167,8 +170,12 @@ fired_side : (g : Setup) (p : Phase) (l : TraceState) (side : Side) (n : ℕ) (m
 fired_side g p l side n more was =
     let s = read_stays side n l in
     let h = fired_host side (take n (stream_of side l).unread) l.host in
-    quiet_by p l _ was s.connects s.link s.finished (enter_gone g (data_event side) l.finished (link_of l.server) h (open_event side))
+    quiet_by p l _ was s.connects s.link s.finished (enter_gone g (data_event side) l.finished (link_of l.server) h (plain_event side) (open_event side))
   where
+    plain_event : (side : Side) → is_http_event (data_event side) ≡ false
+    plain_event Client = refl
+    plain_event Server = refl
+
     open_event : (side : Side) → event_unlinked (data_event side) ≡ true → is_up (link_of l.server) ≡ false
     open_event Client e = never e
     open_event Server e = never e
@@ -189,31 +196,25 @@ collecting_side : (g : Setup) (l : TraceState) (asks : Asks) → SideNext Collec
 collecting_side g l NotAsked = λ x. never x
 collecting_side g l (Stated n) = collect_side g l (collect_act n l.client.unread (behind_fires l.answers.choices))
 
-carrying_side : (g : Setup) (l : TraceState) (fate : Fate) (side : Side) (left : ℕ) (s : Stream) → NotUpIn (Carrying fate side left) l.finished (link_of l.server) → SideNext (Carrying fate side left) l (carrying_next g l fate side left s)
-carrying_side g l fate side zero s k = record { connects = refl; link = refl; waits = refl; not_up = k; waited = λ x. never x }
-carrying_side g l fate side (suc left) s k = by_unread s.ended s.unread
-  where
-    by_unread : (ended : Bool) (unread : List ℕ) → SideNext (Carrying fate side (suc left)) l (unit_next g l fate side left ended unread)
-    by_unread true [] = finish_side g Rejected (Carrying fate side (suc left)) l (λ x. never x)
-    by_unread false [] = λ x. never x
-    by_unread ended (b ∷ bs) = by_use fate
-      where
-        stays : Stays l (read_side side 1 l)
-        stays = read_stays side 1 l
-
-        by_use : (u : Fate) → SideBy (unit_item l.sent.number u side b) (Carrying fate side (suc left)) l (record (read_side side 1 l) { phase = Carrying fate side left })
-        by_use Forwards = quiet_by (Carrying fate side (suc left)) l _ refl stays.connects stays.link stays.finished (record { waits = refl; not_up = k })
-        by_use Drops = quiet_by (Carrying fate side (suc left)) l _ refl stays.connects stays.link stays.finished (record { waits = refl; not_up = k })
-
-pub phase_side : (g : Setup) (p : Phase) (l : TraceState) → OrderlyIn p l.finished (link_of l.server) → NotUpIn p l.finished (link_of l.server) → SideNext p l (phase_next g p l)
-phase_side g (InEvent e bodies) l was k = bodies_side g e bodies l k
-phase_side g (Carrying fate side left) l was k = carrying_side g l fate side left (stream_of side l) k
-phase_side g Choosing l was k = choosing_side g l (with_selected None l.host) l.host.net.target was k
-phase_side g (Selecting call) l was k = selecting_side g call l l.answers.replies was k
-phase_side g (Connecting a) l was k = record { was = refl; phase = refl; server = refl; connects = refl }
-phase_side g (Answering a) l was k = answering_side g a l l.answers.connects was refl
-phase_side g Releasing l was k = record { connects = refl; link = refl; waits = refl; not_up = λ x e. never e; waited = λ x. never x }
-phase_side g Relaying l was k = relay_side g l (relay_act (incoming Client l) (incoming Server l) l.answers.choices)
-phase_side g Collecting l was k = collecting_side g l l.host.net.client.asks
-phase_side g (Finishing r) l was k = finish_side g r (Finishing r) l (λ x. never x)
-phase_side g Draining l was k = λ x. never x
+-- in phases without HTTP
+pub phase_side : (g : Setup) (p : Phase) (l : TraceState) → is_http_phase p ≡ false → OrderlyIn p l.finished (link_of l.server) → NotUpIn p l.finished (link_of l.server) → SideNext p l (phase_next g p l)
+phase_side g (InEvent e bodies) l plain was k = bodies_side g e bodies l plain k
+phase_side g AtHead l plain was k = absurd (true≢false plain)
+phase_side g Continuing l plain was k = absurd (true≢false plain)
+phase_side g (Gathering side wanted s) l plain was k = absurd (true≢false plain)
+phase_side g AtReuse l plain was k = absurd (true≢false plain)
+phase_side g (GivingUp b) l plain was k = absurd (true≢false plain)
+phase_side g (Retiring b) l plain was k = absurd (true≢false plain)
+phase_side g (Heading side) l plain was k = absurd (true≢false plain)
+phase_side g (Forwarding side s standing) l plain was k = absurd (true≢false plain)
+phase_side g (Dropping s) l plain was k = absurd (true≢false plain)
+phase_side g AtResponse l plain was k = absurd (true≢false plain)
+phase_side g Choosing l plain was k = choosing_side g l (with_selected None l.host) l.host.net.target was.0 k
+phase_side g (Selecting call) l plain was k = selecting_side g call l l.answers.replies was.0 k
+phase_side g (Connecting a) l plain was k = record { was = refl; phase = refl; server = refl; connects = refl }
+phase_side g (Answering a) l plain was k = answering_side g a l l.answers.connects was.0 refl
+phase_side g Releasing l plain was k = record { connects = refl; link = refl; waits = refl; not_up = λ x e. never e; waited = λ x. never x }
+phase_side g Relaying l plain was k = relay_side g l (relay_act (incoming Client l) (incoming Server l) l.answers.choices)
+phase_side g Collecting l plain was k = collecting_side g l l.host.net.client.asks
+phase_side g (Finishing r) l plain was k = finish_side g r (Finishing r) l (λ x. never x)
+phase_side g Draining l plain was k = λ x. never x

@@ -1,9 +1,12 @@
 -- What the code's connections run on is the setup of their traces.
-use Rattle.std.proofs.Common.{◌≡◌, sym, ap, ◌∙◌, ℕ, List, [], length}
+use Rattle.std.proofs.Common.{◌≡◌, refl, sym, ap, ◌∙◌, ℕ, List, [], length, Bool, false, Option, Some, None}
 use Rattle.std.specs.Prelude.{option_and_then, slice_get, slice_index_or}
 use Rattle.tcl_vars.specs.Scopes.{Level}
 use Rattle.event_order.specs.declared.event.EventName.{EventName}
+use Rattle.conn_trace.specs.Bounds.{HeadsFit}
+use Rattle.conn_trace.specs.Heard.{Accepted, Heard}
 use Rattle.conn_trace.specs.Setup.{Setup}
+use Rattle.conn_trace.proofs.PendingFits.{no_heads_fit}
 use Rattle.conn.specs.Setups as conn
 use Rattle.conn.specs.Setups.{body_in, places_in}
 use Rattle.conn.specs.declared.setup.Place.{Place}
@@ -11,7 +14,7 @@ use Rattle.conn.specs.declared.setup.Setup as code
 use Rattle.record_model.specs.Bodies.{bodies_of}
 use Rattle.proxy_core.specs.Bodies.{all_places, places_of}
 use Rattle.proxy_core.specs.Serving.{Serves, IsSetup}
-use Rattle.record_model.specs.Setup.{numbers_in}
+use Rattle.record_model.specs.Setup.{numbers_in, setup_in, setup_of}
 use Rattle.run_config.specs.declared.config.Config.{Config}
 use Rattle.proxy_core.proofs.BodyPlaces.{found_count, found_each, places_found, stand_at}
 
@@ -32,3 +35,18 @@ serves_code C level places vs s g all i k =
           ∙ ap (λ ps. option_and_then (body_in C.rules e) (slice_get ps n)) (sym (same e))
           ∙ ap (λ rules. option_and_then (body_in rules e) (slice_get (places_in s.places.now e) n)) (sym i.rules);
     }
+
+-- no virtual server of today speaks HTTP, so no head is read
+pub plain_setup : (C : Config) (h : Heard) → (setup_of C h).http ≡ false
+plain_setup C h = by_accept h.accepted
+  where
+    by_accept : (o : Option Accepted) → (setup_in C o).http ≡ false
+    by_accept None = refl
+    by_accept (Some a) = refl
+
+pub heads_fit : (C : Config) (h : Heard) → HeadsFit (setup_of C h)
+heads_fit C h = by_accept h.accepted
+  where
+    by_accept : (o : Option Accepted) → HeadsFit (setup_in C o)
+    by_accept None = no_heads_fit (setup_in C None) refl
+    by_accept (Some a) = no_heads_fit (setup_in C (Some a)) refl

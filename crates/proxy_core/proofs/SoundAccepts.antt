@@ -61,7 +61,7 @@ took_nothing = record { client = omega arith; servers = none_took }
 
 -- no server is asked for where it begins
 first_linked : (g : Setup) (client : Stream) (answers : Recorded) (failed : Bool) → answers.connects ≡ [] → Linked failed (start g client answers) state.Absent
-first_linked g client answers failed none = settled failed (start g client answers) state.Absent (enter_waits g ClientAccepted Absent (first_host g) refl) none (λ x. refl)
+first_linked g client answers failed none = settled failed (start g client answers) state.Absent (enter_waits g ClientAccepted Absent (first_host g) refl refl) none (λ x. refl)
 
 no_cut : {A : Type 0} (cut : Cut) → None ≡ Some cut → A
 no_cut cut e = absurd (cc)

@@ -52,6 +52,7 @@ use Rattle.proxy_core.specs.Scheduler.{State, no_connections, entries, Seen, see
 use Rattle.record_model.specs.Setup.{setup_in, setup_of, stand_of}
 use Rattle.proxy_core.specs.Sound.{unseen, Spot, Served, SoundAt, Sound}
 use Rattle.run_config.specs.declared.config.Config.{Config}
+use Rattle.proxy_core.proofs.Setups.{plain_setup}
 use Rattle.proxy_core.proofs.Entries.{entries_behind_self, ready_behind, asked_behind, calls_behind_self, calls_front}
 use Rattle.proxy_core.specs.Others.{about, front}
 use Rattle.proxy_core.proofs.Finished.{heard_finish, stands_orderly, trace_finished}
@@ -146,7 +147,7 @@ servers_within C c z input group s few (suc k) = by_number (come_took c z.heard 
     by_number (inl e) = let w = s.within.servers (suc k) in omega (arith, e, w)
     by_number (inr (e, f)) =
         let L : ℕ → Type 0 = λ n. took_of z.heard.connects n + untaken_of z.heard z.place Server ≤ length (server_output n z.place) in
-        let w = subst L (sym e) (server_left (setup_of C z.heard) c z (stand_of C z.heard z.place) s) in
+        let w = subst L (sym e) (server_left (setup_of C z.heard) (plain_setup C z.heard) c z (stand_of C z.heard z.place) s) in
         omega (arith, f, w, few)
 
 pub may_come_at : (C : Config) (past : Past) (old : State) (c : ℕ) (input : Input) → SoundAt C c (seen past old c) → refused C past old (Comes c input) ≡ None → MayCome C c input (seen past old c)

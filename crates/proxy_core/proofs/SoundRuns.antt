@@ -14,7 +14,7 @@ use Rattle.conn_trace.specs.Gates.{Counts, TakenCounts, no_bytes, sent_from, to_
 use Rattle.core_events.specs.declared.event_kind.EventKind.TheVariants.{Runs}
 use Rattle.conn_trace.specs.Heard.{Heard, taken, hears, start_of}
 use Rattle.conn_trace.specs.HeardLaws.{cut_in, cut_for, taken_by_items, TellsNothing}
-use Rattle.conn_trace.specs.Item.{Item, Reason, Closed, Tcl, Unselected, Rejected, CutBy, Choice, note_of, shown, listed, calls_in, cause_of, notes_of, reasons_in}
+use Rattle.conn_trace.specs.Item.{Item, Reason, Closed, Tcl, Http, Unselected, Rejected, CutBy, Choice, note_of, shown, listed, calls_in, cause_of, notes_of, reasons_in}
 use Rattle.conn_trace.specs.Phases.{Orderly}
 use Rattle.conn_trace.specs.Setup.{Setup}
 use Rattle.conn_trace.specs.State.{Cut, TraceState}
@@ -39,6 +39,7 @@ use Rattle.record_model.specs.Setup.{begins_at, setup_in, setup_of, stand_of}
 use Rattle.proxy_core.specs.Shown.{shows, closes, causes_told, causes_behind}
 use Rattle.proxy_core.specs.Sound.{is_closed, Spot, CallsTold, ServedAt, Served}
 use Rattle.run_config.specs.declared.config.Config.{Config}
+use Rattle.proxy_core.proofs.Setups.{plain_setup}
 use Rattle.proxy_core.proofs.CameAt.{UncutOr, heard_uncut, stands_uncut}
 use Rattle.proxy_core.proofs.Closings.{EndsBy, none_on, closing_ends, closing_gone, ends_behind, items_closed, items_go_on, items_open}
 use Rattle.proxy_core.proofs.EdgeNotes.{edges_joined, edges_told}
@@ -165,6 +166,7 @@ cut_meets took (i ∷ more) place m = by_reason (shown i).reason (cut_meets took
     by_reason None r = r
     by_reason (Some Closed) r = r
     by_reason (Some (Tcl kind)) r = r
+    by_reason (Some (Http fault)) r = r
     by_reason (Some Unselected) r = r
     by_reason (Some Rejected) r = r
     by_reason (Some (CutBy why)) r = m
@@ -237,7 +239,7 @@ run_served C past c rest after ready queue called asked old more slices at behin
     let f' = taken_by_items (taken h) more in
     let state = h.edges.server.state in
     let was_linked : Linked l.finished l state = linked_now h.finished l.finished l state state (λ x. sym same ∙ x) (λ x. refl) k.linked in
-    let ran = run_linked g (longer f' l) at more c h.edges (unserved_longer f' l (unserved_at g h z.place l k.stands)) (longer_linked l.finished f' l state refl was_linked) p.passed in
+    let ran = run_linked g (longer f' l) at more c h.edges (unserved_longer f' l (unserved_at g (plain_setup C h) h z.place l k.stands)) (longer_linked l.finished f' l state refl was_linked) p.passed in
     let closed_finishes : list_any closes behind ≡ true → h'.finished ≡ true = λ o. by_opens (b.opens o) t.finished over_finishes in
     let M : TakenCounts → Type 0 = λ y. Met no_bytes y (z.place ++ more) in
     let N : Counts → Type 0 = λ x. Met x (taken h) more in
@@ -280,7 +282,7 @@ run_served C past c rest after ready queue called asked old more slices at behin
       closed_over = λ found side q. ((now side q found).next, (now side q found).finished);
       linked = linked_now at.finished h'.finished at ends.server.state h'.edges.server.state (λ x. unless at.finished (λ o. (let y = sym (finishes o) ∙ x in cc)))
           (λ x. ap (λ y. y.server.state) edges ∙ b.kept (unless (list_any closes behind) (λ o. (let y = sym (closed_finishes o) ∙ x in cc)))) ran.linked;
-      licensed = run_licensed g c h z.place more behind l at h.edges k.stands was_linked b.quiet p k.licensed;
+      licensed = run_licensed g (plain_setup C h) c h z.place more behind l at h.edges k.stands was_linked b.quiet p k.licensed;
       told = subst K (sym t.notes) (calls_more h'.failed called z'.asked z.place more h.notes group was none_told all few (λ e. opens (sym failed ∙ e) ∙ sym asks));
       spot = subst F (sym failed) (subst L (sym live) (subst R (sym (put f.once)) (subst A (sym asks) (subst T (sym s.taken) (subst E (sym edges) spot)))));
     })))

@@ -10,6 +10,7 @@ use Rattle.event_order.specs.declared.event.EventName.{EventName}
 use Rattle.core_events.specs.declared.note.Note.{Note}
 use Rattle.core_events.specs.declared.note.Note.TheVariants.{Log}
 use Rattle.conn_trace.specs.Heard.{Accepted, Heard, start_of}
+use Rattle.conn_trace.specs.Http.{no_heads}
 use Rattle.conn_trace.specs.Item.{Item}
 use Rattle.conn_trace.specs.Setup.{Handler, Setup}
 use Rattle.conn_trace.specs.State.{TraceState}
@@ -80,6 +81,7 @@ setup_for C name from = record {
   budget = C.budget;
   statics = statics_of C;
   groups = C.groups;
+  heads = no_heads;
   handlers = handlers_in C (virtual_named C name);
 }
 
