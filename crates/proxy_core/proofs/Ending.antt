@@ -35,13 +35,13 @@ finished_is_over g (InEvent e (Running b bs n)) l took o c s k = absurd (act_goe
 finished_is_over g (InEvent e (Failing kind line bs)) l took o c s k = absurd (gives_on l.sent took (Logged line) c s k)
 finished_is_over g AtHead l took o c s k = let e : true ≡ false = o in cc
 finished_is_over g Continuing l took o c s k = let e : true ≡ false = o in cc
-finished_is_over g (Gathering side wanted s) l took o c s k = let e : true ≡ false = o.0 in cc
+finished_is_over g (Gathering side wanted r) l took o c s k = let e : true ≡ false = o.0 in cc
 finished_is_over g AtReuse l took o c s k = let e : true ≡ false = o.0 in cc
 finished_is_over g (GivingUp b) l took o c s k = let e : true ≡ false = o.0 in cc
 finished_is_over g (Retiring b) l took o c s k = let e : true ≡ false = o.0 in cc
 finished_is_over g (Heading side) l took o c s k = let e : true ≡ false = o.0 in cc
-finished_is_over g (Forwarding side s standing) l took o c s k = let e : true ≡ false = o.0 in cc
-finished_is_over g (Dropping s) l took o c s k = let e : true ≡ false = o in cc
+finished_is_over g (Forwarding side r standing) l took o c s k = let e : true ≡ false = o.0 in cc
+finished_is_over g (Dropping r) l took o c s k = let e : true ≡ false = o in cc
 finished_is_over g AtResponse l took o c s k = let e : true ≡ false = o.0 in cc
 finished_is_over g Choosing l took o c s k = let e : true ≡ false = o.0 in cc
 finished_is_over g (Selecting call) l took o c s k = let e : true ≡ false = o.0 in cc

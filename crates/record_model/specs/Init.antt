@@ -47,7 +47,7 @@ kept h (Faults f s es) = Faults f (kept_with h s es) es
 kept h (Asks call s) = Asks call (kept_with h s [])
 
 abbrev pub init_table : Groups → InitHost → List (List ℕ) → HostStep InitHost
-init_table groups h words = kept h (commands groups (record { event = RuleInit; net = h.net }) words)
+init_table groups h words = kept h (commands groups (record { event = RuleInit; net = h.net; http = None }) words)
 
 abbrev pub init_setting : Groups → List Procedure → Setting InitHost
 init_setting groups procedures =
