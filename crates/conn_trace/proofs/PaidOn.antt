@@ -28,7 +28,8 @@ use Rattle.conn_trace.specs.Host.{HostState, body_setting}
 use Rattle.conn_trace.specs.Item.{CutBy, Item, Ran}
 use Rattle.conn_trace.specs.Setup.{Handler, Setup}
 use Rattle.conn_trace.specs.State.{Cut, ForReply, Running, Phase, InEvent, TraceState, Next, Does, Waits}
-use Rattle.conn_trace.specs.Trace.{counted, cut_next, cut_open, cut_takes, finish, next_item, phase_next, uncut, Unfolds}
+use Rattle.conn_trace.specs.Places.{finish}
+use Rattle.conn_trace.specs.Trace.{counted, cut_next, cut_open, cut_takes, next_item, phase_next, uncut, Unfolds}
 use Rattle.conn_trace.proofs.Costs.{paid_joins}
 
 -- with more replies an evaluation costs no less
