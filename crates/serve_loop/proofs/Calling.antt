@@ -13,6 +13,7 @@ use Rattle.px_outside.specs.Net.{Call, Chain, Wait, Write, got, ReadsWithin, Wri
 use Rattle.core_events.specs.declared.event.Event.{Event}
 use Rattle.serve_loop.specs.declared.links.Links.{Links}
 use Rattle.serve_loop.specs.Links.{link_in}
+use Rattle.serve_loop.specs.declared.asked.Asked.{Asked}
 use Rattle.serve_loop.specs.declared.asked.Asked.TheVariants as is
 use Rattle.serve_loop.specs.declared.serving.Serving.{Serving}
 use Rattle.serve_loop.specs.Carrying.{Known}
@@ -21,7 +22,7 @@ use Rattle.core_events.specs.Face.{Face, MayCome, MayTake}
 use Rattle.serve_loop.specs.Walk.{Around, Given, Step, Asked as Asks, Own, MayCall, AfterCall, Calls}
 use Rattle.serve_loop.specs.Part.{stand, Part, IsGiven}
 use Rattle.serve_loop.specs.Asking.{IsOn, takes_back, OneCall, IsUnknown, AskedOnce}
-use Rattle.serve_loop.specs.Writing.{NothingToWrite, WroteOnce, asked_of}
+use Rattle.serve_loop.specs.Writing.{NothingToWrite, OneWrite, WroteOnce, asked_of}
 use Rattle.serve_loop.specs.Running.{OwnStep}
 use Rattle.serve_loop.specs.Turn.{Waits}
 use Rattle.serve_loop.proofs.Chains.{chain_append}
@@ -29,17 +30,19 @@ use Rattle.serve_loop.proofs.Fresh.{once_none, once_then, owners_same, owners_th
 use Rattle.serve_loop.specs.Fresh.{GivesOnce, OwnersStay, links_given}
 use Rattle.serve_loop.proofs.Compose.{part_less, part_at, part_nothing, tells_nothing}
 
--- a call, and what became of its answer
-pub record CallStep {C : Type 0} (face : Face C) (conns : ℕ) (call : Call) (a : Around C) (steps : List Step) (b : Around C) : Type 0 where
+-- a call, whose answer became this event, and what became of that
+pub record CallStep {C : Type 0} (face : Face C) (conns : ℕ) (call : Call) (event : Option Event) (a : Around C) (steps : List Step) (b : Around C)
+    : Type 0 where
   pub given : Option Given
   pub steps_are : steps ≡ Asks call given ∷ []
   pub calls : Calls face conns a call given b
+  pub becomes : calls.event ≡ event
 
 -- a call whose answer becomes no event
 pub call_quiet : {C S : Type 0} {face : Face C} {did : S → Call → S → Type 0} {gave : S → ℕ → Type 0} {conns : ℕ}
     (x : Serving C) (n m : S) (call : Call) → did n call m → GivesOnce (gave n) (gave m) (links_given (call ∷ []))
     → MayCall face conns (stand x) call None → AfterCall face (stand x) call x.links
-    → Part face did gave (CallStep face conns call) x x n m
+    → Part face did gave (CallStep face conns call None) x x n m
 call_quiet x n m call d once may after = record {
   from = λ s. record {
     made = record {
@@ -49,6 +52,7 @@ call_quiet x n m call d once may after = record {
         given = None;
         steps_are = refl;
         calls = record { event = None; may = may; links = x.links; after = after; becomes = refl };
+        becomes = refl;
       };
       ready = record { stands = s.stands; known = λ l r e. once.lasts l (s.known l r e) };
       once = once;
@@ -64,7 +68,7 @@ pub call_heard : {C S : Type 0} {face : Face C} {did : S → Call → S → Type
     (x : Serving C) (t : Links) (y : Serving C) (n m k : S) (call : Call) (e : Event)
     → did n call m → GivesOnce (gave n) (gave m) (links_given (call ∷ [])) → OwnersStay (gave n) x.links t
     → (Known (gave n) x.links → Known (gave m) t) → MayCall face conns (stand x) call (Some e) → AfterCall face (stand x) call t → face.takes x.core e
-    → IsGiven face did gave e (record x { links = t }) y m k → Part face did gave (CallStep face conns call) x y n k
+    → IsGiven face did gave e (record x { links = t }) y m k → Part face did gave (CallStep face conns call (Some e)) x y n k
 call_heard {C} {S} {face} {did} {gave} x t y n m k call e d once owners known may after takes given = record {
   from = λ s.
       let it = given.from (record { stands = s.stands; known = known s.known }) takes in record {
@@ -75,6 +79,7 @@ call_heard {C} {S} {face} {did} {gave} x t y n m k call e d once owners known ma
             given = Some it.given;
             steps_are = refl;
             calls = record { event = Some e; may = may; links = t; after = after; becomes = it.gives };
+            becomes = refl;
           };
           ready = it.ready;
           once = subst (λ (l : List Call). GivesOnce (gave n) (gave k) (links_given (call ∷ l))) (sym (append-nil it.given.calls))
@@ -87,9 +92,9 @@ call_heard {C} {S} {face} {did} {gave} x t y n m k call e d once owners known ma
       };
 }
 
-one_call : {C : Type 0} (face : Face C) (conns : ℕ) (at : ReadyAt) (call : Call) → IsOn at call → (a : Around C) (steps : List Step) (b : Around C)
-    → CallStep face conns call a steps b → OneCall face conns at (takes_back call) a steps b
-one_call face conns at call on a steps b r =
+one_call : {C : Type 0} (face : Face C) (conns : ℕ) (at : ReadyAt) (call : Call) (o : Option Event) → IsOn at call → (a : Around C) (steps : List Step)
+    (b : Around C) → CallStep face conns call o a steps b → OneCall face conns at (takes_back call) a steps b
+one_call face conns at call o on a steps b r =
     record { call = call; given = r.given; steps_are = r.steps_are; on = on; over_is = refl; calls = r.calls }
 
 pub part_quiet : {C S : Type 0} {face : Face C} {did : S → Call → S → Type 0} {gave : S → ℕ → Type 0} {conns : ℕ}
@@ -97,7 +102,7 @@ pub part_quiet : {C S : Type 0} {face : Face C} {did : S → Call → S → Type
     → MayCall face conns (stand x) call None → AfterCall face (stand x) call x.links
     → Part face did gave (OneCall face conns at (takes_back call)) x x n m
 part_quiet {face = face} {conns = conns} at x n m call d once on may after =
-    part_less (one_call face conns at call on) (call_quiet x n m call d once may after)
+    part_less (one_call face conns at call None on) (call_quiet x n m call d once may after)
 
 pub part_heard : {C S : Type 0} {face : Face C} {did : S → Call → S → Type 0} {gave : S → ℕ → Type 0} {conns : ℕ}
     (at : ReadyAt) (x : Serving C) (t : Links) (y : Serving C) (n m k : S) (call : Call) (e : Event)
@@ -107,7 +112,7 @@ pub part_heard : {C S : Type 0} {face : Face C} {did : S → Call → S → Type
     → IsGiven face did gave e (record x { links = t }) y m k
     → Part face did gave (OneCall face conns at (takes_back call)) x y n k
 part_heard {face = face} {conns = conns} at x t y n m k call e d once owners known on may after takes given =
-    part_less (one_call face conns at call on) (call_heard x t y n m k call e d once owners known may after takes given)
+    part_less (one_call face conns at call (Some e) on) (call_heard x t y n m k call e d once owners known may after takes given)
 
 pub part_again : {C S : Type 0} {face : Face C} {did : S → Call → S → Type 0} {gave : S → ℕ → Type 0} {conns : ℕ} {at : ReadyAt}
     {x y : Serving C} {n m : S} → Part face did gave (OneCall face conns at false) x y n m
@@ -160,48 +165,39 @@ pub nothing_to_write : {C S : Type 0} {face : Face C} {did : S → Call → S �
 nothing_to_write {face = face} conns c side x n why =
     part_nothing (WroteOnce face conns c side is.Over) x n (inr (record { none = refl; same = refl; because = why }))
 
-wrote_one : {C : Type 0} (face : Face C) (conns c : ℕ) (side : Side) (link : ℕ) (bytes : List ℕ) (answer : WriteAnswer) (a : Around C)
-    (steps : List Step) (b : Around C) → link_in a.links c side ≡ Some link → face.queue a.core c side bytes
-    → CallStep face conns (Write link bytes answer) a steps b → WroteOnce face conns c side (asked_of answer) a steps b
-wrote_one face conns c side link bytes (write.Took k) a steps b linked queued r = record {
+-- a call that wrote what is pending to a side
+wrote : {C : Type 0} (face : Face C) (conns c : ℕ) (side : Side) (link : ℕ) (bytes : List ℕ) (answer : WriteAnswer) (a : Around C) (steps : List Step)
+    (b : Around C) → link_in a.links c side ≡ Some link → face.queue a.core c side bytes → WritesWithin (length bytes) answer
+    → CallStep face conns (Write link bytes answer) (write_event c side answer) a steps b → OneWrite face conns c side (asked_of answer) a steps b
+wrote face conns c side link bytes answer a steps b linked queued within r = record {
   link = link;
   bytes = bytes;
-  answer = write.Took k;
+  answer = answer;
   given = r.given;
   steps_are = r.steps_are;
   linked = linked;
   queued = queued;
+  within = within;
   asked_is = refl;
   calls = r.calls;
+  becomes = r.becomes;
 }
-wrote_one face conns c side link bytes write.NotYet a steps b linked queued r = record {
-  link = link;
-  bytes = bytes;
-  answer = write.NotYet;
-  given = r.given;
-  steps_are = r.steps_are;
-  linked = linked;
-  queued = queued;
-  asked_is = refl;
-  calls = r.calls;
-}
-wrote_one face conns c side link bytes write.Reset a steps b linked queued r = inl (record {
-  link = link;
-  bytes = bytes;
-  answer = write.Reset;
-  given = r.given;
-  steps_are = r.steps_are;
-  linked = linked;
-  queued = queued;
-  asked_is = refl;
-  calls = r.calls;
-})
+
+once_by : {C : Type 0} (face : Face C) (conns c : ℕ) (side : Side) (o : Asked) (a : Around C) (steps : List Step) (b : Around C)
+    → OneWrite face conns c side o a steps b → WroteOnce face conns c side o a steps b
+once_by face conns c side is.Again a steps b w = w
+once_by face conns c side is.Stays a steps b w = w
+once_by face conns c side is.Over a steps b w = inl w
 
 pub part_wrote : {C S : Type 0} {face : Face C} {did : S → Call → S → Type 0} {gave : S → ℕ → Type 0} {conns : ℕ} (c : ℕ) (side : Side)
-    (link : ℕ) (bytes : List ℕ) (answer : WriteAnswer) {x y : Serving C} {n m : S} → link_in x.links c side ≡ Some link → face.queue x.core c side bytes
-    → Part face did gave (CallStep face conns (Write link bytes answer)) x y n m → Part face did gave (WroteOnce face conns c side (asked_of answer)) x y n m
-part_wrote {face = face} {conns = conns} c side link bytes answer {x} {y} linked queued p =
-    part_at (λ steps r. wrote_one face conns c side link bytes answer (stand x) steps (stand y) linked queued r) p
+    (link : ℕ) (bytes : List ℕ) (answer : WriteAnswer) (o : Option Event) {x y : Serving C} {n m : S} → link_in x.links c side ≡ Some link
+    → face.queue x.core c side bytes → WritesWithin (length bytes) answer → o ≡ write_event c side answer
+    → Part face did gave (CallStep face conns (Write link bytes answer) o) x y n m
+    → Part face did gave (WroteOnce face conns c side (asked_of answer)) x y n m
+part_wrote {face = face} {conns = conns} c side link bytes answer o {x} {y} linked queued within becomes p =
+    part_at (λ steps r. once_by face conns c side (asked_of answer) (stand x) steps (stand y)
+    (wrote face conns c side link bytes answer (stand x) steps (stand y) linked queued within
+    (subst (λ e. CallStep face conns (Write link bytes answer) e (stand x) steps (stand y)) becomes r))) p
 
 pub takes_write : {takes : Event → Type 0} (c : ℕ) (side : Side) (len : ℕ) (answer : WriteAnswer) (e : Event)
     → MayTake takes c side len → WritesWithin len answer → write_event c side answer ≡ Some e → takes e

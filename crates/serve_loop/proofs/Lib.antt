@@ -9,6 +9,10 @@ pub mod Calling
 pub mod Trying
 pub mod Anyone
 pub mod Turning
+pub mod Along
+pub mod Quiet
+pub mod Asking
+pub mod PendingTurns
 pub mod Pairs
 pub mod Walking
 pub mod Breaking

@@ -4,6 +4,7 @@ use Rattle.px_bytes.specs.declared.addr.Side.{Side}
 use Rattle.px_bytes.specs.declared.addr.Side.TheVariants.{Client, Server}
 use Rattle.px_outside.specs.declared.answers.ReadyAt.{ReadyAt}
 use Rattle.px_outside.specs.declared.answers.ReadyAt.TheVariants as ready
+use Rattle.px_outside.specs.declared.answers.WriteAnswer.{WriteAnswer}
 use Rattle.px_outside.specs.Net.{Call, Listen, Wait, Accept, Connect, Ask, Read, Write, Finish, Close}
 use Rattle.core_events.specs.declared.event.Event.{Event}
 use Rattle.core_events.specs.declared.event.Event.TheVariants as event
@@ -20,6 +21,7 @@ use Rattle.serve_loop.specs.Server.{Round, RunsAndWrites, AsksLinks, AsksAll, Ro
 use Rattle.serve_loop.specs.Turn.{Ticks, Waits, WaitsFor, TicksAndWaits, WorkAt, WritesAt, ListenerAt, LinkAt, due_now, listed_slots, listed_links}
 use Rattle.serve_loop.specs.Walk.{Around, Given, Step, Own, Asked as Asks, IsOwn, Takes, Walks, Then}
 use Rattle.serve_loop.specs.Writing.{OneWrite, WroteOnce, Wrote}
+use Rattle.serve_loop.proofs.Along.{Along, Covers, asked_along, both_along, each_along, link_along, listener_along, none_along, not_along, often_along, side_along, then_along, wrote_along}
 use Rattle.serve_loop.proofs.Compose.{walks_append}
 use Rattle.serve_loop.proofs.Fresh.{all_append}
 
@@ -68,108 +70,57 @@ waited_walks face conns until listed a l b it =
 abbrev pub Goes : {C : Type 0} → Face C → ℕ → Around C → List Step → Around C → Type 0
 Goes face conns a l b = Walks face conns a l b × AreAsks l
 
+-- they are made of calls of listeners and links, and of writes
+abbrev pub AskCall : Call → Type 0
+AskCall call = (given : Option Given) → IsAsk (Asks call given)
+
+goes : {C : Type 0} (face : Face C) (conns : ℕ) → Along face conns AskCall (Goes face conns)
+goes face conns = record {
+  none = λ a. (refl, tt);
+  next = λ a l b k c one two. (walks_append face conns l k a b c one.0 two.0, all_append IsAsk l k one.1 two.1);
+  calls = λ a call given b ask calls. ((b, calls, refl), (ask given, tt));
+}
+
+on_asks : (at : ReadyAt) (call : Call) → IsOn at call → AskCall call
+on_asks at (Listen slot to answer) on given = tt
+on_asks (ready.Listener slot) (Wait until listed answer) on given = absurd on
+on_asks (ready.Link link) (Wait until listed answer) on given = absurd on
+on_asks at (Accept slot answer) on given = tt
+on_asks at (Connect to answer) on given = tt
+on_asks at (Ask link answer) on given = tt
+on_asks at (Read link room answer bytes) on given = tt
+on_asks at (Write link bytes answer) on given = tt
+on_asks at (Finish link) on given = tt
+on_asks at (Close link) on given = tt
+
+write_asks : (link : ℕ) (bytes : List ℕ) (answer : WriteAnswer) → AskCall (Write link bytes answer)
+write_asks link bytes answer given = tt
+
 then_goes : {C : Type 0} (face : Face C) (conns : ℕ) (R Q : Around C → List Step → Around C → Type 0)
-    → ((a : Around C) (l : List Step) (b : Around C) → R a l b → Goes face conns a l b)
-    → ((a : Around C) (l : List Step) (b : Around C) → Q a l b → Goes face conns a l b)
-    → (a : Around C) (l : List Step) (b : Around C) → Then R Q a l b → Goes face conns a l b
-then_goes face conns R Q r q a l b t =
-    let one = r a t.1 t.0 t.4 in
-    let two = q t.0 t.2 b t.5 in
-    subst (λ (x : List Step). Goes face conns a x b) (sym t.3)
-    (walks_append face conns t.1 t.2 a t.0 b one.0 two.0, all_append IsAsk t.1 t.2 one.1 two.1)
+    → Covers R (Goes face conns) → Covers Q (Goes face conns) → Covers (Then R Q) (Goes face conns)
+then_goes face conns = then_along face conns AskCall (Goes face conns) (goes face conns)
 
-none_goes : {C : Type 0} (face : Face C) (conns : ℕ) (a : Around C) (l : List Step) (b : Around C) → l ≡ [] → b ≡ a → Goes face conns a l b
-none_goes face conns a l b none same = subst (λ (x : List Step). Goes face conns a x b) (sym none) (same, tt)
+not_goes : {C : Type 0} (face : Face C) (conns : ℕ) (why : Around C → Type 0) → Covers (NotAsked why) (Goes face conns)
+not_goes face conns = not_along face conns AskCall (Goes face conns) (goes face conns)
 
-pub step_goes : {C : Type 0} (face : Face C) (conns : ℕ) (a : Around C) (l : List Step) (b : Around C) (x : Step) → l ≡ x ∷ []
-    → Takes face conns a x b → IsAsk x → Goes face conns a l b
-step_goes face conns a l b x is takes asks = subst (λ (y : List Step). Goes face conns a y b) (sym is) ((b, takes, refl), (asks, tt))
-
-not_goes : {C : Type 0} (face : Face C) (conns : ℕ) (why : Around C → Type 0) (a : Around C) (l : List Step) (b : Around C)
-    → NotAsked why a l b → Goes face conns a l b
-not_goes face conns why a l b it = none_goes face conns a l b it.none it.same
-
-on_asks : (at : ReadyAt) (call : Call) (given : Option Given) → IsOn at call → IsAsk (Asks call given)
-on_asks at (Listen slot to answer) given on = tt
-on_asks (ready.Listener slot) (Wait until listed answer) given on = absurd on
-on_asks (ready.Link link) (Wait until listed answer) given on = absurd on
-on_asks at (Accept slot answer) given on = tt
-on_asks at (Connect to answer) given on = tt
-on_asks at (Ask link answer) given on = tt
-on_asks at (Read link room answer bytes) given on = tt
-on_asks at (Write link bytes answer) given on = tt
-on_asks at (Finish link) given on = tt
-on_asks at (Close link) given on = tt
-
-call_goes : {C : Type 0} (face : Face C) (conns : ℕ) (at : ReadyAt) (over : Bool) (a : Around C) (l : List Step) (b : Around C)
-    → OneCall face conns at over a l b → Goes face conns a l b
-call_goes face conns at over a l b it = step_goes face conns a l b _ it.steps_are it.calls (on_asks at it.call it.given it.on)
-
-pub asked_goes : {C : Type 0} (face : Face C) (conns : ℕ) (at : ReadyAt) (o : Asked) (a : Around C) (l : List Step) (b : Around C)
-    → AskedOnce face conns at o a l b → Goes face conns a l b
-asked_goes face conns at is.Again a l b it = call_goes face conns at false a l b it
-asked_goes face conns at is.Stays a l b it = not_goes face conns _ a l b it
-asked_goes face conns at is.Over a l b (inl it) = call_goes face conns at true a l b it
-asked_goes face conns at is.Over a l b (inr it) = not_goes face conns _ a l b it
+pub asked_goes : {C : Type 0} (face : Face C) (conns : ℕ) (at : ReadyAt) (o : Asked) → Covers (AskedOnce face conns at o) (Goes face conns)
+asked_goes face conns = asked_along face conns AskCall (Goes face conns) (goes face conns) on_asks
 
 pub often_goes : {C : Type 0} (face : Face C) (conns : ℕ) (Once : Asked → Around C → List Step → Around C → Type 0)
-    → ((o : Asked) (a : Around C) (l : List Step) (b : Around C) → Once o a l b → Goes face conns a l b)
-    → (n : ℕ) (a : Around C) (l : List Step) (b : Around C) → GaveOften Once n a l b → Goes face conns a l b
-often_goes face conns Once once zero a l b it = none_goes face conns a l b it.0 it.1
-often_goes face conns Once once (suc n) a l b it =
-    then_goes face conns (GaveOften Once n) (Once is.Again) (often_goes face conns Once once n) (once is.Again) a l b it
+    → ((o : Asked) → Covers (Once o) (Goes face conns)) → (n : ℕ) → Covers (GaveOften Once n) (Goes face conns)
+often_goes face conns = often_along face conns AskCall (Goes face conns) (goes face conns)
 
-last_goes : {C : Type 0} (face : Face C) (conns : ℕ) (Once : Asked → Around C → List Step → Around C → Type 0)
-    → ((o : Asked) (a : Around C) (l : List Step) (b : Around C) → Once o a l b → Goes face conns a l b)
-    → (often times : ℕ) (stays : Bool) (a : Around C) (l : List Step) (b : Around C) → TriedLast Once often times stays a l b → Goes face conns a l b
-last_goes face conns Once once often times true a l b (inl it) = once is.Stays a l b it
-last_goes face conns Once once often times true a l b (inr it) = not_goes face conns _ a l b it
-last_goes face conns Once once often times false a l b it = once is.Over a l b it
+pub wrote_goes : {C : Type 0} (face : Face C) (conns c : ℕ) (side : Side) (o : Asked) → Covers (WroteOnce face conns c side o) (Goes face conns)
+wrote_goes face conns = wrote_along face conns AskCall (Goes face conns) (goes face conns) write_asks
 
-tried_goes : {C : Type 0} (face : Face C) (conns : ℕ) (Once : Asked → Around C → List Step → Around C → Type 0)
-    → ((o : Asked) (a : Around C) (l : List Step) (b : Around C) → Once o a l b → Goes face conns a l b)
-    → (times : ℕ) (stays : Bool) (a : Around C) (l : List Step) (b : Around C) → Tried Once times stays a l b → Goes face conns a l b
-tried_goes face conns Once once times stays a l b it =
-    then_goes face conns (GaveOften Once it.often) (TriedLast Once it.often times stays) (often_goes face conns Once once it.often)
-    (last_goes face conns Once once it.often times stays) a l b it.tries
-
-pub each_goes : {C : Type 0} (face : Face C) (conns : ℕ) (At : ℕ → Bool → Around C → List Step → Around C → Type 0)
-    → ((n : ℕ) (s : Bool) (a : Around C) (l : List Step) (b : Around C) → At n s a l b → Goes face conns a l b)
-    → (order stay : List ℕ) (a : Around C) (l : List Step) (b : Around C) → Each At order stay a l b → Goes face conns a l b
-each_goes face conns At at [] stay a l b it = none_goes face conns a l b it.1 it.2
-each_goes face conns At at (n ∷ order) stay a l b it =
-    then_goes face conns (At n it.0) (Each At order it.1) (at n it.0) (each_goes face conns At at order it.1) a l b it.3
-
-write_goes : {C : Type 0} (face : Face C) (conns c : ℕ) (side : Side) (o : Asked) (a : Around C) (l : List Step) (b : Around C)
-    → OneWrite face conns c side o a l b → Goes face conns a l b
-write_goes face conns c side o a l b it = step_goes face conns a l b _ it.steps_are it.calls tt
-
-pub wrote_goes : {C : Type 0} (face : Face C) (conns c : ℕ) (side : Side) (o : Asked) (a : Around C) (l : List Step) (b : Around C)
-    → WroteOnce face conns c side o a l b → Goes face conns a l b
-wrote_goes face conns c side is.Again a l b it = write_goes face conns c side is.Again a l b it
-wrote_goes face conns c side is.Stays a l b it = write_goes face conns c side is.Stays a l b it
-wrote_goes face conns c side is.Over a l b (inl it) = write_goes face conns c side is.Over a l b it
-wrote_goes face conns c side is.Over a l b (inr it) = not_goes face conns _ a l b it
-
-pub side_goes : {C : Type 0} (face : Face C) (conns c : ℕ) (side : Side) (stays : Bool) (a : Around C) (l : List Step) (b : Around C)
-    → Wrote face conns c side stays a l b → Goes face conns a l b
-side_goes face conns c side stays a l b it =
-    tried_goes face conns (WroteOnce face conns c side) (wrote_goes face conns c side) _ stays a l b it.tried
-
-both_goes : {C : Type 0} (face : Face C) (conns c : ℕ) (stays : Bool) (a : Around C) (l : List Step) (b : Around C)
-    → WritesAt face conns c stays a l b → Goes face conns a l b
-both_goes face conns c stays a l b it =
-    then_goes face conns (Wrote face conns c Client it.client) (Wrote face conns c Server it.server)
-    (side_goes face conns c Client it.client) (side_goes face conns c Server it.server) a l b it.writes
+pub side_goes : {C : Type 0} (face : Face C) (conns c : ℕ) (side : Side) (stays : Bool) → Covers (Wrote face conns c side stays) (Goes face conns)
+side_goes face conns = side_along face conns AskCall (Goes face conns) (goes face conns) write_asks
 
 -- whatever is done with a number
-pub work_goes : {C : Type 0} (face : Face C) (w : Work) (conns n : ℕ) (stays : Bool) (a : Around C) (l : List Step) (b : Around C)
-    → WorkAt face w conns n stays a l b → Goes face conns a l b
-work_goes face work.Listener conns n stays =
-    tried_goes face conns (AskedOnce face conns (ready.Listener n)) (asked_goes face conns (ready.Listener n)) 16 stays
-work_goes face work.Link conns n stays =
-    tried_goes face conns (AskedOnce face conns (ready.Link n)) (asked_goes face conns (ready.Link n)) 4 stays
-work_goes face work.Writer conns n stays = both_goes face conns n stays
+pub work_goes : {C : Type 0} (face : Face C) (w : Work) (conns n : ℕ) (stays : Bool) → Covers (WorkAt face w conns n stays) (Goes face conns)
+work_goes face work.Listener conns = listener_along face conns AskCall (Goes face conns) (goes face conns) on_asks
+work_goes face work.Link conns = link_along face conns AskCall (Goes face conns) (goes face conns) on_asks
+work_goes face work.Writer conns = both_along face conns AskCall (Goes face conns) (goes face conns) write_asks
 
 run_asks : (e : Event) → (e ≡ event.Run) ⊎ (e ≡ event.Turn) → (g : Given) → g.event ≡ e → IsAsk (Own g)
 run_asks e is g same = subst (λ (x : Event). (x ≡ event.Run) ⊎ (x ≡ event.Turn)) (sym same) is
@@ -189,7 +140,8 @@ pair_goes face conns before after a l b it =
 
 pub pairs_goes : {C : Type 0} (face : Face C) (conns n : ℕ) (before after : List ℕ) (a : Around C) (l : List Step) (b : Around C)
     → GavePairs face n before after a l b → Goes face conns a l b
-pairs_goes face conns zero before after a l b it = none_goes face conns a l b it.1.0 it.1.1
+pairs_goes face conns zero before after a l b it =
+    none_along face conns AskCall (Goes face conns) (goes face conns) a l b it.1.0 it.1.1
 pairs_goes face conns (suc n) before after a l b it =
     then_goes face conns (GavePairs face n before it.0) (OnePair face it.0 after) (pairs_goes face conns n before it.0)
     (pair_goes face conns it.0 after) a l b it.1
@@ -209,7 +161,7 @@ ran_goes face conns times ready before after a l b it =
 
 pub all_goes : {C : Type 0} (face : Face C) (w : Work) (conns : ℕ) (order stay : List ℕ) (a : Around C) (l : List Step) (b : Around C)
     → Each (WorkAt face w conns) order stay a l b → Goes face conns a l b
-all_goes face w conns = each_goes face conns (WorkAt face w conns) (work_goes face w conns)
+all_goes face w conns = each_along face conns AskCall (Goes face conns) (goes face conns) (WorkAt face w conns) (work_goes face w conns)
 
 asks_goes : {C : Type 0} (face : Face C) (r : Round) (conns : ℕ) (a : Around C) (l : List Step) (b : Around C) → AsksAll face r conns a l b
     → Goes face conns a l b

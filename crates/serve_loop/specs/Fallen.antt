@@ -15,7 +15,7 @@ use Rattle.core_events.specs.Face.{Face}
 use Rattle.serve_loop.specs.Faults.{fault_of, is_not_net}
 use Rattle.serve_loop.specs.Part.{Ready, stand}
 use Rattle.serve_loop.specs.Server.{Round, BeginsAt, Rounds}
-use Rattle.serve_loop.specs.Server.{Running, Turns, Behind, Walked, ListensTo}
+use Rattle.serve_loop.specs.Server.{Running, Turns, Behind, Walked, AsksInTurns, ListensTo}
 use Rattle.serve_loop.specs.Turn.{Ticks, TicksAndWaits, IsUntil, tick_limit}
 use Rattle.serve_loop.specs.Walk.{Around, Step, text_in}
 
@@ -126,6 +126,7 @@ pub record Stopped {C S T : Type 0} (face : Face C) (did : S → Call → S → 
   pub turned : Turns face did gave ticked made old mid
   pub behind : Behind face made mid.server.serving
   pub walked : Walked face did gave old mid
+  pub asks_pending : AsksInTurns face did gave made old mid
   pub fell : Fell face did gave ticked why mid new
   pub all : WalkedSome face did gave why old new
 

@@ -13,4 +13,5 @@ pub mod Running
 pub mod Turn
 pub mod Broken
 pub mod Fallen
+pub mod Pending
 pub mod Server

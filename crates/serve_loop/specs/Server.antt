@@ -1,6 +1,8 @@
 -- What a server does in a turn, and in a run of turns.
 use Rattle.std.specs.Prelude.{◌≡◌, ◌⊎◌, ℕ, ◌<◌, ◌≤◌, zero, suc, List, [], ◌∷◌, ◌++◌}
 use Rattle.std.specs.Prelude.{Bool, true, false, Option, Some, None, Ok}
+use Rattle.std.specs.List.{AllByRecursion, list_any}
+use Rattle.px_bytes.specs.declared.addr.Side.{Side}
 use Rattle.px_outside.specs.declared.answers.ReadyAt.{ReadyAt}
 use Rattle.px_outside.specs.Net.{Call, Chain, Listen}
 use Rattle.serve_loop.specs.Added.{added}
@@ -14,6 +16,7 @@ use Rattle.serve_loop.specs.Events.{Grew}
 use Rattle.core_events.specs.Face.{Face}
 use Rattle.serve_loop.specs.Often.{Each}
 use Rattle.serve_loop.specs.Part.{Made, Part, Ready, stand}
+use Rattle.serve_loop.specs.Pending.{AllAmong, IsWrite, PendingOn, SendsInRuns, takes_no_more}
 use Rattle.serve_loop.specs.Running.{Ran}
 use Rattle.serve_loop.specs.Turn.{TicksAndWaits, CanAccept, listed_slots, listed_links, due_now}
 use Rattle.serve_loop.specs.Turn.{ListenerAt, LinkAt, WritesAt}
@@ -164,12 +167,43 @@ Walked face did gave old new =
     → Done face did gave (Walks face old.server.serving.conns) old.server.serving new.server.serving
     old.net new.net old.written new.written
 
+-- A turn ends with writes, behind all events of its own. Each link that is open then and to which
+-- something is pending still was asked in these writes until it took no more: to any other that had
+-- something pending all was written, or it was reset or closed.
+pub record AsksPending {C : Type 0} (face : Face C) (r : Round) (conns : ℕ) (a : Around C)
+    (steps : List Step) (b : Around C) : Type 0 where
+  pub rounds : Rounds face r conns a steps b
+  pub before : List Step
+  pub writes : List Step
+  pub steps_are : steps ≡ before ++ writes
+  pub writes_alone : AllByRecursion IsWrite writes
+  pub asked : (c : ℕ) (side : Side) (link : ℕ) → PendingOn face b c side link
+      → list_any (takes_no_more link) writes ≡ true
+
+-- each turn did so
+abbrev pub TurnsAsk : {C S T : Type 0} → Face C → (S → Call → S → Type 0) → (S → ℕ → Type 0) → ℕ
+    → Running C S T → Running C S T → Type 0
+TurnsAsk face did gave zero old new = new ≡ old
+TurnsAsk {C} {S} {T} face did gave (suc n) old new = (mid : Running C S T)
+    × TurnsAsk face did gave n old mid
+    × ((round : Round) × Made face did gave (AsksPending face round mid.server.serving.conns)
+    (stand mid.server.serving) (stand new.server.serving) mid.net new.net)
+
+-- where a server began ready, no line waited, and all were known on which something was pending
+abbrev pub AsksInTurns : {C S T : Type 0} → Face C → (S → Call → S → Type 0) → (S → ℕ → Type 0)
+    → ℕ → Running C S T → Running C S T → Type 0
+AsksInTurns face did gave n old new = SendsInRuns face
+    → Ready face (gave old.net) (stand old.server.serving) → old.server.serving.journal.text ≡ []
+    → AllAmong face (stand old.server.serving) old.server.writers
+    → TurnsAsk face did gave n old new
+
 pub record Served {C S T : Type 0} (face : Face C) (did : S → Call → S → Type 0)
     (gave : S → ℕ → Type 0) (ticked : T → ℕ → T → Type 0) (turns : ℕ) (old new : Running C S T)
     (end : ServeEnd) : Type 0 where
   pub made : ℕ
   pub turned : Turns face did gave ticked made old new
   pub walked : Walked face did gave old new
+  pub asks_pending : AsksInTurns face did gave made old new
   pub ends : EndsAs face turns made new.server.serving end
 
 -- a listener for each virtual server that has an address

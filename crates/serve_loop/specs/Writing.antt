@@ -3,7 +3,8 @@ use Rattle.std.specs.Prelude.{◌≡◌, ◌⊎◌, ℕ, ◌+◌, List, [], ◌�
 use Rattle.px_bytes.specs.declared.addr.Side.{Side}
 use Rattle.px_outside.specs.declared.answers.WriteAnswer.{WriteAnswer}
 use Rattle.px_outside.specs.declared.answers.WriteAnswer.TheVariants as write
-use Rattle.px_outside.specs.Net.{Write}
+use Rattle.px_outside.specs.Net.{Write, WritesWithin}
+use Rattle.serve_loop.specs.Events.{write_event}
 use Rattle.serve_loop.specs.Links.{link_in}
 use Rattle.serve_loop.specs.declared.asked.Asked.{Asked}
 use Rattle.serve_loop.specs.declared.asked.Asked.TheVariants as is
@@ -27,8 +28,10 @@ pub record OneWrite {C : Type 0} (face : Face C) (conns c : ℕ) (side : Side) (
   pub steps_are : steps ≡ Asks (Write link bytes answer) given ∷ []
   pub linked : link_in a.links c side ≡ Some link
   pub queued : face.queue a.core c side bytes
+  pub within : WritesWithin (length bytes) answer
   pub asked_is : asked_of answer ≡ asked
   pub calls : Calls face conns a (Write link bytes answer) given b
+  pub becomes : calls.event ≡ write_event c side answer
 
 -- the side has no link, or nothing is pending to it
 abbrev pub NothingToWrite : {C : Type 0} → Face C → ℕ → Side → Around C → Type 0

@@ -43,7 +43,7 @@ use Rattle.proxy_core.specs.Face.{core_face}
 use Rattle.served_core.proofs.Growing.{took_in}
 use Rattle.served_core.proofs.ServerGrowing.{server_in}
 
-no_byte : (bytes : List ℕ) → bytes ≡ [] → 0 < length bytes → ⊥
+pub no_byte : (bytes : List ℕ) → bytes ≡ [] → 0 < length bytes → ⊥
 no_byte bytes e some = let n : length bytes ≡ 0 = ap length e in omega (arith, some, n)
 
 queued_by : (opened live reset : Bool) (t : ℕ) (out bytes : List ℕ)
@@ -96,7 +96,7 @@ in_side Client c v = took_in c v
 in_side Server c v = server_in c v
 
 -- what is pending is what was sent and not taken
-queued : (C : Config) (past : Past) (s : State) (core : Core) (c : ℕ) (side : Side) (bytes : List ℕ) → Represents C past s core
+pub queued : (C : Config) (past : Past) (s : State) (core : Core) (c : ℕ) (side : Side) (bytes : List ℕ) → Represents C past s core
     → bytes ≡ to_write past s c side → 0 < length bytes → bytes ≡ untaken past s side c
 queued C past s core c Client bytes r e some =
     queued_by (on_edge (edges_of past c) Client may_take) (is_in (shared past).live c) (heard c past).client.reset (heard c past).client.took

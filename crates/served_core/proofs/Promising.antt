@@ -23,13 +23,14 @@ use Rattle.proxy_core.proofs.Promises.{every_past_matches}
 use Rattle.serve_loop.specs.declared.links.Links.{Links}
 use Rattle.serve_loop.specs.declared.link_owner.LinkOwner.{LinkOwner}
 use Rattle.serve_loop.specs.Part.{stand, Ready}
-use Rattle.serve_loop.specs.Server.{Running, Walked}
+use Rattle.serve_loop.specs.Server.{AsksInTurns, Running, TurnsAsk, Walked}
 use Rattle.serve_loop.specs.Walk.{Around, Given, Step, Own, Asked, Gives, Becomes, IsOwn, MayCall, Walks}
 use Rattle.serve_loop.specs.Faults.{FromNetOrSink}
 use Rattle.serve_loop.specs.declared.fault.ServeEnd.{ServeEnd}
 use Rattle.serve_loop.specs.declared.fault.ServeFault.{ServeFault}
 use Rattle.serve_loop.proofs.Failing.{either_later}
 use Rattle.served_core.proofs.Growing.{fits, grows, heard_took, one_more, took_in}
+use Rattle.served_core.proofs.SendsInRuns.{core_sends_in_runs}
 use Rattle.served_core.proofs.ServerGrowing.{first_made, server_fits, server_heard, server_in}
 use Rattle.served_core.proofs.Pieces.{PiecesAre, call_pieces, own_pieces, taken, told_pieces}
 use Rattle.served_core.specs.Pieces.{piece_of, pieces_of}
@@ -169,6 +170,17 @@ kept {gave = gave} {C} {conns} start clock before new walked =
     let past = walks_past C conns steps [] (λ side c. []) (stand first) (stand last) walks
     (record { state = no_connections; represents = here.0; each = none_taken }) in
     record { steps = steps; chain = done.made.chain; walks = walks; written = done.told; keeps = keeps_by C steps last.core past }
+
+none_linked : (link : ℕ) → None ≡ Some link → ⊥
+none_linked link e = cc
+
+-- what is pending was asked for in each turn, since nothing is when it begins
+pub asked : {S T : Type 0} {did : S → Call → S → Type 0} {gave : S → ℕ → Type 0} {C : Config} {conns : ℕ} {net : S} (start : Starts did C conns net)
+    (clock : T) (before : Option (List ℕ)) (new : Running Core S T) (n : ℕ) → AsksInTurns core_face did gave n (started start clock before) new
+    → TurnsAsk core_face did gave n (started start clock before) new
+asked {gave = gave} start clock before new n asks =
+    let here = begins_with (gave start.begun) start in
+    asks core_sends_in_runs here.1 start.begins.no_line_waits (λ c side link p. absurd (none_linked link (sym (start.begins.no_link.link c side) ∙ p.linked)))
 
 -- a fault's cause, where neither count fell before
 pub fails_later : (b m n c o d : ℕ) (r : Result ServeEnd ServeFault) → b ≤ m → c ≤ o → IfErr r (FromNetOrSink m n o d) → IfErr r (FromNetOrSink b n c d)

@@ -18,7 +18,7 @@ use Rattle.serve_loop.specs.Part.{stand}
 use Rattle.serve_loop.specs.Walk.{Given, Step, Own, Asked, Walks, calls_in, text_in}
 use Rattle.serve_loop.specs.Broken.{steps_of}
 use Rattle.serve_loop.specs.Fallen.{DoneSome, ListensSome, Stopped}
-use Rattle.serve_loop.specs.Server.{Begins, Running, Served as IsServed, running}
+use Rattle.serve_loop.specs.Server.{Begins, Running, Served as IsServed, TurnsAsk, running}
 use Rattle.serve_loop.specs.declared.fault.ServeEnd.{ServeEnd}
 use Rattle.serve_loop.specs.declared.fault.ServeFault.{ServeFault}
 use Rattle.serve_loop.specs.declared.fault.ServeFault.TheVariants as fault
@@ -116,6 +116,7 @@ pub record ServedSome {S T : Type 0} (did : S → Call → S → Type 0) (gave :
   pub stopped : Stopped core_face did gave ticked turns (started start clock before)
       (running last net' clock' after) why
   pub events : ServedEvents did C conns (started start clock before) stopped.mid
+  pub asks_pending : TurnsAsk core_face did gave stopped.made (started start clock before) stopped.mid
   pub all_events : EventsSome did gave C why (started start clock before)
       (running last net' clock' after)
 
@@ -137,4 +138,6 @@ pub record ServesConfig {S T : Type 0} (did : S → Call → S → Type 0) (gave
   pub served : IsServed core_face did gave ticked turns (started start clock before)
       (running last net' clock' after) end
   pub events : ServedEvents did C conns (started start clock before)
+      (running last net' clock' after)
+  pub asks_pending : TurnsAsk core_face did gave served.made (started start clock before)
       (running last net' clock' after)

@@ -3,6 +3,7 @@ use Rattle.serve_loop.specs.Server.{running}
 use Rattle.serve_loop.proofs.Turning.{turns_next}
 use Rattle.serve_loop.proofs.Ending.{turns_walk, goes_on, ends_over, behind_next}
 use Rattle.serve_loop.proofs.Exits.{at_fault}
+use Rattle.serve_loop.proofs.PendingTurns.{turns_ask}
 use Rattle.serve_loop.proofs.Stopping.{walked_some}
 use Rattle.serve_loop.proofs.turns.serve.Goals as goal
 
@@ -41,6 +42,7 @@ returns-then-is_over-clause-served g c =
       made = c.loop-turn.turn + 1;
       turned = turned;
       walked = turns_walk face g.N.Net.did g.N.Net.gave g.T.Clock.gave (c.loop-turn.turn + 1) old new turned;
+      asks_pending = turns_ask face g.N.Net.did g.N.Net.gave g.T.Clock.gave (c.loop-turn.turn + 1) old new turned;
       ends = (some, (within, ends_over face c.turn.new.self.serving c.is_over.result c.if-is_over.true c.is_over.ensures));
     }
 
@@ -53,6 +55,7 @@ returns-clause-served g c =
       made = c.loop-turn.turn;
       turned = c.loop-turn.invariant.0;
       walked = turns_walk g.C.Core.face g.N.Net.did g.N.Net.gave g.T.Clock.gave c.loop-turn.turn old mid c.loop-turn.invariant.0;
+      asks_pending = turns_ask g.C.Core.face g.N.Net.did g.N.Net.gave g.T.Clock.gave c.loop-turn.turn old mid c.loop-turn.invariant.0;
       ends = (all, c.loop-turn.invariant.1.0);
     }
 
@@ -70,6 +73,7 @@ returns-in_err-turn-clause-stopped g c =
       turned = c.loop-turn.invariant.0;
       behind = c.loop-turn.invariant.1.0;
       walked = walked;
+      asks_pending = turns_ask g.C.Core.face g.N.Net.did g.N.Net.gave g.T.Clock.gave c.loop-turn.turn old mid c.loop-turn.invariant.0;
       fell = c.in_err-turn.ensures.fell;
       all = walked_some g.C.Core.face g.N.Net.did g.N.Net.gave why old mid new walked (λ s none. (c.in_err-turn.ensures.fell.turn s none).done);
     })

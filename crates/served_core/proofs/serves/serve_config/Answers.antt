@@ -10,7 +10,7 @@ use Rattle.serve_loop.specs.declared.fault.ServeFault.TheVariants.{Memory as Out
 use Rattle.proxy_core.specs.Face.{core_face}
 use Rattle.served_core.specs.Serves.{Starts, WroteSome}
 use Rattle.served_core.proofs.Breaking.{kept_some, never_net}
-use Rattle.served_core.proofs.Promising.{fails_later, kept}
+use Rattle.served_core.proofs.Promising.{asked, fails_later, kept}
 use Rattle.serve_loop.proofs.Ending.{told_nothing}
 use Rattle.serve_loop.proofs.Exits.{at_fault}
 use Rattle.record_model.specs.Setup.{init_notes}
@@ -49,6 +49,7 @@ returns-clause-serves g c =
       last = c.serve-ended.new.server;
       served = served;
       events = kept start c.args.clock.now before _ served.walked;
+      asks_pending = asked start c.args.clock.now before _ served.made served.asks_pending;
     }) c.serve-ended.ensures.served
 
 pub returns-clause-fails : goal.returns-clause-fails
@@ -117,5 +118,6 @@ returns-clause-stopped g c =
       last = c.serve-ended.new.server;
       stopped = stopped;
       events = kept start c.args.clock.now before stopped.mid stopped.walked;
+      asks_pending = asked start c.args.clock.now before stopped.mid stopped.made stopped.asks_pending;
       all_events = kept_some start c.args.clock.now before _ stopped.all;
     })) c.serve-ended.ensures.stopped

@@ -1,4 +1,4 @@
-use Rattle.std.proofs.Common.{◌<◌, length, inl, inr, sym, refl}
+use Rattle.std.proofs.Common.{◌<◌, length, Some, None, inl, inr, sym, refl}
 use Rattle.px_outside.specs.Net.{Write}
 use Rattle.serve_loop.proofs.Fresh.{once_none, owners_same}
 use Rattle.serve_loop.proofs.Calling.{call_quiet, call_heard, nothing_to_write, part_wrote, takes_write, is_nothing, is_some}
@@ -23,7 +23,7 @@ returns-in-None-clause-part g c =
     let linked = sym c.in-Some.ensures in
     let queued = c.front-bytes.ensures.queue in
     rw c.asked_of.ensures
-    (part_wrote c.args.conn c.args.side c.in-Some.link bytes c.write-answer.result linked queued
+    (part_wrote c.args.conn c.args.side c.in-Some.link bytes c.write-answer.result None linked queued c.write-answer.ensures.within c.in-None.ensures
     (call_quiet c.args.self.now c.args.net.now c.write-answer.new.self (Write c.in-Some.link bytes c.write-answer.result)
     c.write-answer.ensures.did (once_none c.write-answer.ensures.lasts.given)
     (record { conn = c.args.conn; side = c.args.side; linked = linked; queued = queued; some = some; becomes = c.in-None.ensures }) refl))
@@ -37,7 +37,8 @@ returns-in_ok-give-in-Some-write_to_event-clause-part g c =
     let event = c.in-Some-write_to_event.ensures in
     let lasts = c.write-answer.ensures.lasts.given in
     rw c.asked_of-in-Some-write_to_event.ensures
-    (part_wrote c.args.conn c.args.side c.in-Some.link bytes c.write-answer.result linked queued
+    (part_wrote c.args.conn c.args.side c.in-Some.link bytes c.write-answer.result (Some c.in-Some-write_to_event.event) linked queued
+    c.write-answer.ensures.within event
     (call_heard c.args.self.now c.args.self.now.links c.give.new.self c.args.net.now c.write-answer.new.self c.give.new.net
     (Write c.in-Some.link bytes c.write-answer.result) c.in-Some-write_to_event.event c.write-answer.ensures.did (once_none lasts)
     (owners_same _ c.args.self.now.links) (λ known l r e. lasts l (known l r e))
