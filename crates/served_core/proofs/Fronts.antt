@@ -15,7 +15,7 @@ use Rattle.conn_trace.specs.Heard.{edges_met}
 use Rattle.proxy_core.specs.Asked.{edges_of, queue_at}
 use Rattle.conn.specs.declared.connection.Conn.{Conn}
 use Rattle.proxy_core.specs.Live.{edges_in, pending_in}
-use Rattle.proxy_core.specs.Past.{Past, without_all}
+use Rattle.record_model.specs.Past.{Past, without_all}
 use Rattle.proxy_core.specs.Queries.{queue_on}
 use Rattle.proxy_core.specs.Questions.{on_edge, to_write}
 use Rattle.proxy_core.specs.Ready.{is_in, without}
@@ -23,7 +23,7 @@ use Rattle.proxy_core.specs.Refusals.{live_at}
 use Rattle.proxy_core.specs.Represents.{AgreesAt, Represents}
 use Rattle.proxy_core.specs.Scheduler.{State, Seen, seen, untaken_of}
 use Rattle.proxy_core.specs.Sound.{Served}
-use Rattle.proxy_core.specs.declared.config.Config.{Config}
+use Rattle.run_config.specs.declared.config.Config.{Config}
 use Rattle.proxy_core.specs.declared.core_state.Core.{Core}
 use Rattle.proxy_core.specs.declared.live.Live.{Live}
 use Rattle.proxy_core.proofs.Asked.{edges_same, queue_told}

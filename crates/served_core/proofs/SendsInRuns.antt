@@ -32,20 +32,20 @@ use Rattle.conn_trace.specs.Trace.{next_item}
 use Rattle.proxy_core.specs.Asked.{queue_at}
 use Rattle.proxy_core.specs.Face.{Stands, core_face}
 use Rattle.proxy_core.specs.Headline.{OpenCounts}
-use Rattle.proxy_core.specs.History.{store_of}
+use Rattle.record_model.specs.History.{store_of}
 use Rattle.proxy_core.specs.Moves.{Moves, MovesBy, MovesFailed, MovesLacks, MovesOn, MovesQueue, MovesRing}
 use Rattle.proxy_core.specs.Others.{about, front}
-use Rattle.proxy_core.specs.Past.{Happened, Past, ended_in, heard, shared, without_all, with_accepted}
+use Rattle.record_model.specs.Past.{Happened, Past, ended_in, heard, shared, without_all, with_accepted}
 use Rattle.proxy_core.specs.Questions.{to_write}
 use Rattle.proxy_core.specs.Ready.{is_in}
 use Rattle.proxy_core.specs.Refusal.{refused}
 use Rattle.proxy_core.specs.Represents.{Represents}
 use Rattle.proxy_core.specs.Scheduler.{State, Seen, last_took, pending, seen, untaken_all}
 use Rattle.proxy_core.specs.Servers.{last_reset}
-use Rattle.proxy_core.specs.Setup.{setup_of, stand_of}
+use Rattle.record_model.specs.Setup.{setup_of, stand_of}
 use Rattle.proxy_core.specs.Steps.{StandsAfter}
 use Rattle.proxy_core.specs.declared.call.Asked.{Asked}
-use Rattle.proxy_core.specs.declared.config.Config.{Config}
+use Rattle.run_config.specs.declared.config.Config.{Config}
 use Rattle.proxy_core.specs.declared.core_state.Core.{Core}
 use Rattle.proxy_core.proofs.Framing.{only_changed, touches}
 use Rattle.proxy_core.proofs.GroupNotes.{About, AreDue, IsDue, settling_due}
