@@ -175,10 +175,10 @@ none_linked : (link : ℕ) → None ≡ Some link → ⊥
 none_linked link e = cc
 
 -- what is pending was asked for in each turn, since nothing is when it begins
-pub asked : {S T : Type 0} {did : S → Call → S → Type 0} {gave : S → ℕ → Type 0} {C : Config} {conns : ℕ} {net : S} (start : Starts did C conns net)
+pub asked : {S T : Type 0} {did : S → Call → S → Type 0} {C : Config} {conns : ℕ} {net : S} (gave : S → ℕ → Type 0) (start : Starts did C conns net)
     (clock : T) (before : Option (List ℕ)) (new : Running Core S T) (n : ℕ) → AsksInTurns core_face did gave n (started start clock before) new
     → TurnsAsk core_face did gave n (started start clock before) new
-asked {gave = gave} start clock before new n asks =
+asked gave start clock before new n asks =
     let here = begins_with (gave start.begun) start in
     asks core_sends_in_runs here.1 start.begins.no_line_waits (λ c side link p. absurd (none_linked link (sym (start.begins.no_link.link c side) ∙ p.linked)))
 

@@ -49,7 +49,7 @@ returns-clause-serves g c =
       last = c.serve-ended.new.server;
       served = served;
       events = kept start c.args.clock.now before _ served.walked;
-      asks_pending = asked start c.args.clock.now before _ served.made served.asks_pending;
+      asks_pending = asked g.N.Net.gave start c.args.clock.now before _ served.made served.asks_pending;
     }) c.serve-ended.ensures.served
 
 pub returns-clause-fails : goal.returns-clause-fails
@@ -118,6 +118,6 @@ returns-clause-stopped g c =
       last = c.serve-ended.new.server;
       stopped = stopped;
       events = kept start c.args.clock.now before stopped.mid stopped.walked;
-      asks_pending = asked start c.args.clock.now before stopped.mid stopped.made stopped.asks_pending;
+      asks_pending = asked g.N.Net.gave start c.args.clock.now before stopped.mid stopped.made stopped.asks_pending;
       all_events = kept_some start c.args.clock.now before _ stopped.all;
     })) c.serve-ended.ensures.stopped
