@@ -6,6 +6,7 @@ mod Fitting
 mod Found
 mod Items
 mod LineEnds
+mod Marks
 mod MayBeMembers
 mod MisplacedWords
 mod OneReading

@@ -18,15 +18,16 @@ use Rattle.config.specs.Outcomes.{Configures}
 use Rattle.config.specs.Texts.{text_in}
 use Rattle.config.specs.declared.reader.Config.{Config}
 use Rattle.config.specs.declared.rule_text.LoadedRule.{LoadedRule}
+use Rattle.config.specs.declared.rule_text.RuleText.{RuleText}
 
 same_held : (o : Option (List ℕ)) → IsSome o → (a b : List ℕ) → IfSome o (λ held. a ≡ held) → IfSome o (λ held. b ≡ held) → a ≡ b
 same_held (Some held) some a b one other = one ∙ sym other
 same_held None some a b one other = cc
 
-same_text : (told : List ℕ → Option (List ℕ)) (o : Option (List ℕ)) (file a b : List ℕ) → IsSome (told file) → HasText told o file a → HasText told o file b → a ≡ b
-same_text told (Some held) file a b some one other = one ∙ sym other
+same_text : (told : List ℕ → Option (List ℕ)) (o : Option (List ℕ)) (file : List ℕ) (a b : RuleText) → IsSome (told file) → HasText told o file a → HasText told o file b → a.bytes ≡ b.bytes
+same_text told (Some held) file a b some one other = one.bytes_are ∙ sym other.bytes_are
 same_text told None file a b some one other =
-    one.text ∙ ap without_returns (same_held (told file) some one.held other.held one.contents other.contents) ∙ sym other.text
+    one.bytes_are ∙ ap without_returns (same_held (told file) some one.held other.held one.contents other.contents) ∙ sym other.bytes_are
 
 -- the rule's name is the one that it was loaded under
 name_given : (name : List ℕ) (r : Rule) (says : Result Loaded RuleFault) → ((of : Loaded) → says ≡ Ok of → of.name ≡ name) → Gives (Ok r) says → r.name ≡ name
@@ -42,13 +43,13 @@ unfolding rule_of
 loaded_name name bytes of e = unless_named (told_of (rule_faults (script_of bytes))) (loaded name (all_commands (script_of bytes).0)) of e
 
 rule_named : (told : List ℕ → Option (List ℕ)) (d : Data) (r : LoadedRule) → IsLoaded told d r → r.rule.name ≡ rule_name d
-rule_named told d r is = name_given (rule_name d) r.rule (rule_of (rule_name d) is.bytes) (loaded_name (rule_name d) is.bytes) is.rule.rule
+rule_named told d r is = name_given (rule_name d) r.rule (rule_of (rule_name d) is.text.bytes) (loaded_name (rule_name d) is.text.bytes) is.rule.rule
 
 module _ (told : List ℕ → Option (List ℕ)) (tells : (file : List ℕ) → IsSome (told file)) where
   same_rule : (d : Data) (r s : LoadedRule) → IsLoaded told d r → IsLoaded told d s → named_text r ≡ named_text s
   same_rule d r s one other =
-      let bytes = same_text told (text_in (Some rule_text.name) d) (file_name d) one.bytes other.bytes (tells (file_name d)) one.contents other.contents in
-      ap₂ (λ n t. (n, t)) (rule_named told d r one ∙ sym (rule_named told d s other)) (one.rule.text ∙ bytes ∙ sym other.rule.text)
+      let bytes = same_text told (text_in (Some rule_text.name) d) (file_name d) one.text other.text (tells (file_name d)) one.contents other.contents in
+      ap₂ (λ n t. (n, t)) (rule_named told d r one ∙ sym (rule_named told d s other)) (ap (λ t. t.bytes) one.rule.text_is ∙ bytes ∙ sym (ap (λ t. t.bytes) other.rule.text_is))
 
   same_rules : (ds : Items) (rs ss : List LoadedRule) → AreLoaded told ds rs → AreLoaded told ds ss → map named_text rs ≡ map named_text ss
   same_rules no_items [] [] one other = refl

@@ -2,10 +2,10 @@
 use Rattle.std.proofs.Common.{◌≤◌, ℕ, List, Option, Some, None, inl, inr}
 use Rattle.std.specs.Prelude.{Result, Ok, Err}
 use Rattle.toml.specs.Data.{Members}
-use Rattle.config.specs.Documents.{document_fault, items_at}
+use Rattle.config.specs.Documents.{items_at}
 use Rattle.config.specs.Keys.{rules}
 use Rattle.config.specs.Loading.{IsContents}
-use Rattle.config.specs.Outcomes.{Answers, IsDocument, OfDocument, OfHeld}
+use Rattle.config.specs.Outcomes.{Answers, IsDocument, OfDocument, OfHeld, told_fault}
 use Rattle.config.specs.declared.fault.ConfigFault.{ConfigFault}
 use Rattle.config.specs.declared.fault.ConfigFault.TheVariants as refused
 use Rattle.config.specs.declared.fault.Fault.{Fault}
@@ -23,14 +23,14 @@ module _ (told : List ℕ → Option (List ℕ)) (before mid now : ℕ) (first :
   document_before (Some f) (Err e) is = is
 
   module _ (name bytes : List ℕ) (contents : IsContents told name bytes) (document : IsDocument bytes top) where
-    held : (r : Result Config ConfigFault) → OfDocument told mid now top (document_fault top) r → OfHeld told before now name r
+    held : (r : Result Config ConfigFault) → OfDocument told mid now top (told_fault bytes top) r → OfHeld told before now name r
     held r is = record {
       top = top;
       holds = record { bytes = bytes; contents = contents; document = document };
-      answer = document_before (document_fault top) r is;
+      answer = document_before (told_fault bytes top) r is;
     }
 
-    pub answered : (r : Result Config ConfigFault) → OfDocument told mid now top (document_fault top) r → Answers told before now name r
+    pub answered : (r : Result Config ConfigFault) → OfDocument told mid now top (told_fault bytes top) r → Answers told before now name r
     answered (Ok C) is = held (Ok C) is
     answered (Err refused.Memory) is = tt
     answered (Err (refused.Fault f)) is = inr (inr (held (Err (refused.Fault f)) is))

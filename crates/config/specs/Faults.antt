@@ -15,10 +15,11 @@ number_of WrongKind = 4
 number_of Twice = 5
 number_of NoSuch = 6
 number_of Range = 7
-number_of Rule = 8
+number_of (Rule kind) = 8
 
+-- a fault that its place alone tells
 abbrev pub fault_at : FaultKind → List ℕ → Fault
-fault_at kind place = record { kind = kind; place = place }
+fault_at kind place = record { kind = kind; place = place; spot = None }
 
 -- whether one of this kind is told in place of the one that is told so far
 abbrev pub comes_first : FaultKind → Option Fault → Bool

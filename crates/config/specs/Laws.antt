@@ -28,7 +28,7 @@ FirstIsTold = (faults : List Fault) → MatchOption (told_of faults) (faults ≡
 
 -- a rule as it is seen: its name and its text
 abbrev pub named_text : LoadedRule → List ℕ × List ℕ
-named_text r = (r.rule.name, r.text)
+named_text r = (r.rule.name, r.text.bytes)
 
 -- they say the same, and have the same rules
 pub record AreSame (C D : Config) : Type 0 where

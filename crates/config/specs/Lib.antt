@@ -1,10 +1,12 @@
 pub mod Documents
 pub mod EventWords
+pub mod FaultWords
 pub mod Faults
 pub mod Filled
 pub mod Forms
 pub mod GroupView
 pub mod Groups
+pub mod KeyLines
 pub mod Keys
 pub mod Laws
 pub mod LineEnds
@@ -15,8 +17,10 @@ pub mod Outcomes
 pub mod Places
 pub mod Pools
 pub mod Read
+pub mod RuleFaults
 pub mod Rules
 pub mod Settings
+pub mod Spots
 pub mod Tables
 pub mod Texts
 pub mod Values

@@ -1,8 +1,7 @@
 -- The rules of a document: each has its text in the document or in a file, and its text is loaded.
-use Rattle.std.specs.Prelude.{◌≡◌, ◌⊎◌, ℕ, ◌+◌, true, false, List, [], ◌∷◌, ◌++◌, codes}
-use Rattle.std.specs.Prelude.{decimal, Option, Some, None, IfSome, Ok, Err, ⊤, unwrap_or}
+use Rattle.std.specs.Prelude.{◌≡◌, ◌⊎◌, ℕ, ◌+◌, true, false, List, [], ◌∷◌, Option, Some, None, IfSome}
+use Rattle.std.specs.Prelude.{Ok, Err, ⊤, unwrap_or}
 use Rattle.px_outside.specs.Outside.{Rose}
-use Rattle.rule_loader.specs.Faults.{number_of}
 use Rattle.rule_loader.specs.Loading.{rule_of}
 use Rattle.rule_loader.specs.Outcome.{Gives}
 use Rattle.rule_loader.specs.declared.load_fault.RuleFault.{RuleFault}
@@ -11,12 +10,14 @@ use Rattle.config.specs.EventWords.{misplaced_in}
 use Rattle.config.specs.Faults.{fault_at}
 use Rattle.config.specs.Keys.{name_key, rule_file, rule_text}
 use Rattle.config.specs.LineEnds.{without_returns}
+use Rattle.config.specs.RuleFaults.{rule_fault}
 use Rattle.config.specs.Texts.{text_in}
 use Rattle.config.specs.declared.fault.ConfigFault.{ConfigFault}
 use Rattle.config.specs.declared.fault.ConfigFault.TheVariants as refused
 use Rattle.config.specs.declared.fault.Fault.{Fault}
-use Rattle.config.specs.declared.fault.FaultKind.TheVariants.{ReadFault, Rule}
+use Rattle.config.specs.declared.fault.FaultKind.TheVariants.{ReadFault}
 use Rattle.config.specs.declared.rule_text.LoadedRule.{LoadedRule}
+use Rattle.config.specs.declared.rule_text.RuleText.{RuleText}
 
 -- what is said of a fault; out of memory says nothing
 abbrev pub OfFault : (Fault → Type 0) → ConfigFault → Type 0
@@ -46,51 +47,52 @@ rule_name d = item_text name_key.name d
 abbrev pub file_name : Data → List ℕ
 file_name d = item_text rule_file.name d
 
--- these are the bytes of a rule's file, in which CR LF ends a line as LF does
-pub record IsFileText (told : List ℕ → Option (List ℕ)) (file bytes : List ℕ) : Type 0 where
+-- this is the text of a rule's file, in which CR LF ends a line as LF does
+pub record IsFileText (told : List ℕ → Option (List ℕ)) (file : List ℕ) (text : RuleText)
+    : Type 0 where
   pub held : List ℕ
   pub contents : IsContents told file held
-  pub text : bytes ≡ without_returns held
+  pub file_is : text.file ≡ Some file
+  pub bytes_are : text.bytes ≡ without_returns held
 
-abbrev pub HasText : (List ℕ → Option (List ℕ)) → Option (List ℕ) → List ℕ → List ℕ → Type 0
-HasText told (Some held) file bytes = bytes ≡ held
-HasText told None file bytes = IsFileText told file bytes
+-- this text stands in the document
+pub record IsOwnText (held : List ℕ) (text : RuleText) : Type 0 where
+  pub no_file : text.file ≡ None
+  pub bytes_are : text.bytes ≡ held
+
+abbrev pub HasText : (List ℕ → Option (List ℕ)) → Option (List ℕ) → List ℕ → RuleText → Type 0
+HasText told (Some held) file text = IsOwnText held text
+HasText told None file text = IsFileText told file text
 
 -- its text: that of the document, or that of its file
-abbrev pub IsRuleText : (List ℕ → Option (List ℕ)) → Data → List ℕ → Type 0
-IsRuleText told d bytes = HasText told (text_in (Some rule_text.name) d) (file_name d) bytes
-
--- as `rule[0] load 3 at 5`: the rule's place, and the number and the place of what is wrong
-abbrev pub rule_place : ℕ → ℕ → ℕ → List ℕ
-rule_place at number place =
-    codes "rule[" ++ (decimal at
-    ++ (codes "] load " ++ (decimal number ++ (codes " at " ++ decimal place))))
+abbrev pub IsRuleText : (List ℕ → Option (List ℕ)) → Data → RuleText → Type 0
+IsRuleText told d text = HasText told (text_in (Some rule_text.name) d) (file_name d) text
 
 -- the text can't be loaded
-pub record CantLoad (at : ℕ) (name bytes : List ℕ) (f : Fault) : Type 0 where
+pub record CantLoad (at : ℕ) (name : List ℕ) (text : RuleText) (f : Fault) : Type 0 where
   pub why : RuleFault
-  pub refused : rule_of name bytes ≡ Err why
-  pub fault : f ≡ fault_at Rule (rule_place at (number_of why.kind) why.place)
+  pub refused : rule_of name text.bytes ≡ Err why
+  pub fault : f ≡ rule_fault at why text
 
 -- the rule is that of its name and of this text
-pub record IsRuleOf (name bytes : List ℕ) (r : LoadedRule) : Type 0 where
-  pub text : r.text ≡ bytes
-  pub rule : Gives (Ok r.rule) (rule_of name bytes)
-  pub of_http : r.events.of_http ≡ misplaced_in false bytes
-  pub of_bytes : r.events.of_bytes ≡ misplaced_in true bytes
+pub record IsRuleOf (name : List ℕ) (text : RuleText) (r : LoadedRule) : Type 0 where
+  pub text_is : r.text ≡ text
+  pub rule : Gives (Ok r.rule) (rule_of name text.bytes)
+  pub of_http : r.events.of_http ≡ misplaced_in false text.bytes
+  pub of_bytes : r.events.of_bytes ≡ misplaced_in true text.bytes
 
 -- the item is this rule
 pub record IsLoaded (told : List ℕ → Option (List ℕ)) (d : Data) (r : LoadedRule) : Type 0 where
-  pub bytes : List ℕ
-  pub contents : IsRuleText told d bytes
-  pub rule : IsRuleOf (rule_name d) bytes r
+  pub text : RuleText
+  pub contents : IsRuleText told d text
+  pub rule : IsRuleOf (rule_name d) text r
 
 -- the item's text can't be loaded
 pub record TextFault (told : List ℕ → Option (List ℕ)) (at : ℕ) (d : Data) (f : Fault)
     : Type 0 where
-  pub bytes : List ℕ
-  pub contents : IsRuleText told d bytes
-  pub refused : CantLoad at (rule_name d) bytes f
+  pub text : RuleText
+  pub contents : IsRuleText told d text
+  pub refused : CantLoad at (rule_name d) text f
 
 -- the item's file can't be read, or its text can't be loaded
 abbrev pub IsRuleFault : (List ℕ → Option (List ℕ)) → (before now : ℕ) → ℕ → Data → Fault → Type 0

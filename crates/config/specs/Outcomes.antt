@@ -1,24 +1,26 @@
 -- What a configuration file is: the configuration that its document is, or what is wrong with it
 -- first.
-use Rattle.std.specs.Prelude.{◌≡◌, ◌⊎◌, ℕ, List, Option, Some, None, Result, Ok, Err, IsUtf8, ⊤}
-use Rattle.rule_loader.specs.Faults.{number_of}
-use Rattle.rule_loader.specs.declared.load_fault.LoadKind.TheVariants.{NotHere}
+use Rattle.std.specs.Prelude.{◌≡◌, ◌⊎◌, ◌≤◌, ℕ, List, length, Option, Some, None, Result, Ok, Err, IsUtf8}
+use Rattle.std.specs.Prelude.{option_map, ⊤}
 use Rattle.toml.specs.Data.{Members}
 use Rattle.toml.specs.Parse.{parse_document}
 use Rattle.config.specs.Documents.{document_fault, items_at}
-use Rattle.config.specs.Faults.{fault_at}
+use Rattle.config.specs.KeyLines.{with_line}
 use Rattle.config.specs.Keys.{name_key, rules}
-use Rattle.config.specs.Loading.{AreLoaded, CantRead, IsContents, OfFault, StopsAt, rule_place}
+use Rattle.config.specs.Loading.{AreLoaded, CantRead, IsContents, OfFault, StopsAt}
 use Rattle.config.specs.Misplaced.{first_misplaced}
+use Rattle.config.specs.RuleFaults.{misplaced_fault}
 use Rattle.config.specs.Settings.{settings_of}
+use Rattle.config.specs.Spots.{spot_at}
 use Rattle.config.specs.Texts.{first_place}
 use Rattle.config.specs.declared.fault.ConfigFault.{ConfigFault}
 use Rattle.config.specs.declared.fault.ConfigFault.TheVariants as refused
 use Rattle.config.specs.declared.fault.Fault.{Fault}
-use Rattle.config.specs.declared.fault.FaultKind.TheVariants.{NotToml, Rule}
+use Rattle.config.specs.declared.fault.FaultKind.TheVariants.{NotToml}
 use Rattle.config.specs.declared.misplaced.Misplaced.{Misplaced}
 use Rattle.config.specs.declared.reader.Config.{Config}
 use Rattle.config.specs.declared.rule_text.LoadedRule.{LoadedRule}
+use Rattle.config.specs.declared.spot.Source.TheVariants.{Document}
 
 -- the bytes are UTF-8 and a TOML document (toml.io, v1.1.0)
 pub record IsDocument (bytes : List ℕ) (top : Members) : Type 0 where
@@ -31,10 +33,18 @@ pub record Holds (told : List ℕ → Option (List ℕ)) (name : List ℕ) (top 
   pub contents : IsContents told name bytes
   pub document : IsDocument bytes top
 
+-- where the reader of TOML stopped, and what it says of it
+abbrev pub not_toml : List ℕ → List ℕ → ℕ → List ℕ → Fault
+not_toml name bytes place said =
+    record { kind = NotToml; place = name; spot = Some (spot_at (Document said) bytes place) }
+
 -- no document is these bytes
 pub record RefusesDocument (name bytes : List ℕ) (f : Fault) : Type 0 where
   pub refused : (top : Members) → IsDocument bytes top → ⊥
-  pub fault : f ≡ fault_at NotToml name
+  pub place : ℕ
+  pub within : place ≤ length bytes
+  pub said : List ℕ
+  pub fault : f ≡ not_toml name bytes place said
 
 -- the file holds no document
 pub record HoldsNone (told : List ℕ → Option (List ℕ)) (name : List ℕ) (f : Fault) : Type 0 where
@@ -47,10 +57,6 @@ abbrev pub misplaced_of : Members → List LoadedRule → Option Misplaced
 misplaced_of top rs =
     first_misplaced (first_place (Some name_key.name) (items_at rules top)) rs
     (settings_of top).virtuals
-
--- as if a command stood there that its event doesn't have
-abbrev pub misplaced_fault : Misplaced → Fault
-misplaced_fault m = fault_at Rule (rule_place m.rule (number_of NotHere) m.place)
 
 -- ---- a document without faults
 
@@ -66,7 +72,7 @@ pub record EventFault (told : List ℕ → Option (List ℕ)) (top : Members) (f
   pub loaded : AreLoaded told (items_at rules top) all
   pub misplaced : Misplaced
   pub first : misplaced_of top all ≡ Some misplaced
-  pub fault : f ≡ misplaced_fault misplaced
+  pub fault : f ≡ misplaced_fault all misplaced
 
 -- the rules come first
 abbrev pub RulesFault : (List ℕ → Option (List ℕ)) → (before now : ℕ) → Members → Fault → Type 0
@@ -79,6 +85,10 @@ Loads told before now top (Ok C) = Configures told top C
 Loads told before now top (Err e) = OfFault (RulesFault told before now top) e
 
 -- ---- a document, by its fault
+
+-- the fault that is told, with the line of its key
+abbrev pub told_fault : List ℕ → Members → Option Fault
+told_fault bytes top = option_map (with_line bytes) (document_fault top)
 
 abbrev pub OfDocument : (List ℕ → Option (List ℕ)) → (before now : ℕ) → Members → Option Fault
     → Result Config ConfigFault → Type 0
@@ -93,7 +103,7 @@ pub record OfHeld (told : List ℕ → Option (List ℕ)) (before now : ℕ) (na
     (r : Result Config ConfigFault) : Type 0 where
   pub top : Members
   pub holds : Holds told name top
-  pub answer : OfDocument told before now top (document_fault top) r
+  pub answer : OfDocument told before now top (told_fault holds.bytes top) r
 
 -- What is answered for a file of this name: `told` is what the files hold, where they tell it, and
 -- `before` and `now` are their counts of faults. Out of memory says nothing.

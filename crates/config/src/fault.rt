@@ -3,7 +3,9 @@
 ghost use Rattle.std.specs.Prelude.{◌≡◌};
 ghost use Rattle.config.specs.Faults.{number_of};
 
+use crate::spot::Spot;
 use px_bytes::{Memory, Text};
+use rule_loader::LoadKind;
 
 /// What is wrong with a configuration.
 #[derive(Clone, Copy, PartialEq, Eq)]
@@ -22,8 +24,8 @@ pub enum FaultKind {
     NoSuch,
     /// A number is out of its range, an array above its greatest length, or a text not of its form.
     Range,
-    /// The text of a rule can't be loaded, or isn't for the virtual server that has it.
-    Rule,
+    /// The text of a rule can't be loaded, or isn't for the virtual server that has it, for this reason.
+    Rule(LoadKind),
 }
 
 impl FaultKind {
@@ -39,18 +41,20 @@ impl FaultKind {
             FaultKind::Twice => 5,
             FaultKind::NoSuch => 6,
             FaultKind::Range => 7,
-            FaultKind::Rule => 8,
+            FaultKind::Rule(_) => 8,
         }
     }
 }
 
-/// What is wrong, and the text of its place.
+/// What is wrong, and where.
 #[derive(Drop)]
 pub struct Fault {
     pub kind: FaultKind,
     /// As `virtual[0].rules[1]`; the name of the file where it can't be read or is no TOML; and for
     /// a rule `rule[0] load 3 at 5`, with the number and the place of what is wrong in its text.
     pub place: Text,
+    /// Where it is in a text; none where a key's line isn't found, or a file can't be read.
+    pub spot: Option<Spot>,
 }
 
 /// Why no configuration was given: what is wrong with it, or out of memory.

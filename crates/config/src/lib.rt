@@ -1,16 +1,19 @@
 //! The configuration that a document is, and what is wrong with one that isn't.
 #![tactic(auto)]
 
+mod around;
 mod config;
 mod document;
 mod event_words;
 mod fault;
+mod fault_words;
 mod filled;
 mod forms;
 mod group_table;
 mod groups;
 mod index;
 mod key;
+mod key_line;
 mod keys;
 mod known;
 mod laws;
@@ -25,11 +28,13 @@ mod pool_table;
 mod read;
 mod reader;
 mod row;
+mod rule_fault;
 mod rule_text;
 mod rules;
 mod section;
 mod server_table;
 mod settings;
+mod spot;
 mod table;
 mod told;
 mod twice;
@@ -43,5 +48,6 @@ pub use fault::{ConfigFault, Fault, FaultKind};
 pub use laws::{first_is_told, loaded_is_filled, one_configuration};
 pub use loaded_rules::LoadedRules;
 pub use reader::{Config, read_config};
-pub use rule_text::LoadedRule;
+pub use rule_text::{LoadedRule, RuleText};
 pub use section::Section;
+pub use spot::{Source, Spot};

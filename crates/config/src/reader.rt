@@ -1,27 +1,31 @@
 // The reader of configurations.
 
-ghost use Rattle.std.specs.Prelude.{◌≡◌, ◌≤◌, IfOk, IfErr, Some};
+ghost use Rattle.std.specs.Prelude.{◌≡◌, ◌≤◌, IfOk, IfErr, Some, length};
 ghost use Rattle.toml.specs.View.{table_view};
-ghost use Rattle.config.specs.Documents.{document_fault, items_at};
+ghost use Rattle.config.specs.Documents.{items_at};
 ghost use Rattle.config.specs.Keys.{name_key};
 ghost use Rattle.config.specs.Keys as key;
 ghost use Rattle.config.specs.Loading.{OfFault};
 ghost use Rattle.config.specs.Misplaced.{first_misplaced};
 ghost use Rattle.config.specs.Texts.{first_place};
 ghost use Rattle.config.specs.Outcomes.{Answers, IsDocument, Loads, OfDocument, RefusesDocument};
+ghost use Rattle.config.specs.Outcomes.{not_toml, told_fault};
+ghost use Rattle.toml.specs.Errors.{IsWithin, span_start};
 
 use crate::config::Settings;
 use crate::document::{document_fault, index_at};
-use crate::fault::{ConfigFault, FaultKind};
+use crate::fault::{ConfigFault, Fault, FaultKind};
+use crate::key_line::with_line;
 use crate::keys::{NAME, RULE};
 use crate::loaded_rules::LoadedRules;
 use crate::loading::rules_at;
 use crate::misplaced::{Misplaced, first_misplaced};
-use crate::rule_text::{LoadedRule, file_fault, read_file, rule_fault};
+use crate::rule_fault::misplaced_fault;
+use crate::rule_text::{LoadedRule, read_file};
 use crate::settings::settings_of;
-use px_bytes::M;
+use crate::spot::{Source, spot_at};
+use px_bytes::{M, Text};
 use px_outside::Files;
-use rule_loader::LoadKind;
 use std::alloc::Global;
 use toml::Table;
 
@@ -30,6 +34,30 @@ use toml::Table;
 pub struct Config {
     pub settings: Settings,
     pub rules: LoadedRules,
+}
+
+// Where the reader of TOML stopped.
+fn stopped_at(bytes: &[u8], fault: &toml::de::Error) -> usize
+    requires { IsWithin bytes.now fault.now }
+    ensures { result ≤ length bytes.now }
+{
+    match fault.span() {
+        Some(span) => span.start,
+        None => 0,
+    }
+}
+
+// What is wrong with a text that is no TOML, where its reader stopped there and says this.
+fn not_toml(alloc: Global, name: &[u8], bytes: &[u8], place: usize, said: &str) -> M<Fault>
+    ensures { IfOk result (λ fault. fault ≡ not_toml name.now bytes.now place said.now) }
+{
+    let source = Source::Document(Text::new(alloc, said.as_bytes())?);
+    let spot = spot_at(alloc, source, bytes, place)?;
+    Ok(Fault {
+        kind: FaultKind::NotToml,
+        place: Text::new(alloc, name)?,
+        spot: Some(spot),
+    })
 }
 
 // The table of a document's bytes.
@@ -43,7 +71,8 @@ fn read_table(alloc: Global, name: &[u8], bytes: &[u8]) -> Result<Table, ConfigF
             if fault.is_memory() {
                 return Err(ConfigFault::Memory);
             }
-            Err(file_fault(alloc, FaultKind::NotToml, name))
+            let place = stopped_at(bytes, &fault);
+            Err(ConfigFault::Fault(not_toml(alloc, name, bytes, place, fault.message())?))
         }
     }
 }
@@ -74,22 +103,24 @@ fn loaded<F: Files>(alloc: Global, files: &mut F, top: &Table) -> Result<Config,
     let rules = rules_at(alloc, files, top)?;
     match misplaced_of(alloc, top, &settings, rules.as_slice())? {
         None => Ok(Config { settings, rules }),
-        Some(found) => {
-            let number = LoadKind::NotHere.number();
-            Err(rule_fault(alloc, found.rule, number, found.place))
-        }
+        Some(found) => Err(ConfigFault::Fault(misplaced_fault(alloc, rules.as_slice(), found)?)),
     }
 }
 
-// The configuration that a document is.
-fn of_document<F: Files>(alloc: Global, files: &mut F, top: &Table) -> Result<Config, ConfigFault>
+// The configuration that the document of these bytes is.
+fn of_document<F: Files>(
+    alloc: Global,
+    files: &mut F,
+    bytes: &[u8],
+    top: &Table,
+) -> Result<Config, ConfigFault>
     ensures answer { OfDocument (F.told files.old) (F.faults files.old) (F.faults files.new)
-        (table_view top.now) (document_fault (table_view top.now)) result }
+        (table_view top.now) (told_fault bytes.now (table_view top.now)) result }
     ensures same_files { F.told files.new ≡ F.told files.old }
     ensures faults_never_fall { F.faults files.old ≤ F.faults files.new }
 {
     match document_fault(alloc, top)? {
-        Some(fault) => Err(ConfigFault::Fault(fault)),
+        Some(fault) => Err(ConfigFault::Fault(with_line(alloc, bytes, fault)?)),
         None => loaded(alloc, files, top),
     }
 }
@@ -105,7 +136,8 @@ pub fn read_config<F: Files>(
     ensures same_files { F.told files.new ≡ F.told files.old }
     ensures faults_never_fall { F.faults files.old ≤ F.faults files.new }
 {
-    let bytes = read_file(alloc, files, name)?;
-    let top = read_table(alloc, name, bytes.as_bytes())?;
-    of_document(alloc, files, &top)
+    let held = read_file(alloc, files, name)?;
+    let bytes = held.as_bytes();
+    let top = read_table(alloc, name, bytes)?;
+    of_document(alloc, files, bytes, &top)
 }

@@ -6,7 +6,7 @@ ghost use Rattle.config.specs.Faults.{fault_at};
 ghost use Rattle.config.specs.Keys.{key_view};
 ghost use Rattle.config.specs.Loading.{CantLoad, CantRead, IsContents, IsFileText, IsLoaded};
 ghost use Rattle.config.specs.Loading.{IsRuleFault, IsRuleOf, IsRuleText, OfFault, file_name};
-ghost use Rattle.config.specs.Loading.{item_text, rule_name, rule_place};
+ghost use Rattle.config.specs.Loading.{item_text, rule_name};
 
 use crate::event_words::{EventPlaces, event_places};
 use crate::fault::{ConfigFault, Fault, FaultKind};
@@ -14,16 +14,26 @@ use crate::index::text_in;
 use crate::key::Key;
 use crate::keys::{FILE, NAME, TEXT};
 use crate::line_ends::without_returns;
+use crate::rule_fault::rule_fault;
 use px_bytes::{M, Text};
 use px_outside::{Failed, Files};
 use rule_loader::{LoadFault, Rule, load_rule};
 use std::alloc::Global;
 use toml::Value;
 
+/// The text of a rule.
+#[derive(Drop)]
+pub struct RuleText {
+    /// The name of the file where it stands, unless it stands in the document.
+    pub file: Option<Text>,
+    /// Its bytes; of a file without the carriage returns of CR LF.
+    pub bytes: Text,
+}
+
 /// A rule with its text.
 #[derive(Drop)]
 pub struct LoadedRule {
-    pub text: Text,
+    pub text: RuleText,
     pub rule: Rule,
     /// Where its first events stand that not every virtual server has.
     pub events: EventPlaces,
@@ -43,17 +53,21 @@ pub(crate) fn read_file<F: Files>(
 {
     match files.read(alloc, name) {
         Ok(text) => Ok(text),
-        Err(Failed::Failed) => Err(file_fault(alloc, FaultKind::ReadFault, name)),
+        Err(Failed::Failed) => Err(unread(alloc, name)),
         Err(Failed::Memory) => Err(ConfigFault::Memory),
     }
 }
 
-/// A fault at a file.
-pub(crate) fn file_fault(alloc: Global, kind: FaultKind, name: &[u8]) -> ConfigFault
-    ensures { OfFault (λ f. f ≡ fault_at kind name.now) result }
+// A file can't be read.
+fn unread(alloc: Global, name: &[u8]) -> ConfigFault
+    ensures { OfFault (λ f. f ≡ fault_at FaultKind.ReadFault name.now) result }
 {
     match Text::new(alloc, name) {
-        Ok(place) => ConfigFault::Fault(Fault { kind, place }),
+        Ok(place) => ConfigFault::Fault(Fault {
+            kind: FaultKind::ReadFault,
+            place,
+            spot: None,
+        }),
         Err(_) => ConfigFault::Memory,
     }
 }
@@ -69,7 +83,7 @@ fn item_text<'a>(key: &Key, value: &'a Value) -> &'a [u8]
 }
 
 // The text of a rule that stands in a file of its own.
-fn file_text<F: Files>(alloc: Global, files: &mut F, name: &[u8]) -> Result<Text, ConfigFault>
+fn file_text<F: Files>(alloc: Global, files: &mut F, name: &[u8]) -> Result<RuleText, ConfigFault>
     ensures text { IfOk result (IsFileText (F.told files.old) name.now) }
     ensures fault { IfErr result
         (OfFault (CantRead (F.faults files.old) (F.faults files.new) name.now)) }
@@ -77,13 +91,16 @@ fn file_text<F: Files>(alloc: Global, files: &mut F, name: &[u8]) -> Result<Text
     ensures faults_never_fall { F.faults files.old ≤ F.faults files.new }
 {
     match read_file(alloc, files, name) {
-        Ok(held) => Ok(without_returns(alloc, held.as_bytes())?),
+        Ok(held) => Ok(RuleText {
+            file: Some(Text::new(alloc, name)?),
+            bytes: without_returns(alloc, held.as_bytes())?,
+        }),
         Err(why) => Err(why),
     }
 }
 
 // The text of a rule, which stands in the document or in a file.
-fn rule_text<F: Files>(alloc: Global, files: &mut F, value: &Value) -> Result<Text, ConfigFault>
+fn rule_text<F: Files>(alloc: Global, files: &mut F, value: &Value) -> Result<RuleText, ConfigFault>
     ensures text { IfOk result (IsRuleText (F.told files.old) (view value.now)) }
     ensures fault { IfErr result
         (OfFault (CantRead (F.faults files.old) (F.faults files.new)
@@ -92,44 +109,31 @@ fn rule_text<F: Files>(alloc: Global, files: &mut F, value: &Value) -> Result<Te
     ensures faults_never_fall { F.faults files.old ≤ F.faults files.new }
 {
     match text_in(Some(TEXT.name), value) {
-        Some(text) => Ok(Text::new(alloc, text.as_bytes())?),
+        Some(text) => Ok(RuleText {
+            file: None,
+            bytes: Text::new(alloc, text.as_bytes())?,
+        }),
         None => file_text(alloc, files, item_text(&FILE, value)),
     }
 }
 
-// The text of the place of what is wrong with a rule's text.
-fn rule_place(alloc: Global, at: usize, number: u8, place: usize) -> M<Text>
-    ensures { IfOk result (λ t. t ≡ rule_place at number place) }
-{
-    let text = format!(in alloc; "rule[{at}] load {number} at {place}")?;
-    Ok(Text::from_vec(text.into_bytes()))
-}
-
-/// What is wrong with a rule's text.
-pub(crate) fn rule_fault(alloc: Global, at: usize, number: u8, place: usize) -> ConfigFault
-    ensures { OfFault (λ f. f ≡ fault_at FaultKind.Rule (rule_place at number place)) result }
-{
-    match rule_place(alloc, at, number, place) {
-        Ok(place) => ConfigFault::Fault(Fault {
-            kind: FaultKind::Rule,
-            place,
-        }),
-        Err(_) => ConfigFault::Memory,
-    }
-}
-
 // The rule of a text.
-fn loaded(alloc: Global, at: usize, value: &Value, text: Text) -> Result<LoadedRule, ConfigFault>
+fn loaded(
+    alloc: Global,
+    at: usize,
+    value: &Value,
+    text: RuleText,
+) -> Result<LoadedRule, ConfigFault>
     ensures loaded { IfOk result (IsRuleOf (rule_name (view value.now)) text) }
     ensures fault { IfErr result (OfFault (CantLoad at (rule_name (view value.now)) text)) }
 {
-    match load_rule(alloc, item_text(&NAME, value), text.as_bytes()) {
+    match load_rule(alloc, item_text(&NAME, value), text.bytes.as_bytes()) {
         Ok(rule) => {
-            let events = event_places(alloc, text.as_bytes())?;
+            let events = event_places(alloc, text.bytes.as_bytes())?;
             Ok(LoadedRule { text, rule, events })
         }
-        Err(LoadFault::Fault(fault)) => {
-            Err(rule_fault(alloc, at, fault.kind.number(), fault.place))
+        Err(LoadFault::Fault(why)) => {
+            Err(ConfigFault::Fault(rule_fault(alloc, at, why, &text)?))
         }
         Err(LoadFault::Memory) => Err(ConfigFault::Memory),
     }

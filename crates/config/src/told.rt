@@ -51,7 +51,11 @@ impl Told {
     {
         if self.is_first(kind) {
             let place = place.text(self.alloc)?;
-            self.first = Some(Fault { kind, place });
+            self.first = Some(Fault {
+                kind,
+                place,
+                spot: None,
+            });
         }
         Ok(())
     }

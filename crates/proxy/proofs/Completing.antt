@@ -5,9 +5,9 @@ use Rattle.run_config.specs.declared.config.Config as core
 use Rattle.proxy.specs.declared.end.End.{End}
 use Rattle.proxy.specs.declared.end.End.TheVariants.{Done, Usage, Config, Schedule, ReadFault}
 use Rattle.proxy.specs.declared.end.End.TheVariants.{WriteFault, Memory}
-use Rattle.proxy.specs.Command.{Command}
-use Rattle.proxy.specs.Complete.{Completes, IsRefused, MayCheck, MayLoad, MayReplay}
-use Rattle.proxy.specs.Offline.{ChecksFile, IsNotBuilt, IsRefusal, OfCommand, Offline, ReplaysFiles, Runs, TellsFault}
+use Rattle.proxy.specs.Command.{Command, Checks as Checking, Explains as Explaining}
+use Rattle.proxy.specs.Complete.{Completes, IsRefused, MayLoad, MayReplay, MayTell}
+use Rattle.proxy.specs.Offline.{ChecksFile, ExplainsFile, IsNotBuilt, IsRefusal, OfCommand, Offline, ReplaysFiles, Runs, TellsFault}
 use Rattle.proxy.specs.Replayed.{MeetsFault, MeetsRefusal, Replayed}
 use Rattle.proxy.specs.Runnable.{IsBuilt, can_run}
 use Rattle.config.proofs.Filling.{is_filled}
@@ -30,7 +30,7 @@ module _ (told : List ℕ → Option (List ℕ)) (rb rn : ℕ) (name : List ℕ)
           cc
 
 module _ (words : List (List ℕ)) (told : List ℕ → Option (List ℕ)) (old new : Option (List ℕ)) (rb rn b n : ℕ) where
-  checks : (end : End) (m : MayCheck words told rb rn b n) → ChecksFile m.name told old new rb rn b n end → (end ≡ Done) ⊎ (end ≡ Memory)
+  checks : (end : End) (m : MayTell Checking words told rb rn b n) → ChecksFile m.name told old new rb rn b n end → (end ≡ Done) ⊎ (end ≡ Memory)
   checks Done m k = inl refl
   checks Usage m k = absurd k
   checks Config m k = absurd (loads_rightly told rb rn m.name m.C m.loads k.0 k.1)
@@ -38,6 +38,15 @@ module _ (words : List (List ℕ)) (told : List ℕ → Option (List ℕ)) (old 
   checks ReadFault m k = absurd (m.no_read_fault k.0)
   checks WriteFault m k = absurd (m.no_write_fault k.0)
   checks Memory m k = inr refl
+
+  explains : (end : End) (m : MayTell Explaining words told rb rn b n) → ExplainsFile m.name told old new rb rn b n end → (end ≡ Done) ⊎ (end ≡ Memory)
+  explains Done m k = inl refl
+  explains Usage m k = absurd k
+  explains Config m k = absurd (not_faulty told m.name m.C m.loads rb rn k.0 k.1.was_read k.1.answers)
+  explains Schedule m k = absurd k
+  explains ReadFault m k = absurd (m.no_read_fault k.0)
+  explains WriteFault m k = absurd (m.no_write_fault k.0)
+  explains Memory m k = inr refl
 
   -- a schedule of which each line spells an event has no faulty line
   module _ (m : MayReplay words told rb rn b n) (K : core.Config) (runs : Runs told m.named K m.schedule) where
@@ -59,4 +68,4 @@ module _ (words : List (List ℕ)) (told : List ℕ → Option (List ℕ)) (old 
   pub completes : (end : End) → Offline words told old new rb rn b n end → Completes words told old new rb rn b n end
   completes end k =
       let P : Option Command → Type 0 = λ o. OfCommand o told old new rb rn b n end in
-      record { check = λ m. checks end m (subst P m.command k); replay = λ m. replays end m (subst P m.command k) }
+      record { check = λ m. checks end m (subst P m.command k); explain = λ m. explains end m (subst P m.command k); replay = λ m. replays end m (subst P m.command k) }

@@ -1,13 +1,14 @@
 -- What a configuration file loads, from what is answered for it.
 use Rattle.std.proofs.Common.{◌≡◌, ℕ, ◌+◌, true, false, List, Option, Some, None, IfSome, inl, inr, refl, sym, ap, ◌∙◌}
-use Rattle.std.specs.Prelude.{Ok, Err}
+use Rattle.std.specs.Prelude.{Ok, Err, option_map}
 use Rattle.std.proofs.lemmas.Bool.{false≢true}
 use Rattle.px_outside.specs.Outside.{Rose}
 use Rattle.toml.specs.Data.{Items, no_items, item, Members}
 use Rattle.config.specs.Documents.{document_fault, items_at}
 use Rattle.config.specs.Keys.{rules}
 use Rattle.config.specs.Loading.{StopsAt}
-use Rattle.config.specs.Outcomes.{Answers, OfDocument, RulesFault}
+use Rattle.config.specs.KeyLines.{with_line}
+use Rattle.config.specs.Outcomes.{Answers, OfDocument, RulesFault, told_fault}
 use Rattle.config.specs.declared.fault.ConfigFault.TheVariants as refused
 use Rattle.config.specs.declared.fault.Fault.{Fault}
 use Rattle.config.specs.declared.reader.Config.{Config}
@@ -22,9 +23,13 @@ module _ (told : List ℕ → Option (List ℕ)) (before now : ℕ) (name : List
   pub loads : (C : Config) → Answers told before now name (Ok C) → Loads told name C
   loads C h = by_fault (document_fault h.top) refl h.answer
     where
-      by_fault : (o : Option Fault) → document_fault h.top ≡ o → OfDocument told before now h.top o (Ok C) → Loads told name C
+      by_fault : (o : Option Fault) → document_fault h.top ≡ o → OfDocument told before now h.top (option_map (with_line h.holds.bytes) o) (Ok C) → Loads told name C
       by_fault None e k = record { top = h.top; holds = h.holds; faultless = e; configures = k }
       by_fault (Some f) e k = absurd k
+
+  was_read : (bytes : List ℕ) (o : Option Fault) → IfSome o (λ g. is_read_fault g.kind ≡ false) → IfSome (option_map (with_line bytes) o) (λ g. is_read_fault g.kind ≡ false)
+  was_read bytes None was = was
+  was_read bytes (Some g) was = was
 
   module _ (f : Fault) (is : is_read_fault f.kind ≡ true) where
     of_rule : (at : ℕ) (ds : Items) → StopsAt told before now at ds f → Rose before now
@@ -45,4 +50,4 @@ module _ (told : List ℕ → Option (List ℕ)) (before now : ℕ) (name : List
     pub read_rose : Answers told before now name (Err (refused.Fault f)) → Rose before now
     read_rose (inl c) = c.rose
     read_rose (inr (inl none)) = absurd (other_kind f _ none.refused.fault refl is)
-    read_rose (inr (inr h)) = of_document h.top (document_fault h.top) (document_was_read h.top) h.answer
+    read_rose (inr (inr h)) = of_document h.top (told_fault h.holds.bytes h.top) (was_read h.holds.bytes (document_fault h.top) (document_was_read h.top)) h.answer

@@ -1,5 +1,5 @@
 -- What a command comes to, from what it said.
-use Rattle.std.proofs.Common.{◌≡◌, ◌⊎◌, ℕ, Bool, true, false, List, Option, None, inl, inr, refl, sym, subst}
+use Rattle.std.proofs.Common.{◌≡◌, ◌⊎◌, ℕ, Bool, true, false, if◌then◌else◌, List, Option, None, inl, inr, refl, sym, subst}
 use Rattle.std.specs.Prelude.{Result, Ok, Err}
 use Rattle.config.specs.Outcomes.{Answers}
 use Rattle.config.specs.declared.fault.ConfigFault.{ConfigFault}
@@ -16,11 +16,12 @@ use Rattle.proxy.specs.declared.end.End.TheVariants.{WriteFault, Memory}
 use Rattle.proxy.specs.Command.{Named}
 use Rattle.proxy.specs.End.{end_unless}
 use Rattle.proxy.specs.Loads.{Loads, is_read_fault}
-use Rattle.proxy.specs.Offline.{ChecksFile, IsCheck, IsDue, IsNotBuilt, LoadsSome, ReplaysFiles, Runs, TellsFault, WritesDue, end_of_read, not_built_text}
+use Rattle.proxy.specs.Offline.{ChecksFile, Explains, ExplainsFile, IsCheck, IsDue, IsExplanation, IsNotBuilt, LoadsSome, ReplaysFiles, Runs, TellsFault, WritesDue, end_of_read, not_built_text}
 use Rattle.proxy.specs.Replayed.{Replayed}
 use Rattle.proxy.specs.Report.{ok_text}
 use Rattle.proxy.specs.Runnable.{IsRun, run_of}
 use Rattle.proxy.proofs.Building.{not_run}
+use Rattle.proxy.specs.Explain.{explanation, loads_text}
 use Rattle.proxy.specs.Says.{Refuses, Says, Tells, TellsBy, fault_text}
 use Rattle.proxy.specs.Written.{WritesFrontOf}
 use Rattle.proxy.proofs.ConfigAnswers.{loads, read_rose}
@@ -69,6 +70,35 @@ module _ (told : List ℕ → Option (List ℕ)) (old new : Option (List ℕ)) (
     pub check_refused : (why : ConfigFault) → Answers told rb rn name (Err why) → (end : End) → Refuses why old new b n end → ChecksFile name told old new rb rn b n end
     check_refused (refused.Fault f) answers end t = check_fault f (is_read_fault f.kind) refl answers end t
     check_refused refused.Memory answers end t = subst (λ e. ChecksFile name told old new rb rn b n e) (sym t.0) (inl t.1)
+
+  -- `explain`
+  module _ (name : List ℕ) where
+    pub explained : (C : loaded.Config) → Answers told rb rn name (Ok C) → (end : End) → Tells (loads_text name C.settings.virtuals) Done old new b n end → ExplainsFile name told old new rb rn b n end
+    explained C answers end tells =
+        let is = loads told rb rn name C answers in
+        let text = loads_text name C.settings.virtuals in
+        let due : IsExplanation told rb rn name text = inr (C, is, refl) in
+        by_end text Done old new b n (λ e. ExplainsFile name told old new rb rn b n e)
+        (λ written. (C, is, written)) (λ rose front. (rose, (text, due, front)))
+        (λ part. cut_due text (IsExplanation told rb rn name) old new due part) end tells
+
+    explained_by : (f : Fault) (is : Bool) → is_read_fault f.kind ≡ is → Answers told rb rn name (Err (refused.Fault f)) → (end : End) → Tells (explanation name f) (if is then ReadFault else Config) old new b n end → ExplainsFile name told old new rb rn b n end
+    explained_by f true is answers end t =
+        let due : IsExplanation told rb rn name (explanation name f) = inl (f, answers, refl) in
+        by_end (explanation name f) ReadFault old new b n (λ e. ExplainsFile name told old new rb rn b n e)
+        (λ written. (read_rose told rb rn name f is answers, (record { fault = f; answers = answers; unread = is }, written)))
+        (λ rose front. (rose, (explanation name f, due, front)))
+        (λ part. cut_due (explanation name f) (IsExplanation told rb rn name) old new due part) end t
+    explained_by f false is answers end t =
+        let due : IsExplanation told rb rn name (explanation name f) = inl (f, answers, refl) in
+        by_end (explanation name f) Config old new b n (λ e. ExplainsFile name told old new rb rn b n e)
+        (λ written. (f, record { answers = answers; was_read = is }, written))
+        (λ rose front. (rose, (explanation name f, due, front)))
+        (λ part. cut_due (explanation name f) (IsExplanation told rb rn name) old new due part) end t
+
+    pub explained_why : (why : ConfigFault) → Answers told rb rn name (Err why) → (end : End) → Explains name why old new b n end → ExplainsFile name told old new rb rn b n end
+    explained_why (refused.Fault f) answers end t = explained_by f (is_read_fault f.kind) refl answers end t
+    explained_why refused.Memory answers end t = subst (λ e. ExplainsFile name told old new rb rn b n e) (sym t.0) (inl t.1)
 
   -- `replay`
   module _ (named : Named) where

@@ -14,14 +14,15 @@ use Rattle.rule_loader.specs.declared.rule.Rule.{Rule}
 use Rattle.tcl_trees.specs.Procedures.{procs_view}
 use Rattle.toml.specs.Data.{Data, Items, no_items, item, Members}
 use Rattle.toml.specs.Parse.{parse_document}
-use Rattle.config.specs.Documents.{document_fault, items_at}
+use Rattle.config.specs.Documents.{items_at}
 use Rattle.config.specs.EventWords.{misplaced_in}
 use Rattle.config.specs.Faults.{fault_at}
+use Rattle.config.specs.KeyLines.{with_line}
 use Rattle.config.specs.Keys.{name_key, rules, rule_text}
 use Rattle.config.specs.LineEnds.{without_returns}
 use Rattle.config.specs.Loading.{AreLoaded, HasText, IsContents, IsLoaded, StopsAt, file_name, rule_name}
 use Rattle.config.specs.Misplaced.{first_misplaced, misplaced_at, place_in, server_misplaced}
-use Rattle.config.specs.Outcomes.{Answers, Configures, EventFault, IsDocument, OfDocument, RulesFault, misplaced_of}
+use Rattle.config.specs.Outcomes.{Answers, Configures, EventFault, IsDocument, OfDocument, RulesFault, misplaced_of, told_fault}
 use Rattle.config.specs.Settings.{settings_of}
 use Rattle.config.specs.Texts.{first_place, text_in}
 use Rattle.config.specs.declared.config.Virtual.{Virtual}
@@ -31,6 +32,7 @@ use Rattle.config.specs.declared.fault.Fault.{Fault}
 use Rattle.config.specs.declared.fault.FaultKind.TheVariants.{ReadFault}
 use Rattle.config.specs.declared.reader.Config.{Config}
 use Rattle.config.specs.declared.rule_text.LoadedRule.{LoadedRule}
+use Rattle.config.specs.declared.rule_text.RuleText.{RuleText}
 use Rattle.proxy.specs.Complete.{AreTold, IsTold, MayLoad}
 use Rattle.proxy.specs.Loads.{Loads, is_read_fault}
 use Rattle.config.specs.Filled.{filled, server_of}
@@ -48,11 +50,11 @@ same_held : (o : Option (List ℕ)) → IsSome o → (a b : List ℕ) → IfSome
 same_held (Some held) some a b one other = one ∙ sym other
 same_held None some a b one other = cc
 
-same_text : (told : List ℕ → Option (List ℕ)) (o : Option (List ℕ)) (file a b : List ℕ) → IsSome o ⊎ IsSome (told file) → HasText told o file a → HasText told o file b → a ≡ b
-same_text told (Some held) file a b some one other = one ∙ sym other
+same_text : (told : List ℕ → Option (List ℕ)) (o : Option (List ℕ)) (file : List ℕ) (a b : RuleText) → IsSome o ⊎ IsSome (told file) → HasText told o file a → HasText told o file b → a.bytes ≡ b.bytes
+same_text told (Some held) file a b some one other = one.bytes_are ∙ sym other.bytes_are
 same_text told None file a b (inl some) one other = cc
 same_text told None file a b (inr some) one other =
-    one.text ∙ ap without_returns (same_held (told file) some one.held other.held one.contents other.contents) ∙ sym other.text
+    one.bytes_are ∙ ap without_returns (same_held (told file) some one.held other.held one.contents other.contents) ∙ sym other.bytes_are
 
 -- ---- what is seen of a rule
 
@@ -72,12 +74,12 @@ by_text r s (Ok of) one other = same_built r.rule s.rule (one.procedures ∙ sym
 by_text r s (Err f) one other = absurd one
 
 module _ (told : List ℕ → Option (List ℕ)) where
-  one_text : (d : Data) (r s : LoadedRule) → IsTold told d → (p : IsLoaded told d r) (q : IsLoaded told d s) → p.bytes ≡ q.bytes
-  one_text d r s is p q = same_text told (text_in (Some rule_text.name) d) (file_name d) p.bytes q.bytes is p.contents q.contents
+  one_text : (d : Data) (r s : LoadedRule) → IsTold told d → (p : IsLoaded told d r) (q : IsLoaded told d s) → p.text.bytes ≡ q.text.bytes
+  one_text d r s is p q = same_text told (text_in (Some rule_text.name) d) (file_name d) p.text q.text is p.contents q.contents
 
   same_rule : (d : Data) (r s : LoadedRule) → IsTold told d → IsLoaded told d r → IsLoaded told d s → built r ≡ built s
   same_rule d r s is p q =
-      by_text r s (rule_of (rule_name d) q.bytes) (subst (λ b. Gives (Ok r.rule) (rule_of (rule_name d) b)) (one_text d r s is p q) p.rule.rule) q.rule.rule
+      by_text r s (rule_of (rule_name d) q.text.bytes) (subst (λ b. Gives (Ok r.rule) (rule_of (rule_name d) b)) (one_text d r s is p q) p.rule.rule) q.rule.rule
 
   same_events : (d : Data) (r s : LoadedRule) → IsTold told d → IsLoaded told d r → IsLoaded told d s → r.events ≡ s.events
   same_events d r s is p q =
@@ -171,8 +173,8 @@ module _ (told : List ℕ → Option (List ℕ)) (name : List ℕ) (C : Config) 
     no_stop at (item d ds) [] is l stops = l
     no_stop at (item d ds) (r ∷ rs) is l (inl (inl c)) = not_a_read_fault (file_name d) c.fault
     no_stop at (item d ds) (r ∷ rs) is l (inl (inr t)) =
-        let same : l.0.bytes ≡ t.bytes = same_text told (text_in (Some rule_text.name) d) (file_name d) l.0.bytes t.bytes is.0 l.0.contents t.contents in
-        let says : rule_of (rule_name d) l.0.bytes ≡ Err t.refused.why = ap (rule_of (rule_name d)) same ∙ t.refused.refused in
+        let same : l.0.text.bytes ≡ t.text.bytes = same_text told (text_in (Some rule_text.name) d) (file_name d) l.0.text t.text is.0 l.0.contents t.contents in
+        let says : rule_of (rule_name d) l.0.text.bytes ≡ Err t.refused.why = ap (rule_of (rule_name d)) same ∙ t.refused.refused in
         subst (Gives (Ok r.rule)) says l.0.rule.rule
     no_stop at (item d ds) (r ∷ rs) is l (inr s) = no_stop (at + 1) ds rs is.1 l.1 s.2
 
@@ -196,5 +198,5 @@ module _ (told : List ℕ → Option (List ℕ)) (name : List ℕ) (C : Config) 
     not_faulty (inr (inl none)) = none.refused.refused m.top (subst (λ b. IsDocument b m.top) (sym (same_bytes none.bytes none.contents)) m.document)
     not_faulty (inr (inr h)) =
         let top : h.top ≡ m.top = same_document h.holds.bytes h.top h.holds.contents h.holds.document in
-        let P : Members → Type 0 = λ t. OfDocument told before now t (document_fault t) (Err (refused.Fault f)) in
-        no_document (document_fault m.top) m.faultless (subst P top h.answer)
+        let P : Members → Type 0 = λ t. OfDocument told before now t (told_fault h.holds.bytes t) (Err (refused.Fault f)) in
+        no_document (told_fault h.holds.bytes m.top) (ap (option_map (with_line h.holds.bytes)) m.faultless) (subst P top h.answer)

@@ -12,7 +12,7 @@ use Rattle.core_events.specs.declared.event.Event.{Event}
 use Rattle.toml.specs.Data.{Data, Items, no_items, item, Members}
 use Rattle.proxy.specs.declared.end.End.{End}
 use Rattle.proxy.specs.declared.end.End.TheVariants.{Done, Schedule, Memory}
-use Rattle.proxy.specs.Command.{Checks, Replays, Named, command_of}
+use Rattle.proxy.specs.Command.{Command, Checks, Explains, Replays, Named, command_of}
 use Rattle.proxy.specs.Lines.{IsEnd, Reads}
 use Rattle.proxy.specs.Offline.{Runs}
 use Rattle.proxy.specs.Replayed.{MeetsRefusal}
@@ -37,13 +37,13 @@ pub record MayLoad (told : List ℕ → Option (List ℕ)) (name : List ℕ) (C 
   pub texts : AreTold told (items_at rules top)
   pub configures : Configures told top C
 
--- ---- `check CONFIG`
+-- ---- `check CONFIG` and `explain CONFIG`
 
--- the configuration loads, and no count rose
-pub record MayCheck (words : List (List ℕ)) (told : List ℕ → Option (List ℕ))
-    (reads_before reads_now before now : ℕ) : Type 0 where
+-- the command is asked of a configuration that loads, and no count rose
+pub record MayTell (asked : List ℕ → Command) (words : List (List ℕ))
+    (told : List ℕ → Option (List ℕ)) (reads_before reads_now before now : ℕ) : Type 0 where
   pub name : List ℕ
-  pub command : command_of words ≡ Some (Checks name)
+  pub command : command_of words ≡ Some (asked name)
   pub C : loaded.Config
   pub loads : MayLoad told name C
   pub no_read_fault : Rose reads_before reads_now → ⊥
@@ -78,12 +78,14 @@ abbrev pub IsRefused : (List ℕ → Option (List ℕ)) → Named → List ℕ �
 IsRefused told named schedule old new =
     (K : core.Config) × Runs told named K schedule × MeetsRefusal K schedule old new
 
--- Then a check is done, or memory was refused; a replay is done, or an event is refused at its
+-- Then a check or an explanation is done, or memory was refused; a replay is done, or an event is refused at its
 -- place, or memory was refused.
 pub record Completes (words : List (List ℕ)) (told : List ℕ → Option (List ℕ))
     (old new : Option (List ℕ)) (reads_before reads_now before now : ℕ) (end : End)
     : Type 0 where
-  pub check : MayCheck words told reads_before reads_now before now
+  pub check : MayTell Checks words told reads_before reads_now before now
+      → (end ≡ Done) ⊎ (end ≡ Memory)
+  pub explain : MayTell Explains words told reads_before reads_now before now
       → (end ≡ Done) ⊎ (end ≡ Memory)
   pub replay : (m : MayReplay words told reads_before reads_now before now)
       → (end ≡ Done) ⊎ (end ≡ Memory)

@@ -11,6 +11,7 @@ pub mod Replayed
 pub mod Loads
 pub mod Runnable
 pub mod Says
+pub mod Explain
 pub mod Complete
 pub mod Offline
 pub mod Serving

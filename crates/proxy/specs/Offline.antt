@@ -1,7 +1,10 @@
 -- What the commands that wait for nobody come to: the program's promise.
-use Rattle.std.specs.Prelude.{◌≡◌, ◌⊎◌, ℕ, List, Option, Some, None, codes, false}
+use Rattle.std.specs.Prelude.{◌≡◌, ◌⊎◌, ℕ, List, Option, Some, None, Err, codes, false}
 use Rattle.config.specs.Filled.{filled}
 use Rattle.config.specs.Loading.{IsContents}
+use Rattle.config.specs.Outcomes.{Answers}
+use Rattle.config.specs.declared.fault.ConfigFault.{ConfigFault}
+use Rattle.config.specs.declared.fault.ConfigFault.TheVariants as refused
 use Rattle.config.specs.declared.fault.Fault.{Fault}
 use Rattle.config.specs.declared.reader.Config as loaded
 use Rattle.px_outside.specs.Outside.{told_more, Rose}
@@ -11,12 +14,14 @@ use Rattle.run_config.specs.declared.config.Config as core
 use Rattle.proxy.specs.declared.end.End.{End}
 use Rattle.proxy.specs.declared.end.End.TheVariants.{Done, Usage, Config, Schedule, ReadFault}
 use Rattle.proxy.specs.declared.end.End.TheVariants.{WriteFault, Memory}
-use Rattle.proxy.specs.Command.{Command, Checks as Checking, Replays as Replaying, Named}
+use Rattle.proxy.specs.Command.{Command, Checks as Checking, Explains as Explaining}
+use Rattle.proxy.specs.Command.{Replays as Replaying, Named}
 use Rattle.proxy.specs.Command.{command_of}
+use Rattle.proxy.specs.Explain.{explanation, loads_text}
 use Rattle.proxy.specs.Loads.{Loads, IsFaulty, IsUnread}
 use Rattle.proxy.specs.Report.{config_fault, ok_text, usage_fault}
 use Rattle.proxy.specs.Runnable.{IsRun, can_run}
-use Rattle.proxy.specs.Says.{fault_text}
+use Rattle.proxy.specs.Says.{Tells, fault_end, fault_text}
 use Rattle.proxy.specs.Written.{IsWritten, WritesFrontOf}
 use Rattle.proxy.specs.Replayed.{Replayed}
 
@@ -76,6 +81,39 @@ ChecksFile name told old new reads_before reads_now before now WriteFault =
     Rose before now × WritesDue (IsCheck told reads_before reads_now name) old new
 ChecksFile name told old new reads_before reads_now before now Memory =
     (new ≡ old) ⊎ WritesDue (IsCheck told reads_before reads_now name) old new
+
+-- ---- `explain CONFIG`
+
+-- the text that is due: why it doesn't load, or that it loads
+abbrev pub IsExplanation : (List ℕ → Option (List ℕ)) → (before now : ℕ) → List ℕ → List ℕ → Type 0
+IsExplanation told before now name text =
+    ((f : Fault) × Answers told before now name (Err (refused.Fault f)) × (text ≡ explanation name f))
+    ⊎ ((C : loaded.Config) × Loads told name C × (text ≡ loads_text name C.settings.virtuals))
+
+-- what is said where no configuration was given
+abbrev pub Explains : List ℕ → ConfigFault → Option (List ℕ) → Option (List ℕ) → ℕ → ℕ → End → Type 0
+Explains name (refused.Fault f) old new before now end =
+    Tells (explanation name f) (fault_end f.kind) old new before now end
+Explains name refused.Memory old new before now end = (end ≡ Memory) × (new ≡ old)
+
+-- by its end
+abbrev pub ExplainsFile : List ℕ → (List ℕ → Option (List ℕ)) → Option (List ℕ) → Option (List ℕ) → ℕ
+    → ℕ → ℕ → ℕ → End → Type 0
+ExplainsFile name told old new reads_before reads_now before now Done =
+    (C : loaded.Config) × Loads told name C × (new ≡ told_more old (loads_text name C.settings.virtuals))
+ExplainsFile name told old new reads_before reads_now before now Usage = ⊥
+ExplainsFile name told old new reads_before reads_now before now Config =
+    (f : Fault) × IsFaulty told reads_before reads_now name f
+    × (new ≡ told_more old (explanation name f))
+ExplainsFile name told old new reads_before reads_now before now Schedule = ⊥
+ExplainsFile name told old new reads_before reads_now before now ReadFault =
+    Rose reads_before reads_now
+    × ((unread : IsUnread told reads_before reads_now name)
+    × (new ≡ told_more old (explanation name unread.fault)))
+ExplainsFile name told old new reads_before reads_now before now WriteFault =
+    Rose before now × WritesDue (IsExplanation told reads_before reads_now name) old new
+ExplainsFile name told old new reads_before reads_now before now Memory =
+    (new ≡ old) ⊎ WritesDue (IsExplanation told reads_before reads_now name) old new
 
 -- ---- `replay CONFIG SCHEDULE`
 
@@ -148,6 +186,8 @@ abbrev pub OfCommand : Option Command → (List ℕ → Option (List ℕ)) → O
 OfCommand None told old new reads_before reads_now before now end = SaysUsage old new before now end
 OfCommand (Some (Checking name)) told old new reads_before reads_now before now end =
     ChecksFile name told old new reads_before reads_now before now end
+OfCommand (Some (Explaining name)) told old new reads_before reads_now before now end =
+    ExplainsFile name told old new reads_before reads_now before now end
 OfCommand (Some (Replaying named)) told old new reads_before reads_now before now end =
     ReplaysFiles named told old new reads_before reads_now before now end
 

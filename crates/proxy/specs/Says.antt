@@ -1,9 +1,11 @@
 -- What is written of a text that is due, and the end of a command that writes one.
 use Rattle.std.specs.Prelude.{◌≡◌, ◌⊎◌, ℕ, List, Option, Result, Ok, Err, Bool, true, false}
+use Rattle.std.specs.Prelude.{if◌then◌else◌}
 use Rattle.config.specs.Faults.{number_of}
 use Rattle.config.specs.declared.fault.ConfigFault.{ConfigFault}
 use Rattle.config.specs.declared.fault.ConfigFault.TheVariants as refused
 use Rattle.config.specs.declared.fault.Fault.{Fault}
+use Rattle.config.specs.declared.fault.FaultKind.{FaultKind}
 use Rattle.px_outside.specs.Outside.{told_more, Rose}
 use Rattle.proxy.specs.declared.end.End.{End}
 use Rattle.proxy.specs.declared.end.End.TheVariants.{Config, ReadFault, WriteFault, Memory}
@@ -30,6 +32,10 @@ pub record Tells (text : List ℕ) (usual : End) (old new : Option (List ℕ)) (
 -- the line of a fault
 abbrev pub fault_text : Fault → List ℕ
 fault_text f = config_fault (number_of f.kind) f.place
+
+-- the end of an explanation
+abbrev pub fault_end : FaultKind → End
+fault_end kind = if is_read_fault kind then ReadFault else Config
 
 -- a file that can't be read says nothing
 abbrev pub TellsBy : Bool → Fault → Option (List ℕ) → Option (List ℕ) → ℕ → ℕ → End → Type 0

@@ -17,10 +17,12 @@ pub struct Replay<'a> {
 pub enum Command<'a> {
     /// Says whether the configuration loads.
     Check(&'a [u8]),
+    /// Says why it doesn't, for a reader.
+    Explain(&'a [u8]),
     Replay(Replay<'a>),
 }
 
-/// The command that the words are; None exactly where they are neither `check CONFIG` nor `replay
+/// The command that the words are; None exactly where they are none of `check CONFIG`, `explain CONFIG` and `replay
 /// CONFIG SCHEDULE`.
 pub fn command_of(words: &Texts) -> Option<Command<'_>>
     ensures { option_map command_view result ≡ command_of words.now }
@@ -28,6 +30,9 @@ pub fn command_of(words: &Texts) -> Option<Command<'_>>
     match words.as_slice() {
         [command, config] if command.as_bytes() == b"check".as_slice() && is_name(config) => {
             Some(Command::Check(config.as_bytes()))
+        }
+        [command, config] if command.as_bytes() == b"explain".as_slice() && is_name(config) => {
+            Some(Command::Explain(config.as_bytes()))
         }
         [command, config, schedule]
             if command.as_bytes() == b"replay".as_slice() && is_name(config) && is_name(schedule) =>

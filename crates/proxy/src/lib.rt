@@ -4,6 +4,8 @@
 
 mod command;
 mod end;
+mod explain;
+mod explain_command;
 mod finish;
 mod interim_rules;
 mod laws;
@@ -14,6 +16,7 @@ mod replay;
 mod report;
 mod run_schedule;
 mod runnable;
+mod say;
 mod serve;
 mod serve_words;
 mod server_bytes;

@@ -5,7 +5,6 @@ ghost use Rattle.config.specs.declared.fault.ConfigFault.TheVariants.{Fault as T
 ghost use Rattle.proxy.specs.Command.{named_of};
 ghost use Rattle.proxy.specs.Complete.{Completes};
 ghost use Rattle.proxy.specs.End.{status_of};
-ghost use Rattle.proxy.specs.Loads.{is_read_fault};
 ghost use Rattle.proxy.specs.Offline.{ChecksFile, Offline, ReplaysFiles, end_of_read};
 ghost use Rattle.proxy.specs.Report.{config_fault};
 ghost use Rattle.proxy.specs.Says.{Refuses, Says, Tells};
@@ -13,12 +12,14 @@ ghost use Rattle.proxy.specs.declared.end.End.TheVariants.{Config};
 
 use crate::command::{Command, Replay, command_of};
 use crate::end::{End, Status};
+use crate::explain_command::explain;
 use crate::report::{config_fault_line, ok_line, usage_fault_line};
 use crate::run_schedule::replay;
 use crate::runnable::core_config;
-use config::{ConfigFault, Fault, FaultKind, read_config};
+use crate::say::{is_read_fault, say};
+use config::{ConfigFault, Fault, read_config};
 use px_bytes::Texts;
-use px_outside::{Failed, Files, Sink, write_all};
+use px_outside::{Failed, Files, Sink};
 use std::alloc::Global;
 
 /// The number of the fault of a configuration that can't be run today.
@@ -46,6 +47,7 @@ fn run<F: Files, K: Sink>(alloc: Global, words: &Texts, files: &mut F, out: &mut
 {
     match command_of(words) {
         Some(Command::Check(name)) => check(alloc, name, files, out),
+        Some(Command::Explain(name)) => explain(alloc, name, files, out),
         Some(Command::Replay(named)) => replay_files(alloc, named, files, out),
         None => End::Usage.unless(say(out, usage_fault_line())),
     }
@@ -95,27 +97,20 @@ fn refuse<K: Sink>(alloc: Global, why: ConfigFault, out: &mut K) -> End
         (K.faults out.new) result }
 {
     match why {
-        ConfigFault::Fault(fault) => refuse_for(alloc, fault, out),
+        ConfigFault::Fault(fault) => refuse_for(alloc, &fault, out),
         ConfigFault::Memory => End::Memory,
     }
 }
 
 // Says what is wrong with a configuration that was read.
-fn refuse_for<K: Sink>(alloc: Global, fault: Fault, out: &mut K) -> End
-    ensures { Refuses (Told fault) (K.written out.old) (K.written out.new) (K.faults out.old)
+fn refuse_for<K: Sink>(alloc: Global, fault: &Fault, out: &mut K) -> End
+    ensures { Refuses (Told fault.now) (K.written out.old) (K.written out.new) (K.faults out.old)
         (K.faults out.new) result }
 {
     if is_read_fault(fault.kind) {
         return End::ReadFault;
     }
     tell_fault(alloc, fault.kind.number(), fault.place.as_bytes(), out)
-}
-
-/// Whether a file could not be read.
-pub fn is_read_fault(kind: FaultKind) -> bool
-    ensures { result ≡ is_read_fault kind }
-{
-    matches!(kind, FaultKind::ReadFault)
 }
 
 // Says what is wrong with a configuration, and ends so.
@@ -146,17 +141,6 @@ fn say_config_fault<K: Sink>(
     match config_fault_line(alloc, number, place) {
         Ok(line) => say(out, line.as_bytes()),
         Err(_) => Err(End::Memory),
-    }
-}
-
-fn say<K: Sink>(out: &mut K, text: &[u8]) -> Result<(), End>
-    ensures { Says text.now (K.written out.old) (K.written out.new) (K.faults out.old)
-        (K.faults out.new) result }
-{
-    match write_all(out, text) {
-        Ok(()) => Ok(()),
-        Err(Failed::Failed) => Err(End::WriteFault),
-        Err(Failed::Memory) => Err(End::Memory),
     }
 }
 

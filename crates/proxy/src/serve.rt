@@ -5,9 +5,9 @@ ghost use Rattle.proxy.specs.Serving.{OfWords, ServeCompletes, ServesTo, end_of,
 ghost use Rattle.proxy.specs.Serving.{refused_end, status_of};
 
 use crate::end::Status;
-use crate::offline_commands::is_read_fault;
 use crate::outcome::Outcome;
 use crate::runnable::core_config;
+use crate::say::is_read_fault;
 use crate::serve_words::{Serve, UsageFault, serve_of};
 use config::{ConfigFault, read_config};
 use px_bytes::Texts;

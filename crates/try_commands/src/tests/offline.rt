@@ -2,7 +2,7 @@
 
 use super::Shown;
 use super::made::{FIRST_READ, FIRST_WRITE, Fails, Made, NOTHING, SECOND_READ, SECOND_WRITE};
-use super::texts::REPORT;
+use super::texts::{REPORT, UNREAD_RULE};
 use super::wanted::{EMPTY, Wanted};
 use proxy::{Status, offline};
 use px_bytes::M;
@@ -33,7 +33,7 @@ const CHECKED: Offline = Offline {
     ..REPLAYED
 };
 
-static ROWS: [Offline; 11] = [
+static ROWS: [Offline; 13] = [
     REPLAYED,
     Offline {
         shows: "the configuration can't be read",
@@ -88,6 +88,22 @@ static ROWS: [Offline; 11] = [
         words: "check files.toml",
         fails: SECOND_READ,
         status: 5,
+        written: EMPTY,
+        ..CHECKED
+    },
+    Offline {
+        shows: "the file of a rule can't be read, which is explained",
+        words: "explain files.toml",
+        fails: SECOND_READ,
+        status: 5,
+        written: Wanted::Whole(UNREAD_RULE),
+        ..CHECKED
+    },
+    Offline {
+        shows: "an explanation can't be written",
+        words: "explain hi.txt",
+        fails: FIRST_WRITE,
+        status: 6,
         written: EMPTY,
         ..CHECKED
     },

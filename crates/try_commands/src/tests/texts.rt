@@ -34,6 +34,11 @@ pub(super) const REPORT: &[u8] = b"> finish 1 unselected
 > end 3
 ";
 
+/// What an explanation says where that rule can't be read.
+pub(super) const UNREAD_RULE: &[u8] = b"config fault 1 at r.tcl
+r.tcl: this file can't be read
+";
+
 /// A virtual server of HTTP, whose rule stands in a file.
 const OF_FILES: &[u8] = b"version = 1
 
