@@ -1,65 +1,76 @@
-// The calls of px_bytes.
+// The calls of px_bytes on texts and addresses.
 
-use crate::question::Question;
-use crate::write::{hexadecimal, plain};
-use px_bytes::{Addr, M, Text, escape, print_addr, print_hex, print_ip, read_addr, read_ip};
-use std::alloc::Global;
+use px_bytes::{
+    Addr, escape, lower, print_addr, print_hex, print_ip, read_addr, read_hex, read_ip,
+};
+use questions::Question;
 
-pub fn answer(alloc: Global, question: &Question) -> M<Option<Text>> {
-    let [text] = question.texts.as_slice() else {
-        return answer_two(alloc, question);
-    };
-    match question.call {
-        "print_hex" => hexadecimal(alloc, &print_hex(alloc, text.as_bytes())?),
-        "escape" => hexadecimal(alloc, &escape(alloc, text.as_bytes())?),
-        "read_ip" => ip_answer(alloc, text.as_bytes()),
-        "read_addr" => addr_answer(alloc, text.as_bytes()),
-        "print_ip" => print_ip_answer(alloc, text.as_bytes()),
-        _ => Ok(None),
+pub fn answer(question: &mut Question<'_>, call: &str) {
+    let alloc = question.alloc;
+    let text = question.text();
+    match call {
+        "print_hex" => question.say_made_hex(print_hex(alloc, text.as_bytes())),
+        "escape" => question.say_made_hex(escape(alloc, text.as_bytes())),
+        "lower" => question.say_made_hex(lower(alloc, text.as_bytes())),
+        _ => address_answer(question, call, text.as_bytes()),
     }
 }
 
-// The calls that take two texts.
-fn answer_two(alloc: Global, question: &Question) -> M<Option<Text>> {
-    let [first, second] = question.texts.as_slice() else {
-        return Ok(None);
-    };
-    match question.call {
-        "print_addr" => print_addr_answer(alloc, first.as_bytes(), second.as_bytes()),
-        _ => Ok(None),
+// The calls on addresses.
+fn address_answer(question: &mut Question<'_>, call: &str, text: &[u8]) {
+    match call {
+        "read_ip" => say_ip(question, text),
+        "read_addr" => say_addr(question, text),
+        "read_hex" => say_read_hex(question, text),
+        "print_ip" => say_printed_ip(question, text),
+        "print_addr" => say_printed_addr(question, text),
+        _ => question.unknown(),
     }
 }
 
-fn ip_answer(alloc: Global, text: &[u8]) -> M<Option<Text>> {
+fn say_ip(question: &mut Question<'_>, text: &[u8]) {
     match read_ip(text) {
-        Some(ip) => Ok(Some(Text::from_vec(format!(in alloc; "{ip}")?.into_bytes()))),
-        None => plain(alloc, "none"),
+        Some(ip) => question.say_number(u64::from(ip)),
+        None => question.say("none"),
     }
 }
 
-fn addr_answer(alloc: Global, text: &[u8]) -> M<Option<Text>> {
-    let Some(addr) = read_addr(text) else {
-        return plain(alloc, "none");
-    };
-    let text = format!(in alloc; "{} {}", addr.ip, addr.port)?;
-    Ok(Some(Text::from_vec(text.into_bytes())))
+fn say_addr(question: &mut Question<'_>, text: &[u8]) {
+    match read_addr(text) {
+        Some(addr) => {
+            question.say_number(u64::from(addr.ip));
+            question.say_number(u64::from(addr.port));
+        }
+        None => question.say("none"),
+    }
 }
 
-fn print_ip_answer(alloc: Global, bytes: &[u8]) -> M<Option<Text>> {
+fn say_read_hex(question: &mut Question<'_>, text: &[u8]) {
+    match read_hex(question.alloc, text) {
+        Ok(Some(bytes)) => question.say_hex(bytes.as_bytes()),
+        Ok(None) => question.say("none"),
+        Err(_) => question.refuse(),
+    }
+}
+
+fn say_printed_ip(question: &mut Question<'_>, bytes: &[u8]) {
     let [a, b, c, d] = bytes else {
-        return Ok(None);
+        question.unknown();
+        return;
     };
     let ip = u32::from_be_bytes([*a, *b, *c, *d]);
-    hexadecimal(alloc, &print_ip(alloc, ip)?)
+    question.say_made_hex(print_ip(question.alloc, ip));
 }
 
-fn print_addr_answer(alloc: Global, ip: &[u8], port: &[u8]) -> M<Option<Text>> {
-    let ([a, b, c, d], [high, low]) = (ip, port) else {
-        return Ok(None);
+fn say_printed_addr(question: &mut Question<'_>, ip: &[u8]) {
+    let port = question.text();
+    let ([a, b, c, d], [high, low]) = (ip, port.as_bytes()) else {
+        question.unknown();
+        return;
     };
     let addr = Addr {
         ip: u32::from_be_bytes([*a, *b, *c, *d]),
         port: u16::from_be_bytes([*high, *low]),
     };
-    hexadecimal(alloc, &print_addr(alloc, addr)?)
+    question.say_made_hex(print_addr(question.alloc, addr));
 }

@@ -1,12 +1,12 @@
 // What the evaluator gives.
 
-use crate::compiled::compiled;
+use crate::compiled::{compiled, say_fault};
 use crate::host::NoHost;
-use crate::operators::{fault_text, value_text};
-use crate::question::Question;
 use plain_eval::{Plain, PlainCode, Replies, eval_plain};
-use px_bytes::{M, Raise, TclFault, Text, print_hex};
+use px_bytes::{M, Memory, Raise, TclFault, Text};
+use questions::Question;
 use std::alloc::Global;
+use tcl_compile::CompileFault;
 use tcl_trees::{Node, Procs, Verb};
 use tcl_vars::Vars;
 
@@ -16,66 +16,97 @@ const BUDGET: u32 = 4_000_000_000;
 /// The budget that a rule's body has where the configuration gives none.
 const RULE_BUDGET: u32 = 100_000;
 
-pub fn answer(alloc: Global, question: &Question) -> M<Option<Text>> {
-    match (question.call, question.texts.as_slice()) {
-        ("value", [text]) => value_text(alloc, expression_value(alloc, text)),
-        ("body", [text]) => value_text(alloc, body_value(alloc, text)),
-        ("run", [text]) => Ok(Some(run_answer(alloc, text)?)),
-        _ => Ok(None),
+pub fn answer(question: &mut Question<'_>, call: &str) {
+    let text = question.text();
+    match call {
+        "value" => question.say_value(&expression_value(question.alloc, &text)),
+        "body" => question.say_value(&body_value(question.alloc, &text)),
+        _ => run_answer(question, &text),
     }
 }
 
 // `expr TEXT`, whose text is read when it runs.
 fn expression_value(alloc: Global, text: &Text) -> Result<Text, Raise> {
-    let mut words = Vec::new(alloc);
-    words.push(plain_word(alloc, Text::new(alloc, b"expr")?)?)?;
-    words.push(plain_word(alloc, text.copy()?)?)?;
-    evaluated(alloc, &Node::Command(Verb::ExprOfWords, words))
+    let node = expression(alloc, text)?;
+    let value = evaluated(alloc, &node);
+    drop(node);
+    value
 }
 
-fn plain_word(alloc: Global, text: Text) -> M<Node> {
+fn expression(alloc: Global, text: &Text) -> M<Node> {
+    let mut words = Vec::new(alloc);
+    match push_words(alloc, &mut words, text) {
+        Ok(()) => Ok(Node::Command(Verb::ExprOfWords, words)),
+        Err(Memory) => {
+            drop(words);
+            Err(Memory)
+        }
+    }
+}
+
+fn push_words(alloc: Global, words: &mut Vec<Node>, text: &Text) -> M<()> {
+    push_word(alloc, words, b"expr")?;
+    push_word(alloc, words, text.as_bytes())
+}
+
+fn push_word(alloc: Global, words: &mut Vec<Node>, text: &[u8]) -> M<()> {
     let mut parts = Vec::new(alloc);
-    parts.push(Node::Plain(text))?;
-    Ok(Node::Word(parts))
+    let pushed = push_plain(alloc, &mut parts, text);
+    words.push(Node::Word(parts))?;
+    pushed
+}
+
+fn push_plain(alloc: Global, parts: &mut Vec<Node>, text: &[u8]) -> M<()> {
+    Ok(parts.push(Node::Plain(Text::new(alloc, text)?))?)
 }
 
 // The value of a script, or what it returns.
 fn body_value(alloc: Global, text: &Text) -> Result<Text, Raise> {
-    match compiled(alloc, text.as_bytes())? {
-        Ok(node) => evaluated(alloc, &node),
-        Err(_) => unread(alloc),
+    match compiled(alloc, text) {
+        Ok(node) => {
+            let value = evaluated(alloc, &node);
+            drop(node);
+            value
+        }
+        Err(CompileFault::Flaw(_)) => unread(alloc),
+        Err(CompileFault::Memory) => Err(Raise::Memory),
     }
 }
 
 // How a script ends, which has the budget of a rule's body.
-fn run_answer(alloc: Global, text: &Text) -> M<Text> {
-    match compiled(alloc, text.as_bytes())? {
-        Ok(node) => run_text(alloc, &node),
-        Err(flaw) => Ok(flaw),
+fn run_answer(question: &mut Question<'_>, text: &Text) {
+    match compiled(question.alloc, text) {
+        Ok(node) => {
+            let end = ran(question.alloc, &node, RULE_BUDGET);
+            drop(node);
+            say_end(question, &end);
+        }
+        Err(fault) => say_fault(question, &fault),
     }
 }
 
-fn run_text(alloc: Global, node: &Node) -> M<Text> {
-    match ran(alloc, node, RULE_BUDGET)? {
-        Plain::Done { code, used: _ } => code_text(alloc, &code),
-        Plain::Waits { call: _ } => Text::new(alloc, b"waits"),
+fn say_end(question: &mut Question<'_>, end: &M<Plain>) {
+    match end {
+        Ok(Plain::Done { code, used: _ }) => say_code(question, code),
+        Ok(Plain::Waits { call: _ }) => question.say("waits"),
+        Err(Memory) => question.refuse(),
     }
 }
 
-fn code_text(alloc: Global, code: &PlainCode) -> M<Text> {
+fn say_code(question: &mut Question<'_>, code: &PlainCode) {
     match code {
-        PlainCode::Ends(value) => with_value(alloc, b"ok ", value),
-        PlainCode::Return(value) => with_value(alloc, b"return ", value),
-        PlainCode::Raised(fault) => fault_text(alloc, fault),
-        PlainCode::Break => Text::new(alloc, b"break"),
-        PlainCode::Continue => Text::new(alloc, b"continue"),
+        PlainCode::Ends(value) => {
+            question.say("ok");
+            question.say_hex(value.as_bytes());
+        }
+        PlainCode::Return(value) => {
+            question.say("return");
+            question.say_hex(value.as_bytes());
+        }
+        PlainCode::Raised(fault) => question.say_whole_fault(fault),
+        PlainCode::Break => question.say("break"),
+        PlainCode::Continue => question.say("continue"),
     }
-}
-
-fn with_value(alloc: Global, word: &[u8], value: &Text) -> M<Text> {
-    let mut out = Text::new(alloc, word)?;
-    out.push(print_hex(alloc, value.as_bytes())?.as_bytes())?;
-    Ok(out)
 }
 
 fn unread(alloc: Global) -> Result<Text, Raise> {
@@ -83,7 +114,10 @@ fn unread(alloc: Global) -> Result<Text, Raise> {
 }
 
 fn evaluated(alloc: Global, node: &Node) -> Result<Text, Raise> {
-    told(alloc, ran(alloc, node, BUDGET)?)
+    match ran(alloc, node, BUDGET)? {
+        Plain::Done { code, used: _ } => code_value(alloc, code),
+        Plain::Waits { call: _ } => unread(alloc),
+    }
 }
 
 fn ran(alloc: Global, node: &Node, budget: u32) -> M<Plain> {
@@ -102,13 +136,6 @@ fn ran(alloc: Global, node: &Node, budget: u32) -> M<Plain> {
         &replies,
         budget,
     )
-}
-
-fn told(alloc: Global, plain: Plain) -> Result<Text, Raise> {
-    match plain {
-        Plain::Done { code, used: _ } => code_value(alloc, code),
-        Plain::Waits { call: _ } => unread(alloc),
-    }
 }
 
 fn code_value(alloc: Global, code: PlainCode) -> Result<Text, Raise> {

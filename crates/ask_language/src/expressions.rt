@@ -1,30 +1,24 @@
 // The reader of expressions.
 
-use crate::question::Question;
-use px_bytes::{M, Memory, Text};
-use std::alloc::Global;
+use crate::compiled::say_place;
+use questions::Question;
 use tcl_expr::{ExprFault, Misread, parse_expr};
 
-pub fn answer(alloc: Global, question: &Question) -> M<Option<Text>> {
-    match (question.call, question.texts.as_slice()) {
-        ("expr", [text]) => Ok(Some(expr_answer(alloc, text.as_bytes())?)),
-        _ => Ok(None),
+pub fn answer(question: &mut Question<'_>) {
+    let text = question.text();
+    match parse_expr(question.alloc, text.as_bytes()) {
+        Ok(tree) => {
+            drop(tree);
+            question.say("ok");
+        }
+        Err(ExprFault::Fault(fault)) => say_fault(question, fault),
+        Err(ExprFault::Memory) => question.refuse(),
     }
 }
 
-fn expr_answer(alloc: Global, text: &[u8]) -> M<Text> {
-    match parse_expr(alloc, text) {
-        Ok(_) => Text::new(alloc, b"ok"),
-        Err(ExprFault::Fault(fault)) => fault_text(alloc, fault),
-        Err(ExprFault::Memory) => Err(Memory),
+fn say_fault(question: &mut Question<'_>, fault: Misread) {
+    match fault {
+        Misread::Syntax(at) => say_place(question, "fault syntax", at),
+        Misread::TooDeep(at) => say_place(question, "fault too_deep", at),
     }
-}
-
-/// The fault as an answer has it.
-pub fn fault_text(alloc: Global, fault: Misread) -> M<Text> {
-    let text = match fault {
-        Misread::Syntax(at) => format!(in alloc; "fault syntax {at}")?,
-        Misread::TooDeep(at) => format!(in alloc; "fault too_deep {at}")?,
-    };
-    Ok(Text::from_vec(text.into_bytes()))
 }

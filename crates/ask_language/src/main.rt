@@ -9,82 +9,73 @@ mod evaluated;
 mod expressions;
 mod host;
 mod lists;
-mod long_values;
 mod numbers;
 mod operators;
-mod question;
 mod rules;
 mod script;
 mod variables;
 mod words;
-mod write;
 
-use crate::question::{Question, read_question};
-use px_bytes::{M, Text};
+use questions::Question;
 use std::alloc::Global;
-use std::io::{self, BufRead, BufReader, BufWriter, ErrorKind, Write};
-
-/// The answer to a line that asks nothing known.
-const UNKNOWN: &[u8] = b"unknown";
+use std::io::{self, BufRead, BufReader, BufWriter, Write};
 
 fn main(rt: HostRuntime) -> io::Result<()> {
     let alloc = rt.alloc();
     let mut out = BufWriter::new(alloc, io::writer(&rt))?;
-    for line in BufReader::new(alloc, rt.reader())?.lines(alloc) {
-        let line = line?;
-        let Ok(answer) = answer_line(alloc, &line) else {
-            return Err(io::Error::from(ErrorKind::OutOfMemory));
-        };
-        out.write_all(answer.as_bytes())?;
-        out.write_all(b"\n")?;
-    }
+    answer_lines(alloc, BufReader::new(alloc, rt.reader())?, &mut out)?;
     out.flush()
 }
 
-fn answer_line(alloc: Global, line: &str) -> M<Text> {
-    if let Some(answer) = rules::answer(alloc, line)? {
-        return Ok(answer);
+fn answer_lines<R: BufRead + Drop, W: Write>(
+    alloc: Global,
+    lines: R,
+    out: &mut W,
+) -> io::Result<()> {
+    for line in lines.lines(alloc) {
+        answer_line(alloc, &line?, out)?;
     }
-    if let Some(answer) = long_values::answer(alloc, line)? {
-        return Ok(answer);
-    }
-    let Some(question) = read_question(alloc, line)? else {
-        return Text::new(alloc, UNKNOWN);
-    };
-    match answer(alloc, &question)? {
-        Some(answer) => Ok(answer),
-        None => Text::new(alloc, UNKNOWN),
+    Ok(())
+}
+
+// Writes the answer to a line.
+fn answer_line<W: Write>(alloc: Global, line: &str, out: &mut W) -> io::Result<()> {
+    let words: Vec<&str> = line.split(' ').collect(alloc)?;
+    let mut question = Question::new(alloc, &words);
+    answer(&mut question);
+    question.write_answer(out)
+}
+
+// Each file of answers has calls of one crate or two.
+fn answer(question: &mut Question<'_>) {
+    match question.word() {
+        "apply1" => operators::one_answer(question),
+        "apply2" => operators::two_answer(question),
+        "pure" => commands::answer(question),
+        "pure_long" => commands::long_answer(question),
+        "append" => variables::answer(question),
+        call => text_answer(question, call),
     }
 }
 
-// Each file of answers has calls of one crate, and gives none to any other.
-fn answer(alloc: Global, question: &Question) -> M<Option<Text>> {
-    if let Some(answer) = bytes::answer(alloc, question)? {
-        return Ok(Some(answer));
+// The calls on scripts, rules and expressions.
+fn text_answer(question: &mut Question<'_>, call: &str) {
+    match call {
+        "parse" => words::answer(question),
+        "compile" => compiled::answer(question),
+        "expr" => expressions::answer(question),
+        "value" | "body" | "run" => evaluated::answer(question, call),
+        "load" | "allowed" | "read_event" => rules::answer(question, call),
+        "split" | "places" | "join_list" => lists::answer(question, call),
+        _ => bytes_answer(question, call),
     }
-    if let Some(answer) = numbers::answer(alloc, question)? {
-        return Ok(Some(answer));
+}
+
+// The calls of px_bytes.
+fn bytes_answer(question: &mut Question<'_>, call: &str) {
+    match call {
+        "glob" | "same_name" => numbers::truth_answer(question, call),
+        "read_whole" | "print_whole" | "read_net" => numbers::answer(question, call),
+        _ => bytes::answer(question, call),
     }
-    if let Some(answer) = lists::answer(alloc, question)? {
-        return Ok(Some(answer));
-    }
-    if let Some(answer) = operators::answer(alloc, question)? {
-        return Ok(Some(answer));
-    }
-    if let Some(answer) = commands::answer(alloc, question)? {
-        return Ok(Some(answer));
-    }
-    if let Some(answer) = variables::answer(alloc, question)? {
-        return Ok(Some(answer));
-    }
-    if let Some(answer) = compiled::answer(alloc, question)? {
-        return Ok(Some(answer));
-    }
-    if let Some(answer) = expressions::answer(alloc, question)? {
-        return Ok(Some(answer));
-    }
-    if let Some(answer) = evaluated::answer(alloc, question)? {
-        return Ok(Some(answer));
-    }
-    words::answer(alloc, question)
 }

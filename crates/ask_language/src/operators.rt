@@ -2,35 +2,41 @@
 
 ghost use Rattle.std.specs.Prelude.{◌≡◌, ◌<◌};
 
-use crate::question::Question;
-use px_bytes::{M, Memory, Raise, Steps, TclFault, Text, print_hex};
+use px_bytes::{Raise, Steps, Text};
+use questions::Question;
 use std::alloc::Global;
 use std::marker::Brand;
 use std::sync::ledger::{Blank, Ledger};
 use tcl_expr::{Op1, Op2, apply1, apply2};
 
-pub fn answer(alloc: Global, question: &Question) -> M<Option<Text>> {
-    let Some(name) = question.operator else {
-        return Ok(None);
-    };
-    match (question.call, question.texts.as_slice()) {
-        ("apply1", [x]) => answer_one(alloc, name, x.as_bytes()),
-        ("apply2", [x, y]) => answer_two(alloc, name, x.as_bytes(), y.as_bytes()),
-        _ => Ok(None),
-    }
-}
-
-fn answer_one(alloc: Global, name: &str, x: &[u8]) -> M<Option<Text>> {
+pub fn one_answer(question: &mut Question<'_>) {
+    let name = question.word();
+    let x = question.text();
     match op1(name) {
-        Some(op) => value_text(alloc, one::<Brand>(alloc, op, x, Blank::new(1))),
-        None => Ok(None),
+        Some(op) => {
+            let value = one::<Brand>(question.alloc, op, x.as_bytes(), Blank::new(1));
+            question.say_value(&value);
+        }
+        None => question.unknown(),
     }
 }
 
-fn answer_two(alloc: Global, name: &str, x: &[u8], y: &[u8]) -> M<Option<Text>> {
+pub fn two_answer(question: &mut Question<'_>) {
+    let name = question.word();
+    let x = question.text();
+    let y = question.text();
     match op2(name) {
-        Some(op) => value_text(alloc, two::<Brand>(alloc, op, x, y, Blank::new(1))),
-        None => Ok(None),
+        Some(op) => {
+            let value = two::<Brand>(
+                question.alloc,
+                op,
+                x.as_bytes(),
+                y.as_bytes(),
+                Blank::new(1),
+            );
+            question.say_value(&value);
+        }
+        None => question.unknown(),
     }
 }
 
@@ -94,23 +100,4 @@ fn text_op(name: &str) -> Option<Op2> {
         "BitOr" => Some(Op2::BitOr),
         _ => None,
     }
-}
-
-pub fn value_text(alloc: Global, value: Result<Text, Raise>) -> M<Option<Text>> {
-    match value {
-        Ok(text) => {
-            let mut out = Text::new(alloc, b"ok ")?;
-            out.push(print_hex(alloc, text.as_bytes())?.as_bytes())?;
-            Ok(Some(out))
-        }
-        Err(Raise::Fault(fault)) => Ok(Some(fault_text(alloc, &fault)?)),
-        Err(Raise::Memory) => Err(Memory),
-    }
-}
-
-pub fn fault_text(alloc: Global, fault: &TclFault) -> M<Text> {
-    let kind = fault.kind as u8;
-    let mut out = Text::from_vec(format!(in alloc; "fault {kind} ")?.into_bytes());
-    out.push(print_hex(alloc, fault.text.as_bytes())?.as_bytes())?;
-    Ok(out)
 }

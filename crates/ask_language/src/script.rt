@@ -1,71 +1,64 @@
 // Scripts as text.
 
-use px_bytes::{M, Text, print_hex};
-use std::alloc::Global;
+use px_bytes::Text;
+use questions::Question;
 use tcl_words::{Command, Form, Part, Script, Span, Word};
 
-/// The script's text.
-pub fn script_text(alloc: Global, script: &Script) -> M<Text> {
-    let mut out = Text::empty(alloc);
-    push_script(alloc, &mut out, script)?;
-    Ok(out)
-}
-
+/// Puts a script behind the answer.
 #[cycle(script)]
-fn push_script(alloc: Global, out: &mut Text, script: &Script) -> M<()> {
-    out.push(b"[")?;
+pub fn put_script(question: &mut Question<'_>, script: &Script) {
+    question.put(b"[");
     let mut first = true;
     for command in &script.commands {
         if !first {
-            out.push(b" ")?;
+            question.put(b" ");
         }
         first = false;
-        push_command(alloc, out, command)?;
+        put_command(question, command);
     }
-    out.push(b"]")
+    question.put(b"]");
 }
 
 #[cycle(script)]
-fn push_command(alloc: Global, out: &mut Text, command: &Command) -> M<()> {
-    out.push(b"(")?;
+fn put_command(question: &mut Question<'_>, command: &Command) {
+    question.put(b"(");
     let mut first = true;
     for word in &command.words {
         if !first {
-            out.push(b" ")?;
+            question.put(b" ");
         }
         first = false;
-        push_word(alloc, out, word)?;
+        put_word(question, word);
     }
-    out.push(b")")
+    question.put(b")");
 }
 
 #[cycle(script)]
-fn push_word(alloc: Global, out: &mut Text, word: &Word) -> M<()> {
+fn put_word(question: &mut Question<'_>, word: &Word) {
     let form = match word.form {
         Form::Bare => b'p',
         Form::Quoted => b'q',
         Form::Braced => b'b',
     };
-    push_span(alloc, out, form, word.span)?;
-    out.push(b":")?;
-    push_parts(alloc, out, &word.parts)
+    put_span(question, form, word.span);
+    question.put(b":");
+    put_parts(question, &word.parts)
 }
 
 /// The parts, but a plain one without a byte.
 #[cycle(script)]
-fn push_parts(alloc: Global, out: &mut Text, parts: &[Part]) -> M<()> {
+fn put_parts(question: &mut Question<'_>, parts: &[Part]) {
     let mut first = true;
     for part in parts {
         if is_empty_part(part) {
             continue;
         }
         if !first {
-            out.push(b",")?;
+            question.put(b",");
         }
         first = false;
-        push_part(alloc, out, part)?;
+        put_part(question, part);
     }
-    Ok(())
 }
 
 fn is_empty_part(part: &Part) -> bool {
@@ -76,32 +69,34 @@ fn is_empty_part(part: &Part) -> bool {
 }
 
 #[cycle(script)]
-fn push_part(alloc: Global, out: &mut Text, part: &Part) -> M<()> {
+fn put_part(question: &mut Question<'_>, part: &Part) {
     match part {
-        Part::Plain { span, text } => push_text(alloc, out, b't', *span, text),
-        Part::Variable { span, name } => push_text(alloc, out, b'v', *span, name),
+        Part::Plain { span, text } => put_text(question, b't', *span, text),
+        Part::Variable { span, name } => put_text(question, b'v', *span, name),
         Part::Element { span, name, index } => {
-            push_text(alloc, out, b'v', *span, name)?;
-            out.push(b"{")?;
-            push_parts(alloc, out, index)?;
-            out.push(b"}")
+            put_text(question, b'v', *span, name);
+            question.put(b"{");
+            put_parts(question, index);
+            question.put(b"}");
         }
         Part::Bracket { span, script } => {
-            push_span(alloc, out, b's', *span)?;
-            out.push(b"=")?;
-            push_script(alloc, out, script)
+            put_span(question, b's', *span);
+            question.put(b"=");
+            put_script(question, script)
         }
     }
 }
 
-fn push_text(alloc: Global, out: &mut Text, kind: u8, span: Span, text: &Text) -> M<()> {
-    push_span(alloc, out, kind, span)?;
-    out.push(b"=")?;
-    out.push(print_hex(alloc, text.as_bytes())?.as_bytes())
+fn put_text(question: &mut Question<'_>, kind: u8, span: Span, text: &Text) {
+    put_span(question, kind, span);
+    question.put(b"=");
+    question.put_hex(text.as_bytes());
 }
 
 /// The letter and the span.
-fn push_span(alloc: Global, out: &mut Text, letter: u8, span: Span) -> M<()> {
-    out.push(&[letter])?;
-    out.push(format!(in alloc; "{}-{}", span.start, span.end)?.as_bytes())
+fn put_span(question: &mut Question<'_>, letter: u8, span: Span) {
+    question.put(&[letter]);
+    question.put_number(span.start as u64);
+    question.put(b"-");
+    question.put_number(span.end as u64);
 }

@@ -1,37 +1,28 @@
 // The calls of tcl_words.
 
-use crate::question::Question;
-use crate::script::script_text;
-use px_bytes::{M, Memory, Text};
-use std::alloc::Global;
-use tcl_words::{Fault, ParseFault, parse};
+use crate::compiled::say_place;
+use crate::script::put_script;
+use questions::Question;
+use tcl_words::{Fault, ParseFault, Script, parse};
 
-pub fn answer(alloc: Global, question: &Question) -> M<Option<Text>> {
-    let [text] = question.texts.as_slice() else {
-        return Ok(None);
-    };
-    match question.call {
-        "parse" => Ok(Some(parse_answer(alloc, text.as_bytes())?)),
-        _ => Ok(None),
-    }
-}
-
-fn parse_answer(alloc: Global, text: &[u8]) -> M<Text> {
-    match parse(alloc, text) {
+pub fn answer(question: &mut Question<'_>) {
+    let text = question.text();
+    match parse(question.alloc, text.as_bytes()) {
         Ok(script) => {
-            let mut out = Text::new(alloc, b"ok ")?;
-            out.push(script_text(alloc, &script)?.as_bytes())?;
-            Ok(out)
+            say_script(question, &script);
+            drop(script);
         }
-        Err(ParseFault::Fault(fault)) => fault_text(alloc, fault),
-        Err(ParseFault::Memory) => Err(Memory),
+        Err(ParseFault::Fault(fault)) => {
+            question.say("fault");
+            say_place(question, fault_name(fault), fault.place());
+        }
+        Err(ParseFault::Memory) => question.refuse(),
     }
 }
 
-fn fault_text(alloc: Global, fault: Fault) -> M<Text> {
-    let name = fault_name(fault);
-    let text = format!(in alloc; "fault {name} {}", fault.place())?;
-    Ok(Text::from_vec(text.into_bytes()))
+fn say_script(question: &mut Question<'_>, script: &Script) {
+    question.say("ok ");
+    put_script(question, script);
 }
 
 /// The name of a fault in an answer.

@@ -1,9 +1,9 @@
 // The length of a body, and what can be wrong with a message.
 
-use crate::question::Question;
 use http_frames::{Body, response_body};
 use http_heads::{HeadFault, ResponseHead, Version, read_response};
 use px_bytes::HttpFault;
+use questions::Question;
 
 /// The length of the body of a response, by its head, and the method and the version of the request.
 pub fn response(question: &mut Question<'_>) {

@@ -5,7 +5,7 @@ mod left;
 mod received;
 mod scene;
 
-use crate::question::Question;
+use questions::Question;
 use scene::HttpScene;
 
 pub fn answer(question: &mut Question<'_>, call: &str) {

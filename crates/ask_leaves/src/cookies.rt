@@ -1,8 +1,8 @@
 // Cookies.
 
-use crate::question::Question;
 use http_cookies::{cookies, print_bigip, read_bigip};
 use px_bytes::{Addr, M, Memory, Pairs};
+use questions::Question;
 
 /// The cookies of fields.
 pub fn answer(question: &mut Question<'_>) {

@@ -1,10 +1,10 @@
 // Calls asked many times, so that their time can be told from outside.
 
-use crate::question::Question;
 use http_frames::{BodyState, Unit, go_on, next_unit};
 use http_heads::{read_request, write_request};
 use httparse::Status;
 use httparse::spans::{EMPTY_HEADER_SPAN, parse_request};
+use questions::Question;
 use std::alloc::Global;
 
 /// The most times that a call is asked.

@@ -1,8 +1,8 @@
 // Fields, looked at and edited.
 
-use crate::question::Question;
 use http_heads::{Field, Fields};
 use px_bytes::{M, Raise, Text, Texts};
+use questions::Question;
 
 /// Fields, and behind `/` operations on them.
 pub fn answer(question: &mut Question<'_>) {

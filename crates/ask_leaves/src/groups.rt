@@ -1,8 +1,8 @@
 // The calls of data_groups.
 
-use crate::question::Question;
 use data_groups::{ClassOp, Group, GroupFault, GroupKind, lookup, match_first, search};
 use px_bytes::Text;
+use questions::Question;
 
 /// The most times that `many` asks.
 const MOST_TIMES: u64 = 10_000_000;

@@ -1,12 +1,12 @@
 // Heads of messages, read and written.
 
 use crate::bodies::{say_body, say_head_fault};
-use crate::question::Question;
 use http_frames::request_body;
 use http_heads::{
     HeadFault, RequestHead, ResponseHead, passed_request, passed_response, read_request,
     read_response, received_request, received_response, write_request, write_response,
 };
+use questions::Question;
 
 /// What the head of a request is, what is written of it, or the length of its body.
 pub fn request(question: &mut Question<'_>, call: &str) {

@@ -11,16 +11,14 @@ mod groups;
 mod heads;
 mod network;
 mod pool_calls;
-mod question;
 mod record_calls;
 mod store;
 mod table_calls;
 mod units;
-mod write;
 
 use question::Question;
 use std::alloc::Global;
-use std::io::{self, BufRead, BufReader, BufWriter, ErrorKind, Write};
+use std::io::{self, BufRead, BufReader, BufWriter, Write};
 
 fn main(rt: HostRuntime) -> io::Result<()> {
     let alloc = rt.alloc();
@@ -45,15 +43,7 @@ fn answer_line<W: Write>(alloc: Global, line: &str, out: &mut W) -> io::Result<(
     let words: Vec<&str> = line.split(' ').collect(alloc)?;
     let mut question = Question::new(alloc, &words);
     answer(&mut question);
-    write_answer(&question, out)
-}
-
-fn write_answer<W: Write>(question: &Question<'_>, out: &mut W) -> io::Result<()> {
-    let Ok(answer) = question.answer() else {
-        return Err(io::Error::from(ErrorKind::OutOfMemory));
-    };
-    out.write_all(answer)?;
-    out.write_all(b"\n")
+    question.write_answer(out)
 }
 
 fn answer(question: &mut Question<'_>) {

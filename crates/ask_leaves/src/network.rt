@@ -6,8 +6,8 @@ mod scene;
 mod show;
 mod words;
 
-use crate::question::Question;
 use event_order::{EventName, read_event};
+use questions::Question;
 use scene::Scene;
 
 pub fn answer(question: &mut Question<'_>) {

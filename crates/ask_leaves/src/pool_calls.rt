@@ -1,7 +1,7 @@
 // The calls of a pool, one after another.
 
-use crate::question::Question;
 use pools::{Member, Members, Method, Pool, Wanted, are_members};
+use questions::Question;
 
 pub fn answer(question: &mut Question<'_>) {
     if let Some(mut pool) = pool(question) {

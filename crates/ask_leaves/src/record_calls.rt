@@ -1,7 +1,7 @@
 // The calls of records of source addresses, one after another.
 
-use crate::question::Question;
 use persistence::{Record, Records};
+use questions::Question;
 use tcl_encodings::read_address;
 
 pub fn answer(question: &mut Question<'_>) {

@@ -1,9 +1,9 @@
 // The calls of a store, one after another.
 
 use crate::pool_calls::pool;
-use crate::question::Question;
 use pools::Pool;
 use px_bytes::{M, Memory, Reply, Text};
+use questions::Question;
 use shared_store::{NamedPool, Pools, Store, VirtualTime, VirtualTimes};
 use std::alloc::Global;
 

@@ -1,6 +1,6 @@
 // The calls of a session table, one after another.
 
-use crate::question::Question;
+use questions::Question;
 use session_table::{Table, check_words};
 
 /// The limit of live rows, and calls, each with its moment and the number of its words before them.

@@ -1,9 +1,9 @@
 // Bodies of messages, unit by unit.
 
 use crate::bodies::say_fault;
-use crate::question::Question;
 use http_frames::{BodyState, Unit, go_on, next_unit};
 use px_bytes::read_decimal;
+use questions::Question;
 
 /// The most units that are asked of one stream.
 const MOST_UNITS: usize = 1_000_000;

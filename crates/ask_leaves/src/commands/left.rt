@@ -1,6 +1,6 @@
 // What is left behind the commands of rules.
 
-use crate::question::Question;
+use questions::Question;
 use irule_http::{Http, client_closes, sent_head};
 use px_bytes::{Side, Text};
 

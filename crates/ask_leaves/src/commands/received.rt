@@ -1,6 +1,5 @@
 // Messages as they come to rules: their heads without what Connection names, and with a target that says no host.
 
-use crate::question::Question;
 use http_frames::{Body, request_body, response_body};
 use http_heads::{
     Fields, RequestHead, ResponseHead, Version, read_request, read_response, received_request,
@@ -8,6 +7,7 @@ use http_heads::{
 };
 use irule_http::{Request, Response};
 use px_bytes::{Text, same_name, trimmed};
+use questions::Question;
 
 /// A request's head as rules see it.
 pub fn request_head(question: &mut Question<'_>, text: &Text) -> Option<RequestHead> {

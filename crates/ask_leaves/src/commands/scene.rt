@@ -2,7 +2,6 @@
 
 use crate::commands::left::{closes, say_head, say_sent};
 use crate::commands::received::{request, request_head, response, response_head};
-use crate::question::Question;
 use event_order::{EventName, read_event};
 use http_frames::start;
 use irule_http::{Http, http_command, sent_head};

@@ -3,10 +3,10 @@
 use crate::network::scene::Scene;
 use crate::network::show::{say_choice, say_sides, say_wishes};
 use crate::network::words::read_word;
-use crate::question::Question;
 use event_order::read_event;
 use irule_net::Selected;
 use px_bytes::{Side, read_addr, read_decimal};
+use questions::Question;
 
 /// `wishes`, `choice` and `sides` show the state. Of the others `event NAME` begins the next event,
 /// `server` alone says that there is one, `selected POOL ADDR:PORT` that it was selected, `client

@@ -1,9 +1,9 @@
 // The data groups and pools of each question about commands.
 
-use crate::question::Question;
 use data_groups::{Group, GroupFault, GroupKind};
 use irule_net::{Groups, NamedGroup, PoolMembers};
 use px_bytes::{Addr, Pairs, Seq};
+use questions::Question;
 
 // Of each data group the name, the kind, and its keys with their values.
 const TEXTS: [(&str, &str); 6] = [

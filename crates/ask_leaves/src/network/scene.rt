@@ -4,10 +4,10 @@ use crate::network::directive::directed;
 use crate::network::place::groups;
 use crate::network::show::{begin_call, say_effects, say_outcome};
 use crate::network::words::read_words;
-use crate::question::Question;
 use event_order::EventName;
 use irule_net::{Effects, Groups, NetState, net_command};
 use px_bytes::Addr;
+use questions::Question;
 
 /// The client's address: 10.0.0.9, port 4000.
 const CLIENT: Addr = Addr {

@@ -1,8 +1,8 @@
 // What a call answers and does, and the state, as they stand in a line.
 
-use crate::question::Question;
 use irule_net::{Asks, Ending, Made, NetState, Target};
 use px_bytes::{HostAnswer, Side, Text, escape};
+use questions::Question;
 
 /// The most bytes of a text that an answer writes out.
 const WRITTEN: usize = 300;

@@ -1,7 +1,7 @@
 // The words of calls.
 
-use crate::question::{Question, add_times};
 use px_bytes::{M, Memory, Text, Texts, read_decimal, read_hex};
+use questions::{Question, add_times};
 use std::alloc::Global;
 
 /// The texts that words write.

@@ -5,6 +5,7 @@ ghost use Rattle.std.specs.Prelude.{◌≤◌};
 use hex::FromHexError;
 use px_bytes::{Addr, M, Memory, Pairs, Text, Texts, read_addr, read_decimal};
 use std::alloc::Global;
+use std::io::{self, ErrorKind, Write};
 
 /// A question and its answer so far. A word that lacks or can't be read makes it one that asks nothing
 /// known, and stands for zero or for no bytes; so does memory that was refused, which is told at the end.
@@ -39,6 +40,15 @@ impl<'a> Question<'a> {
         } else {
             Ok(b"unknown")
         }
+    }
+
+    /// Writes the answer as a line.
+    pub fn write_answer<W: Write>(&self, out: &mut W) -> io::Result<()> {
+        let Ok(answer) = self.answer() else {
+            return Err(io::Error::from(ErrorKind::OutOfMemory));
+        };
+        out.write_all(answer)?;
+        out.write_all(b"\n")
     }
 
     /// It asks nothing known.
@@ -180,7 +190,7 @@ impl<'a> Question<'a> {
     fn add_part(&mut self, text: &mut Text, part: &str) {
         match part.split_once('*') {
             Some((digits, count)) => {
-                let count = self.decimal(count, 2_000_000);
+                let count = self.decimal(count, 4_000_000);
                 self.add_digits(text, digits, count);
             }
             None => self.add_digits(text, part, 1),
@@ -204,6 +214,11 @@ impl<'a> Question<'a> {
                 Text::empty(self.alloc)
             }
         }
+    }
+
+    /// The texts that are left.
+    pub fn all_texts(&mut self) -> Texts {
+        self.texts(self.left())
     }
 
     /// So many texts.

@@ -1,6 +1,6 @@
 // Answers as they stand in a line.
 
-use crate::question::Question;
+use crate::Question;
 use px_bytes::{Addr, M, Memory, Raise, Reply, TclFault, Text, Texts, print_addr, print_hex};
 
 /// The most bytes of a text that an answer writes out.
@@ -46,6 +46,20 @@ impl Question<'_> {
     pub fn say_bytes(&mut self, bytes: &[u8]) {
         self.blank();
         self.put_bytes(bytes);
+    }
+
+    /// Bytes in hexadecimal, however many.
+    pub fn say_hex(&mut self, bytes: &[u8]) {
+        self.blank();
+        self.put_hex(bytes);
+    }
+
+    /// A text that was made, in hexadecimal, unless memory was refused.
+    pub fn say_made_hex(&mut self, text: M<Text>) {
+        match text {
+            Ok(text) => self.say_hex(text.as_bytes()),
+            Err(Memory) => self.refuse(),
+        }
     }
 
     /// Bytes in hexadecimal, or `-`.
@@ -110,8 +124,19 @@ impl Question<'_> {
     pub fn say_whole_fault(&mut self, fault: &TclFault) {
         self.say("fault");
         self.say_number(fault.kind as u64);
-        self.blank();
-        self.put_made(print_hex(self.alloc, fault.text.as_bytes()));
+        self.say_hex(fault.text.as_bytes());
+    }
+
+    /// `ok` and a text however long, or the fault.
+    pub fn say_value(&mut self, value: &Result<Text, Raise>) {
+        match value {
+            Ok(text) => {
+                self.say("ok");
+                self.say_hex(text.as_bytes());
+            }
+            Err(Raise::Fault(fault)) => self.say_whole_fault(fault),
+            Err(Raise::Memory) => self.refuse(),
+        }
     }
 
     /// `ok`, or the fault.
@@ -140,9 +165,14 @@ impl Question<'_> {
         }
     }
 
+    /// Bytes in hexadecimal, however many, behind what stands.
+    pub fn put_hex(&mut self, bytes: &[u8]) {
+        self.put_made(print_hex(self.alloc, bytes));
+    }
+
     fn put_bytes(&mut self, bytes: &[u8]) {
         if bytes.len() <= WRITTEN {
-            self.put_made(print_hex(self.alloc, bytes));
+            self.put_hex(bytes);
         } else {
             self.put(b"#");
             self.put_number(bytes.len() as u64);

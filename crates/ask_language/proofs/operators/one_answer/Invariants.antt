@@ -1,4 +1,4 @@
-use Rattle.ask_language.proofs.operators.answer_one.Given as goal
+use Rattle.ask_language.proofs.operators.one_answer.Given as goal
 
 abbrev pub ghosts-one : goal.ghosts-one
 ghosts-one a = record { name = a.blank.name; parts = a.blank.parts }
