@@ -16,7 +16,7 @@ mod store;
 mod table_calls;
 mod units;
 
-use question::Question;
+use questions::Question;
 use std::alloc::Global;
 use std::io::{self, BufRead, BufReader, BufWriter, Write};
 
