@@ -1,8 +1,8 @@
 // What is left behind the commands of rules.
 
-use questions::Question;
 use irule_http::{Http, client_closes, sent_head};
 use px_bytes::{Side, Text};
+use questions::Question;
 
 /// The head of a side's message as it goes out, or `none`.
 pub fn say_head(question: &mut Question<'_>, side: Side, http: &Http) {

@@ -7,6 +7,7 @@ use http_frames::start;
 use irule_http::{Http, http_command, sent_head};
 use irule_net::{Effects, Groups, NetState, net_command};
 use px_bytes::{Addr, HostAnswer, Memory, Seq, Side, Text, Texts};
+use questions::Question;
 
 /// What the request and its response are known by, the event that runs, the request's head as it went out once its
 /// response is there, and what was sent to the client.
