@@ -443,7 +443,7 @@ module _ (a : Core) (e : Event) (group : List Note) (b : Core) (m : Moved core_f
   X = record { event = e; group = group }
 
   after : StandsAfter m.stands.config m.stands.past m.stands.state X b
-  after = m.moved m.stands.config m.stands.past m.stands.state m.stands.represents
+  after = m.moved.keeps m.stands.config m.stands.past m.stands.state m.stands.represents
 
   steps : Steps X a b m.stands.config m.stands.past m.stands.state after.next
   steps = record {
