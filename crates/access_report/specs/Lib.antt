@@ -1,0 +1,5 @@
+pub mod Sums
+pub mod Table
+pub mod Trees
+pub mod Raising
+pub mod Tallies
