@@ -65,3 +65,4 @@ pub mod Asked
 pub mod Arriving
 pub mod BytesBounded
 pub mod Taking
+pub mod Determined

@@ -76,9 +76,9 @@ pub record IsSettled (s : State) : Type 0 where
   pub none_asks : s.queue ≡ []
 
 -- Where it is settled, each live connection found memory, gave all that was deliverable, and no cut
--- is due; where besides its client took all, it is whole, and if it has finished and nothing is
--- pending it isn't live any more. An ended one gave its whole trace, unless it found no memory;
--- where nothing was dropped it is whole.
+-- is due; where besides nothing is pending, since both sides took all or were reset, its trace is no
+-- longer, and if it has finished it isn't live any more. An ended one gave its whole trace, unless
+-- it found no memory; where nothing was dropped it is whole.
 pub record SettledIsComplete (C : Config) (h : Heard) (s : State) (live : Bool)
     (place : List Item) : Type 0 where
   pub settled_found_memory : IsSettled s → live ≡ true → h.failed ≡ false
@@ -97,7 +97,7 @@ pub record SettledIsComplete (C : Config) (h : Heard) (s : State) (live : Bool)
       → IsWhole C h place
 
 -- What is told of the ends of a connection: nothing of it is closed before it has finished, and an
--- end that is closed took all, unless it found no memory. It isn't over while it is live; one that
+-- end that is closed took all or was reset, unless it found no memory. It isn't over while it is live; one that
 -- isn't has told that it is over, once and last, with what was sent to its sides and not taken
 -- counted as dropped, and both its ends are closed. Where no side of it was reset and it found
 -- memory, nothing is dropped.
@@ -109,7 +109,8 @@ pub record ClosesRightly (c : ℕ) (z : Seen) : Type 0 where
 -- The notes of a connection that show an item are those of the items that it passed. It finishes
 -- for its trace's reasons and for want of memory behind them, where it found none: its trace
 -- finishes once at most, never for want of memory, and has finished where it ended; a second Finish
--- is for want of memory, and there is no third. A cut is only among them where it was allowed.
+-- is for want of memory, and there is no third. A cut among them is
+-- allowed by what was heard in this past, and so, in the one that its Finish ends, by then.
 pub record FinishCauses (C : Config) (c : ℕ) (h : Heard) (live : Bool)
     (place : List Item) : Type 0 where
   pub shown : filter shows h.notes ≡ notes_of c place

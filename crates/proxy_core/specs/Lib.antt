@@ -25,3 +25,4 @@ pub mod Steps
 pub mod Headline
 pub mod Questions
 pub mod Face
+pub mod Determined

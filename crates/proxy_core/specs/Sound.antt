@@ -54,7 +54,8 @@ is_closed state.Closed = true
 is_closed other = false
 
 -- What is told of its ends, by whether it is live: it isn't over while it is, and nothing of it is
--- closed before it has finished; an end that is closed took all, unless it found no memory.
+-- closed before it has finished; an end that is closed took all or was reset, unless it found no
+-- memory.
 pub record EndsTold (c : ℕ) (z : Seen) : Type 0 where
   pub while_live : z.live ≡ true → list_any ends_it z.heard.notes ≡ false
   pub over : z.live ≡ false → EndsClosed c (untaken_all z.heard z.place) z.heard

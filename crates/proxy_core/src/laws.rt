@@ -7,8 +7,8 @@ ghost use Rattle.proxy_core.specs.OneServer.{OneServerIsMade};
 ghost use Rattle.proxy_core.specs.Others.{OnlyItsOwnChanges};
 
 /// For every configuration and every past that leads to a state of the scheduler: the bytes that
-/// each client took are a front of what the evaluator gives, all of it when nothing is ready and
-/// nothing pending; the notes are those of its items; and a connection ends for its named cause.
+/// each client took are a front of what the evaluator gives, all of it when nothing is ready, and
+/// nothing is pending or was dropped; the notes are those of its items; and a connection ends for its named cause.
 pub fn output_matches_evaluator()
     ensures { EveryPastMatches }
 {}

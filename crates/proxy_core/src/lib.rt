@@ -4,6 +4,7 @@
 mod accept;
 mod call;
 mod call_queue;
+mod choices;
 mod comes;
 mod core_state;
 mod face;
@@ -23,6 +24,7 @@ mod tick;
 mod turn;
 mod views;
 
+pub use choices::choices_determine;
 pub use core_events::{BadEvent, Cause, Event, Note, Notes};
 pub use core_state::Core;
 pub use laws::{
