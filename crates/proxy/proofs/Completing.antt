@@ -6,11 +6,15 @@ use Rattle.proxy.specs.declared.end.End.{End}
 use Rattle.proxy.specs.declared.end.End.TheVariants.{Done, Usage, Config, Schedule, ReadFault}
 use Rattle.proxy.specs.declared.end.End.TheVariants.{WriteFault, Memory}
 use Rattle.proxy.specs.Command.{Command, Checks as Checking, Explains as Explaining}
-use Rattle.proxy.specs.Complete.{Completes, IsRefused, MayLoad, MayReplay, MayTell}
+use Rattle.proxy.specs.Complete.{Completes, IsRefused, MayLoad, MayReplay, MayReport, MayTell}
 use Rattle.proxy.specs.Offline.{ChecksFile, ExplainsFile, IsNotBuilt, IsRefusal, OfCommand, Offline, ReplaysFiles, Runs, TellsFault}
 use Rattle.proxy.specs.Replayed.{MeetsFault, MeetsRefusal, Replayed}
 use Rattle.proxy.specs.Runnable.{IsBuilt, can_run}
 use Rattle.config.proofs.Filling.{is_filled}
+use Rattle.proxy.specs.Recorded.{FaultsRecord, ReportsFile, TellsContents}
+use Rattle.config.specs.Loading.{IsContents}
+use Rattle.journal_value.specs.Journal.{FirstFault}
+use Rattle.journal_value.proofs.NoJournal.{fault_has_no_journal}
 use Rattle.proxy.proofs.OneRun.{told_is, same_run, not_faulty}
 use Rattle.proxy.proofs.WholeReading.{whole_has_no_fault}
 
@@ -48,6 +52,21 @@ module _ (words : List (List ℕ)) (told : List ℕ → Option (List ℕ)) (old 
   explains WriteFault m k = absurd (m.no_write_fault k.0)
   explains Memory m k = inr refl
 
+  -- a record that is a journal has no faulty line
+  no_fault : (m : MayReport words told rb rn b n) (record_text text : List ℕ) → IsContents told m.name record_text → FaultsRecord record_text text → ⊥
+  no_fault m record_text text contents f =
+      let same : record_text ≡ m.record_text = told_is (told m.name) record_text m.record_text m.record_is contents in
+      f.found_memory (fault_has_no_journal m.record_text f.fault m.lines (subst (λ t. FirstFault t f.fault) same f.first) m.journal m.fit)
+
+  reports : (end : End) (m : MayReport words told rb rn b n) → ReportsFile m.name told old new rb rn b n end → (end ≡ Done) ⊎ (end ≡ Memory)
+  reports Done m k = inl refl
+  reports Usage m k = absurd k.tells
+  reports Config m k = absurd k.tells
+  reports Schedule m k = absurd (no_fault m k.record_text k.tells.0 k.contents k.tells.1)
+  reports ReadFault m k = absurd (m.no_read_fault k.0)
+  reports WriteFault m k = absurd (m.no_write_fault k.tells.0)
+  reports Memory m k = inr refl
+
   -- a schedule of which each line spells an event has no faulty line
   module _ (m : MayReplay words told rb rn b n) (K : core.Config) (runs : Runs told m.named K m.schedule) where
     refusal : MeetsFault K m.schedule old new ⊎ MeetsRefusal K m.schedule old new → (Schedule ≡ Done) ⊎ (Schedule ≡ Memory) ⊎ ((Schedule ≡ Schedule) × IsRefused told m.named m.schedule old new)
@@ -68,4 +87,4 @@ module _ (words : List (List ℕ)) (told : List ℕ → Option (List ℕ)) (old 
   pub completes : (end : End) → Offline words told old new rb rn b n end → Completes words told old new rb rn b n end
   completes end k =
       let P : Option Command → Type 0 = λ o. OfCommand o told old new rb rn b n end in
-      record { check = λ m. checks end m (subst P m.command k); explain = λ m. explains end m (subst P m.command k); replay = λ m. replays end m (subst P m.command k) }
+      record { check = λ m. checks end m (subst P m.command k); explain = λ m. explains end m (subst P m.command k); report = λ m. reports end m (subst P m.command k); replay = λ m. replays end m (subst P m.command k) }

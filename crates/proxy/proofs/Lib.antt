@@ -13,6 +13,7 @@ pub mod ConfigAnswers
 pub mod OneRun
 pub mod Building
 pub mod Ends
+pub mod Recordings
 pub mod Stopping
 pub mod LineStops
 pub mod ScheduleStops

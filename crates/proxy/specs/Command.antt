@@ -18,11 +18,13 @@ named_of r = record { config = r.config.now; schedule = r.schedule.now }
 pub data Command : Type 0 where
   Checks : List ℕ → Command
   Explains : List ℕ → Command
+  Reports : List ℕ → Command
   Replays : Named → Command
 
 abbrev pub command_view : code.Command → Command
 command_view (words.Check config) = Checks config.now
 command_view (words.Explain config) = Explains config.now
+command_view (words.Report file) = Reports file.now
 command_view (words.Replay r) = Replays (named_of r)
 
 -- a word that names a file: it isn't empty and doesn't begin with `-`
@@ -30,12 +32,13 @@ abbrev pub is_file_name : List ℕ → Bool
 is_file_name [] = false
 is_file_name (b ∷ bytes) = not (nat_eq b 45)
 
--- `check CONFIG`, `explain CONFIG` and `replay CONFIG SCHEDULE`
+-- `check CONFIG`, `explain CONFIG`, `report RECORD` and `replay CONFIG SCHEDULE`
 abbrev pub command_of : List (List ℕ) → Option Command
 command_of (command ∷ config ∷ []) =
     if bytes_eq command (codes "check") && is_file_name config then Some (Checks config)
     else (if bytes_eq command (codes "explain") && is_file_name config then Some (Explains config)
-    else None)
+    else (if bytes_eq command (codes "report") && is_file_name config then Some (Reports config)
+    else None))
 command_of (command ∷ config ∷ schedule ∷ []) =
     if bytes_eq command (codes "replay") && (is_file_name config && is_file_name schedule)
     then Some (Replays (record { config = config; schedule = schedule })) else None

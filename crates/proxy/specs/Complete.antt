@@ -12,7 +12,9 @@ use Rattle.core_events.specs.declared.event.Event.{Event}
 use Rattle.toml.specs.Data.{Data, Items, no_items, item, Members}
 use Rattle.proxy.specs.declared.end.End.{End}
 use Rattle.proxy.specs.declared.end.End.TheVariants.{Done, Schedule, Memory}
-use Rattle.proxy.specs.Command.{Command, Checks, Explains, Replays, Named, command_of}
+use Rattle.journal_value.specs.Journal.{AllFit, IsJournal}
+use Rattle.journal_value.specs.declared.journal.JournalLine.{JournalLine}
+use Rattle.proxy.specs.Command.{Command, Checks, Explains, Replays, Reports, Named, command_of}
 use Rattle.proxy.specs.Lines.{IsEnd, Reads}
 use Rattle.proxy.specs.Offline.{Runs}
 use Rattle.proxy.specs.Replayed.{MeetsRefusal}
@@ -49,6 +51,21 @@ pub record MayTell (asked : List ℕ → Command) (words : List (List ℕ))
   pub no_read_fault : Rose reads_before reads_now → ⊥
   pub no_write_fault : Rose before now → ⊥
 
+-- ---- `report RECORD`
+
+-- the record is the journal of events and notes that there can be, and no count rose
+pub record MayReport (words : List (List ℕ)) (told : List ℕ → Option (List ℕ))
+    (reads_before reads_now before now : ℕ) : Type 0 where
+  pub name : List ℕ
+  pub command : command_of words ≡ Some (Reports name)
+  pub record_text : List ℕ
+  pub record_is : told name ≡ Some record_text
+  pub lines : List JournalLine
+  pub journal : IsJournal record_text lines
+  pub fit : AllFit lines
+  pub no_read_fault : Rose reads_before reads_now → ⊥
+  pub no_write_fault : Rose before now → ⊥
+
 -- ---- `replay CONFIG SCHEDULE`
 
 -- the configuration loads and can be run, each line of the schedule spells an event or is skipped,
@@ -78,7 +95,7 @@ abbrev pub IsRefused : (List ℕ → Option (List ℕ)) → Named → List ℕ �
 IsRefused told named schedule old new =
     (K : core.Config) × Runs told named K schedule × MeetsRefusal K schedule old new
 
--- Then a check or an explanation is done, or memory was refused; a replay is done, or an event is refused at its
+-- Then a check, an explanation or a report is done, or memory was refused; a replay is done, or an event is refused at its
 -- place, or memory was refused.
 pub record Completes (words : List (List ℕ)) (told : List ℕ → Option (List ℕ))
     (old new : Option (List ℕ)) (reads_before reads_now before now : ℕ) (end : End)
@@ -86,6 +103,8 @@ pub record Completes (words : List (List ℕ)) (told : List ℕ → Option (List
   pub check : MayTell Checks words told reads_before reads_now before now
       → (end ≡ Done) ⊎ (end ≡ Memory)
   pub explain : MayTell Explains words told reads_before reads_now before now
+      → (end ≡ Done) ⊎ (end ≡ Memory)
+  pub report : MayReport words told reads_before reads_now before now
       → (end ≡ Done) ⊎ (end ≡ Memory)
   pub replay : (m : MayReplay words told reads_before reads_now before now)
       → (end ≡ Done) ⊎ (end ≡ Memory)

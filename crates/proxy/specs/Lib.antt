@@ -1,4 +1,5 @@
 pub mod Report
+pub mod Recorded
 pub mod End
 pub mod Command
 pub mod ServerBytes

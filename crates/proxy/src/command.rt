@@ -19,11 +19,13 @@ pub enum Command<'a> {
     Check(&'a [u8]),
     /// Says why it doesn't, for a reader.
     Explain(&'a [u8]),
+    /// Says what the virtual servers of a record had.
+    Report(&'a [u8]),
     Replay(Replay<'a>),
 }
 
-/// The command that the words are; None exactly where they are none of `check CONFIG`, `explain CONFIG` and `replay
-/// CONFIG SCHEDULE`.
+/// The command that the words are; None exactly where they are none of `check CONFIG`, `explain CONFIG`, `report RECORD` and
+/// `replay CONFIG SCHEDULE`.
 pub fn command_of(words: &Texts) -> Option<Command<'_>>
     ensures { option_map command_view result ≡ command_of words.now }
 {
@@ -33,6 +35,9 @@ pub fn command_of(words: &Texts) -> Option<Command<'_>>
         }
         [command, config] if command.as_bytes() == b"explain".as_slice() && is_name(config) => {
             Some(Command::Explain(config.as_bytes()))
+        }
+        [command, record] if command.as_bytes() == b"report".as_slice() && is_name(record) => {
+            Some(Command::Report(record.as_bytes()))
         }
         [command, config, schedule]
             if command.as_bytes() == b"replay".as_slice() && is_name(config) && is_name(schedule) =>

@@ -14,6 +14,7 @@ mod offline_commands;
 mod outcome;
 mod replay;
 mod report;
+mod report_command;
 mod run_schedule;
 mod runnable;
 mod say;

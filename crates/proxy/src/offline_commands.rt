@@ -14,6 +14,7 @@ use crate::command::{Command, Replay, command_of};
 use crate::end::{End, Status};
 use crate::explain_command::explain;
 use crate::report::{config_fault_line, ok_line, usage_fault_line};
+use crate::report_command::report;
 use crate::run_schedule::replay;
 use crate::runnable::core_config;
 use crate::say::{is_read_fault, say};
@@ -48,6 +49,7 @@ fn run<F: Files, K: Sink>(alloc: Global, words: &Texts, files: &mut F, out: &mut
     match command_of(words) {
         Some(Command::Check(name)) => check(alloc, name, files, out),
         Some(Command::Explain(name)) => explain(alloc, name, files, out),
+        Some(Command::Report(name)) => report(alloc, name, files, out),
         Some(Command::Replay(named)) => replay_files(alloc, named, files, out),
         None => End::Usage.unless(say(out, usage_fault_line())),
     }
@@ -121,8 +123,8 @@ fn tell_fault<K: Sink>(alloc: Global, number: u8, place: &[u8], out: &mut K) -> 
     End::Config.unless(say_config_fault(alloc, number, place, out))
 }
 
-// Says a text, and ends so.
-fn tell<K: Sink>(usual: End, text: &[u8], out: &mut K) -> End
+/// Says a text, and ends so.
+pub fn tell<K: Sink>(usual: End, text: &[u8], out: &mut K) -> End
     ensures { Tells text.now usual (K.written out.old) (K.written out.new) (K.faults out.old)
         (K.faults out.new) result }
 {
@@ -144,7 +146,8 @@ fn say_config_fault<K: Sink>(
     }
 }
 
-fn read_end(failed: Failed) -> End
+/// The end of a command whose file can't be read.
+pub fn read_end(failed: Failed) -> End
     ensures { result ≡ end_of_read failed }
 {
     match failed {

@@ -1,0 +1,54 @@
+-- What `report` comes to, from what it said.
+use Rattle.std.proofs.Common.{◌≡◌, ◌⊎◌, ℕ, List, Option, inl, inr, refl, sym, subst}
+use Rattle.std.specs.Prelude.{reverse}
+use Rattle.access_report.specs.Table.{IsReport}
+use Rattle.config.specs.Loading.{IsContents}
+use Rattle.journal_value.specs.Journal.{FirstFault, IsJournal}
+use Rattle.px_outside.specs.Outside.{Rose}
+use Rattle.px_outside.specs.declared.failed.Failed.{Failed}
+use Rattle.px_outside.specs.declared.failed.Failed.TheVariants as failed
+use Rattle.proxy.specs.Offline.{end_of_read}
+use Rattle.journal_value.specs.declared.journal.JournalLine.{JournalLine}
+use Rattle.journal_value.specs.declared.journal.LineFault.{LineFault}
+use Rattle.proxy.specs.declared.end.End.{End}
+use Rattle.proxy.specs.declared.end.End.TheVariants.{Done, Usage, Config, Schedule, ReadFault, WriteFault, Memory}
+use Rattle.proxy.specs.Recorded.{FaultsRecord, IsRecordText, ReportsFile, ReportsRecord, TellsLineFault, TellsRecord, TellsReport, WritesRecordText}
+use Rattle.proxy.specs.Report.{text_fault}
+use Rattle.proxy.specs.Written.{WritesFrontOf}
+use Rattle.proxy.proofs.Ends.{by_end}
+
+module _ (record_text : List ℕ) (old new : Option (List ℕ)) (before now : ℕ) where
+  due : (text : List ℕ) → IsRecordText record_text text → (new ≡ old) ⊎ WritesFrontOf text old new → (new ≡ old) ⊎ WritesRecordText record_text old new
+  due text is (inl same) = inl same
+  due text is (inr front) = inr (text, is, front)
+
+  pub journal_told : (told : List JournalLine) → IsJournal record_text told → (end : End) → TellsReport told old new before now end → TellsRecord record_text old new before now end
+  journal_told told journal end (inl t) =
+      let is : ReportsRecord record_text t.0 = record { told = told; journal = journal; report = t.1 } in
+      by_end t.0 Done old new before now (λ e. TellsRecord record_text old new before now e)
+      (λ written. (t.0, is, written)) (λ rose front. (rose, (t.0, inl is, front)))
+      (λ part. due t.0 (inl is) part) end t.2
+  journal_told told journal end (inr t) = subst (λ e. TellsRecord record_text old new before now e) (sym t.0) (inl t.1)
+
+  pub fault_told : (fault : LineFault) → FirstFault record_text fault → (end : End) → TellsLineFault fault old new before now end → TellsRecord record_text old new before now end
+  fault_told fault first end (inl t) =
+      let text = text_fault fault.line fault.kind in
+      let is : FaultsRecord record_text text = record { fault = fault; found_memory = t.0; first = first; text_is = refl } in
+      by_end text Schedule old new before now (λ e. TellsRecord record_text old new before now e)
+      (λ written. (text, is, written)) (λ rose front. (rose, (text, inr is, front)))
+      (λ part. due text (inr is) part) end t.1
+  fault_told fault first end (inr t) = subst (λ e. TellsRecord record_text old new before now e) (sym t.0) (inl t.1)
+
+module _ (told : List ℕ → Option (List ℕ)) (old new : Option (List ℕ)) (rb rn b n : ℕ) (name : List ℕ) where
+  pub record_read : (record_text : List ℕ) → IsContents told name record_text → (end : End) → TellsRecord record_text old new b n end → ReportsFile name told old new rb rn b n end
+  record_read record_text is Done t = record { record_text = record_text; contents = is; tells = t }
+  record_read record_text is Usage t = absurd t
+  record_read record_text is Config t = absurd t
+  record_read record_text is Schedule t = record { record_text = record_text; contents = is; tells = t }
+  record_read record_text is ReadFault t = absurd t
+  record_read record_text is WriteFault t = record { record_text = record_text; contents = is; tells = t }
+  record_read record_text is Memory t = inr (record { record_text = record_text; contents = is; tells = t })
+
+  pub record_unread : (why : Failed) → (why ≡ failed.Failed → Rose rb rn) → new ≡ old → ReportsFile name told old new rb rn b n (end_of_read why)
+  record_unread failed.Failed rose same = (rose refl, same)
+  record_unread failed.Memory rose same = inl same
