@@ -1,0 +1,9 @@
+use Rattle.std.proofs.Common.{◌+◌, arith, ap, ◌∙◌}
+use Rattle.http_frames.specs.Units.{is_paired}
+use Rattle.std.proofs.Common.{false}
+use Rattle.http_frames.proofs.LookedOnce.{take_shorter}
+use Rattle.http_frames.proofs.last_chunk.whole_trailers.Goals as goal
+
+pub of_lines-requires-lines : goal.of_lines-requires-lines
+of_lines-requires-lines c =
+    ap (is_paired false) (take_shorter c.args.from (c.args.place + 4) c.args.text.now (omega (arith, c.requires.behind))) ∙ c.requires.lines
