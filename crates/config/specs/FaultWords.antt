@@ -2,9 +2,9 @@
 use Rattle.std.specs.Prelude.{ℕ, List, codes}
 use Rattle.rule_loader.specs.declared.load_fault.LoadKind.{LoadKind}
 use Rattle.rule_loader.specs.declared.load_fault.LoadKind.TheVariants as load
-use Rattle.config.specs.declared.fault.FaultKind.{FaultKind}
-use Rattle.config.specs.declared.fault.FaultKind.TheVariants.{ReadFault, NotToml, UnknownKey}
-use Rattle.config.specs.declared.fault.FaultKind.TheVariants.{WrongKind, Twice, NoSuch, Range, Rule}
+use Rattle.config.specs.declared.fault.ConfigFaultKind.{ConfigFaultKind}
+use Rattle.config.specs.declared.fault.ConfigFaultKind.TheVariants.{ReadFault, NotToml, UnknownKey}
+use Rattle.config.specs.declared.fault.ConfigFaultKind.TheVariants.{WrongKind, Twice, NoSuch, Range, Rule}
 
 -- of a rule
 abbrev pub load_words : LoadKind → List ℕ
@@ -17,7 +17,7 @@ load_words load.BadPriority = codes "a priority is a whole number from 1 to 1000
 load_words load.TwiceProc = codes "there is a procedure of this name already"
 load_words load.NotHere = codes "this event doesn't have the command, or the virtual server the event"
 
-abbrev pub words_of : FaultKind → List ℕ
+abbrev pub words_of : ConfigFaultKind → List ℕ
 words_of ReadFault = codes "this file can't be read"
 words_of NotToml = codes "this is no TOML in UTF-8"
 words_of UnknownKey = codes "there is no such key"

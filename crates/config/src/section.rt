@@ -3,7 +3,7 @@
 /// An array of tables of a document.
 #[derive(Clone, Copy)]
 pub enum Section {
-    Virtual,
+    VirtualSettings,
     Pool,
     Rule,
     Group,
