@@ -46,7 +46,7 @@ fn load_answer(question: &mut Question<'_>) {
 fn say_fault(question: &mut Question<'_>, fault: RuleFault) {
     question.say("fault");
     question.say(match fault.kind {
-        LoadKind::Parse => "parse",
+        LoadKind::Parse(_) => "parse",
         LoadKind::NotWhen => "not_when",
         LoadKind::NoEvent => "no_event",
         LoadKind::NoCommand => "no_command",

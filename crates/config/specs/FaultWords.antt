@@ -1,21 +1,9 @@
 -- What is wrong with a configuration, in English.
 use Rattle.std.specs.Prelude.{ℕ, List, codes}
-use Rattle.rule_loader.specs.declared.load_fault.LoadKind.{LoadKind}
-use Rattle.rule_loader.specs.declared.load_fault.LoadKind.TheVariants as load
+use Rattle.rule_loader.specs.Words.{load_words}
 use Rattle.config.specs.declared.fault.FaultKind.{FaultKind}
 use Rattle.config.specs.declared.fault.FaultKind.TheVariants.{ReadFault, NotToml, UnknownKey}
 use Rattle.config.specs.declared.fault.FaultKind.TheVariants.{WrongKind, Twice, NoSuch, Range, Rule}
-
--- of a rule
-abbrev pub load_words : LoadKind → List ℕ
-load_words load.Parse =
-    codes "this isn't Tcl: what is opened here isn't closed, or isn't what must stand here"
-load_words load.NotWhen = codes "a rule has only `when EVENT {..}` and `proc NAME {..} {..}` here"
-load_words load.NoEvent = codes "there is no such event"
-load_words load.NoCommand = codes "there is no command of this name"
-load_words load.BadPriority = codes "a priority is a whole number from 1 to 1000"
-load_words load.TwiceProc = codes "there is a procedure of this name already"
-load_words load.NotHere = codes "this event doesn't have the command, or the virtual server the event"
 
 abbrev pub words_of : FaultKind → List ℕ
 words_of ReadFault = codes "this file can't be read"

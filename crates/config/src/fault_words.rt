@@ -1,26 +1,9 @@
 // What is wrong with a configuration, in words.
 
 ghost use Rattle.std.specs.Prelude.{◌≡◌};
-ghost use Rattle.config.specs.FaultWords.{load_words, words_of};
+ghost use Rattle.config.specs.FaultWords.{words_of};
 
 use crate::fault::FaultKind;
-use rule_loader::LoadKind;
-
-fn load_words(kind: LoadKind) -> &'static str
-    ensures { result.now ≡ load_words kind }
-{
-    match kind {
-        LoadKind::Parse => {
-            "this isn't Tcl: what is opened here isn't closed, or isn't what must stand here"
-        }
-        LoadKind::NotWhen => "a rule has only `when EVENT {..}` and `proc NAME {..} {..}` here",
-        LoadKind::NoEvent => "there is no such event",
-        LoadKind::NoCommand => "there is no command of this name",
-        LoadKind::BadPriority => "a priority is a whole number from 1 to 1000",
-        LoadKind::TwiceProc => "there is a procedure of this name already",
-        LoadKind::NotHere => "this event doesn't have the command, or the virtual server the event",
-    }
-}
 
 impl FaultKind {
     /// What is wrong, in English.
@@ -36,7 +19,7 @@ impl FaultKind {
             FaultKind::Twice => "this name, address or rule is there already",
             FaultKind::NoSuch => "there is no pool or rule of this name",
             FaultKind::Range => "its value is out of range, too long, or not of its form",
-            FaultKind::Rule(kind) => load_words(kind),
+            FaultKind::Rule(kind) => kind.words(),
         }
     }
 }

@@ -10,7 +10,7 @@ use Rattle.rule_loader.specs.declared.told.Told.{Told}
 
 -- the number under which a report tells it
 abbrev pub number_of : LoadKind → ℕ
-number_of Parse = 1
+number_of (Parse flaw) = 1
 number_of NotWhen = 2
 number_of NoEvent = 3
 number_of NoCommand = 4

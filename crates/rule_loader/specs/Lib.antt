@@ -10,3 +10,4 @@ pub mod Names
 pub mod Order
 pub mod Outcome
 pub mod Parameters
+pub mod Words

@@ -19,6 +19,7 @@ use Rattle.tcl_trees.specs.Procedures.{Procedure}
 use Rattle.tcl_trees.specs.Tree.{Tree}
 use Rattle.tcl_trees.specs.Words.{word_place}
 use Rattle.tcl_trees.specs.declared.flaw.Flaw.{Flaw}
+use Rattle.tcl_trees.specs.declared.flaw.Flaw.TheVariants as flaw
 use Rattle.tcl_words.specs.Faults as words
 use Rattle.tcl_words.specs.Tree.{Word, Command, command, Commands}
 use Rattle.tcl_words.specs.declared.parse_fault.Fault.{Fault}
@@ -39,7 +40,7 @@ priority_faults (Some w) = stated_faults w
 
 abbrev pub flaw_faults : Option Flaw → List RuleFault
 flaw_faults None = []
-flaw_faults (Some f) = fault_at kind.Parse (place_of f) ∷ []
+flaw_faults (Some f) = fault_at (kind.Parse f) (place_of f) ∷ []
 
 -- of a body, and of all literal names in it, whatever they stand in: brackets, expressions, bodies
 abbrev pub examined_faults : Option EventName → Made Tree → List RuleFault
@@ -107,7 +108,7 @@ faults_from before (c ∷ cs) =
 
 abbrev pub text_faults : Option Fault → List RuleFault
 text_faults None = []
-text_faults (Some f) = fault_at kind.Parse (words.place_of f) ∷ []
+text_faults (Some f) = fault_at (kind.Parse (flaw.Parse f)) (words.place_of f) ∷ []
 
 -- the text as far as it can be read as a script, and its fault; so the command that the fault cuts
 -- counts too, as far as it was read

@@ -90,7 +90,7 @@ impl Told {
         ensures { self.new ≡ after_faults (flaw_faults flaw) self.old }
     {
         if let Some(flaw) = flaw {
-            self.note(LoadKind::Parse, flaw.place());
+            self.note(LoadKind::Parse(flaw), flaw.place());
         }
     }
 

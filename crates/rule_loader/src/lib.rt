@@ -14,6 +14,7 @@ mod parameters;
 mod priority;
 mod rule;
 mod told;
+mod words;
 
 pub use bodies::Bodies;
 pub use handler::{Handler, Handlers};

@@ -4,12 +4,13 @@ ghost use Rattle.std.specs.Prelude.{◌≡◌};
 ghost use Rattle.rule_loader.specs.Faults.{comes_first, number_of};
 
 use px_bytes::Memory;
+use tcl_trees::Flaw;
 
 /// What can be wrong with a rule.
 #[derive(Clone, Copy, PartialEq, Eq)]
 pub enum LoadKind {
-    /// It can't be read as a script, or a body can't be compiled.
-    Parse,
+    /// It can't be read as a script, or a body can't be compiled, for this flaw.
+    Parse(Flaw),
     /// A command is neither `when` nor `proc`, or has a wrong form.
     NotWhen,
     /// The word behind `when` is no event.
@@ -30,7 +31,7 @@ impl LoadKind {
         ensures { result ≡ number_of self }
     {
         match self {
-            LoadKind::Parse => 1,
+            LoadKind::Parse(_) => 1,
             LoadKind::NotWhen => 2,
             LoadKind::NoEvent => 3,
             LoadKind::NoCommand => 4,

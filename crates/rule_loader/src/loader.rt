@@ -22,7 +22,7 @@ use crate::rule::Rule;
 use crate::told::Told;
 use px_bytes::{M, Text};
 use std::alloc::Global;
-use tcl_trees::{Proc, Procs};
+use tcl_trees::{Flaw, Proc, Procs};
 use tcl_words::{Command, Fault, LIMIT, Progress, Script};
 
 // What was loaded so far.
@@ -51,7 +51,7 @@ impl Told {
         ensures { self.new ≡ after_faults (text_faults fault) self.old }
     {
         if let Some(fault) = fault {
-            self.note(LoadKind::Parse, fault.place());
+            self.note(LoadKind::Parse(Flaw::Parse(fault)), fault.place());
         }
     }
 }
