@@ -1,12 +1,12 @@
 // The calls of a session table, one after another.
 
 use questions::Question;
-use session_table::{Table, check_words};
+use session_table::{SessionTable, check_words};
 
 /// The limit of live rows, and calls, each with its moment and the number of its words before them.
 pub fn answer(question: &mut Question<'_>) {
     let limit = question.number(1 << 31) as u32;
-    let mut table = Table::new(question.alloc, limit);
+    let mut table = SessionTable::new(question.alloc, limit);
     for _ in 0..question.left() {
         if question.has_more() {
             call(question, &mut table);
@@ -16,7 +16,7 @@ pub fn answer(question: &mut Question<'_>) {
     question.put_number(table.live() as u64);
 }
 
-fn call(question: &mut Question<'_>, table: &mut Table) {
+fn call(question: &mut Question<'_>, table: &mut SessionTable) {
     let moment = question.number(1 << 53);
     let count = question.number(1_000) as usize;
     let words = question.texts(count);

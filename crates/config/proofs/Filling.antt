@@ -8,11 +8,11 @@ use Rattle.run_config.specs.declared.config.Config as run
 use Rattle.config.specs.Documents.{document_fault}
 use Rattle.config.specs.Filled.{filled, filled_with, groups_with, has_keys, made_by, made_classes, made_groups, made_pools, may_be_members, pool_with, server_of, with_class, with_pool, class_of}
 use Rattle.config.specs.Outcomes.{Configures}
-use Rattle.config.specs.declared.config.NamedGroup as loaded
-use Rattle.config.specs.declared.config.NamedPool.{NamedPool}
+use Rattle.config.specs.declared.config.GroupSettings as loaded
+use Rattle.config.specs.declared.config.PoolSettings.{PoolSettings}
 use Rattle.config.specs.declared.config.Settings.{Settings}
 use Rattle.config.specs.declared.made_groups.Made.{Made}
-use Rattle.config.specs.declared.reader.Config.{Config}
+use Rattle.config.specs.declared.reader.LoadedConfig.{LoadedConfig}
 use Rattle.config.proofs.Fitting.{Fits, document_fits}
 
 -- it is there
@@ -30,7 +30,7 @@ classes_there (g ∷ gs) e =
     let more = mapped (λ classes. class_of g ∷ classes) (made_classes gs) (classes_there gs both.1) in
     (more.0, ap (λ o. with_class o (made_classes gs)) one ∙ more.1)
 
-pools_there : (ps : List NamedPool) → list_all (λ p. may_be_members p.members) ps ≡ true → There (made_pools ps)
+pools_there : (ps : List PoolSettings) → list_all (λ p. may_be_members p.members) ps ≡ true → There (made_pools ps)
 pools_there [] e = ([], refl)
 pools_there (p ∷ ps) e =
     let both = and_parts (may_be_members p.members) (list_all (λ p. may_be_members p.members) ps) e in
@@ -44,14 +44,14 @@ made_there s f =
     let pools = pools_there s.pools f.members in
     (record { groups = classes.0; pools = pools.0 }, ap₂ made_by classes.1 pools.1)
 
-pub is_filled : (told : List ℕ → Option (List ℕ)) (top : Members) (C : Config) → document_fault top ≡ None → Configures told top C → (K : run.Config) × (filled C ≡ Some K)
+pub is_filled : (told : List ℕ → Option (List ℕ)) (top : Members) (C : LoadedConfig) → document_fault top ≡ None → Configures told top C → (K : run.Config) × (filled C ≡ Some K)
 unfolding filled
 is_filled told top C none c =
     let fits : Fits C.settings = subst Fits (sym c.settings) (document_fits top none) in
     mapped (filled_with C) (made_groups C.settings) (made_there C.settings fits)
 
 -- its virtual servers and rules
-pub parts_of : (C : Config) (K : run.Config) → filled C ≡ Some K → (K.virtuals ≡ map (server_of C.rules) C.settings.virtuals) × (K.rules ≡ map (λ r. r.rule) C.rules)
+pub parts_of : (C : LoadedConfig) (K : run.Config) → filled C ≡ Some K → (K.virtuals ≡ map (server_of C.rules) C.settings.virtuals) × (K.rules ≡ map (λ r. r.rule) C.rules)
 unfolding filled
 parts_of C K e = by_made (made_groups C.settings) e
   where

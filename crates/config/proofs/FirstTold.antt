@@ -8,23 +8,23 @@ use Rattle.std.proofs.lemmas.Bool.Decides.{nat_tests}
 use Rattle.std.proofs.lemmas.List.Elements.{Contains-append_cases, Contains-push_cases}
 use Rattle.config.specs.Faults.{better, told_of}
 use Rattle.config.specs.Laws.{IsFirst, number}
-use Rattle.config.specs.declared.fault.Fault.{Fault}
+use Rattle.config.specs.declared.fault.ConfigFault.{ConfigFault}
 
-abbrev pub IsToldOf : List Fault → Option Fault → Type 0
+abbrev pub IsToldOf : List ConfigFault → Option ConfigFault → Type 0
 IsToldOf faults o = MatchOption o (faults ≡ []) (IsFirst faults)
 
 not_less : (m n : ℕ) → nat_lt m n ≡ false → n ≤ m
 not_less m n h = grind (arith, nat_tests)
 
 -- no element
-none_in : (g : Fault) → Contains [] g → ⊥
+none_in : (g : ConfigFault) → Contains [] g → ⊥
 none_in g there = let h = there.1 in omega arith
 
-only : (e g : Fault) → Contains (e ∷ []) g → e ≡ g
+only : (e g : ConfigFault) → Contains (e ∷ []) g → e ≡ g
 only e g there = ⊎_elim (λ none. absurd (none_in g none)) (λ same. same) (Contains-push_cases [] e g there)
 
 -- the one so far stays
-stays : (seen : List Fault) (e f : Fault) → IsFirst seen e → number e ≤ number f → IsFirst (seen ++ f ∷ []) e
+stays : (seen : List ConfigFault) (e f : ConfigFault) → IsFirst seen e → number e ≤ number f → IsFirst (seen ++ f ∷ []) e
 stays seen e f first least = record {
   front = first.front;
   back = first.back ++ f ∷ [];
@@ -34,12 +34,12 @@ stays seen e f first least = record {
 }
 
 -- all so far have greater numbers
-module _ (seen : List Fault) (e f : Fault) (first : IsFirst seen e) (less : number f < number e) where
-  behind_it : (g : Fault) → Contains (e ∷ first.back) g → number f < number g
+module _ (seen : List ConfigFault) (e f : ConfigFault) (first : IsFirst seen e) (less : number f < number e) where
+  behind_it : (g : ConfigFault) → Contains (e ∷ first.back) g → number f < number g
   behind_it g there =
       ⊎_elim (λ it. subst (λ h. number f < number h) (only e g it) less) (λ later. let n = first.behind g later in omega arith) (Contains-append_cases (e ∷ []) first.back g there)
 
-  greater : (g : Fault) → Contains seen g → number f < number g
+  greater : (g : ConfigFault) → Contains seen g → number f < number g
   greater g there =
       ⊎_elim (λ earlier. let n = first.before g earlier in omega arith) (λ later. behind_it g later)
       (Contains-append_cases first.front (e ∷ first.back) g (subst (λ l. Contains l g) first.one there))
@@ -54,7 +54,7 @@ module _ (seen : List Fault) (e f : Fault) (first : IsFirst seen e) (less : numb
     behind = λ g there. absurd (none_in g there);
   }
 
-alone : (f : Fault) → IsFirst (f ∷ []) f
+alone : (f : ConfigFault) → IsFirst (f ∷ []) f
 alone f = record {
   front = [];
   back = [];
@@ -63,7 +63,7 @@ alone f = record {
   behind = λ g there. absurd (none_in g there);
 }
 
-one_more : (seen : List Fault) (o : Option Fault) (f : Fault) → IsToldOf seen o → IsToldOf (seen ++ f ∷ []) (better o f)
+one_more : (seen : List ConfigFault) (o : Option ConfigFault) (f : ConfigFault) → IsToldOf seen o → IsToldOf (seen ++ f ∷ []) (better o f)
 one_more seen None f told = subst (λ l. IsFirst (l ++ f ∷ []) f) (sym told) (alone f)
 one_more seen (Some e) f told =
     elim (nat_lt (number f) (number e)) as (λ b. nat_lt (number f) (number e) ≡ b → IsToldOf (seen ++ f ∷ []) (cond b (Some f) (Some e))) [
@@ -71,11 +71,11 @@ one_more seen (Some e) f told =
       | false ↦ λ more. stays seen e f told (not_less (number f) (number e) more)
     ] refl
 
-all_more : (seen : List Fault) (o : Option Fault) (faults : List Fault) → IsToldOf seen o → IsToldOf (seen ++ faults) (fold better o faults)
+all_more : (seen : List ConfigFault) (o : Option ConfigFault) (faults : List ConfigFault) → IsToldOf seen o → IsToldOf (seen ++ faults) (fold better o faults)
 all_more seen o [] told = subst (λ l. IsToldOf l o) (sym (append-nil seen)) told
 all_more seen o (f ∷ faults) told =
     subst (λ l. IsToldOf l (fold better (better o f) faults)) (append_assoc seen (f ∷ []) faults)
     (all_more (seen ++ f ∷ []) (better o f) faults (one_more seen o f told))
 
-pub first_told : (faults : List Fault) → IsToldOf faults (told_of faults)
+pub first_told : (faults : List ConfigFault) → IsToldOf faults (told_of faults)
 first_told faults = all_more [] None faults refl

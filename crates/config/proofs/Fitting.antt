@@ -32,9 +32,9 @@ use Rattle.config.specs.Tables.{faults_of, flaw_of, key_faults, key_flaw, keys_f
 use Rattle.config.specs.Texts.{first_place, text_at}
 use Rattle.config.specs.Values.{few, fits, items_length, judged}
 use Rattle.config.specs.declared.config.Settings.{Settings}
-use Rattle.config.specs.declared.fault.Fault.{Fault}
-use Rattle.config.specs.declared.fault.FaultKind.{FaultKind}
-use Rattle.config.specs.declared.fault.FaultKind.TheVariants.{Twice}
+use Rattle.config.specs.declared.fault.ConfigFault.{ConfigFault}
+use Rattle.config.specs.declared.fault.ConfigFaultKind.{ConfigFaultKind}
+use Rattle.config.specs.declared.fault.ConfigFaultKind.TheVariants.{Twice}
 use Rattle.config.specs.declared.section.Section.{Section}
 use Rattle.config.specs.declared.section.Section.TheVariants.{Group, Pool, Rule, Virtual}
 use Rattle.config.proofs.FirstTold.{IsToldOf, first_told}
@@ -54,11 +54,11 @@ no_back : {A : Type 0} (a b : List A) → a ++ b ≡ [] → b ≡ []
 no_back [] b e = e
 no_back (x ∷ a) b e = absurd (cc)
 
-no_flaw : (place : List ℕ) (o : Option FaultKind) → faults_of place o ≡ [] → o ≡ None
+no_flaw : (place : List ℕ) (o : Option ConfigFaultKind) → faults_of place o ≡ [] → o ≡ None
 no_flaw place None e = refl
 no_flaw place (Some kind) e = absurd (cc)
 
-none_told : (faults : List Fault) → told_of faults ≡ None → faults ≡ []
+none_told : (faults : List ConfigFault) → told_of faults ≡ None → faults ≡ []
 none_told faults e = subst (IsToldOf faults) e (first_told faults)
 
 both_true : (a b : Bool) → a ≡ true → b ≡ true → (a && b) ≡ true
@@ -202,7 +202,7 @@ module _ (own : List ℕ → Option ℕ) (place : List ℕ) (at : ℕ) (d : Data
       let known = keys_faults prefix key.member_keys ms in
       let unknown = unknown_faults prefix key.member_keys ms in
       let once = once_faults own at prefix key.addr ms in
-      let fault : TableKey → List Fault = key_faults prefix ms in
+      let fault : TableKey → List ConfigFault = key_faults prefix ms in
       let keys : known ≡ [] = no_front known (unknown ++ once) none in
       let flaw : key_flaw key.addr ms ≡ None = no_flaw (key_place prefix key.addr.name) (key_flaw key.addr ms) (no_front (fault key.addr) (fault key.ratio ++ []) keys) in
       let t = text_of (get_member key.addr.name ms) flaw in
@@ -300,7 +300,7 @@ pool_fits n prefix at ms e =
     let unknown = unknown_faults prefix key.pool_keys ms in
     let once = once_faults n.pools at prefix key.name_key ms in
     let its = members_of prefix (array_at key.members ms) in
-    let fault : TableKey → List Fault = key_faults prefix ms in
+    let fault : TableKey → List ConfigFault = key_faults prefix ms in
     let keys : known ≡ [] = no_front known (unknown ++ (once ++ its)) e in
     let last : fault key.members ++ [] ≡ [] = no_back (fault key.method) (fault key.members ++ []) (no_back (fault key.name_key) (fault key.method ++ (fault key.members ++ [])) keys) in
     let of_members : key_flaw key.members ms ≡ None = no_flaw (key_place prefix key.members.name) (key_flaw key.members ms) (no_front (fault key.members) [] last) in

@@ -16,7 +16,7 @@ use Rattle.config.specs.LineEnds.{without_returns}
 use Rattle.config.specs.Loading.{AreLoaded, HasText, IsLoaded, file_name, rule_name}
 use Rattle.config.specs.Outcomes.{Configures}
 use Rattle.config.specs.Texts.{text_in}
-use Rattle.config.specs.declared.reader.Config.{Config}
+use Rattle.config.specs.declared.reader.LoadedConfig.{LoadedConfig}
 use Rattle.config.specs.declared.rule_text.LoadedRule.{LoadedRule}
 use Rattle.config.specs.declared.rule_text.RuleText.{RuleText}
 
@@ -60,7 +60,7 @@ module _ (told : List ℕ → Option (List ℕ)) (tells : (file : List ℕ) → 
   same_rules (item d ds) (r ∷ rs) (s ∷ ss) one other =
       ap₂ (λ x xs. x ∷ xs) (same_rule d r s one.0 other.0) (same_rules ds rs ss one.1 other.1)
 
-pub one_reading : (told : List ℕ → Option (List ℕ)) (top : Members) (C D : Config) → ((file : List ℕ) → IsSome (told file)) → Configures told top C → Configures told top D → AreSame C D
+pub one_reading : (told : List ℕ → Option (List ℕ)) (top : Members) (C D : LoadedConfig) → ((file : List ℕ) → IsSome (told file)) → Configures told top C → Configures told top D → AreSame C D
 one_reading told top C D tells one other = record {
   settings = one.settings ∙ sym other.settings;
   rules = same_rules told tells (items_at rules top) C.rules D.rules one.loaded other.loaded;

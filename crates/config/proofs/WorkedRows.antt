@@ -5,7 +5,7 @@ use Rattle.toml.specs.Data.{member}
 use Rattle.config.specs.Documents.{document_fault}
 use Rattle.config.specs.Faults.{fault_at}
 use Rattle.config.specs.Places.{item_place, prefix_of}
-use Rattle.config.specs.declared.fault.FaultKind.TheVariants.{UnknownKey, WrongKind, Twice, Range}
+use Rattle.config.specs.declared.fault.ConfigFaultKind.TheVariants.{UnknownKey, WrongKind, Twice, Range}
 
 abbrev versioned : Members
 versioned = member (codes "version") (integer (pos 1)) no_members

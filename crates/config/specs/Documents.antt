@@ -12,8 +12,8 @@ use Rattle.config.specs.Rules.{rule_faults}
 use Rattle.config.specs.Tables.{keys_faults, unknown_faults}
 use Rattle.config.specs.Texts.{first_place, place_of}
 use Rattle.config.specs.Virtuals.{server_faults}
-use Rattle.config.specs.declared.fault.Fault.{Fault}
-use Rattle.config.specs.declared.fault.FaultKind.TheVariants.{WrongKind}
+use Rattle.config.specs.declared.fault.ConfigFault.{ConfigFault}
+use Rattle.config.specs.declared.fault.ConfigFaultKind.TheVariants.{WrongKind}
 use Rattle.config.specs.declared.known.Known.{Known}
 use Rattle.config.specs.declared.section.Section.{Section}
 use Rattle.config.specs.declared.section.Section.TheVariants.{Virtual, Pool, Rule, Group}
@@ -59,31 +59,31 @@ section_key Pool = pools
 section_key Rule = rules
 section_key Group = groups
 
-abbrev pub table_faults : Names → Section → List ℕ → ℕ → Members → List Fault
+abbrev pub table_faults : Names → Section → List ℕ → ℕ → Members → List ConfigFault
 table_faults n Virtual prefix at ms = server_faults n.servers n.listens n.pools n.rules prefix at ms
 table_faults n Pool prefix at ms = pool_faults n.pools prefix at ms
 table_faults n Rule prefix at ms = rule_faults n.rules prefix at ms
 table_faults n Group prefix at ms = group_faults n.groups prefix at ms
 
 -- an item of a section is a table
-abbrev pub item_faults : Names → Section → List ℕ → ℕ → Option Members → List Fault
+abbrev pub item_faults : Names → Section → List ℕ → ℕ → Option Members → List ConfigFault
 item_faults n s place at None = fault_at WrongKind place ∷ []
 item_faults n s place at (Some ms) = table_faults n s (prefix_of place) at ms
 
-abbrev pub section_from : Names → Section → ℕ → Items → List Fault
+abbrev pub section_from : Names → Section → ℕ → Items → List ConfigFault
 section_from n s at no_items = []
 section_from n s at (item d ds) =
     item_faults n s (item_place [] (section_key s).name at) at (as_table d)
     ++ section_from n s (at + 1) ds
 
-abbrev pub section_of : Names → Section → Option Items → List Fault
+abbrev pub section_of : Names → Section → Option Items → List ConfigFault
 section_of n s None = []
 section_of n s (Some ds) = section_from n s 0 ds
 
-abbrev pub section_faults : Names → Section → Members → List Fault
+abbrev pub section_faults : Names → Section → Members → List ConfigFault
 section_faults n s ms = section_of n s (array_at (section_key s) ms)
 
-abbrev pub faults_with : Names → Members → List Fault
+abbrev pub faults_with : Names → Members → List ConfigFault
 faults_with n ms =
     keys_faults [] top_keys ms
     ++ (unknown_faults [] top_keys ms
@@ -91,9 +91,9 @@ faults_with n ms =
     ++ (section_faults n Pool ms
     ++ (section_faults n Rule ms ++ section_faults n Group ms))))
 
-abbrev pub document_faults : Members → List Fault
+abbrev pub document_faults : Members → List ConfigFault
 document_faults ms = faults_with (names_in ms) ms
 
 -- the fault of a document that is told
-unfoldable pub document_fault : Members → Option Fault
+unfoldable pub document_fault : Members → Option ConfigFault
 document_fault ms = told_of (document_faults ms)

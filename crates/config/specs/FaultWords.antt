@@ -1,11 +1,11 @@
 -- What is wrong with a configuration, in English.
 use Rattle.std.specs.Prelude.{ℕ, List, codes}
 use Rattle.rule_loader.specs.Words.{load_words}
-use Rattle.config.specs.declared.fault.FaultKind.{FaultKind}
-use Rattle.config.specs.declared.fault.FaultKind.TheVariants.{ReadFault, NotToml, UnknownKey}
-use Rattle.config.specs.declared.fault.FaultKind.TheVariants.{WrongKind, Twice, NoSuch, Range, Rule}
+use Rattle.config.specs.declared.fault.ConfigFaultKind.{ConfigFaultKind}
+use Rattle.config.specs.declared.fault.ConfigFaultKind.TheVariants.{ReadFault, NotToml, UnknownKey}
+use Rattle.config.specs.declared.fault.ConfigFaultKind.TheVariants.{WrongKind, Twice, NoSuch, Range, Rule}
 
-abbrev pub words_of : FaultKind → List ℕ
+abbrev pub words_of : ConfigFaultKind → List ℕ
 words_of ReadFault = codes "this file can't be read"
 words_of NotToml = codes "this is no TOML in UTF-8"
 words_of UnknownKey = codes "there is no such key"

@@ -4,11 +4,11 @@ use Rattle.std.specs.Prelude.{ℕ, List, [], ◌∷◌, length, map, flat_map, B
 use Rattle.std.specs.Prelude.{Option, Some, None, option_map, unwrap_or, if◌then◌else◌}
 use Rattle.std.specs.List.{list_all, position_from}
 use Rattle.std.specs.Str.{bytes_eq}
-use Rattle.config.specs.declared.config.NamedGroup as loaded
-use Rattle.config.specs.declared.config.NamedPool.{NamedPool}
+use Rattle.config.specs.declared.config.GroupSettings as loaded
+use Rattle.config.specs.declared.config.PoolSettings.{PoolSettings}
 use Rattle.config.specs.declared.config.Settings.{Settings}
-use Rattle.config.specs.declared.config.Virtual.{Virtual}
-use Rattle.config.specs.declared.reader.Config.{Config}
+use Rattle.config.specs.declared.config.VirtualSettings.{VirtualSettings}
+use Rattle.config.specs.declared.reader.LoadedConfig.{LoadedConfig}
 use Rattle.config.specs.declared.rule_text.LoadedRule.{LoadedRule}
 use Rattle.data_groups.specs.Groups.{bad_key}
 use Rattle.irule_net.specs.declared.groups.Groups.{Groups}
@@ -41,7 +41,7 @@ abbrev pub made_classes : List loaded.NamedGroup → Option (List NamedGroup)
 made_classes [] = Some []
 made_classes (g ∷ gs) = with_class (made_class g) (made_classes gs)
 
-abbrev pub members_of : NamedPool → PoolMembers
+abbrev pub members_of : PoolSettings → PoolMembers
 members_of p = record { name = p.name; members = map (λ m. m.addr) p.members }
 
 abbrev pub groups_with : Settings → List NamedGroup → Groups
@@ -52,10 +52,10 @@ abbrev pub may_be_members : List Member → Bool
 may_be_members ms = nat_le (length ms) 1000 && (list_all ratio_fits ms && are_apart ms)
 
 -- a pool whose members are all up
-abbrev pub pool_with : NamedPool → shared.NamedPool
+abbrev pub pool_with : PoolSettings → shared.NamedPool
 pool_with p = record { name = p.name; pool = new_pool p.method p.members }
 
-abbrev pub made_pool : NamedPool → Option shared.NamedPool
+abbrev pub made_pool : PoolSettings → Option shared.NamedPool
 made_pool p = if may_be_members p.members then Some (pool_with p) else None
 
 abbrev pub with_pool : Option shared.NamedPool → Option (List shared.NamedPool)
@@ -63,7 +63,7 @@ abbrev pub with_pool : Option shared.NamedPool → Option (List shared.NamedPool
 with_pool None more = None
 with_pool (Some pool) more = option_map (λ pools. pool ∷ pools) more
 
-abbrev pub made_pools : List NamedPool → Option (List shared.NamedPool)
+abbrev pub made_pools : List PoolSettings → Option (List shared.NamedPool)
 made_pools [] = Some []
 made_pools (p ∷ ps) = with_pool (made_pool p) (made_pools ps)
 
@@ -90,10 +90,10 @@ abbrev pub numbers_of : List LoadedRule → List (List ℕ) → List ℕ
 numbers_of rules names = flat_map (λ name. listed (number_of rules name)) names
 
 -- the name of its default pool, empty where it has none
-abbrev pub pool_of : Virtual → List ℕ
+abbrev pub pool_of : VirtualSettings → List ℕ
 pool_of v = unwrap_or v.pool []
 
-abbrev pub server_of : List LoadedRule → Virtual → served.Virtual
+abbrev pub server_of : List LoadedRule → VirtualSettings → served.Virtual
 server_of rules v = record {
   name = v.name;
   listen = v.listen;
@@ -107,7 +107,7 @@ server_of rules v = record {
 -- ---- a configuration
 
 -- with these groups and pools
-abbrev pub filled_with : Config → Made → run.Config
+abbrev pub filled_with : LoadedConfig → Made → run.Config
 filled_with C made = record {
   budget = C.settings.budget;
   connections = C.settings.connections;
@@ -119,5 +119,5 @@ filled_with C made = record {
 }
 
 -- what a proxy runs for a configuration, if its groups and pools may be
-unfoldable pub filled : Config → Option run.Config
+unfoldable pub filled : LoadedConfig → Option run.Config
 filled C = option_map (filled_with C) (made_groups C.settings)

@@ -11,8 +11,8 @@ use Rattle.config.specs.Places.{item_place}
 use Rattle.config.specs.Read.{array_at, chosen}
 use Rattle.config.specs.Tables.{faults_of, keys_faults, unknown_faults}
 use Rattle.config.specs.Values.{judged}
-use Rattle.config.specs.declared.fault.Fault.{Fault}
-use Rattle.config.specs.declared.fault.FaultKind.{FaultKind}
+use Rattle.config.specs.declared.fault.ConfigFault.{ConfigFault}
+use Rattle.config.specs.declared.fault.ConfigFaultKind.{ConfigFaultKind}
 
 -- the kind of the keys, by the place of its word
 abbrev pub kind_at : ℕ → GroupKind
@@ -41,21 +41,21 @@ abbrev pub key_fits : Option GroupKind → Row → Bool
 key_fits None row = true
 key_fits (Some kind) row = is_key kind row.0
 
-abbrev pub row_flaw : Option GroupKind → Data → Option FaultKind
+abbrev pub row_flaw : Option GroupKind → Data → Option ConfigFaultKind
 row_flaw kind d = judged (option_map (key_fits kind) (row_of d))
 
-abbrev pub rows_from : Option GroupKind → List ℕ → ℕ → Items → List Fault
+abbrev pub rows_from : Option GroupKind → List ℕ → ℕ → Items → List ConfigFault
 rows_from kind prefix at no_items = []
 rows_from kind prefix at (item d ds) =
     faults_of (item_place prefix rows.name at) (row_flaw kind d)
     ++ rows_from kind prefix (at + 1) ds
 
-abbrev pub rows_of : Option GroupKind → List ℕ → Option Items → List Fault
+abbrev pub rows_of : Option GroupKind → List ℕ → Option Items → List ConfigFault
 rows_of kind prefix None = []
 rows_of kind prefix (Some ds) = rows_from kind prefix 0 ds
 
 -- the keys of its table, then its rows
-abbrev pub group_faults : (groups : List ℕ → Option ℕ) → List ℕ → ℕ → Members → List Fault
+abbrev pub group_faults : (groups : List ℕ → Option ℕ) → List ℕ → ℕ → Members → List ConfigFault
 group_faults groups prefix at ms =
     keys_faults prefix group_keys ms
     ++ (unknown_faults prefix group_keys ms

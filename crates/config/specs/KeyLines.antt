@@ -8,7 +8,7 @@ use Rattle.std.specs.List.{after_first, before_first, slice_split, starts_with}
 use Rattle.std.specs.Str.{bytes_eq}
 use Rattle.px_outside.specs.Outside.{counted_up}
 use Rattle.text_places.specs.Places.{is_newline}
-use Rattle.config.specs.declared.fault.Fault.{Fault}
+use Rattle.config.specs.declared.fault.ConfigFault.{ConfigFault}
 use Rattle.config.specs.declared.key_line.KeyPath.{KeyPath}
 use Rattle.config.specs.declared.key_line.Seen.{Seen}
 use Rattle.config.specs.declared.spot.Source.TheVariants.{Key}
@@ -133,6 +133,6 @@ abbrev pub key_spot : List ℕ → List (List ℕ) → Option Spot
 key_spot place lines = option_and_then (spot_of lines) (key_line place lines)
 
 -- the fault with the line of its key
-abbrev pub with_line : List ℕ → Fault → Fault
+abbrev pub with_line : List ℕ → ConfigFault → ConfigFault
 with_line bytes f =
     record { kind = f.kind; place = f.place; spot = key_spot f.place (lines_of bytes) }

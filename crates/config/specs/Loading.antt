@@ -12,15 +12,15 @@ use Rattle.config.specs.Keys.{name_key, rule_file, rule_text}
 use Rattle.config.specs.LineEnds.{without_returns}
 use Rattle.config.specs.RuleFaults.{rule_fault}
 use Rattle.config.specs.Texts.{text_in}
+use Rattle.config.specs.declared.fault.ConfigError.{ConfigError}
+use Rattle.config.specs.declared.fault.ConfigError.TheVariants as refused
 use Rattle.config.specs.declared.fault.ConfigFault.{ConfigFault}
-use Rattle.config.specs.declared.fault.ConfigFault.TheVariants as refused
-use Rattle.config.specs.declared.fault.Fault.{Fault}
-use Rattle.config.specs.declared.fault.FaultKind.TheVariants.{ReadFault}
+use Rattle.config.specs.declared.fault.ConfigFaultKind.TheVariants.{ReadFault}
 use Rattle.config.specs.declared.rule_text.LoadedRule.{LoadedRule}
 use Rattle.config.specs.declared.rule_text.RuleText.{RuleText}
 
 -- what is said of a fault; out of memory says nothing
-abbrev pub OfFault : (Fault → Type 0) → ConfigFault → Type 0
+abbrev pub OfFault : (ConfigFault → Type 0) → ConfigError → Type 0
 OfFault P (refused.Fault f) = P f
 OfFault P refused.Memory = ⊤
 
@@ -31,7 +31,7 @@ abbrev pub IsContents : (List ℕ → Option (List ℕ)) → List ℕ → List �
 IsContents told name bytes = IfSome (told name) (λ held. bytes ≡ held)
 
 -- a file can't be read, which the files' count of faults tells
-pub record CantRead (before now : ℕ) (name : List ℕ) (f : Fault) : Type 0 where
+pub record CantRead (before now : ℕ) (name : List ℕ) (f : ConfigFault) : Type 0 where
   pub rose : Rose before now
   pub fault : f ≡ fault_at ReadFault name
 
@@ -69,7 +69,7 @@ abbrev pub IsRuleText : (List ℕ → Option (List ℕ)) → Data → RuleText �
 IsRuleText told d text = HasText told (text_in (Some rule_text.name) d) (file_name d) text
 
 -- the text can't be loaded
-pub record CantLoad (at : ℕ) (name : List ℕ) (text : RuleText) (f : Fault) : Type 0 where
+pub record CantLoad (at : ℕ) (name : List ℕ) (text : RuleText) (f : ConfigFault) : Type 0 where
   pub why : RuleFault
   pub refused : rule_of name text.bytes ≡ Err why
   pub fault : f ≡ rule_fault at why text
@@ -88,14 +88,14 @@ pub record IsLoaded (told : List ℕ → Option (List ℕ)) (d : Data) (r : Load
   pub rule : IsRuleOf (rule_name d) text r
 
 -- the item's text can't be loaded
-pub record TextFault (told : List ℕ → Option (List ℕ)) (at : ℕ) (d : Data) (f : Fault)
+pub record TextFault (told : List ℕ → Option (List ℕ)) (at : ℕ) (d : Data) (f : ConfigFault)
     : Type 0 where
   pub text : RuleText
   pub contents : IsRuleText told d text
   pub refused : CantLoad at (rule_name d) text f
 
 -- the item's file can't be read, or its text can't be loaded
-abbrev pub IsRuleFault : (List ℕ → Option (List ℕ)) → (before now : ℕ) → ℕ → Data → Fault → Type 0
+abbrev pub IsRuleFault : (List ℕ → Option (List ℕ)) → (before now : ℕ) → ℕ → Data → ConfigFault → Type 0
 IsRuleFault told before now at d f = CantRead before now (file_name d) f ⊎ TextFault told at d f
 
 -- ---- all rules, in their order
@@ -108,7 +108,7 @@ AreLoaded told (item d ds) [] = ⊥
 AreLoaded told (item d ds) (r ∷ rs) = IsLoaded told d r × AreLoaded told ds rs
 
 -- so many are loaded, and the next one has this fault
-abbrev pub StopsAt : (List ℕ → Option (List ℕ)) → (before now : ℕ) → ℕ → Items → Fault → Type 0
+abbrev pub StopsAt : (List ℕ → Option (List ℕ)) → (before now : ℕ) → ℕ → Items → ConfigFault → Type 0
 StopsAt told before now at no_items f = ⊥
 StopsAt told before now at (item d ds) f =
     IsRuleFault told before now at d f

@@ -2,7 +2,7 @@
 use Rattle.std.specs.Prelude.{ℕ, Bool, List, [], ◌∷◌, Option, None, option_and_then}
 use Rattle.std.specs.Prelude.{option_map, slice_get, if◌then◌else◌}
 use Rattle.std.specs.Option.{option_or}
-use Rattle.config.specs.declared.config.Virtual.{Virtual}
+use Rattle.config.specs.declared.config.VirtualSettings.{VirtualSettings}
 use Rattle.config.specs.declared.misplaced.Misplaced.{Misplaced}
 use Rattle.config.specs.declared.rule_text.LoadedRule.{LoadedRule}
 
@@ -27,7 +27,7 @@ server_misplaced rules rs http (name ∷ names) =
     option_or (misplaced_rule rules rs http name) (server_misplaced rules rs http names)
 
 -- the first one of virtual servers
-abbrev pub first_misplaced : (rules : List ℕ → Option ℕ) → List LoadedRule → List Virtual
+abbrev pub first_misplaced : (rules : List ℕ → Option ℕ) → List LoadedRule → List VirtualSettings
     → Option Misplaced
 first_misplaced rules rs [] = None
 first_misplaced rules rs (v ∷ vs) =

@@ -18,12 +18,12 @@ use Rattle.config.specs.Keys as key
 use Rattle.config.specs.Read.{chosen, truth_at}
 use Rattle.config.specs.Texts.{text_at}
 use Rattle.config.specs.Values.{in_range}
-use Rattle.config.specs.declared.config.NamedGroup.{NamedGroup}
-use Rattle.config.specs.declared.config.NamedPool.{NamedPool}
+use Rattle.config.specs.declared.config.GroupSettings.{GroupSettings}
+use Rattle.config.specs.declared.config.PoolSettings.{PoolSettings}
 use Rattle.run_config.specs.declared.config.Persist.{Persist}
 use Rattle.run_config.specs.declared.config.Persist.TheVariants as persist
 use Rattle.config.specs.declared.config.Settings.{Settings}
-use Rattle.config.specs.declared.config.Virtual.{Virtual}
+use Rattle.config.specs.declared.config.VirtualSettings.{VirtualSettings}
 
 -- what the items are, in their order
 abbrev pub each : {A : Type 0} → (Data → List A) → Items → List A
@@ -67,7 +67,7 @@ persist_of (Some n) =
 abbrev pub text_item : Data → List (List ℕ)
 text_item d = one (as_str d)
 
-abbrev pub server_of : Members → Virtual
+abbrev pub server_of : Members → VirtualSettings
 server_of ms = record {
   name = given key.name_key ms;
   listen = addr_at key.listen ms;
@@ -78,7 +78,7 @@ server_of ms = record {
   rules = each text_item (items_at key.rule_names ms);
 }
 
-abbrev pub server_item : Data → List Virtual
+abbrev pub server_item : Data → List VirtualSettings
 server_item d = one (option_map server_of (as_table d))
 
 -- ---- pools
@@ -96,14 +96,14 @@ member_of ms = record { addr = addr_at key.addr ms; ratio = ratio_of (whole_at k
 abbrev pub member_item : Data → List Member
 member_item d = one (option_map member_of (as_table d))
 
-abbrev pub pool_of : Members → NamedPool
+abbrev pub pool_of : Members → PoolSettings
 pool_of ms = record {
   name = given key.name_key ms;
   method = method_of (chosen key.method ms);
   members = each member_item (items_at key.members ms);
 }
 
-abbrev pub pool_item : Data → List NamedPool
+abbrev pub pool_item : Data → List PoolSettings
 pool_item d = one (option_map pool_of (as_table d))
 
 -- ---- groups
@@ -111,14 +111,14 @@ pool_item d = one (option_map pool_of (as_table d))
 abbrev pub row_item : Data → List Row
 row_item d = one (row_of d)
 
-abbrev pub group_of : Members → NamedGroup
+abbrev pub group_of : Members → GroupSettings
 group_of ms = record {
   name = given key.name_key ms;
   kind = unwrap_or (group_kind ms) String;
   rows = each row_item (items_at key.rows ms);
 }
 
-abbrev pub group_item : Data → List NamedGroup
+abbrev pub group_item : Data → List GroupSettings
 group_item d = one (option_map group_of (as_table d))
 
 -- ---- the document

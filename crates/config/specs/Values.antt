@@ -6,8 +6,8 @@ use Rattle.std.specs.Str.{bytes_eq}
 use Rattle.toml.specs.Data.{Data, Items, no_items, item, as_array, as_bool, as_integer, as_str}
 use Rattle.config.specs.Forms.{has_form}
 use Rattle.config.specs.Keys.{KeyKind, whole, truth, text, one_of, array}
-use Rattle.config.specs.declared.fault.FaultKind.{FaultKind}
-use Rattle.config.specs.declared.fault.FaultKind.TheVariants.{WrongKind, Range}
+use Rattle.config.specs.declared.fault.ConfigFaultKind.{ConfigFaultKind}
+use Rattle.config.specs.declared.fault.ConfigFaultKind.TheVariants.{WrongKind, Range}
 
 abbrev pub in_range : ℕ → ℕ → ℤ → Option ℕ
 in_range low high n =
@@ -36,9 +36,9 @@ fits (text form) d = option_map (has_form form) (as_str d)
 fits (one_of words) d = option_map (λ t. is_some (word_place words t)) (as_str d)
 fits (array most) d = option_map (few most) (as_array d)
 
-abbrev pub judged : Option Bool → Option FaultKind
+abbrev pub judged : Option Bool → Option ConfigFaultKind
 judged None = Some WrongKind
 judged (Some b) = if b then None else Some Range
 
-abbrev pub flaw : KeyKind → Data → Option FaultKind
+abbrev pub flaw : KeyKind → Data → Option ConfigFaultKind
 flaw kind d = judged (fits kind d)

@@ -7,7 +7,7 @@ use run_config::Persist;
 
 /// A virtual server.
 #[derive(Drop)]
-pub struct Virtual {
+pub struct VirtualSettings {
     pub name: Text,
     pub listen: Addr,
     pub http: bool,
@@ -22,7 +22,7 @@ pub struct Virtual {
 
 /// A pool.
 #[derive(Drop)]
-pub struct NamedPool {
+pub struct PoolSettings {
     pub name: Text,
     pub method: Method,
     pub members: Members,
@@ -30,7 +30,7 @@ pub struct NamedPool {
 
 /// A data group.
 #[derive(Drop)]
-pub struct NamedGroup {
+pub struct GroupSettings {
     pub name: Text,
     pub kind: GroupKind,
     pub rows: GroupRows,
@@ -45,7 +45,7 @@ pub struct Settings {
     pub connections: u32,
     /// Seconds without bytes after which a connection is cut.
     pub idle: u32,
-    pub virtuals: Seq<Virtual>,
-    pub pools: Seq<NamedPool>,
-    pub groups: Seq<NamedGroup>,
+    pub virtuals: Seq<VirtualSettings>,
+    pub pools: Seq<PoolSettings>,
+    pub groups: Seq<GroupSettings>,
 }

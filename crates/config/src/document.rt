@@ -12,7 +12,7 @@ ghost use Rattle.config.specs.Keys.{key_view};
 ghost use Rattle.config.specs.Places.{place_text};
 ghost use Rattle.config.specs.Texts.{first_place, place_of};
 
-use crate::fault::{Fault, FaultKind};
+use crate::fault::{ConfigFault, ConfigFaultKind};
 use crate::index::{Index, index_of};
 use crate::key::Key;
 use crate::keys::{GROUP, LISTEN, NAME, POOL, RULE, TOP, VIRTUAL};
@@ -98,7 +98,7 @@ impl Told {
                 let prefix = place.inside(self.alloc)?;
                 self.table(known, section, prefix.as_str(), at, table)
             }
-            None => self.note(FaultKind::WrongKind, place),
+            None => self.note(ConfigFaultKind::WrongKind, place),
         }
     }
 
@@ -144,7 +144,7 @@ impl Told {
 }
 
 /// What is wrong with a document, but for the texts of its rules.
-pub(crate) fn document_fault(alloc: Global, top: &Table) -> M<Option<Fault>>
+pub(crate) fn document_fault(alloc: Global, top: &Table) -> M<Option<ConfigFault>>
     ensures { IfOk result (λ fault. fault ≡ document_fault (table_view top.now)) }
 {
     let known = names_in(alloc, top)?;

@@ -18,7 +18,7 @@ use tcl_words::{Command, LIMIT, Progress, Script, Word};
 /// The places of the words of the first event that only virtual servers with HTTP have, and of the
 /// first one that only those without it have.
 #[derive(Clone, Copy)]
-pub struct EventPlaces {
+pub struct FirstEventPlaces {
     pub of_http: Option<usize>,
     pub of_bytes: Option<usize>,
 }
@@ -114,13 +114,13 @@ fn read_script(alloc: Global, text: &[u8]) -> M<Script>
 }
 
 /// The places of events of the text of a rule.
-pub(crate) fn event_places(alloc: Global, text: &[u8]) -> M<EventPlaces>
+pub(crate) fn event_places(alloc: Global, text: &[u8]) -> M<FirstEventPlaces>
     ensures of_http { IfOk result (λ places. places.of_http ≡ misplaced_in false text.now) }
     ensures of_bytes { IfOk result (λ places. places.of_bytes ≡ misplaced_in true text.now) }
 {
     let script = read_script(alloc, text)?;
     let commands = script.commands.as_slice();
-    Ok(EventPlaces {
+    Ok(FirstEventPlaces {
         of_http: first_misplaced(false, commands),
         of_bytes: first_misplaced(true, commands),
     })

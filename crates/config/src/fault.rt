@@ -9,7 +9,7 @@ use rule_loader::LoadKind;
 
 /// What is wrong with a configuration.
 #[derive(Clone, Copy, PartialEq, Eq)]
-pub enum FaultKind {
+pub enum ConfigFaultKind {
     /// A file can't be read.
     ReadFault,
     /// The file is no TOML document.
@@ -28,28 +28,28 @@ pub enum FaultKind {
     Rule(LoadKind),
 }
 
-impl FaultKind {
+impl ConfigFaultKind {
     /// The number under which a report tells it.
     pub fn number(self) -> u8
         ensures { result ≡ number_of self }
     {
         match self {
-            FaultKind::ReadFault => 1,
-            FaultKind::NotToml => 2,
-            FaultKind::UnknownKey => 3,
-            FaultKind::WrongKind => 4,
-            FaultKind::Twice => 5,
-            FaultKind::NoSuch => 6,
-            FaultKind::Range => 7,
-            FaultKind::Rule(_) => 8,
+            ConfigFaultKind::ReadFault => 1,
+            ConfigFaultKind::NotToml => 2,
+            ConfigFaultKind::UnknownKey => 3,
+            ConfigFaultKind::WrongKind => 4,
+            ConfigFaultKind::Twice => 5,
+            ConfigFaultKind::NoSuch => 6,
+            ConfigFaultKind::Range => 7,
+            ConfigFaultKind::Rule(_) => 8,
         }
     }
 }
 
 /// What is wrong, and where.
 #[derive(Drop)]
-pub struct Fault {
-    pub kind: FaultKind,
+pub struct ConfigFault {
+    pub kind: ConfigFaultKind,
     /// As `virtual[0].rules[1]`; the name of the file where it can't be read or is no TOML; and for
     /// a rule `rule[0] load 3 at 5`, with the number and the place of what is wrong in its text.
     pub place: Text,
@@ -59,17 +59,17 @@ pub struct Fault {
 
 /// Why no configuration was given: what is wrong with it, or out of memory.
 #[derive(Drop)]
-pub enum ConfigFault {
-    Fault(Fault),
+pub enum ConfigError {
+    Fault(ConfigFault),
     Memory,
 }
 
-impl From<Memory> for ConfigFault {
-    ghost use Rattle.config.specs.declared.fault.ConfigFault.TheVariants.{Memory as OutOfMemory};
+impl From<Memory> for ConfigError {
+    ghost use Rattle.config.specs.declared.fault.ConfigError.TheVariants.{Memory as OutOfMemory};
 
     ghost from_gives = { λ _ e. e ≡ OutOfMemory };
 
     fn from(_: Memory) -> Self {
-        ConfigFault::Memory
+        ConfigError::Memory
     }
 }

@@ -3,23 +3,23 @@
 ghost use Rattle.std.specs.Prelude.{◌≡◌};
 ghost use Rattle.config.specs.FaultWords.{words_of};
 
-use crate::fault::FaultKind;
+use crate::fault::ConfigFaultKind;
 
-impl FaultKind {
+impl ConfigFaultKind {
     /// What is wrong, in English.
     pub fn words(self) -> &'static str
         ensures { result.now ≡ words_of self }
     {
         match self {
-            FaultKind::ReadFault => "this file can't be read",
-            FaultKind::NotToml => "this is no TOML in UTF-8",
-            FaultKind::UnknownKey => "there is no such key",
-            FaultKind::WrongKind =>
+            ConfigFaultKind::ReadFault => "this file can't be read",
+            ConfigFaultKind::NotToml => "this is no TOML in UTF-8",
+            ConfigFaultKind::UnknownKey => "there is no such key",
+            ConfigFaultKind::WrongKind =>
                 "a key must stand here and doesn't, or its value is of another kind",
-            FaultKind::Twice => "this name, address or rule is there already",
-            FaultKind::NoSuch => "there is no pool or rule of this name",
-            FaultKind::Range => "its value is out of range, too long, or not of its form",
-            FaultKind::Rule(kind) => kind.words(),
+            ConfigFaultKind::Twice => "this name, address or rule is there already",
+            ConfigFaultKind::NoSuch => "there is no pool or rule of this name",
+            ConfigFaultKind::Range => "its value is out of range, too long, or not of its form",
+            ConfigFaultKind::Rule(kind) => kind.words(),
         }
     }
 }

@@ -4,19 +4,19 @@ ghost use Rattle.std.specs.Prelude.{◌≡◌, ◌<◌, ◌++◌, IfOk, IfSome, 
 ghost use Rattle.config.specs.Filled.{filled, filled_with, listed, number_of, numbers_of, pool_of};
 ghost use Rattle.config.specs.Filled.{server_of};
 
-use crate::config::{Settings, Virtual};
+use crate::config::{Settings, VirtualSettings};
 use crate::made_groups::{Made, made_groups};
-use crate::reader::Config;
+use crate::reader::LoadedConfig;
 use crate::rule_text::LoadedRule;
 use px_bytes::{M, Seq, Text};
-use run_config::{Config as RunConfig, Virtual as RunVirtual};
+use run_config::{Config, Virtual};
 use std::alloc::Global;
 
-impl Config {
+impl LoadedConfig {
     /// What a proxy runs for it. There is always such a configuration for one that loaded
     /// (`loaded_is_filled`).
     #[tactic(auto, unfolding(crate::specs::Filled::filled))]
-    pub fn filled(self, alloc: Global) -> M<Option<RunConfig>>
+    pub fn filled(self, alloc: Global) -> M<Option<Config>>
         ensures { IfOk result (λ run. run ≡ filled self) }
     {
         match made_groups(alloc, &self.settings)? {
@@ -27,13 +27,13 @@ impl Config {
 }
 
 // With these data groups and pools.
-fn filled_with(alloc: Global, loaded: Config, made: Made) -> M<RunConfig>
+fn filled_with(alloc: Global, loaded: LoadedConfig, made: Made) -> M<Config>
     ensures { IfOk result (λ run. run ≡ filled_with loaded made) }
 {
-    let Config { settings, rules } = loaded;
+    let LoadedConfig { settings, rules } = loaded;
     let Made { groups, pools } = made;
     let virtuals = servers_of(alloc, rules.as_slice(), settings.virtuals.as_slice())?;
-    Ok(RunConfig {
+    Ok(Config {
         budget: settings.budget,
         connections: settings.connections,
         idle: settings.idle,
@@ -44,7 +44,7 @@ fn filled_with(alloc: Global, loaded: Config, made: Made) -> M<RunConfig>
     })
 }
 
-fn servers_of(alloc: Global, rules: &[LoadedRule], servers: &[Virtual]) -> M<Seq<RunVirtual>>
+fn servers_of(alloc: Global, rules: &[LoadedRule], servers: &[VirtualSettings]) -> M<Seq<Virtual>>
     ensures { IfOk result (λ made. made ≡ map (server_of rules.now) servers.now) }
 {
     let mut made = Seq::new(alloc);
@@ -54,10 +54,10 @@ fn servers_of(alloc: Global, rules: &[LoadedRule], servers: &[Virtual]) -> M<Seq
     Ok(made)
 }
 
-fn server_of(alloc: Global, rules: &[LoadedRule], server: &Virtual) -> M<RunVirtual>
+fn server_of(alloc: Global, rules: &[LoadedRule], server: &VirtualSettings) -> M<Virtual>
     ensures { IfOk result (λ v. v ≡ server_of rules.now server.now) }
 {
-    Ok(RunVirtual {
+    Ok(Virtual {
         name: server.name.copy()?,
         listen: server.listen,
         http: server.http,
@@ -69,7 +69,7 @@ fn server_of(alloc: Global, rules: &[LoadedRule], server: &Virtual) -> M<RunVirt
 }
 
 // The name of its default pool, empty where it has none.
-fn pool_of(alloc: Global, server: &Virtual) -> M<Text>
+fn pool_of(alloc: Global, server: &VirtualSettings) -> M<Text>
     ensures { IfOk result (λ pool. pool ≡ pool_of server.now) }
 {
     match &server.pool {

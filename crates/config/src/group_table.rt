@@ -6,7 +6,7 @@ ghost use Rattle.config.specs.Documents.{items_at};
 ghost use Rattle.config.specs.Keys as key;
 ghost use Rattle.config.specs.Settings.{each, group_item, group_of, row_item};
 
-use crate::config::NamedGroup;
+use crate::config::GroupSettings;
 use crate::groups::group_kind;
 use crate::keys::{NAME, ROWS};
 use crate::read::given;
@@ -49,17 +49,17 @@ fn rows_at(alloc: Global, table: &Table) -> M<GroupRows>
     }
 }
 
-fn group_of(alloc: Global, table: &Table) -> M<NamedGroup>
+fn group_of(alloc: Global, table: &Table) -> M<GroupSettings>
     ensures { IfOk result (λ group. group ≡ group_of (table_view table.now)) }
 {
-    Ok(NamedGroup {
+    Ok(GroupSettings {
         name: given(alloc, &NAME, table)?,
         kind: group_kind(table).unwrap_or(GroupKind::String),
         rows: rows_at(alloc, table)?,
     })
 }
 
-fn push_group(groups: &mut Seq<NamedGroup>, alloc: Global, value: &Value) -> M<()>
+fn push_group(groups: &mut Seq<GroupSettings>, alloc: Global, value: &Value) -> M<()>
     ensures { OnOk result (groups.new ≡ groups.old ++ group_item (view value.now)) }
 {
     match value.as_table() {
@@ -69,7 +69,7 @@ fn push_group(groups: &mut Seq<NamedGroup>, alloc: Global, value: &Value) -> M<(
 }
 
 /// The groups that the tables of an array configure.
-pub(crate) fn groups_of(alloc: Global, values: &Array) -> M<Seq<NamedGroup>>
+pub(crate) fn groups_of(alloc: Global, values: &Array) -> M<Seq<GroupSettings>>
     ensures { IfOk result (λ xs. xs ≡ each group_item (array_view values.now)) }
 {
     let mut groups = Seq::new(alloc);

@@ -10,7 +10,7 @@ ghost use Rattle.config.specs.Keys.{rows};
 ghost use Rattle.config.specs.Read.{array_at};
 ghost use Rattle.config.specs.Texts.{place_of};
 
-use crate::fault::FaultKind;
+use crate::fault::ConfigFaultKind;
 use crate::keys::{GROUP_KEYS, NAME, ROWS, TYPE};
 use crate::known::Known;
 use crate::place::Place;
@@ -56,7 +56,7 @@ fn is_key(kind: GroupKind, key: &[u8]) -> bool
 }
 
 // What is wrong with a row.
-fn row_flaw(kind: Option<GroupKind>, value: &Value) -> Option<FaultKind>
+fn row_flaw(kind: Option<GroupKind>, value: &Value) -> Option<ConfigFaultKind>
     ensures { result ≡ row_flaw kind (view value.now) }
 {
     let fits = match (row_of(value), kind) {

@@ -8,7 +8,7 @@ ghost use Rattle.config.specs.KeyLines.{line_spot, lines_of, opens, path_view, s
 ghost use Rattle.config.specs.KeyLines.{stands_first, switched, turned, with_line};
 
 use crate::around::around;
-use crate::fault::Fault;
+use crate::fault::ConfigFault;
 use crate::spot::{Source, Spot};
 use px_bytes::{M, Text};
 use std::alloc::{AllocError, Global};
@@ -208,12 +208,12 @@ fn key_spot(alloc: Global, place: &[u8], lines: &[&[u8]]) -> M<Option<Spot>>
 }
 
 /// The fault with the line where its key stands.
-pub(crate) fn with_line(alloc: Global, bytes: &[u8], fault: Fault) -> M<Fault>
+pub(crate) fn with_line(alloc: Global, bytes: &[u8], fault: ConfigFault) -> M<ConfigFault>
     ensures { IfOk result (λ told. told ≡ with_line bytes.now fault) }
 {
     let lines = lines_of(alloc, bytes)?;
     let spot = key_spot(alloc, fault.place.as_bytes(), &lines)?;
-    Ok(Fault {
+    Ok(ConfigFault {
         kind: fault.kind,
         place: fault.place,
         spot,

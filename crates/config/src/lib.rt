@@ -42,12 +42,12 @@ mod value;
 mod virtuals;
 mod words;
 
-pub use config::{NamedGroup, NamedPool, Settings, Virtual};
-pub use event_words::EventPlaces;
-pub use fault::{ConfigFault, Fault, FaultKind};
+pub use config::{GroupSettings, PoolSettings, Settings, VirtualSettings};
+pub use event_words::FirstEventPlaces;
+pub use fault::{ConfigError, ConfigFault, ConfigFaultKind};
 pub use laws::{first_is_told, loaded_is_filled, one_configuration};
 pub use loaded_rules::LoadedRules;
-pub use reader::{Config, read_config};
+pub use reader::{LoadedConfig, read_config};
 pub use rule_text::{LoadedRule, RuleText};
 pub use section::Section;
 pub use spot::{Source, Spot};

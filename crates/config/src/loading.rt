@@ -6,7 +6,7 @@ ghost use Rattle.config.specs.Documents.{items_at};
 ghost use Rattle.config.specs.Keys as key;
 ghost use Rattle.config.specs.Loading.{AreLoaded, OfFault, StopsAt};
 
-use crate::fault::ConfigFault;
+use crate::fault::ConfigError;
 use crate::keys::RULE;
 use crate::loaded_rules::LoadedRules;
 use crate::rule_text::rule_of;
@@ -20,7 +20,7 @@ fn rules_of<F: Files>(
     alloc: Global,
     files: &mut F,
     values: &Array,
-) -> Result<LoadedRules, ConfigFault>
+) -> Result<LoadedRules, ConfigError>
     ensures loaded { IfOk result (AreLoaded (F.told files.old) (array_view values.now)) }
     ensures fault { IfErr result (OfFault (StopsAt (F.told files.old) (F.faults files.old)
         (F.faults files.new) 0 (array_view values.now))) }
@@ -42,7 +42,7 @@ pub(crate) fn rules_at<F: Files>(
     alloc: Global,
     files: &mut F,
     top: &Table,
-) -> Result<LoadedRules, ConfigFault>
+) -> Result<LoadedRules, ConfigError>
     ensures loaded { IfOk result
         (AreLoaded (F.told files.old) (items_at key.rules (table_view top.now))) }
     ensures fault { IfErr result (OfFault (StopsAt (F.told files.old) (F.faults files.old)

@@ -6,7 +6,7 @@ ghost use Rattle.config.specs.Filled.{may_be_members, members_of};
 ghost use Rattle.std.specs.Prelude.{true};
 ghost use Rattle.pools.specs.Pools.{new_pool};
 
-use crate::config::{NamedGroup as LoadedGroup, NamedPool, Settings};
+use crate::config::{GroupSettings, PoolSettings, Settings};
 use data_groups::{Group, GroupFault, GroupRows};
 use irule_net::{Groups, NamedGroup, PoolMembers};
 use pools::{Member, Members, Pool, are_members};
@@ -40,7 +40,7 @@ pub(crate) fn made_groups(alloc: Global, settings: &Settings) -> M<Option<Made>>
     Ok(Some(Made { groups, pools }))
 }
 
-fn shared_pools(alloc: Global, pools: &[NamedPool]) -> M<Option<Pools>>
+fn shared_pools(alloc: Global, pools: &[PoolSettings]) -> M<Option<Pools>>
     ensures { IfOk result (λ made. made ≡ made_pools pools.now) }
 {
     let mut made = Pools::new(alloc);
@@ -53,7 +53,7 @@ fn shared_pools(alloc: Global, pools: &[NamedPool]) -> M<Option<Pools>>
     Ok(Some(made))
 }
 
-fn shared_pool(alloc: Global, named: &NamedPool) -> M<Option<SharedPool>>
+fn shared_pool(alloc: Global, named: &PoolSettings) -> M<Option<SharedPool>>
     ensures { IfOk result (λ pool. pool ≡ made_pool named.now) }
 {
     if !may_be_members(&named.members) {
@@ -70,7 +70,7 @@ fn may_be_members(members: &Members) -> bool
     are_members(members)
 }
 
-fn pool_of(alloc: Global, named: &NamedPool) -> M<Pool>
+fn pool_of(alloc: Global, named: &PoolSettings) -> M<Pool>
     requires { may_be_members named.now.members ≡ true }
     ensures { IfOk result (λ pool. pool ≡ new_pool named.now.method named.now.members) }
 {
@@ -81,7 +81,7 @@ fn pool_of(alloc: Global, named: &NamedPool) -> M<Pool>
     Pool::new(alloc, named.method, members)
 }
 
-fn classes_of(alloc: Global, groups: &[LoadedGroup]) -> M<Option<Seq<NamedGroup>>>
+fn classes_of(alloc: Global, groups: &[GroupSettings]) -> M<Option<Seq<NamedGroup>>>
     ensures { IfOk result (λ classes. classes ≡ made_classes groups.now) }
 {
     let mut classes = Seq::new(alloc);
@@ -94,7 +94,7 @@ fn classes_of(alloc: Global, groups: &[LoadedGroup]) -> M<Option<Seq<NamedGroup>
     Ok(Some(classes))
 }
 
-fn class_of(alloc: Global, named: &LoadedGroup) -> M<Option<NamedGroup>>
+fn class_of(alloc: Global, named: &GroupSettings) -> M<Option<NamedGroup>>
     ensures { IfOk result (λ class. class ≡ made_class named.now) }
 {
     let name = named.name.copy()?;
@@ -116,7 +116,7 @@ fn copied(alloc: Global, rows: &[(Text, Text)]) -> M<GroupRows>
     Ok(copy)
 }
 
-fn pools_of(alloc: Global, pools: &[NamedPool]) -> M<Seq<PoolMembers>>
+fn pools_of(alloc: Global, pools: &[PoolSettings]) -> M<Seq<PoolMembers>>
     ensures { IfOk result (λ made. made ≡ map members_of pools.now) }
 {
     let mut made = Seq::new(alloc);

@@ -4,7 +4,7 @@ ghost use Rattle.std.specs.Prelude.{◌≡◌};
 ghost use Rattle.config.specs.Misplaced.{first_misplaced, misplaced_rule, server_misplaced};
 ghost use Rattle.config.specs.Texts.{place_of};
 
-use crate::config::Virtual;
+use crate::config::VirtualSettings;
 use crate::index::Index;
 use crate::rule_text::LoadedRule;
 use px_bytes::Text;
@@ -52,7 +52,7 @@ fn server_misplaced(
 pub(crate) fn first_misplaced(
     index: &Index,
     rules: &[LoadedRule],
-    servers: &[Virtual],
+    servers: &[VirtualSettings],
 ) -> Option<Misplaced>
     ensures { result ≡ first_misplaced (place_of index.now) rules.now servers.now }
 {

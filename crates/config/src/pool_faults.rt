@@ -11,7 +11,7 @@ ghost use Rattle.config.specs.Pools.{pool_faults};
 ghost use Rattle.config.specs.Read.{array_at};
 ghost use Rattle.config.specs.Texts.{place_of};
 
-use crate::fault::FaultKind;
+use crate::fault::ConfigFaultKind;
 use crate::index::{Index, index_of};
 use crate::keys::{ADDR, MEMBER_KEYS, MEMBERS, NAME, POOL_KEYS};
 use crate::known::Known;
@@ -41,7 +41,7 @@ impl Told {
                 let prefix = place.inside(self.alloc)?;
                 self.member(own, prefix.as_str(), at, table)
             }
-            None => self.note(FaultKind::WrongKind, place),
+            None => self.note(ConfigFaultKind::WrongKind, place),
         }
     }
 

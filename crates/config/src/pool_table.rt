@@ -8,7 +8,7 @@ ghost use Rattle.config.specs.Settings.{each, member_item, member_of, method_of,
 ghost use Rattle.config.specs.Settings.{pool_of};
 ghost use Rattle.config.specs.Settings.{ratio_of};
 
-use crate::config::NamedPool;
+use crate::config::PoolSettings;
 use crate::keys::{ADDR, MEMBERS, METHOD, NAME, RATIO};
 use crate::read::{addr_at, given, whole_at};
 use crate::table::array_at;
@@ -72,17 +72,17 @@ fn members_at(alloc: Global, table: &Table) -> M<Members>
     }
 }
 
-fn pool_of(alloc: Global, table: &Table) -> M<NamedPool>
+fn pool_of(alloc: Global, table: &Table) -> M<PoolSettings>
     ensures { IfOk result (λ pool. pool ≡ pool_of (table_view table.now)) }
 {
-    Ok(NamedPool {
+    Ok(PoolSettings {
         name: given(alloc, &NAME, table)?,
         method: method_of(chosen(&METHOD, table)),
         members: members_at(alloc, table)?,
     })
 }
 
-fn push_pool(pools: &mut Seq<NamedPool>, alloc: Global, value: &Value) -> M<()>
+fn push_pool(pools: &mut Seq<PoolSettings>, alloc: Global, value: &Value) -> M<()>
     ensures { OnOk result (pools.new ≡ pools.old ++ pool_item (view value.now)) }
 {
     match value.as_table() {
@@ -92,7 +92,7 @@ fn push_pool(pools: &mut Seq<NamedPool>, alloc: Global, value: &Value) -> M<()>
 }
 
 /// The pools that the tables of an array configure.
-pub(crate) fn pools_of(alloc: Global, values: &Array) -> M<Seq<NamedPool>>
+pub(crate) fn pools_of(alloc: Global, values: &Array) -> M<Seq<PoolSettings>>
     ensures { IfOk result (λ xs. xs ≡ each pool_item (array_view values.now)) }
 {
     let mut pools = Seq::new(alloc);

@@ -14,7 +14,7 @@ ghost use Rattle.toml.specs.Errors.{IsWithin, span_start};
 
 use crate::config::Settings;
 use crate::document::{document_fault, index_at};
-use crate::fault::{ConfigFault, Fault, FaultKind};
+use crate::fault::{ConfigError, ConfigFault, ConfigFaultKind};
 use crate::key_line::with_line;
 use crate::keys::{NAME, RULE};
 use crate::loaded_rules::LoadedRules;
@@ -31,7 +31,7 @@ use toml::Table;
 
 /// A configuration: what its document says, and its rules, loaded, in the order of the document.
 #[derive(Drop)]
-pub struct Config {
+pub struct LoadedConfig {
     pub settings: Settings,
     pub rules: LoadedRules,
 }
@@ -48,20 +48,20 @@ fn stopped_at(bytes: &[u8], fault: &toml::de::Error) -> usize
 }
 
 // What is wrong with a text that is no TOML, where its reader stopped there and says this.
-fn not_toml(alloc: Global, name: &[u8], bytes: &[u8], place: usize, said: &str) -> M<Fault>
+fn not_toml(alloc: Global, name: &[u8], bytes: &[u8], place: usize, said: &str) -> M<ConfigFault>
     ensures { IfOk result (λ fault. fault ≡ not_toml name.now bytes.now place said.now) }
 {
     let source = Source::Document(Text::new(alloc, said.as_bytes())?);
     let spot = spot_at(alloc, source, bytes, place)?;
-    Ok(Fault {
-        kind: FaultKind::NotToml,
+    Ok(ConfigFault {
+        kind: ConfigFaultKind::NotToml,
         place: Text::new(alloc, name)?,
         spot: Some(spot),
     })
 }
 
 // The table of a document's bytes.
-fn read_table(alloc: Global, name: &[u8], bytes: &[u8]) -> Result<Table, ConfigFault>
+fn read_table(alloc: Global, name: &[u8], bytes: &[u8]) -> Result<Table, ConfigError>
     ensures table { IfOk result (λ t. IsDocument bytes.now (table_view t)) }
     ensures refused { IfErr result (OfFault (RefusesDocument name.now bytes.now)) }
 {
@@ -69,10 +69,10 @@ fn read_table(alloc: Global, name: &[u8], bytes: &[u8]) -> Result<Table, ConfigF
         Ok(table) => Ok(table),
         Err(fault) => {
             if fault.is_memory() {
-                return Err(ConfigFault::Memory);
+                return Err(ConfigError::Memory);
             }
             let place = stopped_at(bytes, &fault);
-            Err(ConfigFault::Fault(not_toml(alloc, name, bytes, place, fault.message())?))
+            Err(ConfigError::Fault(not_toml(alloc, name, bytes, place, fault.message())?))
         }
     }
 }
@@ -93,7 +93,7 @@ fn misplaced_of(
 }
 
 // The configuration of a document without faults.
-fn loaded<F: Files>(alloc: Global, files: &mut F, top: &Table) -> Result<Config, ConfigFault>
+fn loaded<F: Files>(alloc: Global, files: &mut F, top: &Table) -> Result<LoadedConfig, ConfigError>
     ensures answer { Loads (F.told files.old) (F.faults files.old) (F.faults files.new)
         (table_view top.now) result }
     ensures same_files { F.told files.new ≡ F.told files.old }
@@ -102,8 +102,8 @@ fn loaded<F: Files>(alloc: Global, files: &mut F, top: &Table) -> Result<Config,
     let settings = settings_of(alloc, top)?;
     let rules = rules_at(alloc, files, top)?;
     match misplaced_of(alloc, top, &settings, rules.as_slice())? {
-        None => Ok(Config { settings, rules }),
-        Some(found) => Err(ConfigFault::Fault(misplaced_fault(alloc, rules.as_slice(), found)?)),
+        None => Ok(LoadedConfig { settings, rules }),
+        Some(found) => Err(ConfigError::Fault(misplaced_fault(alloc, rules.as_slice(), found)?)),
     }
 }
 
@@ -113,14 +113,14 @@ fn of_document<F: Files>(
     files: &mut F,
     bytes: &[u8],
     top: &Table,
-) -> Result<Config, ConfigFault>
+) -> Result<LoadedConfig, ConfigError>
     ensures answer { OfDocument (F.told files.old) (F.faults files.old) (F.faults files.new)
         (table_view top.now) (told_fault bytes.now (table_view top.now)) result }
     ensures same_files { F.told files.new ≡ F.told files.old }
     ensures faults_never_fall { F.faults files.old ≤ F.faults files.new }
 {
     match document_fault(alloc, top)? {
-        Some(fault) => Err(ConfigFault::Fault(with_line(alloc, bytes, fault)?)),
+        Some(fault) => Err(ConfigError::Fault(with_line(alloc, bytes, fault)?)),
         None => loaded(alloc, files, top),
     }
 }
@@ -130,7 +130,7 @@ pub fn read_config<F: Files>(
     alloc: Global,
     files: &mut F,
     name: &[u8],
-) -> Result<Config, ConfigFault>
+) -> Result<LoadedConfig, ConfigError>
     ensures answer { Answers (F.told files.old) (F.faults files.old) (F.faults files.new) name.now
         result }
     ensures same_files { F.told files.new ≡ F.told files.old }

@@ -4,7 +4,7 @@ ghost use Rattle.std.specs.Prelude.{◌≡◌, IfOk};
 ghost use Rattle.config.specs.RuleFaults.{fault_of, misplaced_fault, rule_fault, rule_place};
 ghost use Rattle.config.specs.Spots.{source_of, spot_in};
 
-use crate::fault::{Fault, FaultKind};
+use crate::fault::{ConfigFault, ConfigFaultKind};
 use crate::misplaced::Misplaced;
 use crate::rule_text::{LoadedRule, RuleText};
 use crate::spot::{Source, Spot, spot_at};
@@ -36,18 +36,23 @@ fn rule_place(alloc: Global, at: usize, number: u8, place: usize) -> M<Text>
     Ok(Text::from_vec(text.into_bytes()))
 }
 
-fn fault_of(alloc: Global, at: usize, why: RuleFault, spot: Option<Spot>) -> M<Fault>
+fn fault_of(alloc: Global, at: usize, why: RuleFault, spot: Option<Spot>) -> M<ConfigFault>
     ensures { IfOk result (λ fault. fault ≡ fault_of at why spot) }
 {
-    Ok(Fault {
-        kind: FaultKind::Rule(why.kind),
+    Ok(ConfigFault {
+        kind: ConfigFaultKind::Rule(why.kind),
         place: rule_place(alloc, at, why.kind.number(), why.place)?,
         spot,
     })
 }
 
 /// What is wrong with the text of the rule of a place.
-pub(crate) fn rule_fault(alloc: Global, at: usize, why: RuleFault, text: &RuleText) -> M<Fault>
+pub(crate) fn rule_fault(
+    alloc: Global,
+    at: usize,
+    why: RuleFault,
+    text: &RuleText,
+) -> M<ConfigFault>
     ensures { IfOk result (λ fault. fault ≡ rule_fault at why text.now) }
 {
     let spot = spot_in(alloc, at, text, why.place)?;
@@ -55,7 +60,11 @@ pub(crate) fn rule_fault(alloc: Global, at: usize, why: RuleFault, text: &RuleTe
 }
 
 /// An event that a virtual server doesn't have.
-pub(crate) fn misplaced_fault(alloc: Global, rules: &[LoadedRule], found: Misplaced) -> M<Fault>
+pub(crate) fn misplaced_fault(
+    alloc: Global,
+    rules: &[LoadedRule],
+    found: Misplaced,
+) -> M<ConfigFault>
     ensures { IfOk result (λ fault. fault ≡ misplaced_fault rules.now found) }
 {
     let kind = LoadKind::NotHere;

@@ -8,8 +8,8 @@ ghost use Rattle.config.specs.Loading.{CantLoad, CantRead, IsContents, IsFileTex
 ghost use Rattle.config.specs.Loading.{IsRuleFault, IsRuleOf, IsRuleText, OfFault, file_name};
 ghost use Rattle.config.specs.Loading.{item_text, rule_name};
 
-use crate::event_words::{EventPlaces, event_places};
-use crate::fault::{ConfigFault, Fault, FaultKind};
+use crate::event_words::{FirstEventPlaces, event_places};
+use crate::fault::{ConfigError, ConfigFault, ConfigFaultKind};
 use crate::index::text_in;
 use crate::key::Key;
 use crate::keys::{FILE, NAME, TEXT};
@@ -36,7 +36,7 @@ pub struct LoadedRule {
     pub text: RuleText,
     pub rule: Rule,
     /// Where its first events stand that not every virtual server has.
-    pub events: EventPlaces,
+    pub events: FirstEventPlaces,
 }
 
 /// The bytes of a file.
@@ -44,7 +44,7 @@ pub(crate) fn read_file<F: Files>(
     alloc: Global,
     files: &mut F,
     name: &[u8],
-) -> Result<Text, ConfigFault>
+) -> Result<Text, ConfigError>
     ensures contents { IfOk result (IsContents (F.told files.old) name.now) }
     ensures fault { IfErr result
         (OfFault (CantRead (F.faults files.old) (F.faults files.new) name.now)) }
@@ -54,21 +54,21 @@ pub(crate) fn read_file<F: Files>(
     match files.read(alloc, name) {
         Ok(text) => Ok(text),
         Err(Failed::Failed) => Err(unread(alloc, name)),
-        Err(Failed::Memory) => Err(ConfigFault::Memory),
+        Err(Failed::Memory) => Err(ConfigError::Memory),
     }
 }
 
 // A file can't be read.
-fn unread(alloc: Global, name: &[u8]) -> ConfigFault
-    ensures { OfFault (λ f. f ≡ fault_at FaultKind.ReadFault name.now) result }
+fn unread(alloc: Global, name: &[u8]) -> ConfigError
+    ensures { OfFault (λ f. f ≡ fault_at ConfigFaultKind.ReadFault name.now) result }
 {
     match Text::new(alloc, name) {
-        Ok(place) => ConfigFault::Fault(Fault {
-            kind: FaultKind::ReadFault,
+        Ok(place) => ConfigError::Fault(ConfigFault {
+            kind: ConfigFaultKind::ReadFault,
             place,
             spot: None,
         }),
-        Err(_) => ConfigFault::Memory,
+        Err(_) => ConfigError::Memory,
     }
 }
 
@@ -83,7 +83,7 @@ fn item_text<'a>(key: &Key, value: &'a Value) -> &'a [u8]
 }
 
 // The text of a rule that stands in a file of its own.
-fn file_text<F: Files>(alloc: Global, files: &mut F, name: &[u8]) -> Result<RuleText, ConfigFault>
+fn file_text<F: Files>(alloc: Global, files: &mut F, name: &[u8]) -> Result<RuleText, ConfigError>
     ensures text { IfOk result (IsFileText (F.told files.old) name.now) }
     ensures fault { IfErr result
         (OfFault (CantRead (F.faults files.old) (F.faults files.new) name.now)) }
@@ -100,7 +100,7 @@ fn file_text<F: Files>(alloc: Global, files: &mut F, name: &[u8]) -> Result<Rule
 }
 
 // The text of a rule, which stands in the document or in a file.
-fn rule_text<F: Files>(alloc: Global, files: &mut F, value: &Value) -> Result<RuleText, ConfigFault>
+fn rule_text<F: Files>(alloc: Global, files: &mut F, value: &Value) -> Result<RuleText, ConfigError>
     ensures text { IfOk result (IsRuleText (F.told files.old) (view value.now)) }
     ensures fault { IfErr result
         (OfFault (CantRead (F.faults files.old) (F.faults files.new)
@@ -123,7 +123,7 @@ fn loaded(
     at: usize,
     value: &Value,
     text: RuleText,
-) -> Result<LoadedRule, ConfigFault>
+) -> Result<LoadedRule, ConfigError>
     ensures loaded { IfOk result (IsRuleOf (rule_name (view value.now)) text) }
     ensures fault { IfErr result (OfFault (CantLoad at (rule_name (view value.now)) text)) }
 {
@@ -133,9 +133,9 @@ fn loaded(
             Ok(LoadedRule { text, rule, events })
         }
         Err(LoadFault::Fault(why)) => {
-            Err(ConfigFault::Fault(rule_fault(alloc, at, why, &text)?))
+            Err(ConfigError::Fault(rule_fault(alloc, at, why, &text)?))
         }
-        Err(LoadFault::Memory) => Err(ConfigFault::Memory),
+        Err(LoadFault::Memory) => Err(ConfigError::Memory),
     }
 }
 
@@ -145,7 +145,7 @@ pub(crate) fn rule_of<F: Files>(
     files: &mut F,
     at: usize,
     value: &Value,
-) -> Result<LoadedRule, ConfigFault>
+) -> Result<LoadedRule, ConfigError>
     ensures loaded { IfOk result (IsLoaded (F.told files.old) (view value.now)) }
     ensures fault { IfErr result (OfFault (IsRuleFault (F.told files.old) (F.faults files.old)
         (F.faults files.new) at (view value.now))) }

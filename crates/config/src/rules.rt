@@ -7,7 +7,7 @@ ghost use Rattle.config.specs.Keys.{key_view};
 ghost use Rattle.config.specs.Rules.{has, rule_faults, source_faults};
 ghost use Rattle.config.specs.Texts.{place_of};
 
-use crate::fault::FaultKind;
+use crate::fault::ConfigFaultKind;
 use crate::key::Key;
 use crate::keys::{FILE, NAME, RULE_KEYS, TEXT};
 use crate::known::Known;
@@ -38,7 +38,7 @@ impl Told {
                 key: TEXT.name,
                 item: None,
             };
-            self.note(FaultKind::Range, place)?;
+            self.note(ConfigFaultKind::Range, place)?;
         }
         Ok(())
     }

@@ -7,7 +7,7 @@ ghost use Rattle.config.specs.Keys as key;
 ghost use Rattle.config.specs.Settings.{each, persist_of, server_item, server_of, text_item};
 ghost use Rattle.config.specs.Texts.{text_at};
 
-use crate::config::Virtual;
+use crate::config::VirtualSettings;
 use crate::keys::{HTTP, LISTEN, NAME, PERSIST, PERSIST_TIMEOUT, POOL_NAME, RULES};
 use crate::read::{addr_at, given, whole_at};
 use crate::table::{array_at, text_at};
@@ -67,10 +67,10 @@ fn pool_at(alloc: Global, table: &Table) -> M<Option<Text>>
     }
 }
 
-fn server_of(alloc: Global, table: &Table) -> M<Virtual>
+fn server_of(alloc: Global, table: &Table) -> M<VirtualSettings>
     ensures { IfOk result (λ server. server ≡ server_of (table_view table.now)) }
 {
-    Ok(Virtual {
+    Ok(VirtualSettings {
         name: given(alloc, &NAME, table)?,
         listen: addr_at(&LISTEN, table),
         http: truth_at(&HTTP, table),
@@ -81,7 +81,7 @@ fn server_of(alloc: Global, table: &Table) -> M<Virtual>
     })
 }
 
-fn push_server(servers: &mut Seq<Virtual>, alloc: Global, value: &Value) -> M<()>
+fn push_server(servers: &mut Seq<VirtualSettings>, alloc: Global, value: &Value) -> M<()>
     ensures { OnOk result (servers.new ≡ servers.old ++ server_item (view value.now)) }
 {
     match value.as_table() {
@@ -91,7 +91,7 @@ fn push_server(servers: &mut Seq<Virtual>, alloc: Global, value: &Value) -> M<()
 }
 
 /// The virtual servers that the tables of an array configure.
-pub(crate) fn servers_of(alloc: Global, values: &Array) -> M<Seq<Virtual>>
+pub(crate) fn servers_of(alloc: Global, values: &Array) -> M<Seq<VirtualSettings>>
     ensures { IfOk result (λ xs. xs ≡ each server_item (array_view values.now)) }
 {
     let mut servers = Seq::new(alloc);

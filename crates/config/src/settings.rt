@@ -6,7 +6,7 @@ ghost use Rattle.config.specs.Documents.{items_at};
 ghost use Rattle.config.specs.Keys as key;
 ghost use Rattle.config.specs.Settings.{each, group_item, pool_item, server_item, settings_of};
 
-use crate::config::{NamedGroup, NamedPool, Settings, Virtual};
+use crate::config::{GroupSettings, PoolSettings, Settings, VirtualSettings};
 use crate::group_table::groups_of;
 use crate::keys::{BUDGET, CONNECTIONS, GROUP, IDLE, POOL, VIRTUAL};
 use crate::pool_table::pools_of;
@@ -17,7 +17,7 @@ use px_bytes::{M, Seq};
 use std::alloc::Global;
 use toml::Table;
 
-fn servers_at(alloc: Global, top: &Table) -> M<Seq<Virtual>>
+fn servers_at(alloc: Global, top: &Table) -> M<Seq<VirtualSettings>>
     ensures { IfOk result (λ xs.
         xs ≡ each server_item (items_at key.servers (table_view top.now))) }
 {
@@ -27,7 +27,7 @@ fn servers_at(alloc: Global, top: &Table) -> M<Seq<Virtual>>
     }
 }
 
-fn pools_at(alloc: Global, top: &Table) -> M<Seq<NamedPool>>
+fn pools_at(alloc: Global, top: &Table) -> M<Seq<PoolSettings>>
     ensures { IfOk result (λ xs. xs ≡ each pool_item (items_at key.pools (table_view top.now))) }
 {
     match array_at(top, POOL.name) {
@@ -36,7 +36,7 @@ fn pools_at(alloc: Global, top: &Table) -> M<Seq<NamedPool>>
     }
 }
 
-fn groups_at(alloc: Global, top: &Table) -> M<Seq<NamedGroup>>
+fn groups_at(alloc: Global, top: &Table) -> M<Seq<GroupSettings>>
     ensures { IfOk result (λ xs. xs ≡ each group_item (items_at key.groups (table_view top.now))) }
 {
     match array_at(top, GROUP.name) {

@@ -9,7 +9,7 @@ ghost use Rattle.config.specs.Keys.{key_view};
 ghost use Rattle.config.specs.Texts.{text_at};
 ghost use Rattle.config.specs.Tables.{is_known, key_faults, key_flaw, keys_faults, unknown_faults};
 
-use crate::fault::FaultKind;
+use crate::fault::ConfigFaultKind;
 use crate::key::Key;
 use crate::place::Place;
 use crate::told::Told;
@@ -47,12 +47,12 @@ pub(crate) fn array_at<'a>(table: &'a Table, key: &str) -> Option<&'a Array>
 }
 
 // What is wrong with what stands at a key.
-fn key_flaw(key: &Key, table: &Table) -> Option<FaultKind>
+fn key_flaw(key: &Key, table: &Table) -> Option<ConfigFaultKind>
     ensures { result ≡ key_flaw (key_view key.now) (table_view table.now) }
 {
     match value_at(table, key.name) {
         Some(value) => flaw(key.kind, value),
-        None if key.required => Some(FaultKind::WrongKind),
+        None if key.required => Some(ConfigFaultKind::WrongKind),
         None => None,
     }
 }
@@ -108,7 +108,7 @@ impl Told {
                     key: name.as_str(),
                     item: None,
                 };
-                self.note(FaultKind::UnknownKey, place)?;
+                self.note(ConfigFaultKind::UnknownKey, place)?;
             }
         }
         Ok(())

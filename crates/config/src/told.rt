@@ -4,7 +4,7 @@ ghost use Rattle.std.specs.Prelude.{◌≡◌, [], ◌∷◌, None, OnOk};
 ghost use Rattle.config.specs.Faults.{after_faults, comes_first, fault_at};
 ghost use Rattle.config.specs.Places.{place_text};
 
-use crate::fault::{Fault, FaultKind};
+use crate::fault::{ConfigFault, ConfigFaultKind};
 use crate::place::Place;
 use px_bytes::M;
 use std::alloc::Global;
@@ -13,15 +13,15 @@ use std::marker::Model;
 /// The fault to be told of what was looked at so far.
 #[derive(Drop)]
 pub(crate) struct Told {
-    pub first: Option<Fault>,
+    pub first: Option<ConfigFault>,
     pub alloc: Global,
 }
 
 impl Model for Told {
     ghost use Rattle.std.specs.Prelude.{Option};
-    ghost use Rattle.config.specs.declared.fault.Fault.{Fault};
+    ghost use Rattle.config.specs.declared.fault.ConfigFault.{ConfigFault};
 
-    ghost Value = { Option Fault };
+    ghost Value = { Option ConfigFault };
 
     ghost view = { λ t. t.first };
 }
@@ -35,7 +35,7 @@ impl Told {
     }
 
     // Whether a fault of this kind is told in place of the one so far.
-    fn is_first(&self, kind: FaultKind) -> bool
+    fn is_first(&self, kind: ConfigFaultKind) -> bool
         ensures { result ≡ comes_first kind self.now }
     {
         match &self.first {
@@ -45,13 +45,13 @@ impl Told {
     }
 
     /// Keeps a fault, if its number is the smallest so far.
-    pub(crate) fn note(&mut self, kind: FaultKind, place: Place<'_>) -> M<()>
+    pub(crate) fn note(&mut self, kind: ConfigFaultKind, place: Place<'_>) -> M<()>
         ensures { OnOk result (self.new
             ≡ after_faults (fault_at kind (place_text place.entry) ∷ []) self.old) }
     {
         if self.is_first(kind) {
             let place = place.text(self.alloc)?;
-            self.first = Some(Fault {
+            self.first = Some(ConfigFault {
                 kind,
                 place,
                 spot: None,

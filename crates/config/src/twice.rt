@@ -10,7 +10,7 @@ ghost use Rattle.config.specs.Places.{place_text};
 ghost use Rattle.config.specs.Tables.{faults_of};
 ghost use Rattle.config.specs.Texts.{place_of, text_at};
 
-use crate::fault::FaultKind;
+use crate::fault::ConfigFaultKind;
 use crate::index::Index;
 use crate::key::Key;
 use crate::place::Place;
@@ -20,28 +20,28 @@ use px_bytes::M;
 use toml::Table;
 
 /// What is wrong with the text of the item at this place, among those of its array.
-pub(crate) fn twice(index: &Index, at: usize, text: Option<&str>) -> Option<FaultKind>
+pub(crate) fn twice(index: &Index, at: usize, text: Option<&str>) -> Option<ConfigFaultKind>
     ensures { result ≡ twice (place_of index.now) at (option_copied text.entry) }
 {
     match index.find(text?.as_bytes()) {
         Some(first) if first == at => None,
-        _ => Some(FaultKind::Twice),
+        _ => Some(ConfigFaultKind::Twice),
     }
 }
 
 /// What is wrong with a text that names something there.
-pub(crate) fn missing(index: &Index, text: Option<&str>) -> Option<FaultKind>
+pub(crate) fn missing(index: &Index, text: Option<&str>) -> Option<ConfigFaultKind>
     ensures { result ≡ missing (place_of index.now) (option_copied text.entry) }
 {
     match index.find(text?.as_bytes()) {
         Some(_) => None,
-        None => Some(FaultKind::NoSuch),
+        None => Some(ConfigFaultKind::NoSuch),
     }
 }
 
 impl Told {
     /// Keeps what is wrong at a place, if something is.
-    pub(crate) fn note_if(&mut self, kind: Option<FaultKind>, place: Place<'_>) -> M<()>
+    pub(crate) fn note_if(&mut self, kind: Option<ConfigFaultKind>, place: Place<'_>) -> M<()>
         ensures { OnOk result (self.new
             ≡ after_faults (faults_of (place_text place.entry) kind) self.old) }
     {

@@ -7,18 +7,18 @@ ghost use Rattle.config.specs.Forms.{has_form};
 ghost use Rattle.config.specs.Keys.{kind_view};
 ghost use Rattle.config.specs.Values.{few, flaw, in_range, judged, word_place};
 
-use crate::fault::FaultKind;
+use crate::fault::ConfigFaultKind;
 use crate::forms::has_form;
 use crate::key::{Form, Kind};
 use toml::Value;
 
 // What is wrong with a value: it is of another kind, or whether it fits.
-pub(crate) fn judged(fits: Option<bool>) -> Option<FaultKind>
+pub(crate) fn judged(fits: Option<bool>) -> Option<ConfigFaultKind>
     ensures { result ≡ judged fits }
 {
     match fits {
-        None => Some(FaultKind::WrongKind),
-        Some(false) => Some(FaultKind::Range),
+        None => Some(ConfigFaultKind::WrongKind),
+        Some(false) => Some(ConfigFaultKind::Range),
         Some(true) => None,
     }
 }
@@ -95,7 +95,7 @@ fn array_fits(most: usize, value: &Value) -> Option<bool>
 }
 
 /// What is wrong with a value at a key of this kind.
-pub(crate) fn flaw(kind: Kind, value: &Value) -> Option<FaultKind>
+pub(crate) fn flaw(kind: Kind, value: &Value) -> Option<ConfigFaultKind>
     ensures { result ≡ flaw (kind_view kind) (view value.now) }
 {
     let fits = match kind {

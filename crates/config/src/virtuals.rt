@@ -12,7 +12,7 @@ ghost use Rattle.config.specs.Virtuals.{by_cookie, cookie_faults, rule_faults, r
 ghost use Rattle.config.specs.Virtuals.{rules_of};
 ghost use Rattle.config.specs.Virtuals.{server_faults};
 
-use crate::fault::FaultKind;
+use crate::fault::ConfigFaultKind;
 use crate::index::{Index, index_of};
 use crate::keys::{
     HTTP, LISTEN, NAME, PERSIST, POOL_NAME, RULES, VIRTUAL_BACK, VIRTUAL_FRONT, VIRTUAL_KEYS,
@@ -48,7 +48,7 @@ impl Told {
                 key: PERSIST.name,
                 item: None,
             };
-            self.note(FaultKind::Range, place)?;
+            self.note(ConfigFaultKind::Range, place)?;
         }
         Ok(())
     }
@@ -67,7 +67,7 @@ impl Told {
     {
         let name = value.as_str();
         if name.is_none() {
-            return self.note(FaultKind::WrongKind, place);
+            return self.note(ConfigFaultKind::WrongKind, place);
         }
         self.note_if(twice(own, at, name), place)?;
         self.note_if(missing(rules, name), place)

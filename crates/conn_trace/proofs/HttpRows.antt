@@ -267,6 +267,9 @@ detach_row : routed Up (begun HttpRequestData Up detached) ≡ GivingUp BeforeSe
 detach_row = refl
 
 -- the next request does, and the response
+next_request_row : (r : Request) → detaching (begun HttpRequest Up (request_host r detached)) ≡ false
+next_request_row r = refl
+
 request_row : (r : Request) → detaching (request_host r (begun HttpRequestData Up detached)) ≡ false
 request_row r = refl
 

@@ -1,6 +1,6 @@
 -- A configuration that loads is what runs, but for what isn't built.
 use Rattle.std.proofs.Common.{◌≡◌, refl, sym, ap, ◌∙◌, Bool, true, false, List, ℕ, Option, Some, None, if◌then◌else◌}
-use Rattle.config.specs.declared.reader.Config.{Config}
+use Rattle.config.specs.declared.reader.LoadedConfig.{LoadedConfig}
 use Rattle.run_config.specs.declared.config.Config as run
 use Rattle.config.proofs.Filling.{is_filled}
 use Rattle.proxy.specs.Loads.{Loads}
@@ -14,7 +14,7 @@ cannot K none = by_test (can_run K) none
     by_test true e = absurd (cc)
     by_test false e = refl
 
-module _ (told : List ℕ → Option (List ℕ)) (name : List ℕ) (C : Config) (l : Loads told name C) where
+module _ (told : List ℕ → Option (List ℕ)) (name : List ℕ) (C : LoadedConfig) (l : Loads told name C) where
   pub not_run : run_of C ≡ None → IsNotBuilt told name
   unfolding run_of
   not_run none =

@@ -1,6 +1,6 @@
 -- From what the program promises of its end to when that is the whole text.
 use Rattle.std.proofs.Common.{◌≡◌, ◌⊎◌, inl, inr, refl, subst, ◌∙◌, ℕ, List, Option, true, false}
-use Rattle.config.specs.declared.reader.Config as loaded
+use Rattle.config.specs.declared.reader.LoadedConfig as loaded
 use Rattle.run_config.specs.declared.config.Config as core
 use Rattle.proxy.specs.declared.end.End.{End}
 use Rattle.proxy.specs.declared.end.End.TheVariants.{Done, Usage, Config, Schedule, ReadFault}

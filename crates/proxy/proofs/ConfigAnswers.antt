@@ -9,29 +9,29 @@ use Rattle.config.specs.Keys.{rules}
 use Rattle.config.specs.Loading.{StopsAt}
 use Rattle.config.specs.KeyLines.{with_line}
 use Rattle.config.specs.Outcomes.{Answers, OfDocument, RulesFault, told_fault}
-use Rattle.config.specs.declared.fault.ConfigFault.TheVariants as refused
-use Rattle.config.specs.declared.fault.Fault.{Fault}
-use Rattle.config.specs.declared.reader.Config.{Config}
+use Rattle.config.specs.declared.fault.ConfigError.TheVariants as refused
+use Rattle.config.specs.declared.fault.ConfigFault.{ConfigFault}
+use Rattle.config.specs.declared.reader.LoadedConfig.{LoadedConfig}
 use Rattle.proxy.specs.Loads.{Loads, is_read_fault}
 use Rattle.proxy.proofs.DocumentFaults.{document_was_read}
 
 -- a fault of another kind isn't that a file can't be read
-pub other_kind : (f g : Fault) → f ≡ g → is_read_fault g.kind ≡ false → is_read_fault f.kind ≡ true → ⊥
+pub other_kind : (f g : ConfigFault) → f ≡ g → is_read_fault g.kind ≡ false → is_read_fault f.kind ≡ true → ⊥
 other_kind f g same other is = false≢true (sym other ∙ ap (λ h. is_read_fault h.kind) (sym same) ∙ is)
 
 module _ (told : List ℕ → Option (List ℕ)) (before now : ℕ) (name : List ℕ) where
-  pub loads : (C : Config) → Answers told before now name (Ok C) → Loads told name C
+  pub loads : (C : LoadedConfig) → Answers told before now name (Ok C) → Loads told name C
   loads C h = by_fault (document_fault h.top) refl h.answer
     where
-      by_fault : (o : Option Fault) → document_fault h.top ≡ o → OfDocument told before now h.top (option_map (with_line h.holds.bytes) o) (Ok C) → Loads told name C
+      by_fault : (o : Option ConfigFault) → document_fault h.top ≡ o → OfDocument told before now h.top (option_map (with_line h.holds.bytes) o) (Ok C) → Loads told name C
       by_fault None e k = record { top = h.top; holds = h.holds; faultless = e; configures = k }
       by_fault (Some f) e k = absurd k
 
-  was_read : (bytes : List ℕ) (o : Option Fault) → IfSome o (λ g. is_read_fault g.kind ≡ false) → IfSome (option_map (with_line bytes) o) (λ g. is_read_fault g.kind ≡ false)
+  was_read : (bytes : List ℕ) (o : Option ConfigFault) → IfSome o (λ g. is_read_fault g.kind ≡ false) → IfSome (option_map (with_line bytes) o) (λ g. is_read_fault g.kind ≡ false)
   was_read bytes None was = was
   was_read bytes (Some g) was = was
 
-  module _ (f : Fault) (is : is_read_fault f.kind ≡ true) where
+  module _ (f : ConfigFault) (is : is_read_fault f.kind ≡ true) where
     of_rule : (at : ℕ) (ds : Items) → StopsAt told before now at ds f → Rose before now
     of_rule at no_items stops = absurd stops
     of_rule at (item d ds) (inl (inl c)) = c.rose
@@ -42,7 +42,7 @@ module _ (told : List ℕ → Option (List ℕ)) (before now : ℕ) (name : List
     of_rules top (inl stops) = of_rule 0 (items_at rules top) stops
     of_rules top (inr event) = absurd (other_kind f _ event.fault refl is)
 
-    of_document : (top : Members) (o : Option Fault) → IfSome o (λ g. is_read_fault g.kind ≡ false) → OfDocument told before now top o (Err (refused.Fault f)) → Rose before now
+    of_document : (top : Members) (o : Option ConfigFault) → IfSome o (λ g. is_read_fault g.kind ≡ false) → OfDocument told before now top o (Err (refused.Fault f)) → Rose before now
     of_document top None was k = of_rules top k
     of_document top (Some g) was k = absurd (other_kind f g k was is)
 

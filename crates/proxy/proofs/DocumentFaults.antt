@@ -18,43 +18,43 @@ use Rattle.config.specs.Tables.{faults_of, flaw_of, is_known, key_faults, key_fl
 use Rattle.config.specs.Texts.{first_place, text_at}
 use Rattle.config.specs.Values.{fits, judged}
 use Rattle.config.specs.Virtuals.{by_cookie, rule_faults, rules_from, rules_of, server_faults}
-use Rattle.config.specs.declared.fault.Fault.{Fault}
-use Rattle.config.specs.declared.fault.FaultKind.{FaultKind}
-use Rattle.config.specs.declared.fault.FaultKind.TheVariants.{UnknownKey, WrongKind, Range, Twice, NoSuch}
+use Rattle.config.specs.declared.fault.ConfigFault.{ConfigFault}
+use Rattle.config.specs.declared.fault.ConfigFaultKind.{ConfigFaultKind}
+use Rattle.config.specs.declared.fault.ConfigFaultKind.TheVariants.{UnknownKey, WrongKind, Range, Twice, NoSuch}
 use Rattle.config.specs.declared.section.Section.{Section}
 use Rattle.config.specs.declared.section.Section.TheVariants.{Virtual, Pool, Rule, Group}
 use Rattle.proxy.specs.Loads.{is_read_fault}
 
-abbrev OfFile : FaultKind → Type 0
+abbrev OfFile : ConfigFaultKind → Type 0
 OfFile kind = is_read_fault kind ≡ false
 
-abbrev Fine : Option FaultKind → Type 0
+abbrev Fine : Option ConfigFaultKind → Type 0
 Fine o = IfSome o OfFile
 
-abbrev IsFine : Option Fault → Type 0
+abbrev IsFine : Option ConfigFault → Type 0
 IsFine o = IfSome o (λ f. OfFile f.kind)
 
-abbrev AllFine : List Fault → Type 0
+abbrev AllFine : List ConfigFault → Type 0
 AllFine [] = Unit {0}
 AllFine (f ∷ fs) = OfFile f.kind × AllFine fs
 
-both : (a b : List Fault) → AllFine a → AllFine b → AllFine (a ++ b)
+both : (a b : List ConfigFault) → AllFine a → AllFine b → AllFine (a ++ b)
 both [] b p q = q
 both (f ∷ a) b p q = (p.0, both a b p.1 q)
 
 -- the one that is told
 
-chosen : (b : Bool) (o : Option Fault) (f : Fault) → IsFine o → OfFile f.kind → IsFine (cond b (Some f) o)
+chosen : (b : Bool) (o : Option ConfigFault) (f : ConfigFault) → IsFine o → OfFile f.kind → IsFine (cond b (Some f) o)
 chosen true o f p q = q
 chosen false o f p q = p
 
-told : (faults : List Fault) (o : Option Fault) → IsFine o → AllFine faults → IsFine (fold better o faults)
+told : (faults : List ConfigFault) (o : Option ConfigFault) → IsFine o → AllFine faults → IsFine (fold better o faults)
 told [] o p q = p
 told (f ∷ fs) o p q = told fs (better o f) (chosen (comes_first f.kind o) o f p q.0) q.1
 
 -- at a place
 
-at_place : (place : List ℕ) (o : Option FaultKind) → Fine o → AllFine (faults_of place o)
+at_place : (place : List ℕ) (o : Option ConfigFaultKind) → Fine o → AllFine (faults_of place o)
 at_place place None p = tt
 at_place place (Some kind) p = (p, tt)
 

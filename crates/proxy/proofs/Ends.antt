@@ -2,10 +2,10 @@
 use Rattle.std.proofs.Common.{◌≡◌, ◌⊎◌, ℕ, Bool, true, false, if◌then◌else◌, List, Option, None, inl, inr, refl, sym, subst}
 use Rattle.std.specs.Prelude.{Result, Ok, Err}
 use Rattle.config.specs.Outcomes.{Answers}
+use Rattle.config.specs.declared.fault.ConfigError.{ConfigError}
+use Rattle.config.specs.declared.fault.ConfigError.TheVariants as refused
 use Rattle.config.specs.declared.fault.ConfigFault.{ConfigFault}
-use Rattle.config.specs.declared.fault.ConfigFault.TheVariants as refused
-use Rattle.config.specs.declared.fault.Fault.{Fault}
-use Rattle.config.specs.declared.reader.Config as loaded
+use Rattle.config.specs.declared.reader.LoadedConfig as loaded
 use Rattle.px_outside.specs.Outside.{told_more, Rose}
 use Rattle.px_outside.specs.declared.failed.Failed.{Failed}
 use Rattle.px_outside.specs.declared.failed.Failed.TheVariants as failed
@@ -58,7 +58,7 @@ module _ (told : List ℕ → Option (List ℕ)) (old new : Option (List ℕ)) (
         (λ written. (some, written)) (λ rose front. (rose, (ok_text, inr (some, refl), front)))
         (λ part. cut_due ok_text (IsCheck told rb rn name) old new (inr (some, refl)) part) end tells
 
-    check_fault : (f : Fault) (is : Bool) → is_read_fault f.kind ≡ is → Answers told rb rn name (Err (refused.Fault f)) → (end : End) → TellsBy is f old new b n end → ChecksFile name told old new rb rn b n end
+    check_fault : (f : ConfigFault) (is : Bool) → is_read_fault f.kind ≡ is → Answers told rb rn name (Err (refused.Fault f)) → (end : End) → TellsBy is f old new b n end → ChecksFile name told old new rb rn b n end
     check_fault f true is answers end t =
         subst (λ e. ChecksFile name told old new rb rn b n e) (sym t.0) (read_rose told rb rn name f is answers, record { fault = f; answers = answers; unread = is }, t.1)
     check_fault f false is answers end t =
@@ -67,7 +67,7 @@ module _ (told : List ℕ → Option (List ℕ)) (old new : Option (List ℕ)) (
         (λ written. (fault_text f, tells, written)) (λ rose front. (rose, (fault_text f, inl tells, front)))
         (λ part. cut_due (fault_text f) (IsCheck told rb rn name) old new (inl tells) part) end t
 
-    pub check_refused : (why : ConfigFault) → Answers told rb rn name (Err why) → (end : End) → Refuses why old new b n end → ChecksFile name told old new rb rn b n end
+    pub check_refused : (why : ConfigError) → Answers told rb rn name (Err why) → (end : End) → Refuses why old new b n end → ChecksFile name told old new rb rn b n end
     check_refused (refused.Fault f) answers end t = check_fault f (is_read_fault f.kind) refl answers end t
     check_refused refused.Memory answers end t = subst (λ e. ChecksFile name told old new rb rn b n e) (sym t.0) (inl t.1)
 
@@ -82,7 +82,7 @@ module _ (told : List ℕ → Option (List ℕ)) (old new : Option (List ℕ)) (
         (λ written. (C, is, written)) (λ rose front. (rose, (text, due, front)))
         (λ part. cut_due text (IsExplanation told rb rn name) old new due part) end tells
 
-    explained_by : (f : Fault) (is : Bool) → is_read_fault f.kind ≡ is → Answers told rb rn name (Err (refused.Fault f)) → (end : End) → Tells (explanation name f) (if is then ReadFault else Config) old new b n end → ExplainsFile name told old new rb rn b n end
+    explained_by : (f : ConfigFault) (is : Bool) → is_read_fault f.kind ≡ is → Answers told rb rn name (Err (refused.Fault f)) → (end : End) → Tells (explanation name f) (if is then ReadFault else Config) old new b n end → ExplainsFile name told old new rb rn b n end
     explained_by f true is answers end t =
         let due : IsExplanation told rb rn name (explanation name f) = inl (f, answers, refl) in
         by_end (explanation name f) ReadFault old new b n (λ e. ExplainsFile name told old new rb rn b n e)
@@ -96,13 +96,13 @@ module _ (told : List ℕ → Option (List ℕ)) (old new : Option (List ℕ)) (
         (λ rose front. (rose, (explanation name f, due, front)))
         (λ part. cut_due (explanation name f) (IsExplanation told rb rn name) old new due part) end t
 
-    pub explained_why : (why : ConfigFault) → Answers told rb rn name (Err why) → (end : End) → Explains name why old new b n end → ExplainsFile name told old new rb rn b n end
+    pub explained_why : (why : ConfigError) → Answers told rb rn name (Err why) → (end : End) → Explains name why old new b n end → ExplainsFile name told old new rb rn b n end
     explained_why (refused.Fault f) answers end t = explained_by f (is_read_fault f.kind) refl answers end t
     explained_why refused.Memory answers end t = subst (λ e. ExplainsFile name told old new rb rn b n e) (sym t.0) (inl t.1)
 
   -- `replay`
   module _ (named : Named) where
-    replay_fault : (f : Fault) (is : Bool) → is_read_fault f.kind ≡ is → Answers told rb rn named.config (Err (refused.Fault f)) → (end : End) → TellsBy is f old new b n end → ReplaysFiles named told old new rb rn b n end
+    replay_fault : (f : ConfigFault) (is : Bool) → is_read_fault f.kind ≡ is → Answers told rb rn named.config (Err (refused.Fault f)) → (end : End) → TellsBy is f old new b n end → ReplaysFiles named told old new rb rn b n end
     replay_fault f true is answers end t =
         subst (λ e. ReplaysFiles named told old new rb rn b n e) (sym t.0) (read_rose told rb rn named.config f is answers, inl (record { fault = f; answers = answers; unread = is }), t.1)
     replay_fault f false is answers end t =
@@ -111,7 +111,7 @@ module _ (told : List ℕ → Option (List ℕ)) (old new : Option (List ℕ)) (
         (λ written. (fault_text f, inl tells, written)) (λ rose front. (rose, (fault_text f, inl (inl tells), front)))
         (λ part. cut_due (fault_text f) (IsDue told rb rn named) old new (inl (inl tells)) part) end t
 
-    pub replay_refused : (why : ConfigFault) → Answers told rb rn named.config (Err why) → (end : End) → Refuses why old new b n end → ReplaysFiles named told old new rb rn b n end
+    pub replay_refused : (why : ConfigError) → Answers told rb rn named.config (Err why) → (end : End) → Refuses why old new b n end → ReplaysFiles named told old new rb rn b n end
     replay_refused (refused.Fault f) answers end t = replay_fault f (is_read_fault f.kind) refl answers end t
     replay_refused refused.Memory answers end t = subst (λ e. ReplaysFiles named told old new rb rn b n e) (sym t.0) (inl t.1)
 

@@ -25,12 +25,12 @@ use Rattle.config.specs.Misplaced.{first_misplaced, misplaced_at, place_in, serv
 use Rattle.config.specs.Outcomes.{Answers, Configures, EventFault, IsDocument, OfDocument, RulesFault, misplaced_of, told_fault}
 use Rattle.config.specs.Settings.{settings_of}
 use Rattle.config.specs.Texts.{first_place, text_in}
-use Rattle.config.specs.declared.config.Virtual.{Virtual}
-use Rattle.config.specs.declared.event_words.EventPlaces.{EventPlaces}
-use Rattle.config.specs.declared.fault.ConfigFault.TheVariants as refused
-use Rattle.config.specs.declared.fault.Fault.{Fault}
-use Rattle.config.specs.declared.fault.FaultKind.TheVariants.{ReadFault}
-use Rattle.config.specs.declared.reader.Config.{Config}
+use Rattle.config.specs.declared.config.VirtualSettings.{VirtualSettings}
+use Rattle.config.specs.declared.event_words.FirstEventPlaces.{FirstEventPlaces}
+use Rattle.config.specs.declared.fault.ConfigError.TheVariants as refused
+use Rattle.config.specs.declared.fault.ConfigFault.{ConfigFault}
+use Rattle.config.specs.declared.fault.ConfigFaultKind.TheVariants.{ReadFault}
+use Rattle.config.specs.declared.reader.LoadedConfig.{LoadedConfig}
 use Rattle.config.specs.declared.rule_text.LoadedRule.{LoadedRule}
 use Rattle.config.specs.declared.rule_text.RuleText.{RuleText}
 use Rattle.proxy.specs.Complete.{AreTold, IsTold, MayLoad}
@@ -99,7 +99,7 @@ module _ (told : List ℕ → Option (List ℕ)) where
 
 -- ---- events that a virtual server doesn't have
 
-abbrev events : LoadedRule → EventPlaces
+abbrev events : LoadedRule → FirstEventPlaces
 events r = r.events
 
 cut : {A : Type 0} (x y : A) (xs ys : List A) → x ∷ xs ≡ y ∷ ys → (x ≡ y) × (xs ≡ ys)
@@ -122,7 +122,7 @@ module _ (index : List ℕ → Option ℕ) (rs ss : List LoadedRule) (same : map
   in_server http [] = refl
   in_server http (name ∷ names) = ap₂ option_or (at_rule http (index name)) (in_server http names)
 
-  in_servers : (vs : List Virtual) → first_misplaced index rs vs ≡ first_misplaced index ss vs
+  in_servers : (vs : List VirtualSettings) → first_misplaced index rs vs ≡ first_misplaced index ss vs
   in_servers [] = refl
   in_servers (v ∷ vs) = ap₂ option_or (in_server v.http v.rules) (in_servers vs)
 
@@ -136,16 +136,16 @@ all_built [] = refl
 all_built (r ∷ rs) = ap (λ b. built r && b) (all_built rs)
 
 -- whether a virtual server can be run
-abbrev plain : Virtual → Bool
+abbrev plain : VirtualSettings → Bool
 plain v = not v.http && keeps_none v.persist
 
-can_of : (C : Config) (K : core.Config) → filled C ≡ Some K → can_run K ≡ (list_all plain C.settings.virtuals && list_all built C.rules)
+can_of : (C : LoadedConfig) (K : core.Config) → filled C ≡ Some K → can_run K ≡ (list_all plain C.settings.virtuals && list_all built C.rules)
 can_of C K e =
     let parts = parts_of C K e in
     ap₂ (λ vs rs. list_all is_plain vs && list_all is_rule_built rs) parts.0 parts.1
     ∙ ap₂ (λ a b. a && b) (all_map is_plain (server_of C.rules) C.settings.virtuals) (all_map is_rule_built (λ r. r.rule) C.rules)
 
-module _ (told : List ℕ → Option (List ℕ)) (name : List ℕ) (C : Config) (m : MayLoad told name C) where
+module _ (told : List ℕ → Option (List ℕ)) (name : List ℕ) (C : LoadedConfig) (m : MayLoad told name C) where
   same_bytes : (bytes : List ℕ) → IsContents told name bytes → bytes ≡ m.bytes
   same_bytes bytes contents = told_is (told name) bytes m.bytes m.config contents
 
@@ -154,7 +154,7 @@ module _ (told : List ℕ → Option (List ℕ)) (name : List ℕ) (C : Config) 
       some_is top m.top (sym document.table ∙ ap parse_document (same_bytes bytes contents) ∙ m.document.table)
 
   -- what is filled of another one that loads can be run, or not, alike
-  pub same_run : (D : Config) → Loads told name D → (K L : core.Config) → filled C ≡ Some K → filled D ≡ Some L → can_run L ≡ can_run K
+  pub same_run : (D : LoadedConfig) → Loads told name D → (K L : core.Config) → filled C ≡ Some K → filled D ≡ Some L → can_run L ≡ can_run K
   same_run D l K L of_C of_D =
       let top : l.top ≡ m.top = same_document l.holds.bytes l.top l.holds.contents l.holds.document in
       let D_is : Configures told m.top D = subst (λ t. Configures told t D) top l.configures in
@@ -164,7 +164,7 @@ module _ (told : List ℕ → Option (List ℕ)) (name : List ℕ) (C : Config) 
       can_of D L of_D ∙ ap₂ (λ st b. list_all plain st.virtuals && b) settings all ∙ sym (can_of C K of_C)
 
   -- it isn't faulty
-  module _ (before now : ℕ) (f : Fault) (was : is_read_fault f.kind ≡ false) where
+  module _ (before now : ℕ) (f : ConfigFault) (was : is_read_fault f.kind ≡ false) where
     not_a_read_fault : (file : List ℕ) → f ≡ fault_at ReadFault file → ⊥
     not_a_read_fault file e = other_kind (fault_at ReadFault file) f (sym e) was refl
 
@@ -189,7 +189,7 @@ module _ (told : List ℕ → Option (List ℕ)) (name : List ℕ) (C : Config) 
     no_rule (inl stops) = no_stop 0 (items_at rules m.top) C.rules m.texts m.configures.loaded stops
     no_rule (inr event) = no_event event
 
-    no_document : (o : Option Fault) → o ≡ None → OfDocument told before now m.top o (Err (refused.Fault f)) → ⊥
+    no_document : (o : Option ConfigFault) → o ≡ None → OfDocument told before now m.top o (Err (refused.Fault f)) → ⊥
     no_document None e k = no_rule k
     no_document (Some g) e k = cc
 

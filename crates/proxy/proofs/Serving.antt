@@ -2,10 +2,10 @@
 use Rattle.std.proofs.Common.{◌≡◌, ℕ, Bool, true, false, List, Option, Some, None, inl, inr, refl, subst}
 use Rattle.std.specs.Prelude.{Result, Ok, Err, IfOk, IfErr}
 use Rattle.config.specs.Outcomes.{Answers}
+use Rattle.config.specs.declared.fault.ConfigError.{ConfigError}
+use Rattle.config.specs.declared.fault.ConfigError.TheVariants as config
 use Rattle.config.specs.declared.fault.ConfigFault.{ConfigFault}
-use Rattle.config.specs.declared.fault.ConfigFault.TheVariants as config
-use Rattle.config.specs.declared.fault.Fault.{Fault}
-use Rattle.config.specs.declared.reader.Config as loaded
+use Rattle.config.specs.declared.reader.LoadedConfig as loaded
 use Rattle.px_outside.specs.Net.{Call}
 use Rattle.run_config.specs.declared.config.Config as core
 use Rattle.serve_loop.specs.Faults.{FromNetOrSink}
@@ -36,14 +36,14 @@ module _ {S T : Type 0} (did : S → Call → S → Type 0) (gave : S → ℕ �
     abbrev pub To : Outcome → Type 0
     To end = ServesTo did gave ticked told s old new end
 
-    refused_fault : (f : Fault) (b : Bool) → is_read_fault f.kind ≡ b → Answers told old.reads new.reads s.config (Err (config.Fault f))
+    refused_fault : (f : ConfigFault) (b : Bool) → is_read_fault f.kind ≡ b → Answers told old.reads new.reads s.config (Err (config.Fault f))
         → Untouched old new → To (read_end b)
     refused_fault f true e answers same =
         (read_rose told old.reads new.reads s.config f e answers, record { fault = f; answers = answers; unread = e }, same)
     refused_fault f false e answers same =
         ((fault_text f, inl (record { fault = f; faulty = record { answers = answers; was_read = e }; text_is = refl })), same)
 
-    pub refused : (why : ConfigFault) → Answers told old.reads new.reads s.config (Err why) → Untouched old new → To (refused_end why)
+    pub refused : (why : ConfigError) → Answers told old.reads new.reads s.config (Err why) → Untouched old new → To (refused_end why)
     refused config.Memory answers same = inr same
     refused (config.Fault f) answers same = refused_fault f (is_read_fault f.kind) refl answers same
 

@@ -5,7 +5,7 @@ use Rattle.config.specs.Keys.{rules, rule_text}
 use Rattle.config.specs.Loading.{file_name}
 use Rattle.config.specs.Outcomes.{Configures, IsDocument}
 use Rattle.config.specs.Texts.{text_in}
-use Rattle.config.specs.declared.reader.Config as loaded
+use Rattle.config.specs.declared.reader.LoadedConfig as loaded
 use Rattle.px_outside.specs.Outside.{Rose}
 use Rattle.run_config.specs.declared.config.Config as core
 use Rattle.core_events.specs.declared.event.Event.{Event}

@@ -3,8 +3,8 @@
 use Rattle.std.specs.Prelude.{ℕ, ◌-◌, ◌&&◌, ◌==◌, Bool, List, [], ◌∷◌, ◌++◌, codes, decimal, drop}
 use Rattle.std.specs.Prelude.{flat_map, map, nat_le, Option, Some, None, take, if◌then◌else◌}
 use Rattle.config.specs.FaultWords.{words_of}
-use Rattle.config.specs.declared.config.Virtual.{Virtual}
-use Rattle.config.specs.declared.fault.Fault.{Fault}
+use Rattle.config.specs.declared.config.VirtualSettings.{VirtualSettings}
+use Rattle.config.specs.declared.fault.ConfigFault.{ConfigFault}
 use Rattle.config.specs.declared.spot.Source.{Source}
 use Rattle.config.specs.declared.spot.Source.TheVariants as source
 use Rattle.config.specs.declared.spot.Spot.{Spot}
@@ -91,22 +91,22 @@ key_head is_file config place =
     if is_file then joined (place ∷ codes ": " ∷ [])
     else joined (config ∷ codes ": " ∷ place ∷ codes ": " ∷ [])
 
-abbrev pub head_by : List ℕ → Fault → Option Spot → List ℕ
+abbrev pub head_by : List ℕ → ConfigFault → Option Spot → List ℕ
 head_by config f None = key_head (is_read_fault f.kind) config f.place
 head_by config f (Some s) = spot_head config f.place s
 
-abbrev pub fault_head : List ℕ → Fault → List ℕ
+abbrev pub fault_head : List ℕ → ConfigFault → List ℕ
 fault_head config f = head_by config f f.spot
 
-abbrev pub explanation : List ℕ → Fault → List ℕ
+abbrev pub explanation : List ℕ → ConfigFault → List ℕ
 explanation config f = joined (
     fault_text f ∷ fault_head config f ∷ words_of f.kind ∷ fault_tail f.spot ∷ [])
 
 -- ---- a configuration that loads
 
-abbrev pub addresses : List Virtual → List ℕ
+abbrev pub addresses : List VirtualSettings → List ℕ
 addresses vs = flat_map (λ v. codes " " ++ addr_text v.listen) vs
 
-abbrev pub loads_text : List ℕ → List Virtual → List ℕ
+abbrev pub loads_text : List ℕ → List VirtualSettings → List ℕ
 loads_text config vs =
     joined (config ∷ codes " loads; it listens at:" ∷ addresses vs ∷ codes "\n" ∷ [])

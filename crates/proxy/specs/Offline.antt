@@ -3,10 +3,10 @@ use Rattle.std.specs.Prelude.{◌≡◌, ◌⊎◌, ℕ, List, Option, Some, Non
 use Rattle.config.specs.Filled.{filled}
 use Rattle.config.specs.Loading.{IsContents}
 use Rattle.config.specs.Outcomes.{Answers}
+use Rattle.config.specs.declared.fault.ConfigError.{ConfigError}
+use Rattle.config.specs.declared.fault.ConfigError.TheVariants as refused
 use Rattle.config.specs.declared.fault.ConfigFault.{ConfigFault}
-use Rattle.config.specs.declared.fault.ConfigFault.TheVariants as refused
-use Rattle.config.specs.declared.fault.Fault.{Fault}
-use Rattle.config.specs.declared.reader.Config as loaded
+use Rattle.config.specs.declared.reader.LoadedConfig as loaded
 use Rattle.px_outside.specs.Outside.{told_more, Rose}
 use Rattle.px_outside.specs.declared.failed.Failed.{Failed}
 use Rattle.px_outside.specs.declared.failed.Failed.TheVariants as failed
@@ -40,7 +40,7 @@ WritesDue IsDue old new = (text : List ℕ) × IsDue text × WritesFrontOf text 
 -- it doesn't load, and this text tells why
 pub record TellsFault (told : List ℕ → Option (List ℕ)) (before now : ℕ) (name text : List ℕ)
     : Type 0 where
-  pub fault : Fault
+  pub fault : ConfigFault
   pub faulty : IsFaulty told before now name fault
   pub text_is : text ≡ fault_text fault
 
@@ -89,11 +89,11 @@ ChecksFile name told old new reads_before reads_now before now Memory =
 -- the text that is due: why it doesn't load, or that it loads
 abbrev pub IsExplanation : (List ℕ → Option (List ℕ)) → (before now : ℕ) → List ℕ → List ℕ → Type 0
 IsExplanation told before now name text =
-    ((f : Fault) × Answers told before now name (Err (refused.Fault f)) × (text ≡ explanation name f))
+    ((f : ConfigFault) × Answers told before now name (Err (refused.Fault f)) × (text ≡ explanation name f))
     ⊎ ((C : loaded.Config) × Loads told name C × (text ≡ loads_text name C.settings.virtuals))
 
 -- what is said where no configuration was given
-abbrev pub Explains : List ℕ → ConfigFault → Option (List ℕ) → Option (List ℕ) → ℕ → ℕ → End → Type 0
+abbrev pub Explains : List ℕ → ConfigError → Option (List ℕ) → Option (List ℕ) → ℕ → ℕ → End → Type 0
 Explains name (refused.Fault f) old new before now end =
     Tells (explanation name f) (fault_end f.kind) old new before now end
 Explains name refused.Memory old new before now end = (end ≡ Memory) × (new ≡ old)
@@ -105,7 +105,7 @@ ExplainsFile name told old new reads_before reads_now before now Done =
     (C : loaded.Config) × Loads told name C × (new ≡ told_more old (loads_text name C.settings.virtuals))
 ExplainsFile name told old new reads_before reads_now before now Usage = ⊥
 ExplainsFile name told old new reads_before reads_now before now Config =
-    (f : Fault) × IsFaulty told reads_before reads_now name f
+    (f : ConfigFault) × IsFaulty told reads_before reads_now name f
     × (new ≡ told_more old (explanation name f))
 ExplainsFile name told old new reads_before reads_now before now Schedule = ⊥
 ExplainsFile name told old new reads_before reads_now before now ReadFault =

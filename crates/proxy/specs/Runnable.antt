@@ -8,7 +8,7 @@ use Rattle.std.specs.List.{list_all}
 use Rattle.run_config.specs.declared.config.Persist.{Persist}
 use Rattle.run_config.specs.declared.config.Persist.TheVariants as persist
 use Rattle.config.specs.Filled.{filled}
-use Rattle.config.specs.declared.reader.Config as loaded
+use Rattle.config.specs.declared.reader.LoadedConfig as loaded
 use Rattle.event_order.specs.Event.{every_event}
 use Rattle.event_order.specs.declared.event.EventName.{EventName}
 use Rattle.proxy.specs.HostCommands.{is_built}

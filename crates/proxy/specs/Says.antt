@@ -2,10 +2,10 @@
 use Rattle.std.specs.Prelude.{◌≡◌, ◌⊎◌, ℕ, List, Option, Result, Ok, Err, Bool, true, false}
 use Rattle.std.specs.Prelude.{if◌then◌else◌}
 use Rattle.config.specs.Faults.{number_of}
+use Rattle.config.specs.declared.fault.ConfigError.{ConfigError}
+use Rattle.config.specs.declared.fault.ConfigError.TheVariants as refused
 use Rattle.config.specs.declared.fault.ConfigFault.{ConfigFault}
-use Rattle.config.specs.declared.fault.ConfigFault.TheVariants as refused
-use Rattle.config.specs.declared.fault.Fault.{Fault}
-use Rattle.config.specs.declared.fault.FaultKind.{FaultKind}
+use Rattle.config.specs.declared.fault.ConfigFaultKind.{ConfigFaultKind}
 use Rattle.px_outside.specs.Outside.{told_more, Rose}
 use Rattle.proxy.specs.declared.end.End.{End}
 use Rattle.proxy.specs.declared.end.End.TheVariants.{Config, ReadFault, WriteFault, Memory}
@@ -30,20 +30,20 @@ pub record Tells (text : List ℕ) (usual : End) (old new : Option (List ℕ)) (
   pub ends : end ≡ end_unless usual said
 
 -- the line of a fault
-abbrev pub fault_text : Fault → List ℕ
+abbrev pub fault_text : ConfigFault → List ℕ
 fault_text f = config_fault (number_of f.kind) f.place
 
 -- the end of an explanation
-abbrev pub fault_end : FaultKind → End
+abbrev pub fault_end : ConfigFaultKind → End
 fault_end kind = if is_read_fault kind then ReadFault else Config
 
 -- a file that can't be read says nothing
-abbrev pub TellsBy : Bool → Fault → Option (List ℕ) → Option (List ℕ) → ℕ → ℕ → End → Type 0
+abbrev pub TellsBy : Bool → ConfigFault → Option (List ℕ) → Option (List ℕ) → ℕ → ℕ → End → Type 0
 TellsBy true f old new before now end = (end ≡ ReadFault) × (new ≡ old)
 TellsBy false f old new before now end = Tells (fault_text f) Config old new before now end
 
 -- what is said where no configuration was given
-abbrev pub Refuses : ConfigFault → Option (List ℕ) → Option (List ℕ) → ℕ → ℕ → End → Type 0
+abbrev pub Refuses : ConfigError → Option (List ℕ) → Option (List ℕ) → ℕ → ℕ → End → Type 0
 Refuses (refused.Fault f) old new before now end =
     TellsBy (is_read_fault f.kind) f old new before now end
 Refuses refused.Memory old new before now end = (end ≡ Memory) × (new ≡ old)

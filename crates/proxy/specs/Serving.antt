@@ -1,8 +1,8 @@
 -- What `serve` comes to: the promise of the command that serves.
 use Rattle.std.specs.Prelude.{◌≡◌, ◌⊎◌, ℕ, List, Option, Result, Ok, Err, Bool, true, false}
-use Rattle.config.specs.declared.fault.ConfigFault.{ConfigFault}
-use Rattle.config.specs.declared.fault.ConfigFault.TheVariants as config
-use Rattle.config.specs.declared.reader.Config as loaded
+use Rattle.config.specs.declared.fault.ConfigError.{ConfigError}
+use Rattle.config.specs.declared.fault.ConfigError.TheVariants as config
+use Rattle.config.specs.declared.reader.LoadedConfig as loaded
 use Rattle.px_outside.specs.Net.{Call}
 use Rattle.px_outside.specs.Outside.{Rose}
 use Rattle.run_config.specs.declared.config.Config as core
@@ -35,7 +35,7 @@ read_end true = is.ReadFault
 read_end false = is.Config
 
 -- the end where there is no configuration
-abbrev pub refused_end : ConfigFault → Outcome
+abbrev pub refused_end : ConfigError → Outcome
 refused_end config.Memory = is.Memory
 refused_end (config.Fault f) = read_end (is_read_fault f.kind)
 

@@ -8,7 +8,7 @@ ghost use Rattle.proxy.specs.Explain.{spot_place};
 
 use crate::report::config_fault_line;
 use crate::say::is_read_fault;
-use config::{Fault, Source, Spot, Virtual};
+use config::{ConfigFault, Source, Spot, VirtualSettings};
 use px_bytes::{M, Text, print_addr};
 use std::alloc::Global;
 
@@ -168,7 +168,7 @@ fn spot_head(alloc: Global, config: &[u8], key: &[u8], spot: &Spot) -> M<Text>
     }
 }
 
-fn fault_head(alloc: Global, config: &[u8], fault: &Fault) -> M<Text>
+fn fault_head(alloc: Global, config: &[u8], fault: &ConfigFault) -> M<Text>
     ensures { IfOk result (λ text. text ≡ fault_head config.now fault.now) }
 {
     let place = fault.place.as_bytes();
@@ -186,7 +186,7 @@ fn fault_head(alloc: Global, config: &[u8], fault: &Fault) -> M<Text>
 
 /// What is wrong with a configuration: as `check` tells it, in words, and the line with a mark where
 /// there is one.
-pub fn explanation(alloc: Global, config: &[u8], fault: &Fault) -> M<Text>
+pub fn explanation(alloc: Global, config: &[u8], fault: &ConfigFault) -> M<Text>
     ensures { IfOk result (λ text. text ≡ explanation config.now fault.now) }
 {
     let line = config_fault_line(alloc, fault.kind.number(), fault.place.as_bytes())?;
@@ -200,7 +200,7 @@ pub fn explanation(alloc: Global, config: &[u8], fault: &Fault) -> M<Text>
 }
 
 // The addresses at which virtual servers listen.
-fn addresses(alloc: Global, servers: &[Virtual]) -> M<Text>
+fn addresses(alloc: Global, servers: &[VirtualSettings]) -> M<Text>
     ensures { IfOk result (λ text. text ≡ addresses servers.now) }
 {
     let mut text = Text::empty(alloc);
@@ -212,7 +212,7 @@ fn addresses(alloc: Global, servers: &[Virtual]) -> M<Text>
 }
 
 /// A configuration loads.
-pub fn loads_line(alloc: Global, config: &[u8], servers: &[Virtual]) -> M<Text>
+pub fn loads_line(alloc: Global, config: &[u8], servers: &[VirtualSettings]) -> M<Text>
     ensures { IfOk result (λ text. text ≡ loads_text config.now servers.now) }
 {
     let addresses = addresses(alloc, servers)?;

@@ -9,7 +9,7 @@ ghost use Rattle.proxy.specs.declared.end.End.TheVariants.{Done};
 use crate::end::End;
 use crate::explain::{explanation, loads_line};
 use crate::say::{is_read_fault, say};
-use config::{ConfigFault, Fault, FaultKind, Virtual, read_config};
+use config::{ConfigError, ConfigFault, ConfigFaultKind, VirtualSettings, read_config};
 use px_outside::{Files, Sink};
 use std::alloc::Global;
 
@@ -25,31 +25,31 @@ pub fn explain<F: Files, K: Sink>(alloc: Global, name: &[u8], files: &mut F, out
 }
 
 // Says why there is no configuration.
-fn tell_why<K: Sink>(alloc: Global, name: &[u8], why: &ConfigFault, out: &mut K) -> End
+fn tell_why<K: Sink>(alloc: Global, name: &[u8], why: &ConfigError, out: &mut K) -> End
     ensures { Explains name.now why.now (K.written out.old) (K.written out.new)
         (K.faults out.old) (K.faults out.new) result }
 {
     match why {
-        ConfigFault::Fault(fault) => tell_fault(alloc, name, fault, out),
-        ConfigFault::Memory => End::Memory,
+        ConfigError::Fault(fault) => tell_fault(alloc, name, fault, out),
+        ConfigError::Memory => End::Memory,
     }
 }
 
-fn tell_loads<K: Sink>(alloc: Global, name: &[u8], servers: &[Virtual], out: &mut K) -> End
+fn tell_loads<K: Sink>(alloc: Global, name: &[u8], servers: &[VirtualSettings], out: &mut K) -> End
     ensures { Tells (loads_text name.now servers.now) Done (K.written out.old) (K.written out.new)
         (K.faults out.old) (K.faults out.new) result }
 {
     End::Done.unless(say_loads(alloc, name, servers, out))
 }
 
-fn tell_fault<K: Sink>(alloc: Global, name: &[u8], fault: &Fault, out: &mut K) -> End
+fn tell_fault<K: Sink>(alloc: Global, name: &[u8], fault: &ConfigFault, out: &mut K) -> End
     ensures { Tells (explanation name.now fault.now) (fault_end fault.now.kind) (K.written out.old)
         (K.written out.new) (K.faults out.old) (K.faults out.new) result }
 {
     fault_end(fault.kind).unless(say_fault(alloc, name, fault, out))
 }
 
-fn fault_end(kind: FaultKind) -> End
+fn fault_end(kind: ConfigFaultKind) -> End
     ensures { result ≡ fault_end kind }
 {
     if is_read_fault(kind) {
@@ -62,7 +62,7 @@ fn fault_end(kind: FaultKind) -> End
 fn say_loads<K: Sink>(
     alloc: Global,
     name: &[u8],
-    servers: &[Virtual],
+    servers: &[VirtualSettings],
     out: &mut K,
 ) -> Result<(), End>
     ensures { Says (loads_text name.now servers.now) (K.written out.old) (K.written out.new)
@@ -74,7 +74,12 @@ fn say_loads<K: Sink>(
     }
 }
 
-fn say_fault<K: Sink>(alloc: Global, name: &[u8], fault: &Fault, out: &mut K) -> Result<(), End>
+fn say_fault<K: Sink>(
+    alloc: Global,
+    name: &[u8],
+    fault: &ConfigFault,
+    out: &mut K,
+) -> Result<(), End>
     ensures { Says (explanation name.now fault.now) (K.written out.old) (K.written out.new)
         (K.faults out.old) (K.faults out.new) result }
 {

@@ -1,7 +1,7 @@
 // The commands that wait for nobody.
 
 ghost use Rattle.std.specs.Prelude.{◌≡◌};
-ghost use Rattle.config.specs.declared.fault.ConfigFault.TheVariants.{Fault as Told};
+ghost use Rattle.config.specs.declared.fault.ConfigError.TheVariants.{Fault as Told};
 ghost use Rattle.proxy.specs.Command.{named_of};
 ghost use Rattle.proxy.specs.Complete.{Completes};
 ghost use Rattle.proxy.specs.End.{status_of};
@@ -18,7 +18,7 @@ use crate::report_command::report;
 use crate::run_schedule::replay;
 use crate::runnable::core_config;
 use crate::say::{is_read_fault, say};
-use config::{ConfigFault, Fault, read_config};
+use config::{ConfigError, ConfigFault, read_config};
 use px_bytes::Texts;
 use px_outside::{Failed, Files, Sink};
 use std::alloc::Global;
@@ -94,18 +94,18 @@ fn replay_files<F: Files, K: Sink>(
 }
 
 // Says why there is no configuration.
-fn refuse<K: Sink>(alloc: Global, why: ConfigFault, out: &mut K) -> End
+fn refuse<K: Sink>(alloc: Global, why: ConfigError, out: &mut K) -> End
     ensures { Refuses why (K.written out.old) (K.written out.new) (K.faults out.old)
         (K.faults out.new) result }
 {
     match why {
-        ConfigFault::Fault(fault) => refuse_for(alloc, &fault, out),
-        ConfigFault::Memory => End::Memory,
+        ConfigError::Fault(fault) => refuse_for(alloc, &fault, out),
+        ConfigError::Memory => End::Memory,
     }
 }
 
 // Says what is wrong with a configuration that was read.
-fn refuse_for<K: Sink>(alloc: Global, fault: &Fault, out: &mut K) -> End
+fn refuse_for<K: Sink>(alloc: Global, fault: &ConfigFault, out: &mut K) -> End
     ensures { Refuses (Told fault.now) (K.written out.old) (K.written out.new) (K.faults out.old)
         (K.faults out.new) result }
 {

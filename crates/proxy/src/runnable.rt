@@ -10,7 +10,7 @@ ghost use Rattle.proxy.specs.Runnable.{are_built, can_run, has_built_bodies, has
 ghost use Rattle.proxy.specs.Runnable.{is_plain, is_rule_built, keeps_none, run_of};
 
 use crate::interim_rules::is_built;
-use config::Config as Loaded;
+use config::LoadedConfig;
 use event_order::EventName;
 use px_bytes::M;
 use rule_loader::{Handler, Rule};
@@ -114,7 +114,7 @@ fn can_run(config: &Config) -> bool
 
 /// What the core runs for a configuration that loaded, if that can be run.
 #[tactic(auto, unfolding(crate::specs::Runnable::run_of))]
-pub fn core_config(alloc: Global, loaded: Loaded) -> M<Option<Config>>
+pub fn core_config(alloc: Global, loaded: LoadedConfig) -> M<Option<Config>>
     ensures { IfOk result (λ K. K ≡ run_of loaded) }
 {
     match loaded.filled(alloc)? {

@@ -5,14 +5,14 @@ ghost use Rattle.proxy.specs.Loads.{is_read_fault};
 ghost use Rattle.proxy.specs.Says.{Says};
 
 use crate::end::End;
-use config::FaultKind;
+use config::ConfigFaultKind;
 use px_outside::{Failed, Sink, write_all};
 
 /// Whether a file could not be read.
-pub fn is_read_fault(kind: FaultKind) -> bool
+pub fn is_read_fault(kind: ConfigFaultKind) -> bool
     ensures { result ≡ is_read_fault kind }
 {
-    matches!(kind, FaultKind::ReadFault)
+    matches!(kind, ConfigFaultKind::ReadFault)
 }
 
 /// Writes a text.

@@ -9,7 +9,7 @@ use crate::outcome::Outcome;
 use crate::runnable::core_config;
 use crate::say::is_read_fault;
 use crate::serve_words::{Serve, UsageFault, serve_of};
-use config::{ConfigFault, read_config};
+use config::{ConfigError, read_config};
 use px_bytes::Texts;
 use px_outside::{Clock, Files, Net, Sink};
 use serve_loop::{ServeEnd, ServeFault};
@@ -86,12 +86,12 @@ fn serve_file<F: Files, N: Net, T: Clock, K: Sink>(
 }
 
 // How it ends where there is no configuration.
-fn refused_end(why: &ConfigFault) -> Outcome
+fn refused_end(why: &ConfigError) -> Outcome
     ensures { result ≡ refused_end why.now }
 {
     match why {
-        ConfigFault::Memory => Outcome::Memory,
-        ConfigFault::Fault(fault) => {
+        ConfigError::Memory => Outcome::Memory,
+        ConfigError::Fault(fault) => {
             if is_read_fault(fault.kind) {
                 Outcome::ReadFault
             } else {

@@ -6,8 +6,8 @@ use Rattle.px_outside.specs.declared.answers.ReadyAt.{ReadyAt}
 use Rattle.px_outside.specs.declared.answers.ReadyAt.TheVariants as ready
 use Rattle.px_outside.specs.declared.answers.WriteAnswer.{WriteAnswer}
 use Rattle.px_outside.specs.Net.{Call, Write}
-use Rattle.serve_loop.specs.declared.asked.Asked.{Asked}
-use Rattle.serve_loop.specs.declared.asked.Asked.TheVariants as is
+use Rattle.serve_loop.specs.declared.polled.Polled.{Polled}
+use Rattle.serve_loop.specs.declared.polled.Polled.TheVariants as is
 use Rattle.serve_loop.specs.Asking.{IsOn, OneCall, AskedOnce}
 use Rattle.core_events.specs.Face.{Face}
 use Rattle.serve_loop.specs.Often.{NotAsked, GaveOften, TriedLast, Tried, Each}
@@ -36,17 +36,17 @@ module _ {C : Type 0} (face : Face C) (conns : ℕ) (K : Call → Type 0) (Q : A
   pub not_along : (why : Around C → Type 0) → Covers (NotAsked why) Q
   not_along why a l b it = none_along a l b it.none it.same
 
-  pub often_along : (Once : Asked → Around C → List Step → Around C → Type 0) → ((o : Asked) → Covers (Once o) Q) → (n : ℕ) → Covers (GaveOften Once n) Q
+  pub often_along : (Once : Polled → Around C → List Step → Around C → Type 0) → ((o : Polled) → Covers (Once o) Q) → (n : ℕ) → Covers (GaveOften Once n) Q
   often_along Once once zero a l b it = none_along a l b it.0 it.1
   often_along Once once (suc n) a l b it = then_along (GaveOften Once n) (Once is.Again) (often_along Once once n) (once is.Again) a l b it
 
-  last_along : (Once : Asked → Around C → List Step → Around C → Type 0) → ((o : Asked) → Covers (Once o) Q) → (often times : ℕ) (stays : Bool)
+  last_along : (Once : Polled → Around C → List Step → Around C → Type 0) → ((o : Polled) → Covers (Once o) Q) → (often times : ℕ) (stays : Bool)
       → Covers (TriedLast Once often times stays) Q
   last_along Once once often times true a l b (inl it) = once is.Stays a l b it
   last_along Once once often times true a l b (inr it) = not_along _ a l b it
   last_along Once once often times false a l b it = once is.Over a l b it
 
-  pub tried_along : (Once : Asked → Around C → List Step → Around C → Type 0) → ((o : Asked) → Covers (Once o) Q) → (times : ℕ) (stays : Bool)
+  pub tried_along : (Once : Polled → Around C → List Step → Around C → Type 0) → ((o : Polled) → Covers (Once o) Q) → (times : ℕ) (stays : Bool)
       → Covers (Tried Once times stays) Q
   tried_along Once once times stays a l b it =
       then_along (GaveOften Once it.often) (TriedLast Once it.often times stays) (often_along Once once it.often)
@@ -64,7 +64,7 @@ module _ {C : Type 0} (face : Face C) (conns : ℕ) (K : Call → Type 0) (Q : A
     call_along at over a l b it =
         subst (λ (x : List Step). Q a x b) (sym it.steps_are) (along.calls a it.call it.given b (on at it.call it.on) it.calls)
 
-    pub asked_along : (at : ReadyAt) (o : Asked) → Covers (AskedOnce face conns at o) Q
+    pub asked_along : (at : ReadyAt) (o : Polled) → Covers (AskedOnce face conns at o) Q
     asked_along at is.Again a l b it = call_along at false a l b it
     asked_along at is.Stays a l b it = not_along _ a l b it
     asked_along at is.Over a l b (inl it) = call_along at true a l b it
@@ -79,11 +79,11 @@ module _ {C : Type 0} (face : Face C) (conns : ℕ) (K : Call → Type 0) (Q : A
   -- ---- what is pending is written
 
   module _ (writes : (link : ℕ) (bytes : List ℕ) (answer : WriteAnswer) → K (Write link bytes answer)) where
-    write_along : (c : ℕ) (side : Side) (o : Asked) → Covers (OneWrite face conns c side o) Q
+    write_along : (c : ℕ) (side : Side) (o : Polled) → Covers (OneWrite face conns c side o) Q
     write_along c side o a l b it =
         subst (λ (x : List Step). Q a x b) (sym it.steps_are) (along.calls a _ it.given b (writes it.link it.bytes it.answer) it.calls)
 
-    pub wrote_along : (c : ℕ) (side : Side) (o : Asked) → Covers (WroteOnce face conns c side o) Q
+    pub wrote_along : (c : ℕ) (side : Side) (o : Polled) → Covers (WroteOnce face conns c side o) Q
     wrote_along c side is.Again a l b it = write_along c side is.Again a l b it
     wrote_along c side is.Stays a l b it = write_along c side is.Stays a l b it
     wrote_along c side is.Over a l b (inl it) = write_along c side is.Over a l b it

@@ -12,8 +12,8 @@ use Rattle.px_outside.specs.Net.{Call, Write, WritesWithin}
 use Rattle.core_events.specs.declared.event.Event.{Event}
 use Rattle.core_events.specs.declared.event.Event.TheVariants as event
 use Rattle.core_events.specs.Face.{Face, took_event, reset_event}
-use Rattle.serve_loop.specs.declared.asked.Asked.{Asked}
-use Rattle.serve_loop.specs.declared.asked.Asked.TheVariants as is
+use Rattle.serve_loop.specs.declared.polled.Polled.{Polled}
+use Rattle.serve_loop.specs.declared.polled.Polled.TheVariants as is
 use Rattle.serve_loop.specs.Added.{added}
 use Rattle.serve_loop.specs.Events.{write_event}
 use Rattle.serve_loop.specs.Links.{link_in}
@@ -108,7 +108,7 @@ module _ {C : Type 0} (face : Face C) (conns : ℕ) (laws : SendsInRuns face) wh
   along : Along face conns (λ call. Unit {0}) (Quiet face laws)
   along = quiet_along face laws conns
 
-  once_quiet : (c : ℕ) (side : Side) (o : Asked) → Covers (WroteOnce face conns c side o) (Quiet face laws)
+  once_quiet : (c : ℕ) (side : Side) (o : Polled) → Covers (WroteOnce face conns c side o) (Quiet face laws)
   once_quiet = wrote_along face conns (λ call. Unit {0}) (Quiet face laws) along (λ link bytes answer. tt)
 
   -- the event that a write became

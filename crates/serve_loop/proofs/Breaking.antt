@@ -5,7 +5,7 @@ use Rattle.px_outside.specs.Net.{Call, Chain}
 use Rattle.core_events.specs.declared.event.Event.{Event}
 use Rattle.serve_loop.specs.declared.links.Links.{Links}
 use Rattle.serve_loop.specs.declared.serving.Serving.{Serving}
-use Rattle.serve_loop.specs.declared.work.Work.{Work}
+use Rattle.serve_loop.specs.declared.poll.Poll.{Poll}
 use Rattle.serve_loop.specs.Broken.{Broken, Unbegun, Ungiven, OwnSome, AskedSome, steps_of, Breaks, BrokenWalk, BrokeBy, IsBroken}
 use Rattle.serve_loop.specs.Broken.{GivesOrNot, IsGivenSome, AreAsks}
 use Rattle.serve_loop.specs.Carrying.{Known}
@@ -111,7 +111,7 @@ broke_after {x = x} {y} goes p q = record {
 }
 
 -- behind what was done with each of a list
-pub broke_after_all : {C S : Type 0} {face : Face C} {did : S → Call → S → Type 0} {gave : S → ℕ → Type 0} {short : Bool} (w : Work) (order stay : List ℕ)
+pub broke_after_all : {C S : Type 0} {face : Face C} {did : S → Call → S → Type 0} {gave : S → ℕ → Type 0} {short : Bool} (w : Poll) (order stay : List ℕ)
     {x y z : Serving C} {n m k : S} → Part face did gave (Each (WorkAt face w x.conns) order stay) x y n m → IsBroken face did gave AreAsks short y z m k
     → IsBroken face did gave AreAsks short x z n k
 broke_after_all {face = face} w order stay {x} p q = broke_after (all_goes face w x.conns order stay) p q

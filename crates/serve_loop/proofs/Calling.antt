@@ -13,8 +13,8 @@ use Rattle.px_outside.specs.Net.{Call, Chain, Wait, Write, got, ReadsWithin, Wri
 use Rattle.core_events.specs.declared.event.Event.{Event}
 use Rattle.serve_loop.specs.declared.links.Links.{Links}
 use Rattle.serve_loop.specs.Links.{link_in}
-use Rattle.serve_loop.specs.declared.asked.Asked.{Asked}
-use Rattle.serve_loop.specs.declared.asked.Asked.TheVariants as is
+use Rattle.serve_loop.specs.declared.polled.Polled.{Polled}
+use Rattle.serve_loop.specs.declared.polled.Polled.TheVariants as is
 use Rattle.serve_loop.specs.declared.serving.Serving.{Serving}
 use Rattle.serve_loop.specs.Carrying.{Known}
 use Rattle.serve_loop.specs.Events.{Tells, read_event, write_event, group_text}
@@ -183,7 +183,7 @@ wrote face conns c side link bytes answer a steps b linked queued within r = rec
   becomes = r.becomes;
 }
 
-once_by : {C : Type 0} (face : Face C) (conns c : ℕ) (side : Side) (o : Asked) (a : Around C) (steps : List Step) (b : Around C)
+once_by : {C : Type 0} (face : Face C) (conns c : ℕ) (side : Side) (o : Polled) (a : Around C) (steps : List Step) (b : Around C)
     → OneWrite face conns c side o a steps b → WroteOnce face conns c side o a steps b
 once_by face conns c side is.Again a steps b w = w
 once_by face conns c side is.Stays a steps b w = w

@@ -4,8 +4,8 @@ use Rattle.std.proofs.Common.{inl, inr, add-one}
 use Rattle.std.specs.List.{slice_get}
 use Rattle.std.proofs.lemmas.List.{append-nil}
 use Rattle.px_outside.specs.Net.{Call}
-use Rattle.serve_loop.specs.declared.asked.Asked.{Asked}
-use Rattle.serve_loop.specs.declared.asked.Asked.TheVariants as is
+use Rattle.serve_loop.specs.declared.polled.Polled.{Polled}
+use Rattle.serve_loop.specs.declared.polled.Polled.TheVariants as is
 use Rattle.serve_loop.specs.declared.serving.Serving.{Serving}
 use Rattle.core_events.specs.Face.{Face}
 use Rattle.serve_loop.specs.Often.{GaveOften, Tried, staying, Each, OneOf}
@@ -14,11 +14,11 @@ use Rattle.serve_loop.specs.Part.{Part}
 use Rattle.serve_loop.proofs.Compose.{part_less, part_next, part_nothing}
 
 pub often_none : {C S : Type 0} {face : Face C} {did : S → Call → S → Type 0} {gave : S → ℕ → Type 0}
-    (Once : Asked → Around C → List Step → Around C → Type 0) (x : Serving C) (n : S) → Part face did gave (GaveOften Once 0) x x n n
+    (Once : Polled → Around C → List Step → Around C → Type 0) (x : Serving C) (n : S) → Part face did gave (GaveOften Once 0) x x n n
 often_none Once x n = part_nothing (GaveOften Once 0) x n (refl, refl)
 
 pub often_next : {C S : Type 0} {face : Face C} {did : S → Call → S → Type 0} {gave : S → ℕ → Type 0}
-    (Once : ℕ → Asked → Around C → List Step → Around C → Type 0) (often : ℕ) {x y z : Serving C} {n m k : S}
+    (Once : ℕ → Polled → Around C → List Step → Around C → Type 0) (often : ℕ) {x y z : Serving C} {n m k : S}
     → Part face did gave (GaveOften (Once x.conns) often) x y n m → Part face did gave (Once y.conns is.Again) y z m k
     → Part face did gave (GaveOften (Once x.conns) (often + 1)) x z n k
 often_next {face = face} {did = did} {gave = gave} Once often {x} {y} {z} {n} {m} {k} p q =
@@ -26,7 +26,7 @@ often_next {face = face} {did = did} {gave = gave} Once often {x} {y} {z} {n} {m
     (part_less (λ a steps b r. r) (part_next (λ conns. Once conns is.Again) p q))
 
 pub tried_stays : {C S : Type 0} {face : Face C} {did : S → Call → S → Type 0} {gave : S → ℕ → Type 0}
-    (Once : ℕ → Asked → Around C → List Step → Around C → Type 0) (often times : ℕ) {x y z : Serving C} {n m k : S} → often ≤ times
+    (Once : ℕ → Polled → Around C → List Step → Around C → Type 0) (often times : ℕ) {x y z : Serving C} {n m k : S} → often ≤ times
     → Part face did gave (GaveOften (Once x.conns) often) x y n m → Part face did gave (Once y.conns is.Stays) y z m k
     → Part face did gave (Tried (Once x.conns) times true) x z n k
 tried_stays Once often times within p q =
@@ -34,7 +34,7 @@ tried_stays Once often times within p q =
     (part_next (λ conns. Once conns is.Stays) p q)
 
 pub tried_over : {C S : Type 0} {face : Face C} {did : S → Call → S → Type 0} {gave : S → ℕ → Type 0}
-    (Once : ℕ → Asked → Around C → List Step → Around C → Type 0) (often times : ℕ) {x y z : Serving C} {n m k : S} → often ≤ times
+    (Once : ℕ → Polled → Around C → List Step → Around C → Type 0) (often times : ℕ) {x y z : Serving C} {n m k : S} → often ≤ times
     → Part face did gave (GaveOften (Once x.conns) often) x y n m → Part face did gave (Once y.conns is.Over) y z m k
     → Part face did gave (Tried (Once x.conns) times false) x z n k
 tried_over Once often times within p q =
@@ -42,7 +42,7 @@ tried_over Once often times within p q =
     (part_next (λ conns. Once conns is.Over) p q)
 
 pub tried_all : {C S : Type 0} {face : Face C} {did : S → Call → S → Type 0} {gave : S → ℕ → Type 0}
-    (Once : ℕ → Asked → Around C → List Step → Around C → Type 0) (often times : ℕ) {x y : Serving C} {n m : S} → often ≤ times → often ≡ times
+    (Once : ℕ → Polled → Around C → List Step → Around C → Type 0) (often times : ℕ) {x y : Serving C} {n m : S} → often ≤ times → often ≡ times
     → Part face did gave (GaveOften (Once x.conns) often) x y n m → Part face did gave (Tried (Once x.conns) times true) x y n m
 tried_all Once often times within all p =
     part_less (λ a steps b r. record {

@@ -8,10 +8,10 @@ use Rattle.px_outside.specs.declared.answers.WriteAnswer.{WriteAnswer}
 use Rattle.px_outside.specs.Net.{Call, Listen, Wait, Accept, Connect, Ask, Read, Write, Finish, Close}
 use Rattle.core_events.specs.declared.event.Event.{Event}
 use Rattle.core_events.specs.declared.event.Event.TheVariants as event
-use Rattle.serve_loop.specs.declared.asked.Asked.{Asked}
-use Rattle.serve_loop.specs.declared.asked.Asked.TheVariants as is
-use Rattle.serve_loop.specs.declared.work.Work.{Work}
-use Rattle.serve_loop.specs.declared.work.Work.TheVariants as work
+use Rattle.serve_loop.specs.declared.polled.Polled.{Polled}
+use Rattle.serve_loop.specs.declared.polled.Polled.TheVariants as is
+use Rattle.serve_loop.specs.declared.poll.Poll.{Poll}
+use Rattle.serve_loop.specs.declared.poll.Poll.TheVariants as work
 use Rattle.serve_loop.specs.Asking.{IsOn, OneCall, AskedOnce}
 use Rattle.serve_loop.specs.Broken.{AreAsks, IsAsk}
 use Rattle.core_events.specs.Face.{Face}
@@ -103,21 +103,21 @@ then_goes face conns = then_along face conns AskCall (Goes face conns) (goes fac
 not_goes : {C : Type 0} (face : Face C) (conns : ℕ) (why : Around C → Type 0) → Covers (NotAsked why) (Goes face conns)
 not_goes face conns = not_along face conns AskCall (Goes face conns) (goes face conns)
 
-pub asked_goes : {C : Type 0} (face : Face C) (conns : ℕ) (at : ReadyAt) (o : Asked) → Covers (AskedOnce face conns at o) (Goes face conns)
+pub asked_goes : {C : Type 0} (face : Face C) (conns : ℕ) (at : ReadyAt) (o : Polled) → Covers (AskedOnce face conns at o) (Goes face conns)
 asked_goes face conns = asked_along face conns AskCall (Goes face conns) (goes face conns) on_asks
 
-pub often_goes : {C : Type 0} (face : Face C) (conns : ℕ) (Once : Asked → Around C → List Step → Around C → Type 0)
-    → ((o : Asked) → Covers (Once o) (Goes face conns)) → (n : ℕ) → Covers (GaveOften Once n) (Goes face conns)
+pub often_goes : {C : Type 0} (face : Face C) (conns : ℕ) (Once : Polled → Around C → List Step → Around C → Type 0)
+    → ((o : Polled) → Covers (Once o) (Goes face conns)) → (n : ℕ) → Covers (GaveOften Once n) (Goes face conns)
 often_goes face conns = often_along face conns AskCall (Goes face conns) (goes face conns)
 
-pub wrote_goes : {C : Type 0} (face : Face C) (conns c : ℕ) (side : Side) (o : Asked) → Covers (WroteOnce face conns c side o) (Goes face conns)
+pub wrote_goes : {C : Type 0} (face : Face C) (conns c : ℕ) (side : Side) (o : Polled) → Covers (WroteOnce face conns c side o) (Goes face conns)
 wrote_goes face conns = wrote_along face conns AskCall (Goes face conns) (goes face conns) write_asks
 
 pub side_goes : {C : Type 0} (face : Face C) (conns c : ℕ) (side : Side) (stays : Bool) → Covers (Wrote face conns c side stays) (Goes face conns)
 side_goes face conns = side_along face conns AskCall (Goes face conns) (goes face conns) write_asks
 
 -- whatever is done with a number
-pub work_goes : {C : Type 0} (face : Face C) (w : Work) (conns n : ℕ) (stays : Bool) → Covers (WorkAt face w conns n stays) (Goes face conns)
+pub work_goes : {C : Type 0} (face : Face C) (w : Poll) (conns n : ℕ) (stays : Bool) → Covers (WorkAt face w conns n stays) (Goes face conns)
 work_goes face work.Listener conns = listener_along face conns AskCall (Goes face conns) (goes face conns) on_asks
 work_goes face work.Link conns = link_along face conns AskCall (Goes face conns) (goes face conns) on_asks
 work_goes face work.Writer conns = both_along face conns AskCall (Goes face conns) (goes face conns) write_asks
@@ -159,7 +159,7 @@ ran_goes face conns times ready before after a l b it =
 
 -- ---- all five parts
 
-pub all_goes : {C : Type 0} (face : Face C) (w : Work) (conns : ℕ) (order stay : List ℕ) (a : Around C) (l : List Step) (b : Around C)
+pub all_goes : {C : Type 0} (face : Face C) (w : Poll) (conns : ℕ) (order stay : List ℕ) (a : Around C) (l : List Step) (b : Around C)
     → Each (WorkAt face w conns) order stay a l b → Goes face conns a l b
 all_goes face w conns = each_along face conns AskCall (Goes face conns) (goes face conns) (WorkAt face w conns) (work_goes face w conns)
 

@@ -13,8 +13,8 @@ use Rattle.px_outside.specs.declared.answers.ReadAnswer.TheVariants as read
 use Rattle.px_outside.specs.Net.{Call, Accept, Ask, Read}
 use Rattle.serve_loop.specs.declared.link_owner.LinkOwner.{LinkOwner}
 use Rattle.serve_loop.specs.Links.{owner_in}
-use Rattle.serve_loop.specs.declared.asked.Asked.{Asked}
-use Rattle.serve_loop.specs.declared.asked.Asked.TheVariants as is
+use Rattle.serve_loop.specs.declared.polled.Polled.{Polled}
+use Rattle.serve_loop.specs.declared.polled.Polled.TheVariants as is
 use Rattle.core_events.specs.Face.{Face, MayCome}
 use Rattle.serve_loop.specs.Often.{NotAsked}
 use Rattle.serve_loop.specs.Walk.{Around, Given, Step, Asked as Asks, Calls}
@@ -75,7 +75,7 @@ abbrev pub IsUnknown : {C : Type 0} → Face C → Around C → ReadyAt → Type
 IsUnknown face a (ready.Listener slot) = face.name a.core slot None
 IsUnknown face a (ready.Link link) = owner_in a.links link ≡ None
 
-abbrev pub AskedOnce : {C : Type 0} → Face C → ℕ → ReadyAt → Asked
+abbrev pub AskedOnce : {C : Type 0} → Face C → ℕ → ReadyAt → Polled
     → Around C → List Step → Around C → Type 0
 AskedOnce face conns at is.Again a steps b = OneCall face conns at false a steps b
 AskedOnce face conns at is.Stays a steps b = NotAsked (λ x. MayNot face conns x at) a steps b

@@ -4,8 +4,8 @@ use Rattle.std.specs.Prelude.{Option, Some, None, nat_eq}
 use Rattle.indexmap.specs.IndexSet.{insert_key}
 use Rattle.core_events.specs.declared.event.Event.{Event}
 use Rattle.core_events.specs.declared.event.Event.TheVariants as event
-use Rattle.serve_loop.specs.declared.asked.Asked.{Asked}
-use Rattle.serve_loop.specs.declared.asked.Asked.TheVariants as is
+use Rattle.serve_loop.specs.declared.polled.Polled.{Polled}
+use Rattle.serve_loop.specs.declared.polled.Polled.TheVariants as is
 use Rattle.core_events.specs.Face.{Face}
 use Rattle.serve_loop.specs.Often.{NotAsked}
 use Rattle.serve_loop.specs.Walk.{Around, Given, Step, Own, Gives, Then}
@@ -35,7 +35,7 @@ pub record OnePair {C : Type 0} (face : Face C) (before after : List ℕ) (a : A
   pub events : RunAndTurn face a steps b
 
 -- none is given where nothing is ready
-abbrev pub PairOnce : {C : Type 0} → Face C → (before after : List ℕ) → Asked
+abbrev pub PairOnce : {C : Type 0} → Face C → (before after : List ℕ) → Polled
     → Around C → List Step → Around C → Type 0
 PairOnce face before after is.Again a steps b = OnePair face before after a steps b
 PairOnce face before after is.Stays a steps b = ⊥

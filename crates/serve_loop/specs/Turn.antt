@@ -9,8 +9,8 @@ use Rattle.core_events.specs.declared.event.Event.TheVariants as event
 use Rattle.serve_loop.specs.declared.link_owner.LinkOwner.{LinkOwner}
 use Rattle.serve_loop.specs.Links.{owner_in}
 use Rattle.serve_loop.specs.Added.{added}
-use Rattle.serve_loop.specs.declared.work.Work.{Work}
-use Rattle.serve_loop.specs.declared.work.Work.TheVariants as work
+use Rattle.serve_loop.specs.declared.poll.Poll.{Poll}
+use Rattle.serve_loop.specs.declared.poll.Poll.TheVariants as work
 use Rattle.serve_loop.specs.Asking.{AskedOnce, MayNot, IsUnknown}
 use Rattle.core_events.specs.Face.{Face}
 use Rattle.serve_loop.specs.Often.{NotAsked, Tried}
@@ -129,7 +129,7 @@ pub record WritesAt {C : Type 0} (face : Face C) (conns c : ℕ) (stays : Bool) 
   pub writes : Then (Wrote face conns c Client client) (Wrote face conns c Server server) a steps b
 
 -- what is done with a number, and whether it stays
-abbrev pub WorkAt : {C : Type 0} → Face C → Work → ℕ → ℕ → Bool → Around C → List Step → Around C
+abbrev pub WorkAt : {C : Type 0} → Face C → Poll → ℕ → ℕ → Bool → Around C → List Step → Around C
     → Type 0
 WorkAt face work.Listener = ListenerAt face
 WorkAt face work.Link = LinkAt face

@@ -6,20 +6,20 @@ use Rattle.px_outside.specs.declared.answers.WriteAnswer.TheVariants as write
 use Rattle.px_outside.specs.Net.{Write, WritesWithin}
 use Rattle.serve_loop.specs.Events.{write_event}
 use Rattle.serve_loop.specs.Links.{link_in}
-use Rattle.serve_loop.specs.declared.asked.Asked.{Asked}
-use Rattle.serve_loop.specs.declared.asked.Asked.TheVariants as is
+use Rattle.serve_loop.specs.declared.polled.Polled.{Polled}
+use Rattle.serve_loop.specs.declared.polled.Polled.TheVariants as is
 use Rattle.core_events.specs.Face.{Face}
 use Rattle.serve_loop.specs.Often.{NotAsked, Tried}
 use Rattle.serve_loop.specs.Walk.{Around, Given, Step, Asked as Asks, Calls}
 
 -- it takes more, takes no more by now, or is reset
-abbrev pub asked_of : WriteAnswer → Asked
+abbrev pub asked_of : WriteAnswer → Polled
 asked_of (write.Took n) = is.Again
 asked_of write.NotYet = is.Stays
 asked_of write.Reset = is.Over
 
 -- a link is asked to take all that is pending to its side
-pub record OneWrite {C : Type 0} (face : Face C) (conns c : ℕ) (side : Side) (asked : Asked)
+pub record OneWrite {C : Type 0} (face : Face C) (conns c : ℕ) (side : Side) (asked : Polled)
     (a : Around C) (steps : List Step) (b : Around C) : Type 0 where
   pub link : ℕ
   pub bytes : List ℕ
@@ -37,7 +37,7 @@ pub record OneWrite {C : Type 0} (face : Face C) (conns c : ℕ) (side : Side) (
 abbrev pub NothingToWrite : {C : Type 0} → Face C → ℕ → Side → Around C → Type 0
 NothingToWrite face c side a = (link_in a.links c side ≡ None) ⊎ face.queue a.core c side []
 
-abbrev pub WroteOnce : {C : Type 0} → Face C → (conns c : ℕ) → Side → Asked
+abbrev pub WroteOnce : {C : Type 0} → Face C → (conns c : ℕ) → Side → Polled
     → Around C → List Step → Around C → Type 0
 WroteOnce face conns c side is.Over a steps b = OneWrite face conns c side is.Over a steps b
     ⊎ NotAsked (NothingToWrite face c side) a steps b

@@ -11,7 +11,7 @@ ghost use Rattle.serve_loop.specs.Broken.{AreAsks, IsBroken};
 ghost use Rattle.serve_loop.specs.Faults.{FromNet, is_memory};
 
 use crate::serving::Serving;
-use crate::{Asked, LinkOwner, ServeFault};
+use crate::{LinkOwner, Polled, ServeFault};
 use core_events::{Core, Event};
 use px_outside::{ConnectAnswer, Net};
 
@@ -23,7 +23,7 @@ impl<C: Core + Drop> Serving<C> {
         net: &mut N,
         link: u32,
         row: LinkOwner,
-    ) -> Result<Asked, ServeFault>
+    ) -> Result<Polled, ServeFault>
         requires owned { owner_in self.old.links link ≡ Some row }
         requires server { row.side ≡ Server }
         requires waits { C.face.connecting self.old.core row.conn true }
@@ -37,15 +37,15 @@ impl<C: Core + Drop> Serving<C> {
         ensures faults_never_fall { N.faults net.old ≤ N.faults net.new }
     {
         match net.connect_answer(link) {
-            ConnectAnswer::NotYet => Ok(Asked::Over),
+            ConnectAnswer::NotYet => Ok(Polled::Over),
             ConnectAnswer::Connected => {
                 self.give(net, Event::Connected { conn: row.conn })?;
-                Ok(Asked::Again)
+                Ok(Polled::Again)
             }
             ConnectAnswer::Refused => {
                 self.links.close(link, row.conn, row.side);
                 self.give(net, Event::Refused { conn: row.conn })?;
-                Ok(Asked::Over)
+                Ok(Polled::Over)
             }
         }
     }

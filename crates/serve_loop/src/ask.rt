@@ -10,7 +10,7 @@ ghost use Rattle.serve_loop.specs.Broken.{AreAsks, IsBroken};
 ghost use Rattle.serve_loop.specs.Faults.{FromNet, is_memory};
 
 use crate::serving::Serving;
-use crate::{Asked, ServeFault};
+use crate::{Polled, ServeFault};
 use core_events::{Core, Event};
 use px_bytes::{M, Side, Text};
 use px_outside::{Accepted, Net};
@@ -18,7 +18,7 @@ use px_outside::{Accepted, Net};
 impl<C: Core + Drop> Serving<C> {
     /// Asks a listener for a connection, if one may be accepted.
     #[tactic(auto, using(crate::proofs::Failing::from_later, crate::proofs::Failing::from_memory))]
-    pub(crate) fn accept<N: Net>(&mut self, net: &mut N, slot: u32) -> Result<Asked, ServeFault>
+    pub(crate) fn accept<N: Net>(&mut self, net: &mut N, slot: u32) -> Result<Polled, ServeFault>
         ensures part { IfOk result (λ asked. Part C.face N.did N.gave
             (AskedOnce C.face self.old.conns (ready.Listener slot) asked)
             self.old self.new net.old net.new) }
@@ -28,13 +28,13 @@ impl<C: Core + Drop> Serving<C> {
         ensures faults_never_fall { N.faults net.old ≤ N.faults net.new }
     {
         let Some(number) = self.core.next() else {
-            return Ok(Asked::Stays);
+            return Ok(Polled::Stays);
         };
         if number > self.conns {
-            return Ok(Asked::Stays);
+            return Ok(Polled::Stays);
         }
         match self.name(slot)? {
-            None => Ok(Asked::Over),
+            None => Ok(Polled::Over),
             Some(vs) => self.accept_as(net, slot, number, vs),
         }
     }
@@ -47,7 +47,7 @@ impl<C: Core + Drop> Serving<C> {
         slot: u32,
         number: u32,
         vs: Text,
-    ) -> Result<Asked, ServeFault>
+    ) -> Result<Polled, ServeFault>
         requires next { C.face.next self.old.core (Some number) }
         requires within { number ≤ self.old.conns }
         requires named { C.face.name self.old.core slot (Some vs) }
@@ -61,7 +61,7 @@ impl<C: Core + Drop> Serving<C> {
         ensures faults_never_fall { N.faults net.old ≤ N.faults net.new }
     {
         match net.accept(slot)? {
-            Accepted::NotYet => Ok(Asked::Over),
+            Accepted::NotYet => Ok(Polled::Over),
             Accepted::One { link, from } => {
                 self.links.open(link, number, Side::Client)?;
                 self.give(
@@ -72,7 +72,7 @@ impl<C: Core + Drop> Serving<C> {
                         from,
                     },
                 )?;
-                Ok(Asked::Again)
+                Ok(Polled::Again)
             }
         }
     }
@@ -94,7 +94,7 @@ impl<C: Core + Drop> Serving<C> {
         net: &mut N,
         link: u32,
         room: &mut Vec<u8>,
-    ) -> Result<Asked, ServeFault>
+    ) -> Result<Polled, ServeFault>
         requires { 0 < vec_len room.old }
         ensures part { IfOk result (λ asked. Part C.face N.did N.gave
             (AskedOnce C.face self.old.conns (ready.Link link) asked)
@@ -106,7 +106,7 @@ impl<C: Core + Drop> Serving<C> {
         ensures faults_never_fall { N.faults net.old ≤ N.faults net.new }
     {
         let Some(row) = self.links.owner(link) else {
-            return Ok(Asked::Over);
+            return Ok(Polled::Over);
         };
         match row.side {
             Side::Client => self.read(net, link, row, room),

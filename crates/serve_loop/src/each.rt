@@ -7,8 +7,8 @@ ghost use Rattle.serve_loop.specs.Turn.{WorkAt, WritesAt, either};
 ghost use Rattle.serve_loop.specs.Broken.{AreAsks, IsBroken};
 ghost use Rattle.serve_loop.specs.Faults.{FromNet, is_memory};
 
+use crate::poll::Poll;
 use crate::serving::Serving;
-use crate::work::Work;
 use crate::{Numbers, ServeFault};
 use core_events::Core;
 use px_bytes::{Seq, Side};
@@ -20,7 +20,7 @@ impl<C: Core + Drop> Serving<C> {
     pub(crate) fn each<N: Net>(
         &mut self,
         net: &mut N,
-        work: Work,
+        work: Poll,
         order: &Numbers,
         room: &mut Vec<u8>,
         stay: &mut Seq<u32>,
@@ -46,7 +46,7 @@ impl<C: Core + Drop> Serving<C> {
     fn each_at<N: Net>(
         &mut self,
         net: &mut N,
-        work: Work,
+        work: Poll,
         order: &Numbers,
         at: usize,
         room: &mut Vec<u8>,
@@ -76,7 +76,7 @@ impl<C: Core + Drop> Serving<C> {
     fn one<N: Net>(
         &mut self,
         net: &mut N,
-        work: Work,
+        work: Poll,
         number: u32,
         room: &mut Vec<u8>,
     ) -> Result<bool, ServeFault>
@@ -90,9 +90,9 @@ impl<C: Core + Drop> Serving<C> {
         ensures faults_never_fall { N.faults net.old ≤ N.faults net.new }
     {
         match work {
-            Work::Listener => self.ask_listener(net, number),
-            Work::Link => self.ask_often(net, number, room),
-            Work::Writer => self.write_both(net, number),
+            Poll::Listener => self.ask_listener(net, number),
+            Poll::Link => self.ask_often(net, number, room),
+            Poll::Writer => self.write_both(net, number),
         }
     }
 

@@ -3,7 +3,6 @@
 
 mod answer;
 mod ask;
-mod asked;
 mod begin;
 mod carry;
 mod due;
@@ -14,6 +13,8 @@ mod link_owner;
 mod links;
 mod numbers;
 mod often;
+mod poll;
+mod polled;
 mod read;
 mod run;
 mod server;
@@ -21,14 +22,13 @@ mod serving;
 mod tick;
 mod turn;
 mod turns;
-mod work;
 mod write;
 
-pub use asked::Asked;
 pub use fault::{ServeEnd, ServeFault};
 pub use link_owner::LinkOwner;
 pub use links::Links;
 pub use numbers::Numbers;
+pub use polled::Polled;
 pub use server::Server;
 pub use serving::Serving;
 pub use turns::serve;

@@ -9,7 +9,7 @@ ghost use Rattle.serve_loop.specs.Broken.{AreAsks, IsBroken};
 ghost use Rattle.serve_loop.specs.Faults.{FromNet, is_memory};
 
 use crate::serving::Serving;
-use crate::{Asked, ServeFault};
+use crate::{Polled, ServeFault};
 use core_events::Core;
 use px_outside::Net;
 
@@ -32,9 +32,9 @@ impl<C: Core + Drop> Serving<C> {
         for often in 0u32..16 {
             let _ = often;
             match self.accept(net, slot)? {
-                Asked::Again => {}
-                Asked::Stays => return Ok(true),
-                Asked::Over => return Ok(false),
+                Polled::Again => {}
+                Polled::Stays => return Ok(true),
+                Polled::Over => return Ok(false),
             }
         }
         Ok(true)
@@ -61,9 +61,9 @@ impl<C: Core + Drop> Serving<C> {
         for often in 0u32..4 {
             let _ = often;
             match self.ask_link(net, link, room)? {
-                Asked::Again => {}
-                Asked::Stays => return Ok(true),
-                Asked::Over => return Ok(false),
+                Polled::Again => {}
+                Polled::Stays => return Ok(true),
+                Polled::Over => return Ok(false),
             }
         }
         Ok(true)

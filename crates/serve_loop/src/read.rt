@@ -8,9 +8,9 @@ ghost use Rattle.serve_loop.specs.Part.{Part, stand};
 ghost use Rattle.serve_loop.specs.Broken.{AreAsks, IsBroken};
 ghost use Rattle.serve_loop.specs.Faults.{FromNet, is_memory};
 
-use crate::asked::{asked_by, read_to_event};
+use crate::polled::{asked_by, read_to_event};
 use crate::serving::Serving;
-use crate::{Asked, LinkOwner, ServeFault};
+use crate::{LinkOwner, Polled, ServeFault};
 use core_events::Core;
 use px_outside::Net;
 
@@ -23,7 +23,7 @@ impl<C: Core + Drop> Serving<C> {
         link: u32,
         row: LinkOwner,
         room: &mut Vec<u8>,
-    ) -> Result<Asked, ServeFault>
+    ) -> Result<Polled, ServeFault>
         requires owned { owner_in self.old.links link ≡ Some row }
         requires waits { NotConnecting C.face (stand self.old) row.conn row.side }
         requires some { 0 < vec_len room.old }
@@ -38,7 +38,7 @@ impl<C: Core + Drop> Serving<C> {
     {
         let wanted = self.core.wants(row.conn, row.side);
         if wanted == 0 {
-            return Ok(Asked::Stays);
+            return Ok(Polled::Stays);
         }
         let n = least(wanted, room.len());
         self.read_into(net, link, row, &mut room[..n])
@@ -51,7 +51,7 @@ impl<C: Core + Drop> Serving<C> {
         link: u32,
         row: LinkOwner,
         room: &mut [u8],
-    ) -> Result<Asked, ServeFault>
+    ) -> Result<Polled, ServeFault>
         requires owned { owner_in self.old.links link ≡ Some row }
         requires some { 0 < length room.old }
         requires wanted { IsWanted C.face self.old.core row.conn row.side (length room.old) }

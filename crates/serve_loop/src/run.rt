@@ -7,7 +7,7 @@ ghost use Rattle.serve_loop.specs.Broken.{AreAsks, IsBroken};
 ghost use Rattle.serve_loop.specs.Faults.{FromNet, is_memory};
 
 use crate::serving::Serving;
-use crate::{Asked, Numbers, ServeFault};
+use crate::{Numbers, Polled, ServeFault};
 use core_events::{Core, Event};
 use px_bytes::M;
 use px_outside::Net;
@@ -31,16 +31,16 @@ impl<C: Core + Drop> Serving<C> {
         for often in 0u32..2048 {
             let _ = often;
             match self.run_once(net, writers)? {
-                Asked::Again => {}
-                Asked::Stays => return Ok(true),
-                Asked::Over => return Ok(false),
+                Polled::Again => {}
+                Polled::Stays => return Ok(true),
+                Polled::Over => return Ok(false),
             }
         }
         Ok(true)
     }
 
     #[tactic(auto, using(crate::proofs::Failing::from_later, crate::proofs::Failing::from_memory))]
-    fn run_once<N: Net>(&mut self, net: &mut N, writers: &mut Numbers) -> Result<Asked, ServeFault>
+    fn run_once<N: Net>(&mut self, net: &mut N, writers: &mut Numbers) -> Result<Polled, ServeFault>
         ensures part { IfOk result (λ asked. Part C.face N.did N.gave
             (PairOnce C.face writers.old writers.new asked) self.old self.new net.old net.new) }
         ensures broke { IfErr result (λ why. IsBroken C.face N.did N.gave AreAsks (is_memory why)
@@ -49,11 +49,11 @@ impl<C: Core + Drop> Serving<C> {
         ensures faults_never_fall { N.faults net.old ≤ N.faults net.new }
     {
         if self.core.settled() {
-            return Ok(Asked::Over);
+            return Ok(Polled::Over);
         }
         self.note_ready(writers)?;
         self.pair(net)?;
-        Ok(Asked::Again)
+        Ok(Polled::Again)
     }
 
     // Adds the connection that is ready to the writers.

@@ -8,8 +8,8 @@ ghost use Rattle.serve_loop.specs.Server.{OneTurn, Turned, running};
 use crate::ServeFault;
 use crate::due::{due_links, due_slots};
 use crate::fault::turn_end;
+use crate::poll::Poll;
 use crate::server::Server;
-use crate::work::Work;
 use core_events::Core;
 use px_bytes::Seq;
 use px_outside::{Clock, Net, Sink};
@@ -58,12 +58,12 @@ impl<C: Core + Drop> Server<C> {
         let alloc = self.serving.alloc;
         let slots = due_slots(alloc, &self.slots, &self.listed)?;
         let links = due_links(alloc, &self.links, &self.listed)?;
-        self.serving.each(net, Work::Listener, &slots, &mut self.room, &mut self.slots)?;
+        self.serving.each(net, Poll::Listener, &slots, &mut self.room, &mut self.slots)?;
         self.serving
-            .each(net, Work::Link, &links, &mut self.room, &mut self.links)?;
+            .each(net, Poll::Link, &links, &mut self.room, &mut self.links)?;
         self.serving.run_pairs(net, &mut self.writers)?;
         let mut stay = Seq::new(alloc);
-        self.serving.each(net, Work::Writer, &self.writers, &mut self.room, &mut stay)?;
+        self.serving.each(net, Poll::Writer, &self.writers, &mut self.room, &mut stay)?;
         self.writers.clear();
         self.writers.add_all(stay.as_slice())?;
         Ok(())

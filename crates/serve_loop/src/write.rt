@@ -6,9 +6,9 @@ ghost use Rattle.serve_loop.specs.Writing.{Wrote, WroteOnce, asked_of};
 ghost use Rattle.serve_loop.specs.Broken.{AreAsks, IsBroken};
 ghost use Rattle.serve_loop.specs.Faults.{FromNet, is_memory};
 
-use crate::asked::write_to_event;
+use crate::polled::write_to_event;
 use crate::serving::Serving;
-use crate::{Asked, ServeFault};
+use crate::{Polled, ServeFault};
 use core_events::Core;
 use px_bytes::Side;
 use px_outside::{Net, WriteAnswer};
@@ -34,9 +34,9 @@ impl<C: Core + Drop> Serving<C> {
         for often in 0..pending + 1 {
             let _ = often;
             match self.write_once(net, conn, side)? {
-                Asked::Again => {}
-                Asked::Stays => return Ok(true),
-                Asked::Over => return Ok(false),
+                Polled::Again => {}
+                Polled::Stays => return Ok(true),
+                Polled::Over => return Ok(false),
             }
         }
         Ok(true)
@@ -48,7 +48,7 @@ impl<C: Core + Drop> Serving<C> {
         net: &mut N,
         conn: u32,
         side: Side,
-    ) -> Result<Asked, ServeFault>
+    ) -> Result<Polled, ServeFault>
         ensures part { IfOk result (λ asked. Part C.face N.did N.gave
             (WroteOnce C.face self.old.conns conn side asked) self.old self.new net.old net.new) }
         ensures broke { IfErr result (λ why. IsBroken C.face N.did N.gave AreAsks (is_memory why)
@@ -57,11 +57,11 @@ impl<C: Core + Drop> Serving<C> {
         ensures faults_never_fall { N.faults net.old ≤ N.faults net.new }
     {
         let Some(link) = self.links.link(conn, side) else {
-            return Ok(Asked::Over);
+            return Ok(Polled::Over);
         };
         let bytes = self.core.front(conn, side);
         if bytes.is_empty() {
-            return Ok(Asked::Over);
+            return Ok(Polled::Over);
         }
         let answer = net.write(link, bytes);
         match write_to_event(conn, side, answer) {
@@ -74,12 +74,12 @@ impl<C: Core + Drop> Serving<C> {
     }
 }
 
-fn asked_of(answer: WriteAnswer) -> Asked
+fn asked_of(answer: WriteAnswer) -> Polled
     ensures { result ≡ asked_of answer }
 {
     match answer {
-        WriteAnswer::Took(_) => Asked::Again,
-        WriteAnswer::NotYet => Asked::Stays,
-        WriteAnswer::Reset => Asked::Over,
+        WriteAnswer::Took(_) => Polled::Again,
+        WriteAnswer::NotYet => Polled::Stays,
+        WriteAnswer::Reset => Polled::Over,
     }
 }

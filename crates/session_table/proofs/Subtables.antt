@@ -6,7 +6,7 @@ use Rattle.std.specs.Map.{keys_of, remove_entry}
 use Rattle.std.specs.Str.{bytes_eq}
 use Rattle.session_table.specs.Stored.{Dues, Entries, Key, Names, is_key, named, names_of, names_under, removed, rows_of}
 use Rattle.session_table.specs.Tables.{is_in}
-use Rattle.session_table.specs.declared.row.Row.{Row}
+use Rattle.session_table.specs.declared.row.TableRow.{TableRow}
 use Rattle.timed_rows.specs.Rows.{Timed}
 use Rattle.session_table.proofs.UnderKeys.{dues_remove, key_itself, key_names}
 
@@ -52,7 +52,7 @@ module _ (s : List ℕ) where
       by false e r = r
 
   -- a row of another subtable stays
-  passed : (ns : List Names) (e : Key × Timed Row) (es : Entries) → AllByRecursion (λ n. bytes_eq s n.0 ≡ true) ns → under e.0 ≡ false
+  passed : (ns : List Names) (e : Key × Timed TableRow) (es : Entries) → AllByRecursion (λ n. bytes_eq s n.0 ≡ true) ns → under e.0 ≡ false
       → removed ns (e ∷ es) ≡ e ∷ removed ns es
   passed [] e es a h = refl
   passed (n ∷ ns) e es a h = by (is_key n.0 n.1 e.0) refl (λ xs. passed ns e xs a.1 h)

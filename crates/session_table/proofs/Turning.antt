@@ -22,7 +22,7 @@ use Rattle.session_table.specs.declared.request.Act.TheVariants as act
 use Rattle.session_table.specs.declared.request.Making.TheVariants.{Always, IfAbsent, IfPresent}
 use Rattle.session_table.specs.declared.request.RowCall.{RowCall}
 use Rattle.session_table.specs.declared.request.Span.TheVariants.{Lifetime, Timeout}
-use Rattle.session_table.specs.declared.row.Row.{Row}
+use Rattle.session_table.specs.declared.row.TableRow.{TableRow}
 use Rattle.std.proofs.Common.{◌<◌, IfSome, arith, nat_lt, subst}
 use Rattle.std.specs.BTreeMap.{insert_entry}
 use Rattle.std.proofs.lemmas.Bool.Decides.{nat_tests}
@@ -39,23 +39,23 @@ abbrev pub under : List ℕ → List ℕ → Result Kept TclFault → Result Kep
 under s k (Err fault) = Err fault
 under s k (Ok r) = Ok (r.0, named s k r.1)
 
-touched_under : (s k : List ℕ) (touches : Bool) (moment : ℕ) (row : Row) → touched touches moment (named s k row) ≡ named s k (touched touches moment row)
+touched_under : (s k : List ℕ) (touches : Bool) (moment : ℕ) (row : TableRow) → touched touches moment (named s k row) ≡ named s k (touched touches moment row)
 touched_under s k true moment row = refl
 touched_under s k false moment row = refl
 
-text_under : (s k : List ℕ) (touches : Bool) (moment : ℕ) (row : Row) (text : Result (List ℕ) TclFault)
+text_under : (s k : List ℕ) (touches : Bool) (moment : ℕ) (row : TableRow) (text : Result (List ℕ) TclFault)
     → with_value text (λ value. Ok (with_text touches moment value (named s k row)))
     ≡ under s k (with_value text (λ value. Ok (with_text touches moment value row)))
 text_under s k touches moment row (Err fault) = refl
 text_under s k touches moment row (Ok text) = ap (λ r. Ok (text, r)) (touched_under s k touches moment (record row { text = text }))
 
-sum_under : (s k : List ℕ) (touches : Bool) (moment : ℕ) (row : Row) (delta : ℤ) (n : Result ℤ TclFault)
+sum_under : (s k : List ℕ) (touches : Bool) (moment : ℕ) (row : TableRow) (delta : ℤ) (n : Result ℤ TclFault)
     → with_value n (λ m. with_value (sum_text m delta) (λ text. Ok (with_text touches moment text (named s k row))))
     ≡ under s k (with_value n (λ m. with_value (sum_text m delta) (λ text. Ok (with_text touches moment text row))))
 sum_under s k touches moment row delta (Err fault) = refl
 sum_under s k touches moment row delta (Ok m) = text_under s k touches moment row (sum_text m delta)
 
-pub kept_under : (s k : List ℕ) (touches : Bool) (act : Act) (moment : ℕ) (row : Row)
+pub kept_under : (s k : List ℕ) (touches : Bool) (act : Act) (moment : ℕ) (row : TableRow)
     → kept touches act moment (named s k row) ≡ under s k (kept touches act moment row)
 kept_under s k touches (act.Set Always text times) moment row = ap (λ r. Ok (text, r)) (touched_under s k touches moment _)
 kept_under s k touches (act.Set IfAbsent text times) moment row = ap (λ r. Ok (row.text, r)) (touched_under s k touches moment _)
@@ -68,23 +68,23 @@ kept_under s k touches (act.Tell Timeout remaining) moment row = refl
 kept_under s k touches (act.Tell Lifetime remaining) moment row = refl
 kept_under s k touches (act.Change span seconds) moment row = refl
 
-abbrev pub state : ℕ → List Row → TableState
+abbrev pub state : ℕ → List TableRow → TableState
 state limit rows = record { limit = limit; rows = rows }
 
 module _ (limit : ℕ) (call : RowCall) (moment : ℕ) (es : Entries) where
-  abbrev test : Row → Bool
+  abbrev test : TableRow → Bool
   test = is_of call.subtable call.key
 
-  abbrev name : Row → Row
+  abbrev name : TableRow → TableRow
   name row = named call.subtable call.key row
 
   -- what a call leaves where its row is there
-  abbrev there : Result Kept TclFault → Row → Served
+  abbrev there : Result Kept TclFault → TableRow → Served
   there k row =
       placed limit test (Some (name row))
       (with_value (with_value k (λ k. Ok (record { reply = k.0; row = Some k.1 }))) (λ c. Ok (living moment c))) (rows_of es)
 
-  there_served : (t : Timed Row) (k : Result Kept TclFault) → lookup (is_key call.subtable call.key) es ≡ Some t → is_delete call.act ≡ false
+  there_served : (t : Timed TableRow) (k : Result Kept TclFault) → lookup (is_key call.subtable call.key) es ≡ Some t → is_delete call.act ≡ false
       → kept call.touches call.act moment t.0 ≡ k → row_served limit call moment (rows_of es) ≡ there (under call.subtable call.key k) t.0
   there_served t k l d e =
       let found = find_row call.subtable call.key es ∙ ap (option_map (λ t. name t.0)) l in
@@ -94,7 +94,7 @@ module _ (limit : ℕ) (call : RowCall) (moment : ℕ) (es : Entries) where
       ∙ ap (λ k. there k t.0) (kept_under call.subtable call.key call.touches call.act moment t.0 ∙ ap (under call.subtable call.key) e)
 
   -- the row is put in its place, or is gone
-  put : (row blank : Row) (o : Option ℕ) (live : Bool)
+  put : (row blank : TableRow) (o : Option ℕ) (live : Bool)
       → rows_of (put_kept call.subtable call.key (not live) row (set_value (is_key call.subtable call.key) es (blank, o)))
       ≡ with_row test (cond live (Some (name row)) None) (rows_of es)
   put row blank o true =
@@ -103,14 +103,14 @@ module _ (limit : ℕ) (call : RowCall) (moment : ℕ) (es : Entries) where
       ap rows_of (set_removed (is_key call.subtable call.key) es (blank, o)) ∙ remove_row call.subtable call.key es
 
   -- the row is put back as it was
-  back : (t : Timed Row) (after blank : Row) (o : Option ℕ) → Dues es → lookup (is_key call.subtable call.key) es ≡ Some t → after ≡ t.0
+  back : (t : Timed TableRow) (after blank : TableRow) (o : Option ℕ) → Dues es → lookup (is_key call.subtable call.key) es ≡ Some t → after ≡ t.0
       → set_value (is_key call.subtable call.key) (set_value (is_key call.subtable call.key) es (blank, o)) (after, due after) ≡ es
   back t after blank o d l same =
       let key = is_key call.subtable call.key in
-      let whole : ◌≡◌ {A = Timed Row} (after, due after) t = ap (λ r. (r, due r)) same ∙ ap (λ x. (t.0, x)) (sym (due_found key es t d l)) in
+      let whole : ◌≡◌ {A = Timed TableRow} (after, due after) t = ap (λ r. (r, due r)) same ∙ ap (λ x. (t.0, x)) (sym (due_found key es t d l)) in
       set_again key es (blank, o) (after, due after) ∙ ap (set_value key es) whole ∙ set_value_same key es t l
 
-  pub row_kept : (t : Timed Row) (blank : Row) (o : Option ℕ) (result : Result (List ℕ) Raise) (new : Entries) → Dues es
+  pub row_kept : (t : Timed TableRow) (blank : TableRow) (o : Option ℕ) (result : Result (List ℕ) Raise) (new : Entries) → Dues es
       → lookup (is_key call.subtable call.key) es ≡ Some t → is_delete call.act ≡ false
       → KeepsRow result call moment call.subtable call.key t.0 (set_value (is_key call.subtable call.key) es (blank, o)) new
       → Serves result (state limit (rows_of es)) (state limit (rows_of new)) (row_served limit call moment (rows_of es))
@@ -140,7 +140,7 @@ module _ (limit : ℕ) (call : RowCall) (moment : ℕ) (es : Entries) where
   absent_delete (act.Tell span remaining) e = cc
   absent_delete (act.Change span seconds) e = cc
 
-  gone : is_delete call.act ≡ true → (o : Option (Timed Row)) → lookup (is_key call.subtable call.key) es ≡ o
+  gone : is_delete call.act ≡ true → (o : Option (Timed TableRow)) → lookup (is_key call.subtable call.key) es ≡ o
       → row_served limit call moment (rows_of es) ≡ gives [] (rows_of (remove_entry (is_key call.subtable call.key) es))
   gone d None l =
       no_row l
@@ -160,7 +160,7 @@ module _ (limit : ℕ) (call : RowCall) (moment : ℕ) (es : Entries) where
       (ap (λ s. s.given) e, ap (λ s. state limit s.rows) (sym e))
 
 -- ---- a row that a call makes
-live_some : (moment : ℕ) (o : Option Row) (row : Row) → if_live moment o ≡ Some row → o ≡ Some row
+live_some : (moment : ℕ) (o : Option TableRow) (row : TableRow) → if_live moment o ≡ Some row → o ≡ Some row
 live_some moment None row e = cc
 live_some moment (Some r) row e = by (is_live moment r) e
   where
@@ -169,10 +169,10 @@ live_some moment (Some r) row e = by (is_live moment r) e
     by false f = cc
 
 -- a row has the names of the key that it came with
-names_back : (q : Key) (row : Row) → (row.subtable ≡ q.0.items) × (row.key ≡ q.1.items) → named q.0.items q.1.items row ≡ row
+names_back : (q : Key) (row : TableRow) → (row.subtable ≡ q.0.items) × (row.key ≡ q.1.items) → named q.0.items q.1.items row ≡ row
 names_back q row n = ap₂ (λ a b. named a b row) (sym n.0) (sym n.1)
 
-pub add_served : (limit : ℕ) (q : Key) (reply : List ℕ) (row : Row) (o : Option Row) (moment : ℕ) (es new : Entries) → if_live moment o ≡ Some row
+pub add_served : (limit : ℕ) (q : Key) (reply : List ℕ) (row : TableRow) (o : Option TableRow) (moment : ℕ) (es new : Entries) → if_live moment o ≡ Some row
     → IfSome o (λ r. (r.subtable ≡ q.0.items) × (r.key ≡ q.1.items)) → lookup (is_key q.0.items q.1.items) es ≡ None → length es < limit
     → new ≡ insert_entry key_cmp es q (named [] [] row, due row)
     → Serves (Ok reply) (state limit (rows_of es)) (state limit (rows_of new)) (added limit reply (if_live moment o) (rows_of es))
@@ -190,25 +190,25 @@ pub came_names : (call : RowCall) (q : Key) (moment : ℕ) (c : Came) → absent
     → q.0.items ≡ call.subtable → q.1.items ≡ call.key → IfSome c.row (λ r. (r.subtable ≡ q.0.items) × (r.key ≡ q.1.items))
 came_names call q moment c e s k = by c.row (subst (NamedCame call) e (absent_named call call.act moment))
   where
-    by : (o : Option Row) → NamedRow call o → IfSome o (λ r. (r.subtable ≡ q.0.items) × (r.key ≡ q.1.items))
+    by : (o : Option TableRow) → NamedRow call o → IfSome o (λ r. (r.subtable ≡ q.0.items) × (r.key ≡ q.1.items))
     by None n = tt
     by (Some r) n = (n.0 ∙ sym s, n.1 ∙ sym k)
 
-pub made_served : (limit : ℕ) (call : RowCall) (moment : ℕ) (rows : List Row) (c : Came) → absent call call.act moment ≡ Ok c
+pub made_served : (limit : ℕ) (call : RowCall) (moment : ℕ) (rows : List TableRow) (c : Came) → absent call call.act moment ≡ Ok c
     → added limit c.reply (if_live moment c.row) rows ≡ made_new limit call moment rows
 made_served limit call moment rows c e =
     ap (λ a. placed limit (is_of call.subtable call.key) None (with_value a (λ c. Ok (living moment c))) rows) (sym e)
 
 -- ---- a call by the key that is made of its names
-value_some : (o : Option (Timed Row)) (row : Row) → Some row ≡ option_map (λ t. t.0) o → (t : Timed Row) × ((o ≡ Some t) × (t.0 ≡ row))
+value_some : (o : Option (Timed TableRow)) (row : TableRow) → Some row ≡ option_map (λ t. t.0) o → (t : Timed TableRow) × ((o ≡ Some t) × (t.0 ≡ row))
 value_some None row e = cc
 value_some (Some t) row e = (t, (refl, (let s : row ≡ t.0 = cc in sym s)))
 
-pub value_none : (o : Option (Timed Row)) → None ≡ option_map (λ t. t.0) o → o ≡ None
+pub value_none : (o : Option (Timed TableRow)) → None ≡ option_map (λ t. t.0) o → o ≡ None
 value_none None e = refl
 value_none (Some t) e = cc
 
-pub dues_kept : (result : Result (List ℕ) Raise) (call : RowCall) (moment : ℕ) (s k : List ℕ) (row : Row) (mid new : Entries)
+pub dues_kept : (result : Result (List ℕ) Raise) (call : RowCall) (moment : ℕ) (s k : List ℕ) (row : TableRow) (mid new : Entries)
     → KeepsRow result call moment s k row mid new → Dues mid → Dues new
 dues_kept result call moment s k row mid new r d = subst (λ es. Dues es) (sym r.entries) (by (goes result (is_live moment r.after)))
   where
@@ -220,7 +220,7 @@ module _ (limit : ℕ) (call : RowCall) (moment : ℕ) (es : Entries) (s k : Lis
   same_look_up : lookup (is_key call.subtable call.key) es ≡ lookup (is_key s k) es
   same_look_up = ap₂ (λ a b. lookup (is_key a b) es) (sym e) (sym f)
 
-  pub kept_served : (row blank : Row) (result : Result (List ℕ) Raise) (mid new : Entries) → Dues es
+  pub kept_served : (row blank : TableRow) (result : Result (List ℕ) Raise) (mid new : Entries) → Dues es
       → Some row ≡ option_map (λ t. t.0) (lookup (is_key s k) es) → is_delete call.act ≡ false
       → mid ≡ set_value (is_key s k) es (blank, None) → KeepsRow result call moment s k row mid new
       → Serves result (state limit (rows_of es)) (state limit (rows_of new)) (row_served limit call moment (rows_of es))

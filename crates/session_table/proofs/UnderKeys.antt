@@ -18,7 +18,7 @@ use Rattle.session_table.specs.Rows.{is_live, is_of, lasts}
 use Rattle.session_table.specs.Stored.{Dues, Entries, Key, due, ends, fitting, is_key, key_cmp, named, rows_of}
 use Rattle.session_table.specs.Stored.{sooner}
 use Rattle.session_table.specs.Tables.{with_new, without_first}
-use Rattle.session_table.specs.declared.row.Row.{Row}
+use Rattle.session_table.specs.declared.row.TableRow.{TableRow}
 use Rattle.session_table.proofs.SortedKeys.{and_both}
 
 and_true : (b : Bool) → (b && true) ≡ b
@@ -50,11 +50,11 @@ key_itself s k x e f =
     key_test s k x ∙ ap₂ (λ a b. a && b) ((bytes_eq-Decides k x.1.items).1 f) ((bytes_eq-Decides s x.0.items).1 e)
 
 -- a row under the names of its key
-under_names : (s k : List ℕ) (x : Key) (row : Row) → is_key s k x ≡ true → named x.0.items x.1.items row ≡ named s k row
+under_names : (s k : List ℕ) (x : Key) (row : TableRow) → is_key s k x ≡ true → named x.0.items x.1.items row ≡ named s k row
 under_names s k x row e = let n = key_names s k x e in ap₂ (λ a b. named a b row) (sym n.0) (sym n.1)
 
 module _ (s k : List ℕ) where
-  abbrev test : Row → Bool
+  abbrev test : TableRow → Bool
   test = is_of s k
 
   pub find_row : (es : Entries) → find test (rows_of es) ≡ option_map (λ t. named s k t.0) (lookup (is_key s k) es)
@@ -66,7 +66,7 @@ module _ (s k : List ℕ) where
       by true is r = let t = sym (key_test s k e.0) ∙ is in rw t (ap Some (under_names s k e.0 e.1.0 is))
       by false is r = let t = sym (key_test s k e.0) ∙ is in rw t r
 
-  pub set_row : (es : Entries) (row : Row) (d : Option ℕ)
+  pub set_row : (es : Entries) (row : TableRow) (d : Option ℕ)
       → rows_of (set_value (is_key s k) es (row, d)) ≡ with_first test (λ old. named s k row) (rows_of es)
   set_row [] row d = refl
   set_row (e ∷ es) row d = by (is_key s k e.0) refl (set_row es row d)
@@ -88,11 +88,11 @@ module _ (s k : List ℕ) where
 pub none_found : (s k : List ℕ) (es : Entries) → find (is_of s k) (rows_of es) ≡ None → lookup (is_key s k) es ≡ None
 none_found s k es e = by (lookup (is_key s k) es) (sym (find_row s k es) ∙ e)
   where
-    by : (o : Option (Timed Row)) → option_map (λ t. named s k t.0) o ≡ None → o ≡ None
+    by : (o : Option (Timed TableRow)) → option_map (λ t. named s k t.0) o ≡ None → o ≡ None
     by None f = refl
     by (Some t) f = cc
 
-pub insert_row : (q : Key) (row : Row) (d : Option ℕ) (es : Entries) → lookup (is_key q.0.items q.1.items) es ≡ None
+pub insert_row : (q : Key) (row : TableRow) (d : Option ℕ) (es : Entries) → lookup (is_key q.0.items q.1.items) es ≡ None
     → rows_of (insert_entry key_cmp es q (row, d)) ≡ with_new (named q.0.items q.1.items row) (rows_of es)
 insert_row q row d [] n = refl
 insert_row q row d (e ∷ es) n = by (key_cmp q e.0) n (insert_row q row d es)
@@ -141,7 +141,7 @@ later_sooner m (Some a) (Some b) = by (nat_lt m a) (nat_lt m b) (nat_lt a b) ref
         second false true f g l = absurd (let x : a ≤ m = grind (arith, nat_tests) in let y : m < b = grind (arith, nat_tests) in omega (arith, x, y, l))
 
 -- a row's deadline is still to come exactly where it is live
-pub later_live : (m : ℕ) (row : Row) → m < 2 ^ 64 → is_later m (due row) ≡ is_live m row
+pub later_live : (m : ℕ) (row : TableRow) → m < 2 ^ 64 → is_later m (due row) ≡ is_live m row
 later_live m row w =
     later_sooner m (ends row.times.timeout row.touched) (ends row.times.lifetime row.created)
     ∙ ap₂ (λ a b. a && b) (later_ends m row.times.timeout row.touched w) (later_ends m row.times.lifetime row.created w)
@@ -166,7 +166,7 @@ dues_later m (e ∷ es) d = by (is_later m e.1.1) (dues_later m es d.1)
     by false r = r
 
 module _ (test : Key → Bool) where
-  pub dues_set : (es : Entries) (row : Row) (o : Option ℕ) → o ≡ due row → Dues es → Dues (set_value test es (row, o))
+  pub dues_set : (es : Entries) (row : TableRow) (o : Option ℕ) → o ≡ due row → Dues es → Dues (set_value test es (row, o))
   dues_set [] row o s d = tt
   dues_set (e ∷ es) row o s d = by (test e.0) (dues_set es row o s d.1)
     where
@@ -191,7 +191,7 @@ module _ (test : Key → Bool) where
       by true m r = cc
       by false m r = ap (λ xs. e ∷ xs) (r m)
 
-  pub due_found : (es : Entries) (t : Timed Row) → Dues es → lookup test es ≡ Some t → t.1 ≡ due t.0
+  pub due_found : (es : Entries) (t : Timed TableRow) → Dues es → lookup test es ≡ Some t → t.1 ≡ due t.0
   due_found [] t d l = cc
   due_found (e ∷ es) t d l = by (test e.0) l (due_found es t d.1)
     where
@@ -200,7 +200,7 @@ module _ (test : Key → Bool) where
       by false m r = r m
 
   -- what is set twice, or set and taken away
-  pub set_again : (es : Entries) (a b : Timed Row) → set_value test (set_value test es a) b ≡ set_value test es b
+  pub set_again : (es : Entries) (a b : Timed TableRow) → set_value test (set_value test es a) b ≡ set_value test es b
   set_again [] a b = refl
   set_again (e ∷ es) a b = by (test e.0) refl (set_again es a b)
     where
@@ -209,7 +209,7 @@ module _ (test : Key → Bool) where
       by true q r = rw q refl
       by false q r = rw q (ap (λ xs. e ∷ xs) r)
 
-  pub set_removed : (es : Entries) (a : Timed Row) → remove_entry test (set_value test es a) ≡ remove_entry test es
+  pub set_removed : (es : Entries) (a : Timed TableRow) → remove_entry test (set_value test es a) ≡ remove_entry test es
   set_removed [] a = refl
   set_removed (e ∷ es) a = by (test e.0) refl (set_removed es a)
     where
@@ -218,7 +218,7 @@ module _ (test : Key → Bool) where
       by true q r = rw q refl
       by false q r = rw q (ap (λ xs. e ∷ xs) r)
 
-pub dues_insert : (q : Key) (row : Row) (o : Option ℕ) (es : Entries) → o ≡ due row → Dues es → Dues (insert_entry key_cmp es q (row, o))
+pub dues_insert : (q : Key) (row : TableRow) (o : Option ℕ) (es : Entries) → o ≡ due row → Dues es → Dues (insert_entry key_cmp es q (row, o))
 dues_insert q row o [] s d = (s, tt)
 dues_insert q row o (e ∷ es) s d = by (key_cmp q e.0) (dues_insert q row o es s d.1)
   where

@@ -14,11 +14,11 @@ use Rattle.session_table.specs.Answers.{is_in_range, kept, touched}
 use Rattle.session_table.specs.Rows.{is_live, is_of}
 use Rattle.session_table.specs.Tables.{TableState, after, keys_in, live_served}
 use Rattle.session_table.specs.declared.request.Act.TheVariants.{Incr}
-use Rattle.session_table.specs.declared.row.Row.{Row}
+use Rattle.session_table.specs.declared.row.TableRow.{TableRow}
 
 -- to touch a row never shortens its life
 abbrev pub TouchNeverShortens : Type 0
-TouchNeverShortens = (row : Row) (moment later : ℕ) → row.touched ≤ moment
+TouchNeverShortens = (row : TableRow) (moment later : ℕ) → row.touched ≤ moment
     → is_live later row ≡ true → is_live later (touched true moment row) ≡ true
 
 -- the moment at which what began at another ends
@@ -31,7 +31,7 @@ earlier None b = b
 earlier (Some a) None = Some a
 earlier (Some a) (Some b) = Some (if nat_lt a b then a else b)
 
-abbrev pub deadline : Row → Option ℕ
+abbrev pub deadline : TableRow → Option ℕ
 deadline row =
     earlier (end_of row.times.timeout row.touched) (end_of row.times.lifetime row.created)
 
@@ -41,16 +41,16 @@ is_before moment (Some end) = nat_lt moment end
 
 -- a row is live exactly up to its deadline
 abbrev pub LivesToDeadline : Type 0
-LivesToDeadline = (row : Row) (moment : ℕ) → is_live moment row ≡ is_before moment (deadline row)
+LivesToDeadline = (row : TableRow) (moment : ℕ) → is_live moment row ≡ is_before moment (deadline row)
 
 -- none of the rows stands under the key of this one
-abbrev pub StandsAlone : Row → List Row → Type 0
+abbrev pub StandsAlone : TableRow → List TableRow → Type 0
 StandsAlone row [] = Unit {0}
 StandsAlone row (other ∷ rows) =
     (is_of row.subtable row.key other ≡ false) × StandsAlone row rows
 
 -- no two rows stand under one key
-abbrev pub KeysAreOnce : List Row → Type 0
+abbrev pub KeysAreOnce : List TableRow → Type 0
 KeysAreOnce [] = Unit {0}
 KeysAreOnce (row ∷ rows) = StandsAlone row rows × KeysAreOnce rows
 
@@ -64,16 +64,16 @@ times key keys = sum_by (λ other. if bytes_eq key other then 1 else 0) keys
 
 -- the keys of a subtable are sorted, and each key of a row stands there once
 abbrev pub KeysAreSorted : Type 0
-KeysAreSorted = (subtable : List ℕ) (rows : List Row)
+KeysAreSorted = (subtable : List ℕ) (rows : List TableRow)
     → IsSortedBy (λ x y. is_lt (slice_cmp nat_cmp x y)) (keys_in subtable rows)
 
 abbrev pub KeysAreAll : Type 0
-KeysAreAll = (subtable key : List ℕ) (rows : List Row) → KeysAreOnce rows
+KeysAreAll = (subtable key : List ℕ) (rows : List TableRow) → KeysAreOnce rows
     → times key (keys_in subtable rows)
     ≡ (if list_any (is_of subtable key) rows then 1 else 0)
 
 -- a row after an `incr` at each of these moments
-abbrev pub counted : Bool → List ℕ → Row → Result Row TclFault
+abbrev pub counted : Bool → List ℕ → TableRow → Result TableRow TclFault
 counted touches [] row = Ok row
 counted touches (moment ∷ moments) row =
     with_value (kept touches (Incr false (pos 1)) moment row)
@@ -81,9 +81,9 @@ counted touches (moment ∷ moments) row =
 
 -- a counter that is incremented n times has its start and n, where that is in range
 abbrev pub CountersCount : Type 0
-CountersCount = (touches : Bool) (moments : List ℕ) (row : Row) (start : ℤ)
+CountersCount = (touches : Bool) (moments : List ℕ) (row : TableRow) (start : ℤ)
     → whole row.text ≡ Some start → is_in_range (start +ℤ pos (length moments)) ≡ true
-    → (last : Row) × (counted touches moments row ≡ Ok last)
+    → (last : TableRow) × (counted touches moments row ≡ Ok last)
     × (whole last.text ≡ Some (start +ℤ pos (length moments)))
 
 -- a fault changes nothing

@@ -16,7 +16,7 @@ use Rattle.session_table.specs.Rows.{is_live, is_of}
 use Rattle.session_table.specs.Tables.{Served, placed}
 use Rattle.session_table.specs.Turns.{Keeps}
 use Rattle.session_table.specs.declared.request.RowCall.{RowCall}
-use Rattle.session_table.specs.declared.row.Row.{Row}
+use Rattle.session_table.specs.declared.row.TableRow.{TableRow}
 
 -- a moment that a deadline may be; a later one never comes
 abbrev pub fitting : ℕ → Option ℕ
@@ -33,11 +33,11 @@ sooner (Some a) None = Some a
 sooner (Some a) (Some b) = Some (if nat_lt a b then a else b)
 
 -- the deadline of a row
-abbrev pub due : Row → Option ℕ
+abbrev pub due : TableRow → Option ℕ
 due row = sooner (ends row.times.timeout row.touched) (ends row.times.lifetime row.created)
 
 -- a row under these names
-abbrev pub named : List ℕ → List ℕ → Row → Row
+abbrev pub named : List ℕ → List ℕ → TableRow → TableRow
 named subtable key row = record row { subtable = subtable; key = key }
 
 -- a subtable and a key of it; they go by the subtable, and then by the key
@@ -54,10 +54,10 @@ is_key subtable key x =
     is_eq (ordering_then (slice_cmp nat_cmp subtable x.0.items) (slice_cmp nat_cmp key x.1.items))
 
 abbrev pub Entries : Type 0
-Entries = List (Key × Timed Row)
+Entries = List (Key × Timed TableRow)
 
 -- the rows, which have their names from their keys
-abbrev pub rows_of : Entries → List Row
+abbrev pub rows_of : Entries → List TableRow
 rows_of es = map (λ e. named e.0.0.items e.0.1.items e.1.0) es
 
 -- each row has its deadline
@@ -70,18 +70,18 @@ goes (Ok text) live = not live
 goes (Err raise) live = false
 
 -- the entries with what became of a key's row, which is gone or stays
-abbrev pub put_kept : List ℕ → List ℕ → Bool → Row → Entries → Entries
+abbrev pub put_kept : List ℕ → List ℕ → Bool → TableRow → Entries → Entries
 put_kept subtable key true row es = remove_entry (is_key subtable key) es
 put_kept subtable key false row es = set_value (is_key subtable key) es (row, due row)
 
 -- a call was made on the row of a key, and what became of it was put in its place
-pub record KeepsRow (result : Result (List ℕ) Raise) (call : RowCall) (moment : ℕ) (subtable key : List ℕ) (row : Row) (old new : Entries) : Type 0 where
-  pub after : Row
+pub record KeepsRow (result : Result (List ℕ) Raise) (call : RowCall) (moment : ℕ) (subtable key : List ℕ) (row : TableRow) (old new : Entries) : Type 0 where
+  pub after : TableRow
   pub keeps : Keeps result row after (kept call.touches call.act moment row)
   pub entries : new ≡ put_kept subtable key (goes result (is_live moment after)) after old
 
 -- where no row stands under the key of a call
-abbrev pub made_new : ℕ → RowCall → ℕ → List Row → Served
+abbrev pub made_new : ℕ → RowCall → ℕ → List TableRow → Served
 made_new limit call moment rows =
     placed limit (is_of call.subtable call.key) None
     (with_value (absent call call.act moment) (λ c. Ok (living moment c))) rows

@@ -8,7 +8,7 @@ ghost use Rattle.session_table.specs.Stored.{put_kept, sooner};
 
 use crate::kept::kept;
 use crate::request::RowCall;
-use crate::{Row, Times};
+use crate::{TableRow, Times};
 use px_bytes::{M, Raise, Text};
 use std::alloc::Global;
 use timed_rows::Rows;
@@ -17,7 +17,7 @@ use timed_rows::Rows;
 pub(crate) type Key = (Vec<u8>, Vec<u8>);
 
 /// Rows without their names.
-pub(crate) type Stored = Rows<Key, Row>;
+pub(crate) type Stored = Rows<Key, TableRow>;
 
 /// The key of these names.
 pub(crate) fn key_named(alloc: Global, subtable: &[u8], key: &[u8]) -> M<Key>
@@ -31,10 +31,10 @@ pub(crate) fn key_named(alloc: Global, subtable: &[u8], key: &[u8]) -> M<Key>
 }
 
 /// A row without names, text and end.
-pub(crate) fn blank(alloc: Global) -> Row
+pub(crate) fn blank(alloc: Global) -> TableRow
     ensures { due result ≡ None }
 {
-    Row {
+    TableRow {
         subtable: Text::empty(alloc),
         key: Text::empty(alloc),
         text: Text::empty(alloc),
@@ -48,7 +48,7 @@ pub(crate) fn blank(alloc: Global) -> Row
 }
 
 /// Adds a row under a key that has none.
-pub(crate) fn insert(alloc: Global, rows: &mut Stored, key: Key, row: Row) -> M<()>
+pub(crate) fn insert(alloc: Global, rows: &mut Stored, key: Key, row: TableRow) -> M<()>
     requires { lookup (is_key key.0.items key.1.items) rows.old ≡ None }
     ensures ok { OnOk result
         (rows.new ≡ insert_entry key_cmp rows.old key (named [] [] row, due row)) }
@@ -65,7 +65,7 @@ pub(crate) fn keep(
     alloc: Global,
     rows: &mut Stored,
     key: &Key,
-    mut row: Row,
+    mut row: TableRow,
     call: RowCall,
     moment: u64,
 ) -> Result<Text, Raise>
@@ -86,7 +86,7 @@ fn goes(reply: &Result<Text, Raise>, live: bool) -> bool
     }
 }
 
-fn put_kept(rows: &mut Stored, key: &Key, goes: bool, row: Row)
+fn put_kept(rows: &mut Stored, key: &Key, goes: bool, row: TableRow)
     ensures { rows.new ≡ put_kept key.now.0.items key.now.1.items goes row rows.old }
 {
     if goes {
@@ -98,10 +98,10 @@ fn put_kept(rows: &mut Stored, key: &Key, goes: bool, row: Row)
 }
 
 // A row without its names.
-fn bare(alloc: Global, row: Row) -> Row
+fn bare(alloc: Global, row: TableRow) -> TableRow
     ensures { result ≡ named [] [] row }
 {
-    Row {
+    TableRow {
         subtable: Text::empty(alloc),
         key: Text::empty(alloc),
         ..row
@@ -109,7 +109,7 @@ fn bare(alloc: Global, row: Row) -> Row
 }
 
 // The deadline of a row, none where it is later than moments are.
-fn due(row: &Row) -> Option<u64>
+fn due(row: &TableRow) -> Option<u64>
     ensures { result ≡ due row.now }
 {
     sooner(

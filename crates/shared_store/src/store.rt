@@ -16,7 +16,7 @@ use crate::{Pools, VirtualTimes};
 use persistence::{Record, Records};
 use pools::{Pool, Wanted};
 use px_bytes::{Addr, M, Reply, Text, Texts, print_addr};
-use session_table::Table;
+use session_table::SessionTable;
 use std::alloc::Global;
 use std::marker::Model;
 
@@ -26,7 +26,7 @@ const ROW_LIMIT: u32 = 65_536;
 /// The session table, the records of source addresses, pools, and the times of virtual servers.
 #[derive(Drop)]
 pub struct Store {
-    table: Table,
+    table: SessionTable,
     records: Records,
     pools: Pools,
     virtuals: VirtualTimes,
@@ -49,7 +49,7 @@ impl Store {
         ensures { result ≡ new_store pools virtuals }
     {
         Store {
-            table: Table::new(alloc, ROW_LIMIT),
+            table: SessionTable::new(alloc, ROW_LIMIT),
             records: Records::new(alloc),
             pools,
             virtuals,

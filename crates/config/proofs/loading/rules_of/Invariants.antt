@@ -1,7 +1,7 @@
 use Rattle.std.proofs.Common.{◌≡◌, ◌≤◌, ℕ, List, ◌++◌, drop}
 use Rattle.toml.specs.View.{items_view}
 use Rattle.config.specs.Loading.{AreLoaded, StopsAt}
-use Rattle.config.specs.declared.fault.Fault.{Fault}
+use Rattle.config.specs.declared.fault.ConfigFault.{ConfigFault}
 use Rattle.config.specs.declared.rule_text.LoadedRule.{LoadedRule}
 use Rattle.config.proofs.loading.rules_of.Given as goal
 
@@ -15,4 +15,4 @@ invariant-loop-value g l =
     × (g.F.Files.told l.files ≡ told)
     × (before ≤ g.F.Files.faults l.files)
     × ((more : List LoadedRule) → AreLoaded told rest more → AreLoaded told all (l.rules ++ more))
-    × ((f : Fault) (now : ℕ) → StopsAt told before now l.at rest f → StopsAt told before now 0 all f)
+    × ((f : ConfigFault) (now : ℕ) → StopsAt told before now l.at rest f → StopsAt told before now 0 all f)

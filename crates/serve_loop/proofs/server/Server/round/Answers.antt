@@ -1,7 +1,7 @@
 use Rattle.std.proofs.Common.{ℕ, List, [], true, refl, ap, ◌∙◌}
 use Rattle.serve_loop.specs.Added.{added}
 use Rattle.serve_loop.specs.declared.fault.ServeFault.TheVariants.{Memory as OutOfMemory}
-use Rattle.serve_loop.specs.declared.work.Work.TheVariants as work
+use Rattle.serve_loop.specs.declared.poll.Poll.TheVariants as work
 use Rattle.serve_loop.specs.Broken.{AreAsks}
 use Rattle.serve_loop.specs.Often.{Each}
 use Rattle.serve_loop.specs.Server.{Round, RunsAndWrites, AsksLinks, AsksAll}

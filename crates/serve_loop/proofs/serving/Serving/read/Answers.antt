@@ -1,6 +1,6 @@
 use Rattle.std.proofs.Common.{refl, subst}
 use Rattle.px_outside.specs.declared.answers.ReadyAt.TheVariants as ready
-use Rattle.serve_loop.specs.declared.asked.Asked.TheVariants as is
+use Rattle.serve_loop.specs.declared.polled.Polled.TheVariants as is
 use Rattle.serve_loop.specs.Asking.{AskedOnce}
 use Rattle.serve_loop.proofs.Compose.{part_nothing}
 use Rattle.serve_loop.proofs.serving.Serving.read.Goals as goal

@@ -1,5 +1,5 @@
 use Rattle.std.proofs.Common.{true, refl}
-use Rattle.serve_loop.specs.declared.asked.Asked.TheVariants as is
+use Rattle.serve_loop.specs.declared.polled.Polled.TheVariants as is
 use Rattle.serve_loop.specs.Running.{PairOnce}
 use Rattle.serve_loop.proofs.Compose.{part_at, part_nothing}
 use Rattle.serve_loop.specs.declared.fault.ServeFault.TheVariants.{Memory as OutOfMemory}

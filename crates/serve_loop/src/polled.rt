@@ -4,7 +4,7 @@ ghost use Rattle.std.specs.Prelude.{◌≡◌, IfOk, take};
 ghost use Rattle.px_outside.specs.Net.{got};
 ghost use Rattle.core_events.specs.Face.{from_event, end_event, reset_event, took_event};
 ghost use Rattle.serve_loop.specs.Events.{read_event, write_event};
-ghost use Rattle.serve_loop.specs.declared.asked.Asked.TheVariants as is;
+ghost use Rattle.serve_loop.specs.declared.polled.Polled.TheVariants as is;
 ghost use Rattle.serve_loop.specs.Asking.{read_over};
 ghost use Rattle.std.specs.Prelude.{if◌then◌else◌};
 
@@ -16,7 +16,7 @@ use std::alloc::Global;
 
 /// What asking a listener or a link comes to.
 #[derive(Clone, Copy, PartialEq, Eq)]
-pub enum Asked {
+pub enum Polled {
     /// It gave something, and may give more.
     Again,
     /// It may not be asked now.
@@ -101,13 +101,13 @@ pub fn write_to_event(conn: u32, side: Side, answer: WriteAnswer) -> Option<Even
 }
 
 /// Whether a link gave bytes, and may give more.
-pub fn asked_by(answer: ReadAnswer) -> Asked
+pub fn asked_by(answer: ReadAnswer) -> Polled
     ensures { result ≡ (if read_over answer then is.Over else is.Again) }
 {
     match answer {
-        ReadAnswer::Got(_) => Asked::Again,
-        ReadAnswer::NotYet => Asked::Over,
-        ReadAnswer::End => Asked::Over,
-        ReadAnswer::Reset => Asked::Over,
+        ReadAnswer::Got(_) => Polled::Again,
+        ReadAnswer::NotYet => Polled::Over,
+        ReadAnswer::End => Polled::Over,
+        ReadAnswer::Reset => Polled::Over,
     }
 }

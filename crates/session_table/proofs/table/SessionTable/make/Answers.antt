@@ -1,7 +1,7 @@
 use Rattle.std.proofs.Common.{subst}
 use Rattle.session_table.specs.Serves.{Serves}
 use Rattle.session_table.proofs.Turning.{came_names, made_served}
-use Rattle.session_table.proofs.table.Table.make.Goals as goal
+use Rattle.session_table.proofs.table.SessionTable.make.Goals as goal
 
 pub add-requires-clause-names : goal.add-requires-clause-names
 add-requires-clause-names c =

@@ -2,7 +2,7 @@
 
 /// What is done with each number of a list.
 #[derive(Clone, Copy)]
-pub enum Work {
+pub enum Poll {
     /// A listener is asked for connections.
     Listener,
     /// A link is asked for bytes, or for the answer to its connect.

@@ -5,7 +5,7 @@ use Rattle.session_table.specs.Stored.{Dues, due, named, rows_of}
 use Rattle.session_table.specs.Tables.{TableState, added}
 use Rattle.session_table.proofs.Turning.{add_served, state}
 use Rattle.session_table.proofs.UnderKeys.{dues_insert, none_found}
-use Rattle.session_table.proofs.table.Table.add.Goals as goal
+use Rattle.session_table.proofs.table.SessionTable.add.Goals as goal
 
 pub insert-requires : goal.insert-requires
 insert-requires c = none_found c.args.key.0.items c.args.key.1.items c.self.inside.rows (rw (← c.self.view_is) at c.requires.absent)
