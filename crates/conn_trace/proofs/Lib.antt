@@ -30,6 +30,7 @@ pub mod Speaking
 pub mod Unread
 pub mod PlacesFit
 pub mod PendingFits
+pub mod TheHeads
 pub mod Lying
 pub mod Costs
 pub mod PaidOn

@@ -4,6 +4,7 @@ use Rattle.std.specs.Prelude.{ℕ, ◌<◌, ◌≤◌, List, [], ◌∷◌, leng
 use Rattle.px_bytes.specs.declared.addr.Side.{Side}
 use Rattle.px_bytes.specs.declared.fault.HttpFault.{HttpFault}
 use Rattle.conn_trace.specs.Gates.{TakenCounts, no_bytes, to_take, sent_from, Met}
+use Rattle.conn_trace.specs.Http.{the_heads}
 use Rattle.conn_trace.specs.Item.{Item, Passed}
 use Rattle.conn_trace.specs.Queries.{unread_limit}
 use Rattle.conn_trace.specs.Setup.{Setup}
@@ -86,6 +87,10 @@ pub record HeadsFit (g : Setup) : Type 0 where
   pub interim : (r : Response) → ResponseWithin read_limit (Some r.head)
       → length (g.heads.interim r) ≤ 131072
   pub refusal : (f : HttpFault) → length (g.heads.refusal f) ≤ refusal_limit
+
+-- Those of every connection that speaks HTTP do.
+abbrev pub TheHeadsFit : Type 0
+TheHeadsFit = (g : Setup) → g.heads ≡ the_heads → HeadsFit g
 
 -- Where each item met its gate, and none passed on more than may lie unread, fewer are pending than
 -- 2,400,000: 65,535 at a gate, and behind it at most twice 1,114,112 of the bodies of one event

@@ -1,31 +1,41 @@
 -- What a connection knows of the messages of one request, as they begin and as their bodies are gathered.
 use Rattle.std.specs.Prelude.{ℕ, ◌+◌, ◌-◌, List, [], ◌++◌, length, min}
-use Rattle.std.specs.Prelude.{Bool, true, false, ◌&&◌, ◌||◌, not, Option, Some, None, Result, Err}
+use Rattle.std.specs.Prelude.{Bool, true, false, not, Option, Some, None, Result, Err}
 use Rattle.std.specs.Prelude.{if◌then◌else◌}
 use Rattle.px_bytes.specs.declared.addr.Side.{Side}
 use Rattle.px_bytes.specs.declared.fault.HttpFault.{HttpFault}
 use Rattle.px_bytes.specs.declared.fault.HttpFault.TheVariants.{BadHead}
 use Rattle.http_frames.specs.States.{beginning}
-use Rattle.http_frames.specs.declared.state.Body.{Body}
-use Rattle.http_frames.specs.declared.state.Body.TheVariants as body
 use Rattle.http_frames.specs.declared.state.BodyState.{BodyState}
 use Rattle.http_frames.specs.declared.state.BodyState.TheVariants as state
 use Rattle.irule_http.specs.Payload.{payload_limit}
-use Rattle.irule_http.specs.State.{no_http, persists_by}
+use Rattle.http_answers.specs.Refusals.{refusal}
+use Rattle.http_messages.specs.Messages.{request_of, response_of}
+use Rattle.irule_http.specs.Sent.{client_closes, interim_head, sent_head}
+use Rattle.irule_http.specs.State.{no_http}
 use Rattle.irule_http.specs.declared.state.Http.{Http}
 use Rattle.irule_http.specs.declared.state.Request.{Request}
 use Rattle.irule_http.specs.declared.state.Response.{Response}
 use Rattle.conn_trace.specs.Fronts.{is_at_end}
 
--- How heads are read and written (`http_heads`, `http_frames`): a request's with its faults; a
--- response's by the request that it answers; the head of either message as it is sent on; a response
--- before the final one; the answer to a fault.
+-- How heads are read and written: a request's with its faults; a response's by the request that it answers; the head
+-- of either message as it is sent on; a response before the final one; the answer to a fault.
 pub record Heads : Type 0 where
   pub request : List ℕ → Result Request HttpFault
   pub response : Option Request → List ℕ → Result Response HttpFault
   pub sent : Side → Http → List ℕ
   pub interim : Response → List ℕ
   pub refusal : HttpFault → List ℕ
+
+-- as every connection that speaks HTTP does it
+abbrev pub the_heads : Heads
+the_heads = record {
+  request = request_of;
+  response = response_of;
+  sent = sent_head;
+  interim = interim_head;
+  refusal = refusal;
+}
 
 -- where no HTTP is spoken no head is read
 abbrev pub no_heads : Heads
@@ -71,21 +81,9 @@ abbrev pub server_persisting : Option Response → Bool
 server_persisting None = true
 server_persisting (Some r) = r.persists
 
-abbrev pub lasts_to_end : Body → Bool
-lasts_to_end body.ToEnd = true
-lasts_to_end b = false
-
-abbrev pub reads_to_end : Option Response → Bool
-reads_to_end None = false
-reads_to_end (Some r) = lasts_to_end r.body
-
--- the client connection goes on behind its message: an answer of a rule says so, else the heads
-abbrev pub goes_on_by : Option Bool → Http → Bool
-goes_on_by (Some closing) h = not (closing || h.closes)
-goes_on_by None h = (persists_by h.came && not h.closes) && not (reads_to_end h.answered_by)
-
+-- the client connection goes on behind its message, or behind a rule's answer
 abbrev pub client_goes_on : Http → Bool
-client_goes_on h = goes_on_by h.answer h
+client_goes_on h = not (client_closes h)
 
 -- ---- what is gathered
 

@@ -1,6 +1,6 @@
 // Laws of the trace.
 
-ghost use Rattle.conn_trace.specs.Bounds.{PendingIsBounded, UnreadStaysWithin};
+ghost use Rattle.conn_trace.specs.Bounds.{PendingIsBounded, TheHeadsFit, UnreadStaysWithin};
 ghost use Rattle.conn_trace.specs.Laws.{
   ChoicesJoin,
   ClientIsRead,
@@ -271,6 +271,11 @@ pub fn unread_stays_within()
 /// Where each item met its gate fewer than 2,400,000 bytes are pending to a side.
 pub fn pending_is_bounded()
     ensures { PendingIsBounded }
+{}
+
+/// Heads as every connection that speaks HTTP reads and writes them keep the limits that this asks of them.
+pub fn the_heads_fit()
+    ensures { TheHeadsFit }
 {}
 
 /// HTTP is spoken by a connection throughout, or never: with it no collect of a side is asked, and without it no

@@ -1,3 +1,3 @@
 pub mod Answering
 mod Composing
-mod Refusing
+pub mod Refusing

@@ -82,7 +82,7 @@ impl HttpScene {
             return;
         };
         self.http.answered_by = response(question, &self.response, came);
-        self.http.response = response_head(question, &self.response);
+        self.http.response = response_head(question, &self.response, came);
         if let Some(response) = &self.http.answered_by {
             self.http.body = response.body;
             self.http.reader = start(response.body);

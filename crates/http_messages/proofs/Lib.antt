@@ -1,0 +1,3 @@
+pub mod Short
+mod Rows
+mod Told
