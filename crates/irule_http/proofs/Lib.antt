@@ -4,3 +4,4 @@ pub mod Refusals
 mod Rows
 pub mod SentHeads
 pub mod Sending
+pub mod Once

@@ -1,5 +1,5 @@
 -- What holds of HTTP commands, one after another.
-use Rattle.std.specs.Prelude.{◌≡◌, ℕ, ◌+◌, ◌≤◌, true, List, [], ◌∷◌, ◌++◌, length, Option, Some, None}
+use Rattle.std.specs.Prelude.{◌≡◌, ◌⊎◌, ℕ, ◌+◌, ◌≤◌, true, false, List, [], ◌∷◌, ◌++◌, length, Option, Some, None}
 use Rattle.std.specs.Prelude.{is_some, sum_by, ⊤}
 use Rattle.px_bytes.specs.Host.{Effect, Gives, Faults, Asks, Logged, Sent}
 use Rattle.px_bytes.specs.declared.addr.Side.TheVariants.{Client, Server}
@@ -127,3 +127,22 @@ SendsAnswers request (Sent Server bytes ∷ effects) = ⊥
 abbrev pub AnswersReadBack : Type 0
 AnswersReadBack = (event : EventName) (h : Http) (words : List (List ℕ)) → sum_by length words ≤ text_limit
     → SendsAnswers h.request (made (http_step event h words))
+
+-- nothing is sent, and whether a rule has answered is as before
+pub record SendsNothing (h : Http) (step : Step) : Type 0 where
+  pub sent : made step ≡ []
+  pub same : is_some (left step).answer ≡ is_some h.answer
+
+-- the answer is sent, where no rule has answered before
+pub record SendsAnswer (h : Http) (step : Step) : Type 0 where
+  pub bytes : List ℕ
+  pub sent : made step ≡ Sent Client bytes ∷ []
+  pub before : is_some h.answer ≡ false
+  pub after : is_some (left step).answer ≡ true
+
+abbrev pub Once : Http → Step → Type 0
+Once h step = SendsNothing h step ⊎ SendsAnswer h step
+
+-- A command sends nothing, or it is the one answer of a rule to the request at hand.
+abbrev pub AnswersGoAlone : Type 0
+AnswersGoAlone = (event : EventName) (h : Http) (words : List (List ℕ)) → Once h (http_step event h words)

@@ -1,6 +1,7 @@
 // What holds of HTTP commands.
 
 ghost use Rattle.irule_http.specs.Laws.{AnsweredOnce, AnswersAreBounded, AnswersAreCounted};
+ghost use Rattle.irule_http.specs.Laws.{AnswersGoAlone};
 ghost use Rattle.irule_http.specs.Laws.{AnswersReadBack};
 ghost use Rattle.irule_http.specs.Laws.{FaultsChangeNothing, HeadsFit, KeepsMessage, PayloadFits};
 ghost use Rattle.irule_http.specs.Sent.{InterimHeadsFit, SentHeadsFit, SentRequestIsRead};
@@ -69,4 +70,9 @@ pub fn sent_request_is_read()
 /// The same of responses, where they have at most 100 fields.
 pub fn sent_response_is_read()
     ensures { SentResponseIsRead }
+{}
+
+/// The law that a command sends nothing, or the one answer of a rule to the request at hand.
+pub fn answers_go_alone()
+    ensures { AnswersGoAlone }
 {}

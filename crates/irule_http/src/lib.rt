@@ -19,7 +19,7 @@ mod words;
 
 pub use command::http_command;
 pub use laws::{
-    answered_once, answers_are_bounded, answers_are_counted, answers_read_back,
+    answered_once, answers_are_bounded, answers_are_counted, answers_go_alone, answers_read_back,
     faults_change_nothing, heads_fit, interim_heads_fit, keeps_message, payload_fits,
     sent_heads_fit, sent_request_is_read, sent_response_is_read,
 };
