@@ -1,3 +1,3 @@
 pub mod Answering
 mod Composing
-pub mod Refusing
+mod Refusing
