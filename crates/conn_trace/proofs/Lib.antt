@@ -8,6 +8,7 @@ pub mod Given
 pub mod Spelling
 pub mod Rows
 pub mod HttpRows
+pub mod WebRows
 pub mod HeardRows
 pub mod TableRows
 pub mod Telling
