@@ -23,6 +23,7 @@ use Rattle.http_frames.specs.declared.state.Body.{Body}
 use Rattle.http_frames.specs.declared.state.Body.TheVariants as body
 use Rattle.http_answers.specs.Answers.{reason_of}
 use Rattle.irule_net.specs.declared.state.Target.TheVariants.{NodeAt}
+use Rattle.irule_http.specs.State.{no_http}
 use Rattle.irule_http.specs.declared.state.Request.{Request}
 use Rattle.irule_http.specs.declared.state.Response.{Response}
 use Rattle.conn_trace.specs.Gates.{Counts, TakenCounts, may_give}
@@ -31,9 +32,9 @@ use Rattle.conn_trace.specs.Http.{Heads}
 use Rattle.conn_trace.specs.Item.{Item, Opened, BeforeBodies, Resumed, Connected, Answered, Moved, Read, Sent, Ran, Reused, Retires, Finished, Closed, Http as HttpReason, ToClient, ToServer, Reuses}
 use Rattle.conn_trace.specs.Messages.{request_host, response_host}
 use Rattle.conn_trace.specs.Places.{begun}
-use Rattle.conn_trace.specs.Routing.{detaching, routed}
+use Rattle.conn_trace.specs.Routing.{chosen, detaching, routed}
 use Rattle.conn_trace.specs.Setup.{Handler, Setup}
-use Rattle.conn_trace.specs.State.{Answers, BeforeSelect, GivingUp, TraceState, ForBytes, ForReuse, Up, Waits, no_answers}
+use Rattle.conn_trace.specs.State.{Answers, AtReuse, BeforeSelect, GivingUp, TraceState, ForBytes, ForReuse, Up, Waits, no_answers}
 use Rattle.conn_trace.specs.Trace.{next_item, trace, behind, start}
 use Rattle.conn_trace.proofs.Rows.{setup, no_handlers, node_at, towards, stream, responds}
 
@@ -255,15 +256,28 @@ drained_row = refl
 
 -- ---- giving a server connection up
 
+-- the open one serves the request's choice, and so it is used again
+abbrev served : HostState
+served = by_host (first_host (web_setup no_handlers))
+  where
+    by_host : HostState → HostState
+    by_host h = record h { http = Some (record no_http { serves = Some (chosen h) }) }
+
+served_row : routed Up served ≡ AtReuse
+served_row = refl
+
+next_served_row : (r : Request) → routed Up (request_host r served) ≡ AtReuse
+next_served_row r = refl
+
 -- a rule gave it up in an event of the request
 abbrev detached : HostState
-detached = by_net (first_host (web_setup no_handlers))
+detached = by_net served
   where
     by_net : HostState → HostState
     by_net h = record h { net = record h.net { wishes = record h.net.wishes { detaches = true } } }
 
--- the next event doesn't forget it, nor where the request goes then
-detach_row : routed Up (begun HttpRequestData Up detached) ≡ GivingUp BeforeSelect
+-- the next events don't forget it, nor where the request goes then
+detach_row : routed Up (begun HttpRequestData Up (begun HttpRequestData Up detached)) ≡ GivingUp BeforeSelect
 detach_row = refl
 
 -- the next request does, and the response
