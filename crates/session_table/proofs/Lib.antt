@@ -6,3 +6,4 @@ pub mod OnceKeys
 pub mod UnderKeys
 pub mod Subtables
 pub mod Turning
+pub mod Living

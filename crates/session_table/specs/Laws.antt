@@ -3,7 +3,7 @@ use Rattle.std.specs.Prelude.{◌≡◌, ℕ, ◌+◌, ◌*◌, ◌≤◌, ℤ, 
 use Rattle.std.specs.Prelude.{◌∷◌, length, Option, Some, None, Result, Ok, Err, nat_lt}
 use Rattle.std.specs.Prelude.{sum_by, if◌then◌else◌}
 use Rattle.std.specs.Cmp.Lexicographic.{slice_cmp}
-use Rattle.std.specs.List.{list_any}
+use Rattle.std.specs.List.{AllPass, list_any}
 use Rattle.std.specs.List.Sorted.{IsSortedBy}
 use Rattle.std.specs.Ordering.{is_lt, nat_cmp}
 use Rattle.std.specs.Str.{bytes_eq}
@@ -12,7 +12,7 @@ use Rattle.px_bytes.specs.Whole.{whole}
 use Rattle.px_bytes.specs.declared.fault.TclFault.{TclFault}
 use Rattle.session_table.specs.Answers.{is_in_range, kept, touched}
 use Rattle.session_table.specs.Rows.{is_live, is_of}
-use Rattle.session_table.specs.Tables.{TableState, after, keys_in, live_served}
+use Rattle.session_table.specs.Tables.{TableState, after, keys_in, live_after, live_served}
 use Rattle.session_table.specs.declared.request.Act.TheVariants.{Incr}
 use Rattle.session_table.specs.declared.row.TableRow.{TableRow}
 
@@ -91,3 +91,9 @@ abbrev pub FaultsChangeNothing : Type 0
 FaultsChangeNothing = (table : TableState) (moment : ℕ) (words : List (List ℕ)) (fault : TclFault)
     → (live_served table moment words).given ≡ Err fault
     → (live_served table moment words).rows ≡ table.rows
+
+-- where all rows are live at a moment, a call at it leaves live rows alone
+abbrev pub LiveRowsStay : Type 0
+LiveRowsStay = (table : TableState) (moment : ℕ) (words : List (List ℕ))
+    → AllPass (is_live moment) table.rows
+    → AllPass (is_live moment) (live_after table moment words).rows

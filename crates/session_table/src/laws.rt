@@ -2,7 +2,7 @@
 
 ghost use Rattle.session_table.specs.Laws.{CountersCount, FaultsChangeNothing, KeysAreAll};
 ghost use Rattle.session_table.specs.Laws.{KeysAreSorted, KeysStayOnce, LivesToDeadline};
-ghost use Rattle.session_table.specs.Laws.{TouchNeverShortens};
+ghost use Rattle.session_table.specs.Laws.{LiveRowsStay, TouchNeverShortens};
 
 /// The law that to touch a row never shortens its life.
 pub fn touch_never_shortens()
@@ -37,4 +37,9 @@ pub fn counters_count()
 /// The law that a fault changes nothing.
 pub fn faults_change_nothing()
     ensures { FaultsChangeNothing }
+{}
+
+/// The law that a call at a moment leaves live rows, where all were live.
+pub fn live_rows_stay()
+    ensures { LiveRowsStay }
 {}

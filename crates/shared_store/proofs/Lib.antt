@@ -1,2 +1,3 @@
 mod FirstPool
 mod Unmarked
+pub mod Living

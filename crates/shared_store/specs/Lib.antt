@@ -1,3 +1,4 @@
 pub mod Sources
 pub mod Calls
 pub mod Store
+pub mod Laws

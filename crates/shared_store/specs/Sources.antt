@@ -10,10 +10,10 @@ use Rattle.shared_store.specs.declared.source.Source.{Source}
 abbrev pub has_name : List ℕ → VirtualTime → Bool
 has_name name v = bytes_eq name v.name
 
--- A virtual server is known by its place, a number of 32 bits.
+-- A virtual server is known by its place, a number of 32 bits. Where its records last no time it keeps none.
 abbrev pub source_by : ℕ → VirtualTime → ℕ → Option Source
 source_by at v ip =
-    if v.by_source && nat_lt at (2 ^ 32)
+    if v.by_source && (nat_lt 0 v.timeout && nat_lt at (2 ^ 32))
     then Some (record { virtual_server = at; timeout = v.timeout; ip = ip }) else None
 
 abbrev pub source_at : ℕ → Option VirtualTime → Option ℕ → Option Source

@@ -39,7 +39,7 @@ fn place(virtuals: &VirtualTimes, name: &[u8]) -> Option<usize>
 fn source_by(at: usize, server: &VirtualTime, ip: u32) -> Option<Source>
     ensures { result ≡ source_by at server.now ip }
 {
-    if !server.by_source {
+    if !server.by_source || server.timeout == 0 {
         return None;
     }
     Some(Source {

@@ -73,6 +73,15 @@ impl Store {
         ensures err { OnErr result (self.new ≡ at_moment moment self.old) }
     {
         self.expire(moment);
+        self.reply(alloc, call, moment)
+    }
+
+    /// The same where all rows and records are live at the moment; what isn't live counts too.
+    pub fn reply(&mut self, alloc: Global, call: &Texts, moment: u64) -> M<Reply>
+        ensures reply { IfOk result (λ r. r ≡ (live_reply self.old moment call.now).reply) }
+        ensures after { OnOk result (self.new ≡ (live_reply self.old moment call.now).after) }
+        ensures err { OnErr result (self.new ≡ self.old) }
+    {
         self.live_reply(alloc, call.as_slice(), moment)
     }
 
