@@ -7,3 +7,4 @@ pub mod UnderKeys
 pub mod Subtables
 pub mod Turning
 pub mod Living
+pub mod Dumps

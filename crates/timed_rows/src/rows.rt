@@ -2,6 +2,7 @@
 
 ghost use Rattle.std.specs.Prelude.{◌≡◌, ◌<◌, ◌^◌, [], None, true, OnOk, OnErr, length};
 ghost use Rattle.std.specs.Option.{option_copied};
+ghost use Rattle.std.specs.List.Sorted.{IsStrictlySortedBy};
 ghost use Rattle.std.specs.Map.{keys_of, lookup, remove_entry, set_value};
 ghost use Rattle.std.specs.Map.Iter.{ShowsInOrder, deref};
 ghost use Rattle.std.specs.BTreeMap.{insert_entry, is_at};
@@ -61,6 +62,7 @@ impl<K: Ord + Drop, T: Drop> Rows<K, T> {
     /// The keys, each below those behind it.
     pub fn keys(&self) -> Keys<'_, K, TimedValue<T>>
         ensures rest { result ≡ keys_of self.now }
+        ensures sorted { IsStrictlySortedBy K.cmp (keys_of self.now) }
         ensures fits { length self.now < 2 ^ 63 }
         ensures runs { ShowsInOrder (deref {X = K}) }
     {
