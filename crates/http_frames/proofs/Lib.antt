@@ -5,6 +5,7 @@ mod Fronts
 mod HexDigits
 pub mod Lines
 pub mod Longer
+pub mod LookedOnce
 pub mod Needles
 pub mod NextUnits
 mod Numbers

@@ -15,4 +15,4 @@ pub use laws::{
     parts_stay, unit_is_one,
 };
 pub use state::{Body, BodyState, go_on, start};
-pub use unit::{Unit, next_unit};
+pub use unit::{Unit, next_unit, next_unit_behind};

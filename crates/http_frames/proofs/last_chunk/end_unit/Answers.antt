@@ -1,14 +1,13 @@
-use Rattle.std.proofs.Common.{◌≡◌, ℕ, ◌-◌, List, None, ◌∙◌, ap, drop, take, length, length-drop, subst, arith}
-use Rattle.std.proofs.lemmas.List.{take_all}
-use Rattle.memchr.specs.Find.{FindsNeedle}
-use Rattle.seg_buffer.specs.Bytes.{crlf2}
-use Rattle.http_frames.specs.Units.{open_trailers}
+use Rattle.std.proofs.Common.{◌+◌, ◌-◌, sym, subst}
+use Rattle.http_frames.specs.Looked.{IsEndOf, NoEnd}
+use Rattle.http_frames.proofs.LookedOnce.{rest_is}
 use Rattle.http_frames.proofs.last_chunk.end_unit.Goals as goal
 
-text_is : (at : ℕ) (held : List ℕ) → take (length held - at) (drop at held) ≡ drop at held
-text_is at held = take_all (length held - at) (drop at held) (omega (arith, length-drop at held))
+pub end_behind-requires-clause-looked : goal.end_behind-requires-clause-looked
+end_behind-requires-clause-looked c =
+    rw c.saturating_sub.ensures
+    (subst (λ t. NoEnd t (c.args.looked - (c.args.at + 3))) (sym (rest_is c.args.at c.args.held.now c.requires.inside)) c.requires.looked)
 
-pub returns-in-None : goal.returns-in-None
-returns-in-None c =
-    let same = text_is c.args.at c.args.held.now in
-    (None, subst (λ t. FindsNeedle t crlf2 0 None) same c.in-None.ensures, c.open_trailers.ensures ∙ ap (λ t. open_trailers t c.args.ended) same)
+pub returns : goal.returns
+returns c =
+    subst (λ t. IsEndOf c.args.at t c.args.ended c.end_behind.result) (rest_is c.args.at c.args.held.now c.requires.inside) c.end_behind.ensures

@@ -1,6 +1,6 @@
-use Rattle.std.proofs.Common.{◌≡◌, false, drop}
+use Rattle.std.proofs.Common.{◌≡◌, drop}
 use Rattle.http_frames.specs.Units.{is_paired}
 use Rattle.http_frames.proofs.last_chunk.is_paired.Given as goal
 
 abbrev pub invariant-loop-byte : goal.invariant-loop-byte
-invariant-loop-byte l = is_paired l.behind (drop l.byte-index l.text) ≡ is_paired false l.text
+invariant-loop-byte l = is_paired l.after (drop l.byte-index l.text) ≡ is_paired l.behind l.text

@@ -2,7 +2,7 @@ use Rattle.std.proofs.Common.{ap, sym, ◌∙◌}
 use Rattle.http_frames.specs.NextUnit.{unit_of}
 use Rattle.http_frames.specs.declared.state.BodyState.TheVariants as state
 use Rattle.http_frames.proofs.NextUnits.{unit_value}
-use Rattle.http_frames.proofs.unit.next_unit.Goals as goal
+use Rattle.http_frames.proofs.unit.next_unit_behind.Goals as goal
 
 pub returns-in-FirstLine-clause-value : goal.returns-in-FirstLine-clause-value
 returns-in-FirstLine-clause-value c =
