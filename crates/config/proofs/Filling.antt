@@ -22,7 +22,7 @@ There {A} o = (x : A) × (o ≡ Some x)
 mapped : {A B : Type 0} (f : A → B) (o : Option A) → There o → There (option_map f o)
 mapped f o p = (f p.0, ap (option_map f) p.1)
 
-classes_there : (gs : List loaded.NamedGroup) → list_all has_keys gs ≡ true → There (made_classes gs)
+classes_there : (gs : List loaded.GroupSettings) → list_all has_keys gs ≡ true → There (made_classes gs)
 classes_there [] e = ([], refl)
 classes_there (g ∷ gs) e =
     let both = and_parts (has_keys g) (list_all has_keys gs) e in

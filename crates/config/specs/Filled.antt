@@ -23,21 +23,21 @@ use Rattle.config.specs.declared.made_groups.Made.{Made}
 
 -- ---- data groups and pools
 
-abbrev pub class_of : loaded.NamedGroup → NamedGroup
+abbrev pub class_of : loaded.GroupSettings → NamedGroup
 class_of g = record { name = g.name; group = record { kind = g.kind; rows = g.rows } }
 
 -- each key is of the group's kind
-abbrev pub has_keys : loaded.NamedGroup → Bool
+abbrev pub has_keys : loaded.GroupSettings → Bool
 has_keys g = is_none (bad_key g.kind g.rows)
 
-abbrev pub made_class : loaded.NamedGroup → Option NamedGroup
+abbrev pub made_class : loaded.GroupSettings → Option NamedGroup
 made_class g = if has_keys g then Some (class_of g) else None
 
 abbrev pub with_class : Option NamedGroup → Option (List NamedGroup) → Option (List NamedGroup)
 with_class None more = None
 with_class (Some class) more = option_map (λ classes. class ∷ classes) more
 
-abbrev pub made_classes : List loaded.NamedGroup → Option (List NamedGroup)
+abbrev pub made_classes : List loaded.GroupSettings → Option (List NamedGroup)
 made_classes [] = Some []
 made_classes (g ∷ gs) = with_class (made_class g) (made_classes gs)
 

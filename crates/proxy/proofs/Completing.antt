@@ -18,7 +18,7 @@ use Rattle.journal_value.proofs.NoJournal.{fault_has_no_journal}
 use Rattle.proxy.proofs.OneRun.{told_is, same_run, not_faulty}
 use Rattle.proxy.proofs.WholeReading.{whole_has_no_fault}
 
-module _ (told : List ℕ → Option (List ℕ)) (rb rn : ℕ) (name : List ℕ) (C : loaded.Config) (m : MayLoad told name C) where
+module _ (told : List ℕ → Option (List ℕ)) (rb rn : ℕ) (name : List ℕ) (C : loaded.LoadedConfig) (m : MayLoad told name C) where
   loads_rightly : (text : List ℕ) → TellsFault told rb rn name text → ⊥
   loads_rightly text t = not_faulty told name C m rb rn t.fault t.faulty.was_read t.faulty.answers
 

@@ -51,7 +51,7 @@ cut_due text due old new is (inr front) = inr (text, is, front)
 module _ (told : List ℕ → Option (List ℕ)) (old new : Option (List ℕ)) (rb rn b n : ℕ) where
   -- `check`
   module _ (name : List ℕ) where
-    pub checked : (C : loaded.Config) → Answers told rb rn name (Ok C) → (end : End) → Tells ok_text Done old new b n end → ChecksFile name told old new rb rn b n end
+    pub checked : (C : loaded.LoadedConfig) → Answers told rb rn name (Ok C) → (end : End) → Tells ok_text Done old new b n end → ChecksFile name told old new rb rn b n end
     checked C answers end tells =
         let some : LoadsSome told name = (C, loads told rb rn name C answers) in
         by_end ok_text Done old new b n (λ e. ChecksFile name told old new rb rn b n e)
@@ -73,7 +73,7 @@ module _ (told : List ℕ → Option (List ℕ)) (old new : Option (List ℕ)) (
 
   -- `explain`
   module _ (name : List ℕ) where
-    pub explained : (C : loaded.Config) → Answers told rb rn name (Ok C) → (end : End) → Tells (loads_text name C.settings.virtuals) Done old new b n end → ExplainsFile name told old new rb rn b n end
+    pub explained : (C : loaded.LoadedConfig) → Answers told rb rn name (Ok C) → (end : End) → Tells (loads_text name C.settings.virtuals) Done old new b n end → ExplainsFile name told old new rb rn b n end
     explained C answers end tells =
         let is = loads told rb rn name C answers in
         let text = loads_text name C.settings.virtuals in
@@ -115,7 +115,7 @@ module _ (told : List ℕ → Option (List ℕ)) (old new : Option (List ℕ)) (
     replay_refused (refused.Fault f) answers end t = replay_fault f (is_read_fault f.kind) refl answers end t
     replay_refused refused.Memory answers end t = subst (λ e. ReplaysFiles named told old new rb rn b n e) (sym t.0) (inl t.1)
 
-    pub not_built : (C : loaded.Config) → Answers told rb rn named.config (Ok C) → run_of C ≡ None → (end : End) → Tells not_built_text Config old new b n end → ReplaysFiles named told old new rb rn b n end
+    pub not_built : (C : loaded.LoadedConfig) → Answers told rb rn named.config (Ok C) → run_of C ≡ None → (end : End) → Tells not_built_text Config old new b n end → ReplaysFiles named told old new rb rn b n end
     not_built C answers none end t =
         let is : IsNotBuilt told named.config = not_run told named.config C (loads told rb rn named.config C answers) none in
         by_end not_built_text Config old new b n (λ e. ReplaysFiles named told old new rb rn b n e)
@@ -123,7 +123,7 @@ module _ (told : List ℕ → Option (List ℕ)) (old new : Option (List ℕ)) (
         (λ part. cut_due not_built_text (IsDue told rb rn named) old new (inl (inr (is, refl))) part) end t
 
     -- the schedule can't be read
-    pub unread : (C : loaded.Config) (K : core.Config) → Loads told named.config C → IsRun C K → (why : Failed) → (why ≡ failed.Failed → Rose rb rn) → new ≡ old → ReplaysFiles named told old new rb rn b n (end_of_read why)
+    pub unread : (C : loaded.LoadedConfig) (K : core.Config) → Loads told named.config C → IsRun C K → (why : Failed) → (why ≡ failed.Failed → Rose rb rn) → new ≡ old → ReplaysFiles named told old new rb rn b n (end_of_read why)
     unread C K loaded is failed.Failed rose same = (rose refl, inr (C, K, loaded, is), same)
     unread C K loaded is failed.Memory rose same = inl same
 

@@ -47,11 +47,11 @@ module _ {S T : Type 0} (did : S → Call → S → Type 0) (gave : S → ℕ �
     refused config.Memory answers same = inr same
     refused (config.Fault f) answers same = refused_fault f (is_read_fault f.kind) refl answers same
 
-    pub not_built : (C : loaded.Config) → Answers told old.reads new.reads s.config (Ok C) → run_of C ≡ None → Untouched old new → To is.Config
+    pub not_built : (C : loaded.LoadedConfig) → Answers told old.reads new.reads s.config (Ok C) → run_of C ≡ None → Untouched old new → To is.Config
     not_built C answers none same =
         ((_, inr (not_run told s.config C (loads told old.reads new.reads s.config C answers) none, refl)), same)
 
-    pub served : (C : loaded.Config) (K : core.Config) → Answers told old.reads new.reads s.config (Ok C) → IsRun C K → (r : Result ServeEnd ServeFault)
+    pub served : (C : loaded.LoadedConfig) (K : core.Config) → Answers told old.reads new.reads s.config (Ok C) → IsRun C K → (r : Result ServeEnd ServeFault)
         → IfOk r (ServesConfig did gave ticked K s.conns s.turns old.net new.net old.clock new.clock old.written new.written)
         → IfErr r (λ why. StopsConfig did gave ticked K s.conns s.turns why old.net new.net old.clock new.clock old.written new.written)
         → IfErr r (FromNetOrSink old.net_faults new.net_faults old.writes new.writes) → To (end_of r)

@@ -29,7 +29,7 @@ AreTold told no_items = Unit {0}
 AreTold told (item d ds) = IsTold told d × AreTold told ds
 
 -- the configuration loads, of files that are told
-pub record MayLoad (told : List ℕ → Option (List ℕ)) (name : List ℕ) (C : loaded.Config)
+pub record MayLoad (told : List ℕ → Option (List ℕ)) (name : List ℕ) (C : loaded.LoadedConfig)
     : Type 0 where
   pub bytes : List ℕ
   pub config : told name ≡ Some bytes
@@ -46,7 +46,7 @@ pub record MayTell (asked : List ℕ → Command) (words : List (List ℕ))
     (told : List ℕ → Option (List ℕ)) (reads_before reads_now before now : ℕ) : Type 0 where
   pub name : List ℕ
   pub command : command_of words ≡ Some (asked name)
-  pub C : loaded.Config
+  pub C : loaded.LoadedConfig
   pub loads : MayLoad told name C
   pub no_read_fault : Rose reads_before reads_now → ⊥
   pub no_write_fault : Rose before now → ⊥
@@ -74,7 +74,7 @@ pub record MayReplay (words : List (List ℕ)) (told : List ℕ → Option (List
     (reads_before reads_now before now : ℕ) : Type 0 where
   pub named : Named
   pub command : command_of words ≡ Some (Replays named)
-  pub C : loaded.Config
+  pub C : loaded.LoadedConfig
   pub loads : MayLoad told named.config C
   pub built : IsBuilt C
   pub schedule : List ℕ

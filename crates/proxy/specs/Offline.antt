@@ -46,11 +46,11 @@ pub record TellsFault (told : List ℕ → Option (List ℕ)) (before now : ℕ)
 
 -- it loads
 abbrev pub LoadsSome : (List ℕ → Option (List ℕ)) → List ℕ → Type 0
-LoadsSome told name = (C : loaded.Config) × Loads told name C
+LoadsSome told name = (C : loaded.LoadedConfig) × Loads told name C
 
 -- it loads, and what is filled of it can't be run today
 pub record IsNotBuilt (told : List ℕ → Option (List ℕ)) (name : List ℕ) : Type 0 where
-  pub C : loaded.Config
+  pub C : loaded.LoadedConfig
   pub loads : Loads told name C
   pub K : core.Config
   pub fills : filled C ≡ Some K
@@ -90,7 +90,7 @@ ChecksFile name told old new reads_before reads_now before now Memory =
 abbrev pub IsExplanation : (List ℕ → Option (List ℕ)) → (before now : ℕ) → List ℕ → List ℕ → Type 0
 IsExplanation told before now name text =
     ((f : ConfigFault) × Answers told before now name (Err (refused.Fault f)) × (text ≡ explanation name f))
-    ⊎ ((C : loaded.Config) × Loads told name C × (text ≡ loads_text name C.settings.virtuals))
+    ⊎ ((C : loaded.LoadedConfig) × Loads told name C × (text ≡ loads_text name C.settings.virtuals))
 
 -- what is said where no configuration was given
 abbrev pub Explains : List ℕ → ConfigError → Option (List ℕ) → Option (List ℕ) → ℕ → ℕ → End → Type 0
@@ -102,7 +102,7 @@ Explains name refused.Memory old new before now end = (end ≡ Memory) × (new �
 abbrev pub ExplainsFile : List ℕ → (List ℕ → Option (List ℕ)) → Option (List ℕ) → Option (List ℕ) → ℕ
     → ℕ → ℕ → ℕ → End → Type 0
 ExplainsFile name told old new reads_before reads_now before now Done =
-    (C : loaded.Config) × Loads told name C × (new ≡ told_more old (loads_text name C.settings.virtuals))
+    (C : loaded.LoadedConfig) × Loads told name C × (new ≡ told_more old (loads_text name C.settings.virtuals))
 ExplainsFile name told old new reads_before reads_now before now Usage = ⊥
 ExplainsFile name told old new reads_before reads_now before now Config =
     (f : ConfigFault) × IsFaulty told reads_before reads_now name f
@@ -126,12 +126,12 @@ IsRefusal told before now name text =
 
 -- the configuration loads, and the core runs it
 abbrev pub RunsSome : (List ℕ → Option (List ℕ)) → List ℕ → Type 0
-RunsSome told name = (C : loaded.Config) × (K : core.Config) × Loads told name C × IsRun C K
+RunsSome told name = (C : loaded.LoadedConfig) × (K : core.Config) × Loads told name C × IsRun C K
 
 -- both files were read, the configuration loads, and the core runs it
 pub record Runs (told : List ℕ → Option (List ℕ)) (named : Named) (K : core.Config)
     (schedule : List ℕ) : Type 0 where
-  pub C : loaded.Config
+  pub C : loaded.LoadedConfig
   pub loads : Loads told named.config C
   pub is_run : IsRun C K
   pub schedule_contents : IsContents told named.schedule schedule

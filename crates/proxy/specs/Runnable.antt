@@ -61,13 +61,13 @@ if_built None = None
 if_built (Some K) = if can_run K then Some K else None
 
 -- what the core runs for a configuration that loaded, if it can be run
-unfoldable pub run_of : loaded.Config → Option Config
+unfoldable pub run_of : loaded.LoadedConfig → Option Config
 run_of C = if_built (filled C)
 
 -- the core runs this configuration for that one
-abbrev pub IsRun : loaded.Config → Config → Type 0
+abbrev pub IsRun : loaded.LoadedConfig → Config → Type 0
 IsRun C K = run_of C ≡ Some K
 
 -- what is filled of it can be run
-abbrev pub IsBuilt : loaded.Config → Type 0
+abbrev pub IsBuilt : loaded.LoadedConfig → Type 0
 IsBuilt C = (K : Config) → filled C ≡ Some K → can_run K ≡ true

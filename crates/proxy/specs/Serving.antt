@@ -78,7 +78,7 @@ pub record Untouched {S T : Type 0} (old new : Outside S T) : Type 0 where
 pub record ServesFile {S T : Type 0} (did : S → Call → S → Type 0) (gave : S → ℕ → Type 0)
     (ticked : T → ℕ → T → Type 0) (told : List ℕ → Option (List ℕ))
     (s : Serve) (old new : Outside S T) (end : ServeEnd) : Type 0 where
-  pub C : loaded.Config
+  pub C : loaded.LoadedConfig
   pub K : core.Config
   pub loads : Loads told s.config C
   pub is_run : IsRun C K
@@ -91,7 +91,7 @@ pub record ServesFile {S T : Type 0} (did : S → Call → S → Type 0) (gave :
 pub record StopsFile {S T : Type 0} (did : S → Call → S → Type 0) (gave : S → ℕ → Type 0)
     (ticked : T → ℕ → T → Type 0) (told : List ℕ → Option (List ℕ))
     (s : Serve) (old new : Outside S T) (why : ServeFault) : Type 0 where
-  pub C : loaded.Config
+  pub C : loaded.LoadedConfig
   pub K : core.Config
   pub loads : Loads told s.config C
   pub is_run : IsRun C K
@@ -142,7 +142,7 @@ pub record MayServe {S T : Type 0} (told : List ℕ → Option (List ℕ)) (word
     (old new : Outside S T) : Type 0 where
   pub serve : Serve
   pub is_serve : IsServe words serve
-  pub C : loaded.Config
+  pub C : loaded.LoadedConfig
   pub loads : MayLoad told serve.config C
   pub built : IsBuilt C
   pub no_read_fault : Rose old.reads new.reads → ⊥
