@@ -48,11 +48,11 @@ use Rattle.proxy_core.proofs.Fresh.{first_notes, fresh, not_accepted, seen_accep
 pub record After (C : Config) (past : Past) (s : State) (v : EventKind) (group : List Note) (new : Core) : Type 0 where
   pub next : State
   pub moves : MovesBy C past v group s next
-  pub agrees : AgreesBy C (shared_after v group (shared past)) (store_after v (shared past).moment group (store_of C past)) (seen_after past v group next) next new
+  pub agrees : AgreesBy C (shared_after v group (shared past)) (store_after v group (store_of C past)) (seen_after past v group next) next new
 
 -- every event: what its own connection owes is enough
 pub assemble : (C : Config) (past : Past) (s next : State) (v : EventKind) (group : List Note) (old new : Core) → Represents C past s old → MovesBy C past v group s next → code.KeepsConfig old new
-    → new.last ≡ last_after v old.last → new.moment ≡ moment_after v old.moment → numbers new.live.items ≡ without_all (ended_in group) (with_accepted v (numbers old.live.items)) → new.live.ring ≡ next.ring → new.queue.items ≡ next.queue → new.store ≡ store_after v old.moment group old.store
+    → new.last ≡ last_after v old.last → new.moment ≡ moment_after v old.moment → numbers new.live.items ≡ without_all (ended_in group) (with_accepted v (numbers old.live.items)) → new.live.ring ≡ next.ring → new.queue.items ≡ next.queue → new.store ≡ store_after v group old.store
     → ((q : ℕ) → nat_eq (about v s) q ≡ false → live_at new.live.items q ≡ live_at old.live.items q)
     → AgreesAt C (seen_after past v group next (about v s)) (live_at new.live.items (about v s)) → After C past s v group new
 assemble C past s next v group old new r moves keeps last moment live ring queue store others own =
@@ -66,7 +66,7 @@ assemble C past s next v group old new r moves keeps last moment live ring queue
         places = keeps.places ∙ r.agrees.places;
         shared = ap (λ l. make l new.moment (numbers new.live.items)) last ∙ ap (λ m. make (last_after v old.last) m (numbers new.live.items)) moment ∙ ap (make (last_after v old.last) (moment_after v old.moment)) live
             ∙ ap (shared_after v group) r.agrees.shared;
-        store_is = store ∙ ap (λ x. store_after v x.moment group old.store) r.agrees.shared ∙ ap (store_after v (shared past).moment group) r.agrees.store_is;
+        store_is = store ∙ ap (store_after v group) r.agrees.store_is;
         ring = ring;
         queue = queue;
         each = each_by (λ q z o. AgreesAt C z o) (λ q. live_at old.live.items q) (λ q. live_at new.live.items q) (about v s) past v group s next (only_changed past v group s next (touches C past v group s next moves)) others r.agrees.each own;

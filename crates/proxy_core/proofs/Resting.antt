@@ -7,7 +7,7 @@ use Rattle.core_events.specs.declared.event_kind.EventKind.TheVariants.{Ticks, T
 use Rattle.conn_trace.specs.Heard.{Heard, hears}
 use Rattle.conn_trace.proofs.Hearing.{others_not_heard}
 use Rattle.proxy_core.specs.Changes as code
-use Rattle.shared_store.specs.Store.{marked}
+use Rattle.shared_store.specs.Store.{at_moment, marked}
 use Rattle.proxy_core.specs.Calls.{asker}
 use Rattle.record_model.specs.History.{store_of, store_after}
 use Rattle.proxy_core.specs.Moves.{MovesBy, MovesQueue}
@@ -38,7 +38,7 @@ pub record Apart (old new : Core) : Type 0 where
 
 -- nothing is heard of any connection
 rested : (C : Config) (past : Past) (s : State) (v : EventKind) (old new : Core) (group : List Note) → Represents C past s old → MovesBy C past v group s s → group ≡ [] → about v s ≡ 0 → ((h : Heard) → hears 0 h v [] ≡ h) → with_accepted v (shared past).live ≡ (shared past).live
-    → Apart old new → last_after v old.last ≡ old.last → with_accepted v (numbers old.live.items) ≡ numbers old.live.items → new.moment ≡ moment_after v old.moment → new.store ≡ store_after v old.moment group old.store → After C past s v group new
+    → Apart old new → last_after v old.last ≡ old.last → with_accepted v (numbers old.live.items) ≡ numbers old.live.items → new.moment ≡ moment_after v old.moment → new.store ≡ store_after v group old.store → After C past s v group new
 rested C past s v old new group r moves none at quiet same k last accepted moment store =
     let A : Seen → Type 0 = λ z. AgreesAt C z (live_at new.live.items 0) in
     let B : List Live → Type 0 = λ ls. AgreesAt C (seen past s 0) (live_at ls 0) in
@@ -50,10 +50,10 @@ rested C past s v old new group r moves none at quiet same k last accepted momen
 apart : (old new after : Core) → new ≡ after → Apart old after → Apart old new
 apart old new after e k = let P : Core → Type 0 = λ x. Apart old x in subst P (sym e) k
 
-pub ticks : (C : Config) (past : Past) (s : State) (old new : Core) (moment : ℕ) (group : List Note) (steps : ℕ) → Represents C past s old → code.Becomes new (record old { moment = moment }) group steps → After C past s (Ticks moment) group new
+pub ticks : (C : Config) (past : Past) (s : State) (old new : Core) (moment : ℕ) (group : List Note) (steps : ℕ) → Represents C past s old → code.Becomes new (record old { moment = moment; store = at_moment moment old.store }) group steps → After C past s (Ticks moment) group new
 ticks C past s old new moment group steps r k =
     rested C past s (Ticks moment) old new group r (k.notes, refl) k.notes refl (λ h. others_not_heard 0 h (Ticks moment) [] refl refl) refl
-    (apart old new (record old { moment = moment }) k.core (record { keeps = record { config = refl; statics = refl; places = refl }; last = refl; live = refl; ring = refl; queue = refl })) refl refl (ap (λ x. x.moment) k.core) (ap (λ x. x.store) k.core)
+    (apart old new (record old { moment = moment; store = at_moment moment old.store }) k.core (record { keeps = record { config = refl; statics = refl; places = refl }; last = refl; live = refl; ring = refl; queue = refl })) refl refl (ap (λ x. x.moment) k.core) (ap (λ x. x.store) k.core)
 
 pub marked_now : (C : Config) (past : Past) (s : State) (old new : Core) (pool : List ℕ) (member : Addr) (up : Bool) (group : List Note) (steps : ℕ) → Represents C past s old → code.Becomes new (record old { store = marked pool member up old.store }) group steps → After C past s (Marks pool member up) group new
 marked_now C past s old new pool member up group steps r k =
@@ -64,6 +64,6 @@ marked_now C past s old new pool member up group steps r k =
 pub none_turns : (C : Config) (past : Past) (s : State) (old new : Core) (group : List Note) → Represents C past s old → s.queue ≡ [] → code.TurnsNone old new group → After C past s Turns group new
 none_turns C past s old new group r e k =
     let M : List Asked → Type 0 = λ q. MovesQueue (store_of C past) (shared past).moment q group s s in
-    let S : List Note → Type 0 = λ g. new.store ≡ store_after Turns old.moment g old.store in
+    let S : List Note → Type 0 = λ g. new.store ≡ store_after Turns g old.store in
     rested C past s Turns old new group r (subst M (sym e) (k.notes, refl)) k.notes (ap asker e) (λ h. others_not_heard 0 h Turns [] refl refl) refl
     (record { keeps = k.keeps; last = k.last; live = k.live; ring = k.ring; queue = k.queue ∙ sym (r.agrees.queue ∙ e) }) refl refl k.moment (subst S (sym k.notes) k.store)

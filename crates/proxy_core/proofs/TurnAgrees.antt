@@ -10,7 +10,10 @@ use Rattle.conn_trace.specs.Heard.{hears, taken}
 use Rattle.conn_trace.specs.Setup.{Setup}
 use Rattle.conn_trace.specs.State.{TraceState}
 use Rattle.conn.specs.declared.connection.Conn.{Conn}
-use Rattle.shared_store.specs.Calls.{reply}
+use Rattle.shared_store.proofs.Living.{live_is_kept}
+use Rattle.shared_store.specs.Calls.{live_reply, reply}
+use Rattle.shared_store.specs.Store.{StoreState}
+use Rattle.record_model.proofs.LiveHistory.{history_is_live}
 use Rattle.proxy_core.specs.Calls.{asker, calls_of, is_any}
 use Rattle.proxy_core.specs.Changes as code
 use Rattle.record_model.specs.History.{store_of}
@@ -29,6 +32,7 @@ use Rattle.proxy_core.specs.declared.call.Asked.{Asked}
 use Rattle.run_config.specs.declared.config.Config.{Config}
 use Rattle.proxy_core.specs.declared.core_state.Core.{Core}
 use Rattle.proxy_core.specs.declared.live.Live.{Live}
+use Rattle.proxy_core.proofs.Answering.{one_history}
 use Rattle.proxy_core.proofs.Agreeing.{After, assemble, its, distinct_live, one_changed, is_live_over, serves_still}
 use Rattle.proxy_core.proofs.ComesAgrees.{stood_of}
 use Rattle.proxy_core.proofs.EdgeNotes.{edges_told}
@@ -89,11 +93,14 @@ turns_at C past s old new a rest group r front_is k =
     let L : Option Conn → Type 0 = λ o. LiveAnswers old.store new.store old.moment a o k.after.conn group in
     let asks' : asks_in (Some go.0) ≡ true = ap asks_in (sym go.1) ∙ asks in
     let w = by_answer C past s a (with_ready s.ring c) rest (stood_of C past s c v) old.store new.store old.moment go.0 go.2 asks' group k.after.conn (subst L go.1 k.answers) in
-    let same_reply : (reply old.store old.moment a.call).reply ≡ (reply (store_of C past) (shared past).moment a.call).reply = ap (λ x. (reply x old.moment a.call).reply) r.agrees.store_is ∙ ap (λ x. (reply (store_of C past) x.moment a.call).reply) r.agrees.shared in
+    let answer : StoreState → ℕ → Reply = λ x m. (live_reply x m a.call).reply in
+    let same_reply : answer old.store old.moment ≡ (reply (store_of C past) (shared past).moment a.call).reply =
+    ap (λ x. answer x old.moment) r.agrees.store_is ∙ ap (λ x. answer (store_of C past) x.moment) r.agrees.shared
+    ∙ ap (λ x. answer x (shared past).moment) (sym (live_is_kept (store_of C past) (shared past).moment (history_is_live C past (one_history C past s r.sound.leads)))) in
     let next : State = record s { ring = with_ready s.ring c; queue = rest } in
     let h' = hears c h Turns group in
     let moment_is : old.moment ≡ (shared past).moment = ap (λ x. x.moment) r.agrees.shared in
-    let N : ℕ → Type 0 = λ m. TurnNotes a m (reply old.store old.moment a.call).reply group in
+    let N : ℕ → Type 0 = λ m. TurnNotes a m (live_reply old.store old.moment a.call).reply group in
     let R : Reply → Type 0 = λ x. TurnNotes a (shared past).moment x group in
     let moved : MovesTurn (store_of C past) (shared past).moment a rest group s next = record { notes = subst R same_reply (subst N moment_is w.noted.notes); state = refl } in
     let M : List Asked → Type 0 = λ q. MovesQueue (store_of C past) (shared past).moment q group s next in

@@ -24,8 +24,8 @@ use Rattle.conn.specs.Stages.{is_asking}
 use Rattle.conn.specs.declared.connection.Conn.{Conn}
 use Rattle.conn.specs.declared.ends.Ends.{Ends}
 use Rattle.conn.proofs.Giving.{ends_kept}
-use Rattle.shared_store.specs.Calls.{reply}
-use Rattle.shared_store.specs.Store.{StoreState, at_moment}
+use Rattle.shared_store.specs.Calls.{live_reply}
+use Rattle.shared_store.specs.Store.{StoreState}
 use Rattle.proxy_core.specs.Live.{ConnFails, ConnReplies, LiveAnswers, LiveFails, LiveReplies, asks_in, edges_by_conn, entry_note}
 use Rattle.proxy_core.specs.Moves.{TurnNotes}
 use Rattle.record_model.specs.History.{store_after}
@@ -163,25 +163,25 @@ module _ (C : Config) (past : Past) (s : State) (a : Asked) (ring : List ℕ) (q
     pub noted : TurnNoted a moment r group fails
     pub continues : ConnectionContinues C (seen_after past Turns group next a.conn) o'
     pub awake : asks_in o' ≡ false
-    pub store_is : after ≡ store_after Turns moment group store
+    pub store_is : after ≡ store_after Turns group store
     pub edges : (e : Edges) → edges_by_conn o' e ≡ edges_by_conn o e
 
   module _ (store after : StoreState) (moment : ℕ) (conn : Conn) (z : Continues C (seen past s a.conn) conn) (asks : is_asking conn.stage ≡ true) where
-    with_reply : (r : Reply) (group : List Note) (o : Option Conn) → group ≡ entry_note a moment r ∷ [] → after ≡ (reply store moment a.call).after → LiveReplies r (Some conn) o → Turned store after moment r group (Some conn) o
+    with_reply : (r : Reply) (group : List Note) (o : Option Conn) → group ≡ entry_note a moment r ∷ [] → after ≡ (live_reply store moment a.call).after → LiveReplies r (Some conn) o → Turned store after moment r group (Some conn) o
     with_reply r group None e left w = absurd w
     with_reply r group (Some new) e left w =
         let G : List Note → Type 0 = λ x. Turned store after moment r x (Some conn) (Some new) in
         let t = w asks in
         subst G (sym e) (record { fails = false; noted = noted_answer a moment r; continues = replied moment r conn new z t; awake = t.awake; store_is = left; edges = λ e. ap (λ x. x.edges) t.ends })
 
-    with_lost : (r : Reply) (group : List Note) (o : Option Conn) → group ≡ entry_note a moment r ∷ Finish a.conn Memory ∷ [] → after ≡ (reply store moment a.call).after → LiveFails (Some conn) o → Turned store after moment r group (Some conn) o
+    with_lost : (r : Reply) (group : List Note) (o : Option Conn) → group ≡ entry_note a moment r ∷ Finish a.conn Memory ∷ [] → after ≡ (live_reply store moment a.call).after → LiveFails (Some conn) o → Turned store after moment r group (Some conn) o
     with_lost r group None e left w = absurd w
     with_lost r group (Some new) e left w =
         let G : List Note → Type 0 = λ x. Turned store after moment r x (Some conn) (Some new) in
         let t = w asks in
         subst G (sym e) (record { fails = true; noted = noted_lost a moment r; continues = lost moment r (entry_note a moment r ∷ Finish a.conn Memory ∷ []) conn new (noted_lost a moment r) z t; awake = ap is_asking t.there; store_is = left; edges = λ e. ap (λ x. x.edges) t.ends })
 
-    with_lack : (r : Reply) (group : List Note) (o : Option Conn) → group ≡ Finish a.conn Memory ∷ [] → after ≡ at_moment moment store → LiveFails (Some conn) o → Turned store after moment r group (Some conn) o
+    with_lack : (r : Reply) (group : List Note) (o : Option Conn) → group ≡ Finish a.conn Memory ∷ [] → after ≡ store → LiveFails (Some conn) o → Turned store after moment r group (Some conn) o
     with_lack r group None e left w = absurd w
     with_lack r group (Some new) e left w =
         let G : List Note → Type 0 = λ x. Turned store after moment r x (Some conn) (Some new) in
@@ -189,12 +189,12 @@ module _ (C : Config) (past : Past) (s : State) (a : Asked) (ring : List ℕ) (q
         subst G (sym e) (record { fails = true; noted = noted_lack a moment r; continues = lost moment r (Finish a.conn Memory ∷ []) conn new (noted_lack a moment r) z t; awake = ap is_asking t.there; store_is = left; edges = λ e. ap (λ x. x.edges) t.ends })
 
     -- the reply that the store gives, or would give
-    pub by_answer : (group : List Note) (o : Option Conn) → LiveAnswers store after moment a (Some conn) o group → Turned store after moment (reply store moment a.call).reply group (Some conn) o
+    pub by_answer : (group : List Note) (o : Option Conn) → LiveAnswers store after moment a (Some conn) o group → Turned store after moment (live_reply store moment a.call).reply group (Some conn) o
     by_answer group o (inl w) =
         let R : Reply → Type 0 = λ x. Turned store after moment x group (Some conn) o in
         subst R w.is (by_takes w.r w.left w.takes)
       where
-        by_takes : (r : Reply) → after ≡ (reply store moment a.call).after → ((group ≡ entry_note a moment r ∷ []) × LiveReplies r (Some conn) o) ⊎ ((group ≡ entry_note a moment r ∷ Finish a.conn Memory ∷ []) × LiveFails (Some conn) o) → Turned store after moment r group (Some conn) o
+        by_takes : (r : Reply) → after ≡ (live_reply store moment a.call).after → ((group ≡ entry_note a moment r ∷ []) × LiveReplies r (Some conn) o) ⊎ ((group ≡ entry_note a moment r ∷ Finish a.conn Memory ∷ []) × LiveFails (Some conn) o) → Turned store after moment r group (Some conn) o
         by_takes r left (inl (e, x)) = with_reply r group o e left x
         by_takes r left (inr (e, x)) = with_lost r group o e left x
-    by_answer group o (inr w) = with_lack (reply store moment a.call).reply group o w.notes w.left w.fails
+    by_answer group o (inr w) = with_lack (live_reply store moment a.call).reply group o w.notes w.left w.fails

@@ -22,7 +22,7 @@ use Rattle.conn.specs.declared.setup.Place.{Place}
 use Rattle.conn.specs.declared.setup.Setup.{Setup}
 use Rattle.conn.specs.declared.turn.ConnTurn.{ConnTurn}
 use Rattle.conn.specs.Stages.{is_asking}
-use Rattle.shared_store.specs.Store.{marked}
+use Rattle.shared_store.specs.Store.{at_moment, marked}
 use Rattle.proxy_core.specs.Calls.{queue_behind, without_calls, woken}
 use Rattle.proxy_core.specs.Live.{KeepsPlace, LiveAnswers, MayCome, LiveComes, LiveRuns, SamePlace}
 use Rattle.proxy_core.specs.Live.{asks_in, edges_in}
@@ -200,7 +200,7 @@ ChangesBy old new (kind.Accepts number vs from) group steps =
 ChangesBy old new (kind.Comes number input) group steps =
     ComesOf old new number input group × (steps ≡ 0)
 ChangesBy old new (kind.Ticks moment) group steps =
-    Becomes new (record old { moment = moment }) group steps
+    Becomes new (record old { moment = moment; store = at_moment moment old.store }) group steps
 ChangesBy old new kind.Turns group steps =
     TurnsQueue old new old.queue.items group × (steps ≡ 0)
 ChangesBy old new kind.Runs group steps = RunsRing old new old.live.ring group steps

@@ -19,9 +19,9 @@ use Rattle.conn_trace.specs.Item.{reasons_in, server_output}
 use Rattle.conn_trace.specs.Laws.{cut_is_taken}
 use Rattle.conn_trace.specs.Tellings.{notes_about, failure_told}
 use Rattle.conn_trace.specs.Trace.{next_item, trace, GivesNoMore}
-use Rattle.record_model.specs.History.{IsHistory, called_in, entries_in}
+use Rattle.record_model.specs.History.{IsHistory, called_in, entries_in, store_of}
 use Rattle.proxy_core.specs.Moves.{Leads}
-use Rattle.record_model.specs.Past.{Past, heard}
+use Rattle.record_model.specs.Past.{Past, heard, shared}
 use Rattle.proxy_core.specs.Scheduler.{State, Seen, last_took, seen, untaken_of, untaken_all}
 use Rattle.proxy_core.specs.Scheduler.{pending}
 use Rattle.proxy_core.specs.Servers.{last_reset, licenses, took_of}
@@ -29,6 +29,7 @@ use Rattle.proxy_core.specs.Shown.{shows, causes_told, causes_behind}
 use Rattle.record_model.specs.Setup.{setup_of, begins_at, stand_of}
 use Rattle.proxy_core.specs.Sound.{EndsTold}
 use Rattle.run_config.specs.declared.config.Config.{Config}
+use Rattle.shared_store.specs.Laws.{StoreIsLive}
 
 -- the first n items of a connection's trace on what was heard
 abbrev pub first_items : Config → Heard → ℕ → List Item
@@ -158,11 +159,12 @@ pub record ConnectionPromise (C : Config) (past : Past) (s : State) (c : ℕ)
   pub slices_are_paid : SlicesPaid (setup_of C z.heard) z.place (stand_of C z.heard z.place) z.spent
 
 -- what the program's past and state promise: a list of scheduler states leads to this one, the
--- shared answers are one history of a sequential store, and each accepted connection's bytes and
--- notes are those of the evaluator
+-- shared answers are one history of a sequential store, which holds live rows and records alone, and
+-- each accepted connection's bytes and notes are those of the evaluator
 pub record OutputMatchesEvaluator (C : Config) (past : Past) (s : State) : Type 0 where
   pub replay_has_scheduler_run : Leads C past s
   pub one_history : IsHistory C past
+  pub store_is_live : StoreIsLive (shared past).moment (store_of C past)
   pub each_connection : (c : ℕ) → is_some (heard c past).accepted ≡ true
       → ConnectionPromise C past s c (seen past s c)
 

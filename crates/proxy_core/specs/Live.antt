@@ -32,8 +32,8 @@ use Rattle.conn.specs.declared.setup.Setup.{Setup}
 use Rattle.conn.specs.declared.stage.Stage.TheVariants.{OutOfMemory}
 use Rattle.conn.specs.declared.turn.ConnTurn.{ConnTurn}
 use Rattle.conn.specs.declared.turn.ConnTurn.TheVariants as turn
-use Rattle.shared_store.specs.Calls.{reply}
-use Rattle.shared_store.specs.Store.{StoreState, at_moment}
+use Rattle.shared_store.specs.Calls.{live_reply}
+use Rattle.shared_store.specs.Store.{StoreState}
 use Rattle.proxy_core.specs.declared.call.Asked.{Asked}
 use Rattle.proxy_core.specs.declared.live.Live.{Live}
 
@@ -207,14 +207,14 @@ LiveTakes r moment a old new group =
 pub record StoreReplies (store after : StoreState) (moment : ℕ) (a : Asked) (old new : Option Conn)
     (group : List Note) : Type 0 where
   pub r : Reply
-  pub is : r ≡ (reply store moment a.call).reply
-  pub left : after ≡ (reply store moment a.call).after
+  pub is : r ≡ (live_reply store moment a.call).reply
+  pub left : after ≡ (live_reply store moment a.call).after
   pub takes : LiveTakes r moment a old new group
 
 -- the store finds no memory
 pub record StoreLacks (store after : StoreState) (moment : ℕ) (a : Asked) (old new : Option Conn)
     (group : List Note) : Type 0 where
-  pub left : after ≡ at_moment moment store
+  pub left : after ≡ store
   pub notes : group ≡ Finish a.conn Memory ∷ []
   pub fails : LiveFails old new
 

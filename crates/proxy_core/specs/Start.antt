@@ -2,6 +2,7 @@
 use Rattle.std.specs.Prelude.{◌≡◌, ◌≤◌, []}
 use Rattle.shared_store.specs.Store.{new_store}
 use Rattle.proxy_core.specs.Bodies.{all_places}
+use Rattle.record_model.specs.History.{times_of}
 use Rattle.record_model.specs.Setup.{init_notes, statics_of}
 use Rattle.run_config.specs.declared.config.Config.{Config}
 use Rattle.proxy_core.specs.declared.core_state.Core.{Core}
@@ -17,7 +18,7 @@ pub record IsStart (C : Config) (core : Core) : Type 0 where
   pub live : core.live.items ≡ []
   pub ring : core.live.ring ≡ []
   pub queue : core.queue.items ≡ []
-  pub store : core.store ≡ new_store C.pools []
+  pub store : core.store ≡ new_store C.pools (times_of C)
 
 -- what the rules give: where bodies stand, what RULE_INIT left, and the notes of what it logged
 pub record IsStartRules (C : Config) (ruled : StartRules) : Type 0 where
@@ -25,7 +26,7 @@ pub record IsStartRules (C : Config) (ruled : StartRules) : Type 0 where
   pub statics : ruled.vars.statics ≡ statics_of C
   pub notes : ruled.notes.items ≡ init_notes C
 
--- nothing is live and no call waits, with room for all that may; and a store without rows
+-- nothing is live and no call waits, with room for all that may; and a store without rows and records
 pub record IsStartRoom (C : Config) (room : StartRoom) : Type 0 where
   pub live : room.live.items ≡ []
   pub numbers : room.live.numbers ≡ []
@@ -33,4 +34,4 @@ pub record IsStartRoom (C : Config) (room : StartRoom) : Type 0 where
   pub queue : room.queue.items ≡ []
   pub live_room : C.connections ≤ room.live.room
   pub queue_room : C.connections ≤ room.queue.room
-  pub store : room.store ≡ new_store C.pools []
+  pub store : room.store ≡ new_store C.pools (times_of C)

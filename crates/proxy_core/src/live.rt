@@ -189,7 +189,7 @@ impl Live {
             × LiveAnswers store.old store.new moment asked self.old.conn self.new.conn group }
         ensures few_notes { length notes.new.items ≤ length notes.old.items + 68 }
     {
-        match store.answer(alloc, &asked.call, moment) {
+        match store.reply(alloc, &asked.call, moment) {
             Ok(reply) => self.take_reply(asked, reply, moment, notes),
             Err(_) => {
                 self.fail();

@@ -1,7 +1,8 @@
 // What a configuration gives a core at its start.
 
-ghost use Rattle.std.specs.Prelude.{◌≡◌, ◌≤◌, IfOk, []};
+ghost use Rattle.std.specs.Prelude.{◌≡◌, ◌≤◌, IfOk, [], map};
 ghost use Rattle.shared_store.specs.Store.{new_store};
+ghost use Rattle.record_model.specs.History.{by_source, time_of, times_of};
 ghost use Rattle.record_model.specs.Setup.{init_notes, statics_of};
 ghost use Rattle.proxy_core.specs.Start.{IsStartRoom, IsStartRules};
 
@@ -12,8 +13,8 @@ use crate::server_bodies::{EventPlaces, all_places};
 use core_events::Notes;
 use number_table::Table;
 use px_bytes::{M, Seq};
-use run_config::Config;
-use shared_store::{Store, VirtualTimes};
+use run_config::{Config, Persist, Virtual};
+use shared_store::{Store, VirtualTime, VirtualTimes};
 use std::alloc::Global;
 use tcl_vars::Vars;
 
@@ -106,12 +107,48 @@ impl StartRoom {
     }
 }
 
-// A store with the pools, and no row yet.
+// A store with the pools and the times of the virtual servers, and no row yet.
 fn store_of(alloc: Global, config: &Config) -> M<Store>
-    ensures { IfOk result (λ store. store ≡ new_store config.now.pools []) }
+    ensures { IfOk result (λ store. store ≡ new_store config.now.pools (times_of config.now)) }
 {
-    let pools = config.pools.copy(alloc)?;
-    Ok(Store::new(alloc, pools, VirtualTimes::new(alloc)))
+    let times = times_of(alloc, config.virtuals.as_slice())?;
+    match config.pools.copy(alloc) {
+        Ok(pools) => Ok(Store::new(alloc, pools, times)),
+        Err(why) => {
+            drop(times);
+            Err(why)
+        }
+    }
+}
+
+// Which virtual servers keep the members that were chosen for clients, and how long.
+fn times_of(alloc: Global, servers: &[Virtual]) -> M<VirtualTimes>
+    ensures { IfOk result (λ times. times ≡ map time_of servers.now) }
+{
+    let mut times = VirtualTimes::new(alloc);
+    for server in servers {
+        times.push(time_of(server)?)?;
+    }
+    Ok(times)
+}
+
+fn time_of(server: &Virtual) -> M<VirtualTime>
+    ensures { IfOk result (λ time. time ≡ time_of server.now) }
+{
+    Ok(VirtualTime {
+        name: server.name.copy()?,
+        by_source: by_source(server.persist),
+        timeout: server.persist_timeout,
+    })
+}
+
+fn by_source(persist: Persist) -> bool
+    ensures { result ≡ by_source persist }
+{
+    match persist {
+        Persist::SourceAddr => true,
+        Persist::None | Persist::Cookie => false,
+    }
 }
 
 // An empty table and an empty queue, for so many connections.

@@ -1,17 +1,22 @@
 -- The history of the shared calls: entry by entry, each with its moment and reply, and the store
 -- that it leaves.
-use Rattle.std.specs.Prelude.{◌≡◌, ℕ, List, [], ◌∷◌, ◌++◌, map}
+use Rattle.std.specs.Prelude.{◌≡◌, ℕ, Bool, true, false, List, [], ◌∷◌, ◌++◌, map}
 use Rattle.std.specs.List.{flat_map}
 use Rattle.px_bytes.specs.declared.fault.Reply.{Reply}
 use Rattle.core_events.specs.declared.note.Note.{Note}
 use Rattle.core_events.specs.declared.note.Note.TheVariants as note
 use Rattle.core_events.specs.declared.event_kind.EventKind.{EventKind}
-use Rattle.core_events.specs.declared.event_kind.EventKind.TheVariants.{Turns, Marks}
+use Rattle.core_events.specs.declared.event_kind.EventKind.TheVariants.{Ticks, Turns, Marks}
 use Rattle.shared_store.specs.Calls.{live_reply, reply}
+use Rattle.shared_store.specs.Laws.{StoreIsLive}
 use Rattle.shared_store.specs.Store.{StoreState, at_moment, marked, new_store}
+use Rattle.shared_store.specs.declared.named.VirtualTime.{VirtualTime}
 use Rattle.core_events.specs.Kinds.{kind_of}
 use Rattle.record_model.specs.Past.{Past, shared}
 use Rattle.run_config.specs.declared.config.Config.{Config}
+use Rattle.run_config.specs.declared.config.Persist.{Persist}
+use Rattle.run_config.specs.declared.config.Persist.TheVariants as persist
+use Rattle.run_config.specs.declared.config.Virtual.{Virtual}
 
 -- an entry: whose call it answers, at which moment, its words, and the reply
 pub record Entry : Type 0 where
@@ -44,27 +49,34 @@ abbrev pub answered : List Entry → StoreState → StoreState
 answered [] store = store
 answered (e ∷ es) store = answered es (live_reply store e.moment e.call).after
 
--- a Turn that does anything first takes away what has run out
-abbrev pub turned : (moment : ℕ) → List Note → StoreState → StoreState
-turned moment [] store = store
-turned moment (n ∷ group) store = answered (entries_in (n ∷ group)) (at_moment moment store)
+-- what is answered is kept; a Tick takes away what has run out at its moment
+abbrev pub store_after : EventKind → List Note → StoreState → StoreState
+store_after Turns group store = answered (entries_in group) store
+store_after (Ticks moment) group store = at_moment moment store
+store_after (Marks pool member up) group store = marked pool member up store
+store_after other group store = store
 
-abbrev pub store_after : EventKind → (moment : ℕ) → List Note → StoreState → StoreState
-store_after Turns moment group store = turned moment group store
-store_after (Marks pool member up) moment group store = marked pool member up store
-store_after other moment group store = store
+-- whether a virtual server keeps the member that was chosen for a client's address, and how long
+abbrev pub by_source : Persist → Bool
+by_source persist.SourceAddr = true
+by_source other = false
 
--- the store behind a past: its entries were answered and its members marked, in this order, from
--- the pools of the configuration on
+abbrev pub time_of : Virtual → VirtualTime
+time_of v = record { name = v.name; by_source = by_source v.persist; timeout = v.persist_timeout }
+
+abbrev pub times_of : Config → List VirtualTime
+times_of C = map time_of C.virtuals
+
+-- The store behind a past: its entries were answered, its members marked, and what ran out by its
+-- Ticks was taken away, in this order, from the pools and times of the configuration on.
 abbrev pub store_of : Config → Past → StoreState
-store_of C [] = new_store C.pools []
-store_of C (x ∷ past) =
-    store_after (kind_of x.event) (shared past).moment x.group (store_of C past)
+store_of C [] = new_store C.pools (times_of C)
+store_of C (x ∷ past) = store_after (kind_of x.event) x.group (store_of C past)
 
 -- ---- one history
 
--- it was answered at the moment of the last Tick, by the store behind all entries and marks before
--- it
+-- it was answered at the moment of the last Tick, by the store behind all entries, marks and Ticks
+-- before it
 pub record IsAnswer (C : Config) (past : Past) (e : Entry) : Type 0 where
   pub moment : e.moment ≡ (shared past).moment
   pub reply_is : e.reply ≡ (reply (store_of C past) e.moment e.call).reply
@@ -80,3 +92,8 @@ abbrev pub IsHistory : Config → Past → Type 0
 IsHistory C [] = Unit {0}
 IsHistory C (x ∷ past) =
     IsHistory C past × AreAnswers C past (kind_of x.event) (entries_in x.group)
+
+-- all that the store behind a history holds is live at the moment of the last Tick
+abbrev pub HistoryIsLive : Type 0
+HistoryIsLive = (C : Config) (past : Past) → IsHistory C past
+    → StoreIsLive (shared past).moment (store_of C past)
