@@ -19,9 +19,10 @@ use Rattle.event_order.specs.declared.event.EventName.TheVariants as event
 use Rattle.irule_net.specs.Checks.{allows, command_of, same_event, shaped}
 use Rattle.irule_net.specs.FaultText.{not_here}
 use Rattle.irule_net.specs.Commands.{asked_by, asked_of, is_http, net_step, stepped}
-use Rattle.irule_net.specs.Forms.{class_form, form_of, payload_form, reselect_form, server_form, without_http}
+use Rattle.irule_net.specs.Forms.{class_form, clock_form, form_of, payload_form, reselect_form, server_form, without_http}
 use Rattle.irule_net.specs.Classes.{class_value}
-use Rattle.irule_net.specs.Requests.{Asked, class_asked, collect_asked, count_in, log_asked, members_asked, node_asked, part_asked, pool_asked, replace_asked, request_of, reselect_node_asked, reselect_pool_asked, respond_asked}
+use Rattle.session_table.specs.Requests.{checked}
+use Rattle.irule_net.specs.Requests.{Asked, class_asked, collect_asked, count_in, log_asked, members_asked, node_asked, part_asked, pool_asked, replace_asked, request_of, reselect_node_asked, reselect_pool_asked, respond_asked, table_asked}
 use Rattle.px_bytes.specs.WholeWord.{number_of}
 use Rattle.irule_net.specs.State.{asked_bytes, collected, gone, holds, other, respond_limit, side_of, with_collected}
 use Rattle.irule_net.specs.declared.state.Asks.TheVariants.{Stated}
@@ -155,6 +156,11 @@ fitting_when P k true true f x y good bad = good refl
 fitting_when P k true false f x y good bad = bad x
 fitting_when P k false c f x y good bad = bad y
 
+-- the same of a command that any number of words fits
+allowing : {A B : Type 0} (P : Result B TclFault → Type 0) (k : A → Result B TclFault) (b : Bool) (f : A) (y : TclFault) → P (k f) → ((e : TclFault) → P (Err e)) → P (with_value (if b then Ok f else Err y) k)
+allowing P k true f y good bad = good
+allowing P k false f y good bad = bad y
+
 unnamed : {A B : Type 0} (P : Result B TclFault → Type 0) (k : A → Result B TclFault) (b c : Bool) (x y z : TclFault) → ((e : TclFault) → P (Err e)) → P (with_value (if b then (if c then Err x else Err y) else Err z) k)
 unnamed P k true true x y z bad = bad x
 unnamed P k true false x y z bad = bad y
@@ -205,6 +211,9 @@ module _ (groups : Groups) (event : EventName) (s : NetState) (words : List (Lis
   respond_quick [] = bad _
   respond_quick (text ∷ []) = record { is = either_quick event s (nat_lt respond_limit (s.wishes.sent + length text)) _ _ (keeps_all event s, tt) (beside event s _ refl refl refl refl, to_own (side_of event) s.relays) }
   respond_quick (text ∷ (other ∷ ws)) = bad _
+
+  table_quick : P (table_asked words)
+  table_quick = one_test {A = Unit {0}} P (checked words) _ (λ known. does (keeps_all event s)) bad
 
   members_quick : (ws : List (List ℕ)) → P (members_asked groups.pools ws)
   members_quick [] = bad _
@@ -315,6 +324,14 @@ module _ (groups : Groups) (event : EventName) (s : NetState) (words : List (Lis
       (fitting P _ (allowed command.Class) _ _ _ _ (class_request (some_of (class_form (codes "names" ∷ [])) refl) refl) bad)
       (unnamed P _ (allowed command.Class) _ _ _ _ bad))
 
+  clock_quick : (ws : List (List ℕ)) → P (with_value (if allowed command.Clock then shaped command.Clock (clock_form ws) (length words) else Err (not_here (codes "clock"))) (λ form. request_of groups s.port form words))
+  clock_quick [] = unnamed P _ (allowed command.Clock) _ _ _ _ bad
+  clock_quick (word ∷ ws) =
+      alone (λ o. P (with_value (if allowed command.Clock then shaped command.Clock o (length words) else Err (not_here (codes "clock"))) (λ form. request_of groups s.port form words)))
+      (bytes_eq word (codes "seconds")) _ _
+      (fitting P _ (allowed command.Clock) _ _ _ _ (does (keeps_all event s)) bad)
+      (unnamed P _ (allowed command.Clock) _ _ _ _ bad)
+
   server_quick : (ws : List (List ℕ)) → P (with_value (if allowed command.LbServer then shaped command.LbServer (server_form ws) (length words) else Err (not_here (codes "LB::server"))) (λ form. request_of groups s.port form words))
   server_quick [] = unnamed P _ (allowed command.LbServer) _ _ _ _ bad
   server_quick (word ∷ ws) =
@@ -369,6 +386,8 @@ module _ (groups : Groups) (event : EventName) (s : NetState) (words : List (Lis
   command_quick command.TcpRelease there = fitting_when P _ (allowed command.TcpRelease) _ _ _ _ (λ ok. does (releases_quick (own_by ok) (side_of event) refl)) bad
   command_quick command.TcpPayload there = payload_quick words
   command_quick command.ActiveMembers there = fitting P _ (allowed command.ActiveMembers) _ _ _ _ (members_quick words) bad
+  command_quick command.Table there = allowing P _ (allowed command.Table) _ _ table_quick bad
+  command_quick command.Clock there = clock_quick words
   command_quick command.Pool there = fitting P _ (allowed command.Pool) _ _ _ _ pool_quick bad
   command_quick command.Node there = fitting P _ (allowed command.Node) _ _ _ _ node_quick bad
   command_quick command.LbReselect there = reselect_quick words

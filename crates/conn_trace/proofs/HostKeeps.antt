@@ -21,9 +21,10 @@ use Rattle.irule_net.specs.Checks.{allows, command_of, same_event, shaped}
 use Rattle.irule_net.specs.Classes.{class_value}
 use Rattle.irule_net.specs.Commands.{asked_by, asked_of, is_http, net_step, stepped}
 use Rattle.irule_net.specs.FaultText.{not_here}
-use Rattle.irule_net.specs.Forms.{class_form, form_of, payload_form, reselect_form, server_form, without_http}
+use Rattle.irule_net.specs.Forms.{class_form, clock_form, form_of, payload_form, reselect_form, server_form, without_http}
 use Rattle.irule_net.specs.Laws.{Fits, left_by, made_by, sent_to}
-use Rattle.irule_net.specs.Requests.{Asked, class_asked, collect_asked, count_in, log_asked, members_asked, node_asked, part_asked, pool_asked, replace_asked, request_of, reselect_node_asked, reselect_pool_asked, respond_asked}
+use Rattle.session_table.specs.Requests.{checked}
+use Rattle.irule_net.specs.Requests.{Asked, class_asked, collect_asked, count_in, log_asked, members_asked, node_asked, part_asked, pool_asked, replace_asked, request_of, reselect_node_asked, reselect_pool_asked, respond_asked, table_asked}
 use Rattle.irule_net.specs.State.{asked_bytes, collected, gone, holds, other, respond_limit, side_of, with_collected}
 use Rattle.irule_net.specs.Steps.{Step, collects, ends, releases, replaced, replaces, reselect_limit, reselects, responds}
 use Rattle.irule_net.specs.Targets.{node_target, pool_named, pool_target}
@@ -160,6 +161,11 @@ fitting P k true true f x y good bad = good
 fitting P k true false f x y good bad = bad x
 fitting P k false c f x y good bad = bad y
 
+-- the same of a command that any number of words fits
+allowing : {A B : Type 0} (P : Result B TclFault → Type 0) (k : A → Result B TclFault) (b : Bool) (f : A) (y : TclFault) → P (k f) → ((e : TclFault) → P (Err e)) → P (with_value (if b then Ok f else Err y) k)
+allowing P k true f y good bad = good
+allowing P k false f y good bad = bad y
+
 unnamed : {A B : Type 0} (P : Result B TclFault → Type 0) (k : A → Result B TclFault) (b c : Bool) (x y z : TclFault) → ((e : TclFault) → P (Err e)) → P (with_value (if b then (if c then Err x else Err y) else Err z) k)
 unnamed P k true true x y z bad = bad x
 unnamed P k true false x y z bad = bad y
@@ -205,6 +211,9 @@ module _ (groups : Groups) (event : EventName) (s : NetState) (words : List (Lis
   log_quiet (text ∷ []) = does (record { client = refl; server = refl; loose = refl; sends = sends_line text })
   log_quiet (facility ∷ (text ∷ [])) = does (record { client = refl; server = refl; loose = refl; sends = sends_line text })
   log_quiet (facility ∷ (text ∷ (more ∷ ws))) = bad _
+
+  table_quiet : P (table_asked words)
+  table_quiet = one_test {A = Unit {0}} P (checked words) _ (λ known. does (asks_quiet s _)) bad
 
   members_quiet : (ws : List (List ℕ)) → P (members_asked groups.pools ws)
   members_quiet [] = bad _
@@ -264,6 +273,14 @@ module _ (groups : Groups) (event : EventName) (s : NetState) (words : List (Lis
       (fitting P _ (allowed command.Class) _ _ _ _ (class_request (some_of (class_form (codes "size" ∷ [])) refl) refl) bad)
       (fitting P _ (allowed command.Class) _ _ _ _ (class_request (some_of (class_form (codes "names" ∷ [])) refl) refl) bad)
       (unnamed P _ (allowed command.Class) _ _ _ _ bad))
+
+  clock_quiet : (ws : List (List ℕ)) → P (with_value (if allowed command.Clock then shaped command.Clock (clock_form ws) (length words) else Err (not_here (codes "clock"))) (λ form. request_of groups s.port form words))
+  clock_quiet [] = unnamed P _ (allowed command.Clock) _ _ _ _ bad
+  clock_quiet (word ∷ ws) =
+      single (λ o. P (with_value (if allowed command.Clock then shaped command.Clock o (length words) else Err (not_here (codes "clock"))) (λ form. request_of groups s.port form words)))
+      (bytes_eq word (codes "seconds")) _ _
+      (fitting P _ (allowed command.Clock) _ _ _ _ (does (asks_quiet s _)) bad)
+      (unnamed P _ (allowed command.Clock) _ _ _ _ bad)
 
   server_quiet : (ws : List (List ℕ)) → P (with_value (if allowed command.LbServer then shaped command.LbServer (server_form ws) (length words) else Err (not_here (codes "LB::server"))) (λ form. request_of groups s.port form words))
   server_quiet [] = unnamed P _ (allowed command.LbServer) _ _ _ _ bad
@@ -368,6 +385,8 @@ module _ (groups : Groups) (event : EventName) (s : NetState) (words : List (Lis
   command_leaves command.TcpRelease there = stream _ (is_stream event) _ _ _ _ _ refl (not_web s.http) (owns (releases_own (side_of event) s))
   command_leaves command.TcpPayload there = payload_leaves words
   command_leaves command.ActiveMembers there = silent (fitting P _ (allowed command.ActiveMembers) _ _ _ _ (members_quiet words) bad)
+  command_leaves command.Table there = silent (allowing P _ (allowed command.Table) _ _ table_quiet bad)
+  command_leaves command.Clock there = silent (clock_quiet words)
   command_leaves command.Pool there = silent (fitting P _ (allowed command.Pool) _ _ _ _ pool_quiet bad)
   command_leaves command.Node there = silent (fitting P _ (allowed command.Node) _ _ _ _ node_quiet bad)
   command_leaves command.LbReselect there = silent (reselect_quiet words)

@@ -34,6 +34,8 @@ fn is_command_there(command: HostCommand) -> bool
         | HostCommand::LbServer
         | HostCommand::TcpRespond
         | HostCommand::ActiveMembers
+        | HostCommand::Table
+        | HostCommand::Clock
         | HostCommand::Pool
         | HostCommand::Node
         | HostCommand::LbReselect

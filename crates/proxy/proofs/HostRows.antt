@@ -14,8 +14,12 @@ abbrev call : Verb → List ℕ → Tree
 call verb name = script (trees_of (command verb (trees_of (text name ∷ text (codes "p") ∷ [])) ∷ []))
 
 record Rows : Type 0 where
+  -- after p
+  host : is_built (call Named (codes "after")) ≡ false
   -- table p
-  host : is_built (call Named (codes "table")) ≡ false
+  table : is_built (call Named (codes "table")) ≡ true
+  -- clock p
+  clock : is_built (call Named (codes "clock")) ≡ true
   -- TCP::collect p
   collect : is_built (call Named (codes "TCP::collect")) ≡ true
   -- HTTP::uri p
@@ -28,9 +32,9 @@ record Rows : Type 0 where
   members : is_built (call Named (codes "active_members")) ≡ true
   -- string p
   pure : is_built (call Named (codes "string")) ≡ true
-  -- tabl\x65 p: a name with a backslash is a name when the command runs
-  backslash : is_built (call Computed (codes "table")) ≡ true
+  -- afte\x72 p: a name with a backslash is a name when the command runs
+  backslash : is_built (call Computed (codes "after")) ≡ true
 
 rows : Rows
 unfolding is_host_name is_built_name
-rows = record { host = refl; collect = refl; uri = refl; pool = refl; respond = refl; members = refl; pure = refl; backslash = refl }
+rows = record { host = refl; table = refl; clock = refl; collect = refl; uri = refl; pool = refl; respond = refl; members = refl; pure = refl; backslash = refl }

@@ -38,7 +38,7 @@ use Rattle.proxy.specs.Loads.{Loads, is_read_fault}
 use Rattle.config.specs.Filled.{filled, server_of}
 use Rattle.config.proofs.Filling.{parts_of}
 use Rattle.run_config.specs.declared.config.Config as core
-use Rattle.proxy.specs.Runnable.{are_built, bodies_at, can_run, has_built_bodies, has_few, is_plain, is_rule_built, keeps_none}
+use Rattle.proxy.specs.Runnable.{are_built, bodies_at, can_run, has_built_bodies, has_few, is_plain, is_rule_built, sets_no_cookie}
 use Rattle.proxy.proofs.ConfigAnswers.{other_kind}
 use Rattle.proxy.proofs.ListTests.{all_map}
 
@@ -137,7 +137,7 @@ all_built (r ∷ rs) = ap (λ b. built r && b) (all_built rs)
 
 -- whether a virtual server can be run
 abbrev plain : VirtualSettings → Bool
-plain v = not v.http && keeps_none v.persist
+plain v = not v.http && sets_no_cookie v.persist
 
 can_of : (C : LoadedConfig) (K : core.Config) → filled C ≡ Some K → can_run K ≡ (list_all plain C.settings.virtuals && list_all built C.rules)
 can_of C K e =

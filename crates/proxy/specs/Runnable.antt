@@ -1,5 +1,5 @@
 -- Which of the configurations that load can be run today, and what the core runs for them: virtual
--- servers without HTTP and persistence, and rules that name no command of the host but those that a
+-- servers without HTTP and cookies, and rules that name no command of the host but those that a
 -- connection has today, and have 65,536 procedures at most.
 use Rattle.std.specs.Prelude.{◌≡◌, ℕ, List, map, Bool, true, false, not, ◌&&◌}
 use Rattle.std.specs.Prelude.{Option}
@@ -43,13 +43,13 @@ is_rule_built r =
 
 -- ---- a virtual server
 
-abbrev pub keeps_none : Persist → Bool
-keeps_none persist.None = true
-keeps_none persist.SourceAddr = false
-keeps_none persist.Cookie = false
+abbrev pub sets_no_cookie : Persist → Bool
+sets_no_cookie persist.None = true
+sets_no_cookie persist.SourceAddr = true
+sets_no_cookie persist.Cookie = false
 
 abbrev pub is_plain : Virtual → Bool
-is_plain v = not v.http && keeps_none v.persist
+is_plain v = not v.http && sets_no_cookie v.persist
 
 -- ---- a configuration
 

@@ -7,7 +7,7 @@ ghost use Rattle.proxy.specs.HostCommands.{is_built};
 ghost use Rattle.tcl_trees.specs.Procedures.{procs_view};
 ghost use Rattle.tcl_trees.specs.TreeView.{node_view};
 ghost use Rattle.proxy.specs.Runnable.{are_built, can_run, has_built_bodies, has_few, if_built};
-ghost use Rattle.proxy.specs.Runnable.{is_plain, is_rule_built, keeps_none, run_of};
+ghost use Rattle.proxy.specs.Runnable.{is_plain, is_rule_built, run_of, sets_no_cookie};
 
 use crate::interim_rules::is_built;
 use config::LoadedConfig;
@@ -79,19 +79,19 @@ fn is_rule_built(rule: &Rule) -> bool
     has_all_built_bodies(rule) && has_few(&rule.procs) && are_built(&rule.procs)
 }
 
-fn keeps_none(persist: Persist) -> bool
-    ensures { result ≡ keeps_none persist }
+fn sets_no_cookie(persist: Persist) -> bool
+    ensures { result ≡ sets_no_cookie persist }
 {
     match persist {
-        Persist::None => true,
-        Persist::SourceAddr | Persist::Cookie => false,
+        Persist::None | Persist::SourceAddr => true,
+        Persist::Cookie => false,
     }
 }
 
 fn is_plain(server: &Virtual) -> bool
     ensures { result ≡ is_plain server.now }
 {
-    !server.http && keeps_none(server.persist)
+    !server.http && sets_no_cookie(server.persist)
 }
 
 fn are_plain(servers: &[Virtual]) -> bool
