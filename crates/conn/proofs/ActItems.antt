@@ -1,17 +1,19 @@
 -- What the items of a body's acts send and show, with what stands behind them.
-use Rattle.std.proofs.Common.{◌≡◌, refl, ap, ◌∙◌, ℕ, ◌+◌, List, [], ◌∷◌, ◌++◌, map, length, length-append, if◌then◌else◌, arith, eq-eqb}
+use Rattle.std.proofs.Common.{◌≡◌, refl, sym, ap, ◌∙◌, ℕ, ◌+◌, List, [], ◌∷◌, ◌++◌, append-nil, append_assoc, map, length, length-append, Bool, true, false, true≢false, arith, nat_eq, if◌then◌else◌}
 use Rattle.px_bytes.specs.declared.addr.Side.TheVariants.{Client, Server}
 use Rattle.rule_model.specs.Host as effect
 use Rattle.rule_model.specs.Host.{Effect}
 use Rattle.rule_model.specs.Outcome.{Act, Did}
 use Rattle.rule_model.specs.Outcome as act
 use Rattle.event_order.specs.declared.event.EventName.{EventName}
-use Rattle.conn_trace.specs.Item.{Item, Ran, calls_in, client_output, server_output, notes_of, choices_in}
+use Rattle.conn_trace.specs.Item.{Item, Ran, calls_in, client_output, choices_in, server_output}
 use Rattle.core_events.specs.declared.note.Note.TheVariants as note
 use Rattle.conn_trace.specs.Gates.{Counts, TakenCounts, Met, sent_after, sent_from}
 use Rattle.conn_trace.specs.Bodies.{act_item}
 use Rattle.frames.specs.Went.{effects_in}
-use Rattle.conn.specs.Hosts.{SendsToFirst, client_bytes, server_bytes, logs_of}
+use Rattle.conn.specs.Hosts.{SendsWhere, client_bytes, server_bytes, logs_of}
+use Rattle.conn.specs.Servers.{ServerQueue, queue_along, run_notes, gives_up}
+use Rattle.conn.proofs.Giving.{quiet_queue}
 use Rattle.conn.proofs.Joining.{TakesNone, TakesNoCut}
 
 -- the calls among acts
@@ -24,17 +26,19 @@ calls_made (act.Called path call ∷ acts) = call ∷ calls_made acts
 pub record Silent (c : ℕ) (took : TakenCounts) (tail : List Item) : Type 0 where
   pub met : (sent : Counts) → Met sent took tail
   pub client : client_output tail ≡ []
-  pub server : server_output 1 tail ≡ []
-  pub noted : notes_of c tail ≡ []
+  pub servers : (q : ServerQueue) → queue_along tail q ≡ q
+  pub kept : gives_up tail ≡ false
+  pub to_none : server_output 0 tail ≡ []
+  pub noted : (sent : Counts) → run_notes c sent took tail ≡ []
   pub sent : (sent : Counts) → sent_from sent tail ≡ sent
   pub takes : TakesNone tail
   pub calls : calls_in tail ≡ []
 
 pub no_tail : (c : ℕ) (took : TakenCounts) → Silent c took []
-no_tail c took = record { met = λ s. tt; client = refl; server = refl; noted = refl; sent = λ s. refl; takes = (refl, λ t. refl); calls = refl }
+no_tail c took = record { met = λ s. tt; client = refl; servers = λ q. refl; kept = refl; to_none = refl; noted = λ s. refl; sent = λ s. refl; takes = (refl, λ t. refl); calls = refl }
 
 pub end_tail : (c : ℕ) (took : TakenCounts) (e : EventName) (cost : ℕ) → Silent c took (Ran e cost ∷ [])
-end_tail c took e cost = record { met = λ s. (refl, tt); client = refl; server = refl; noted = refl; sent = λ s. refl; takes = (refl, λ t. refl); calls = refl }
+end_tail c took e cost = record { met = λ s. (refl, tt); client = refl; servers = λ q. quiet_queue q; kept = refl; to_none = refl; noted = λ s. refl; sent = λ s. refl; takes = (refl, λ t. refl); calls = refl }
 
 module _ (c number : ℕ) (took : TakenCounts) (tail : List Item) (t : Silent c took tail) where
   abbrev items : List Act → List Item
@@ -53,12 +57,26 @@ module _ (c number : ℕ) (took : TakenCounts) (tail : List Item) (t : Silent c 
   acts_client (Did (effect.Sent Server bytes) ∷ xs) = acts_client xs
   acts_client (act.Called path call ∷ xs) = acts_client xs
 
-  pub acts_server : (xs : List Act) → SendsToFirst number (effects_in xs) → server_output 1 (items xs) ≡ server_bytes (effects_in xs)
-  acts_server [] p = t.server
-  acts_server (Did (effect.Logged text) ∷ xs) p = acts_server xs p
-  acts_server (Did (effect.Sent Client bytes) ∷ xs) p = acts_server xs p
-  acts_server (Did (effect.Sent Server bytes) ∷ xs) p = ap (λ b. (if b then bytes else []) ++ server_output 1 (items xs)) (eq-eqb number 1 p.0) ∙ ap (λ x. bytes ++ x) (acts_server xs p.1)
-  acts_server (act.Called path call ∷ xs) p = acts_server xs p
+  pub acts_server : (xs : List Act) (q : ServerQueue) → queue_along (items xs) q ≡ record q { queued = q.queued ++ server_bytes (effects_in xs) }
+  acts_server [] q = t.servers q ∙ sym (quiet_queue q)
+  acts_server (Did (effect.Logged text) ∷ xs) q = acts_server xs (record q { queued = q.queued ++ [] }) ∙ ap (λ x. record q { queued = x ++ server_bytes (effects_in xs) }) (append-nil q.queued)
+  acts_server (Did (effect.Sent Client bytes) ∷ xs) q = acts_server xs (record q { queued = q.queued ++ [] }) ∙ ap (λ x. record q { queued = x ++ server_bytes (effects_in xs) }) (append-nil q.queued)
+  acts_server (Did (effect.Sent Server bytes) ∷ xs) q = acts_server xs (record q { queued = q.queued ++ bytes }) ∙ ap (λ x. record q { queued = x }) (append_assoc q.queued bytes (server_bytes (effects_in xs)))
+  acts_server (act.Called path call ∷ xs) q = acts_server xs (record q { queued = q.queued ++ [] }) ∙ ap (λ x. record q { queued = x ++ server_bytes (effects_in xs) }) (append-nil q.queued)
+
+  pub acts_kept : (xs : List Act) → gives_up (items xs) ≡ false
+  acts_kept [] = t.kept
+  acts_kept (Did (effect.Logged text) ∷ xs) = acts_kept xs
+  acts_kept (Did (effect.Sent side bytes) ∷ xs) = acts_kept xs
+  acts_kept (act.Called path call ∷ xs) = acts_kept xs
+
+  -- what is sent to a server goes to one that was made
+  pub acts_to_none : (up : Bool) (xs : List Act) → SendsWhere up (effects_in xs) → (up ≡ true → nat_eq number 0 ≡ false) → server_output 0 (items xs) ≡ []
+  acts_to_none up [] p k = t.to_none
+  acts_to_none up (Did (effect.Logged text) ∷ xs) p k = acts_to_none up xs p k
+  acts_to_none up (Did (effect.Sent Client bytes) ∷ xs) p k = acts_to_none up xs p k
+  acts_to_none up (Did (effect.Sent Server bytes) ∷ xs) p k = ap (λ b. (if b then bytes else []) ++ server_output 0 (items xs)) (k p.0) ∙ acts_to_none up xs p.1 k
+  acts_to_none up (act.Called path call ∷ xs) p k = acts_to_none up xs p k
 
   pub acts_calls : (xs : List Act) → calls_in (items xs) ≡ calls_made xs
   acts_calls [] = t.calls
@@ -66,11 +84,11 @@ module _ (c number : ℕ) (took : TakenCounts) (tail : List Item) (t : Silent c 
   acts_calls (Did (effect.Sent side bytes) ∷ xs) = acts_calls xs
   acts_calls (act.Called path call ∷ xs) = ap (λ x. call ∷ x) (acts_calls xs)
 
-  pub acts_noted : (xs : List Act) → notes_of c (items xs) ≡ logs_of c (effects_in xs)
-  acts_noted [] = t.noted
-  acts_noted (Did (effect.Logged text) ∷ xs) = ap (λ x. note.Log c text ∷ x) (acts_noted xs)
-  acts_noted (Did (effect.Sent side bytes) ∷ xs) = acts_noted xs
-  acts_noted (act.Called path call ∷ xs) = acts_noted xs
+  pub acts_noted : (xs : List Act) (sent : Counts) → run_notes c sent took (items xs) ≡ logs_of c (effects_in xs)
+  acts_noted [] sent = t.noted sent
+  acts_noted (Did (effect.Logged text) ∷ xs) sent = ap (λ x. note.Log c text ∷ x) (acts_noted xs (sent_after (act_item number (Did (effect.Logged text))) sent))
+  acts_noted (Did (effect.Sent side bytes) ∷ xs) sent = acts_noted xs (sent_after (act_item number (Did (effect.Sent side bytes))) sent)
+  acts_noted (act.Called path call ∷ xs) sent = acts_noted xs (sent_after (act_item number (act.Called path call)) sent)
 
   acts_choices : (xs : List Act) → choices_in (items xs) ≡ []
   acts_choices [] = t.takes.0
@@ -120,11 +138,11 @@ called_is_none (Did e ∷ xs) path call = ap (λ es. e ∷ es) (called_is_none x
 called_is_none (act.Called p q ∷ xs) path call = called_is_none xs path call
 
 -- where there is no server nothing is sent to one
-pub sends_none : (number : ℕ) (es : List Effect) → SendsToFirst number es → (number ≡ 1 → ⊥) → server_bytes es ≡ []
-sends_none number [] p other = refl
-sends_none number (effect.Logged text ∷ es) p other = sends_none number es p other
-sends_none number (effect.Sent Client bytes ∷ es) p other = sends_none number es p other
-sends_none number (effect.Sent Server bytes ∷ es) p other = absurd (other p.0)
+pub sends_none : (up : Bool) (es : List Effect) → SendsWhere up es → up ≡ false → server_bytes es ≡ []
+sends_none up [] p down = refl
+sends_none up (effect.Logged text ∷ es) p down = sends_none up es p down
+sends_none up (effect.Sent Client bytes ∷ es) p down = sends_none up es p down
+sends_none up (effect.Sent Server bytes ∷ es) p down = absurd (true≢false (sym p.0 ∙ down))
 
 -- a call is the one behind others
 pub call_behind : (xs : List Act) (path : List ℕ) (call : List (List ℕ)) → calls_made (xs ++ act.Called path call ∷ []) ≡ calls_made xs ++ call ∷ []

@@ -1,5 +1,5 @@
 -- What an action gives, by what it comes to.
-use Rattle.std.proofs.Common.{◌≡◌, refl, sym, ap, subst, ◌∙◌, ℕ, ◌+◌, List, [], ◌∷◌, ◌++◌, append-nil, length, map, Bool, true, false, true≢false, Option, Some, None, if◌then◌else◌, arith, length-append}
+use Rattle.std.proofs.Common.{◌≡◌, refl, sym, ap, subst, ◌∙◌, ℕ, ◌+◌, List, [], ◌∷◌, ◌++◌, append-nil, length, map, Bool, true, false, true≢false, ◌&&◌, Option, Some, None, if◌then◌else◌, arith, length-append}
 use Rattle.px_bytes.specs.declared.addr.Side.TheVariants.{Client, Server}
 use Rattle.px_bytes.specs.Host.{Effect, Logged, Sent}
 use Rattle.rule_model.specs.Outcome.{Act}
@@ -7,13 +7,14 @@ use Rattle.conn_trace.specs.Bodies.{act_item}
 use Rattle.core_events.specs.Edges.{edges_noted}
 use Rattle.core_events.specs.declared.edges.Edges.{Edges}
 use Rattle.conn_trace.specs.Further.{choosing, longer}
-use Rattle.conn_trace.specs.Gates.{sent_from}
+use Rattle.conn_trace.specs.Gates.{sent_from, taken_of, untaken}
 use Rattle.conn_trace.specs.Item.{CutBy, Finished, Item, Reason, cause_of}
 use Rattle.conn_trace.specs.Places.{Place, at as put, closed}
 use Rattle.conn_trace.specs.Queries.{is_reset}
 use Rattle.conn_trace.specs.Setup.{Setup}
 use Rattle.conn_trace.specs.State.{ForReply, TraceState, Does, Over, Waits}
 use Rattle.conn_trace.specs.Places.{finish}
+use Rattle.conn_trace.specs.Places as model
 use Rattle.conn_trace.specs.Trace.{next_item, Unfolds, GivesNoMore}
 use Rattle.core_events.specs.declared.note.CutReason.{CutReason}
 use Rattle.core_events.specs.declared.note.CutReason.TheVariants.{ClientReset, ServerReset, Idle}
@@ -23,10 +24,11 @@ use Rattle.conn_trace.proofs.Given.{sent_counted}
 use Rattle.frames.specs.Went.{effects_in}
 use Rattle.conn.specs.Acts.{Rests, RestsBy, cut_of}
 use Rattle.conn.specs.Changes.{Closes}
-use Rattle.conn.specs.Ends.{connects_by, has_stream, is_up, link_by, number_by, server_by}
+use Rattle.conn.specs.Ends.{connects_by, has_stream, is_taken, is_up, link_by, sent_here, server_by}
 use Rattle.conn.specs.Holds.{Around, Between, Holds, HoldsEnds, Stands}
-use Rattle.conn.specs.Hosts.{SendsToFirst, Told, client_bytes, logs_of, seen_host, server_bytes}
+use Rattle.conn.specs.Hosts.{SendsWhere, Told, client_bytes, logs_of, seen_host, server_bytes}
 use Rattle.conn.specs.RunsItems.{is_cut, licenses}
+use Rattle.conn.specs.Servers.{queue_at_server}
 use Rattle.conn.specs.Setups.{Serves}
 use Rattle.conn.specs.Stages.{InEvent as HostIn, cause_for, fits, has_finished, is_asking, is_in_body, reason_for}
 use Rattle.conn.specs.Relaying.{queue_end}
@@ -41,11 +43,11 @@ use Rattle.conn.specs.declared.stage.Finish.{Finish}
 use Rattle.conn.specs.declared.stage.Finish.TheVariants as finish
 use Rattle.conn.specs.declared.turn.Act as code
 use Rattle.conn.specs.declared.turn.Act.TheVariants as done
-use Rattle.conn.proofs.ActItems.{Silent, acts_calls, acts_client, acts_met, acts_noted, acts_number, acts_sent_client, acts_sent_server, acts_server, acts_take, calls_made, sends_none}
+use Rattle.conn.proofs.ActItems.{Silent, acts_calls, acts_client, acts_met, acts_noted, acts_number, acts_sent_client, acts_sent_server, acts_server, acts_take, calls_made, sends_none, acts_kept, acts_to_none}
 use Rattle.conn.proofs.CutItems.{cut_by, finish_is, rest_cut}
-use Rattle.conn.proofs.Giving.{Gave, Plain, ends_kept, gave_none, gave_one}
+use Rattle.conn.proofs.Giving.{Gave, Plain, ends_kept, gave_none, gave_one, same_queue}
 use Rattle.conn.proofs.Joining.{longer_nothing, none_needed}
-use Rattle.conn.proofs.Pending.{client_reset, server_reset}
+use Rattle.conn.proofs.Pending.{client_reset, server_reset, up_number}
 use Rattle.conn.proofs.Places.{GoneTo, closes_gone, link_is}
 
 -- where it stands behind what an action gave
@@ -95,10 +97,10 @@ cause_is (finish.Fault kind) = refl
 cause_is (finish.Cut reason) = refl
 
 plain_finish : (f : Finish) → IsPlain f → Plain (Finished (reason_for f)) []
-plain_finish finish.Closed p = record { calls = refl; client = refl; server = refl; takes = (refl, λ t. refl) }
-plain_finish finish.Rejected p = record { calls = refl; client = refl; server = refl; takes = (refl, λ t. refl) }
-plain_finish finish.Unselected p = record { calls = refl; client = refl; server = refl; takes = (refl, λ t. refl) }
-plain_finish (finish.Fault kind) p = record { calls = refl; client = refl; server = refl; takes = (refl, λ t. refl) }
+plain_finish finish.Closed p = record { calls = refl; client = refl; kept = refl; to_none = refl; opens = λ c s t. refl; takes = (refl, λ t. refl) }
+plain_finish finish.Rejected p = record { calls = refl; client = refl; kept = refl; to_none = refl; opens = λ c s t. refl; takes = (refl, λ t. refl) }
+plain_finish finish.Unselected p = record { calls = refl; client = refl; kept = refl; to_none = refl; opens = λ c s t. refl; takes = (refl, λ t. refl) }
+plain_finish (finish.Fault kind) p = record { calls = refl; client = refl; kept = refl; to_none = refl; opens = λ c s t. refl; takes = (refl, λ t. refl) }
 plain_finish (finish.Cut reason) p = absurd p
 
 -- the notes at a rest
@@ -155,11 +157,11 @@ module _ (s : code_setup.Setup) (g : Setup) (serves : Serves s g) (a : Around) (
   finishes_gave f plain k step =
       let gone = closing k in
       let i = Finished (reason_for f) in
-      let gave = gave_one g a l closed_at c old new i h.no_cut (plain_finish f plain) (step ∙ finish_at (reason_for f)) refl (closed_holds k) (ap (λ e. e.client.queued) gone.ends) (ap (λ e. e.server.queued) gone.ends) (ap (λ e. e.edges) gone.ends) (λ e. refl) in
+      let gave = gave_one g a l closed_at c old new i h.no_cut (plain_finish f plain) (step ∙ finish_at (reason_for f)) refl (closed_holds k) (ap (λ e. e.client.queued) gone.ends) (same_queue gone.ends) (ap (λ e. e.edges) gone.ends) (λ e. refl) in
       record { at = closed_at; gave = subst (λ x. Gave g a l closed_at c old new (note.Finish c x ∷ []) []) (cause_is f) gave; stops = gone.awake }
 
   -- a cut at a rest finishes it
-  cut_gave : (reason : CutReason) → Closes s old new → l.finished ≡ false → GivesNoMore false l.sent a.took (next_item g l) → (next_item g l ≡ Over → ⊥) → licenses reason l.sent a.took ≡ true → ActGave g a l c old new (note.Finish c (cause_for (finish.Cut reason)) ∷ []) done.Goes
+  cut_gave : (reason : CutReason) → Closes s old new → l.finished ≡ false → GivesNoMore false l.sent a.took (next_item g l) → (next_item g l ≡ Over → ⊥) → licenses reason l a.took ≡ true → ActGave g a l c old new (note.Finish c (cause_for (finish.Cut reason)) ∷ []) done.Goes
   cut_gave reason k going rest not_over licensed =
       let gone = closing k in
       let i = Finished (CutBy reason) in
@@ -179,12 +181,14 @@ module _ (s : code_setup.Setup) (g : Setup) (serves : Serves s g) (a : Around) (
                   split = ap (λ x. Finished (CutBy x) ∷ []) same;
                   passed = longer_nothing l h.no_cut;
                   rests = rest;
-                  licensed = ap (λ x. licenses x l.sent a.took) (sym same) ∙ licensed;
+                  licensed = ap (λ x. licenses x l a.took) (sym same) ∙ licensed;
                 });
           };
           holds = closed_holds k;
           client_queue = ap (λ e. e.client.queued) gone.ends ∙ sym (append-nil old.ends.client.queued);
-          server_queue = ap (λ e. e.server.queued) gone.ends ∙ sym (append-nil old.ends.server.queued);
+          servers = same_queue gone.ends;
+          kept = refl;
+          to_none = refl;
           edges = ap (λ e. e.edges) gone.ends;
           noted = refl;
           calls = refl;
@@ -198,32 +202,44 @@ module _ (s : code_setup.Setup) (g : Setup) (serves : Serves s g) (a : Around) (
       by_cut : (r : CutReason) → Some (cut_by reason a.took) ≡ Some (cut_by r a.took) → reason ≡ r
       by_cut r is = let same : cut_by reason a.took ≡ cut_by r a.took = cc in ap (λ x. x.reason) same
 
-  -- what was told of resets is what the trace says
-  resets_are : (old.ends.link ≡ link.Made → ⊥) → is_cut a.took l ≡ cut_due (has_finished old.stage) old.ends.client.reset old.ends.server.reset
-  resets_are taken_up =
-      ap (λ f. cut_due f (is_reset l.sent a.took Client) (is_reset l.sent a.took Server)) h.finished
-      ∙ ap (λ x. cut_due (has_finished old.stage) x (is_reset l.sent a.took Server)) (client_reset a l old.ends h.ends)
-      ∙ ap (λ x. cut_due (has_finished old.stage) old.ends.client.reset x) (server_reset a l old.ends h.ends taken_up)
+  -- the server's reset licenses one while its connection is up
+  server_licenses : licenses ServerReset l a.took ≡ (is_up old.ends.link && old.ends.server.reset)
+  server_licenses = ap (λ k. model.is_up k && is_reset l.sent a.took Server) (link_is a l old.ends h.ends) ∙ by_link old.ends.link refl
+    where
+      by_link : (k : Link) → old.ends.link ≡ k → (model.is_up (link_by k) && is_reset l.sent a.took Server) ≡ (is_up k && old.ends.server.reset)
+      by_link link.Up e = server_reset a l old.ends h.ends (ap is_taken e)
+      by_link link.Absent e = refl
+      by_link link.Asked e = refl
+      by_link link.Refused e = refl
+      by_link link.Made e = refl
+      by_link link.GivenUp e = refl
 
-  licensed_by : (old.ends.link ≡ link.Made → ⊥) → (reason : CutReason) → WasReset reason old.ends.client.reset old.ends.server.reset → licenses reason l.sent a.took ≡ true
-  licensed_by taken_up ClientReset r = client_reset a l old.ends h.ends ∙ r
-  licensed_by taken_up ServerReset r = server_reset a l old.ends h.ends taken_up ∙ r
-  licensed_by taken_up Idle r = absurd r
+  -- what was told of resets is what the trace says
+  resets_are : is_cut a.took l ≡ cut_due (has_finished old.stage) old.ends.client.reset (is_up old.ends.link && old.ends.server.reset)
+  resets_are =
+      ap (λ f. cut_due f (is_reset l.sent a.took Client) (licenses ServerReset l a.took)) h.finished
+      ∙ ap (λ x. cut_due (has_finished old.stage) x (licenses ServerReset l a.took)) (client_reset a l old.ends h.ends)
+      ∙ ap (λ x. cut_due (has_finished old.stage) old.ends.client.reset x) server_licenses
+
+  licensed_by : (reason : CutReason) → WasReset reason old.ends.client.reset (is_up old.ends.link && old.ends.server.reset) → licenses reason l a.took ≡ true
+  licensed_by ClientReset r = client_reset a l old.ends h.ends ∙ r
+  licensed_by ServerReset r = server_licenses ∙ r
+  licensed_by Idle r = absurd r
 
   -- where nothing may be given a reset that was told cuts it, or it rests
-  pub rests_gave : (before after : List Note) (did : code.Act) → is_in_body old.stage ≡ false → (old.ends.link ≡ link.Made → ⊥) → GivesNoMore false l.sent a.took (next_item g l) → (next_item g l ≡ Over → ⊥) → Rests s c old new before after did → ActGave g a l c old new (rest_group c (cut_of old)) did
-  rests_gave before after did quiet taken_up rest not_over k = by_cut (cut_of old) refl k
+  pub rests_gave : (before after : List Note) (did : code.Act) → is_in_body old.stage ≡ false → GivesNoMore false l.sent a.took (next_item g l) → (next_item g l ≡ Over → ⊥) → Rests s c old new before after did → ActGave g a l c old new (rest_group c (cut_of old)) did
+  rests_gave before after did quiet rest not_over k = by_cut (cut_of old) refl k
     where
       by_cut : (o : Option CutReason) → cut_of old ≡ o → RestsBy o s c old new before after did → ActGave g a l c old new (rest_group c o) did
-      by_cut None is (rests, same, none) = stays g a l c old new did h quiet rests same rest (resets_are taken_up ∙ none_due (has_finished old.stage) old.ends.client.reset old.ends.server.reset is)
+      by_cut None is (rests, same, none) = stays g a l c old new did h quiet rests same rest (resets_are ∙ none_due (has_finished old.stage) old.ends.client.reset (is_up old.ends.link && old.ends.server.reset) is)
       by_cut (Some reason) is (goes, k) =
-          let due = some_due (has_finished old.stage) old.ends.client.reset old.ends.server.reset reason is in
-          subst (λ d. ActGave g a l c old new (rest_group c (Some reason)) d) (sym goes) (cut_gave reason k.0 (h.finished ∙ due.0) rest not_over (licensed_by taken_up reason due.1))
+          let due = some_due (has_finished old.stage) old.ends.client.reset (is_up old.ends.link && old.ends.server.reset) reason is in
+          subst (λ d. ActGave g a l c old new (rest_group c (Some reason)) d) (sym goes) (cut_gave reason k.0 (h.finished ∙ due.0) rest not_over (licensed_by reason due.1))
 
 -- what the acts of a body made was done, and these are the calls among them
-pub record DoesActs (g : Setup) (number : ℕ) (xs : List Act) (old new : Conn) (called : List (List (List ℕ))) : Type 0 where
+pub record DoesActs (g : Setup) (up : Bool) (xs : List Act) (old new : Conn) (called : List (List (List ℕ))) : Type 0 where
   pub calls : calls_made xs ≡ called
-  pub first : SendsToFirst number (effects_in xs)
+  pub first : SendsWhere up (effects_in xs)
   pub ends : new.ends ≡ queue_both (client_bytes (effects_in xs)) (server_bytes (effects_in xs)) old.ends
   pub told : Told g new.ends.link new.host.net
 
@@ -248,6 +264,7 @@ queued_side link.Asked e bytes = refl
 queued_side link.Refused e bytes = refl
 queued_side link.Made e bytes = refl
 queued_side link.Up e bytes = refl
+queued_side link.GivenUp e bytes = refl
 
 queued_answer : (k : Link) (e : End) (bytes : List ℕ) → connects_by k (queue_end bytes e) ≡ connects_by k e
 queued_answer link.Absent e bytes = refl
@@ -255,13 +272,7 @@ queued_answer link.Asked e bytes = refl
 queued_answer link.Refused e bytes = refl
 queued_answer link.Made e bytes = refl
 queued_answer link.Up e bytes = refl
-
-not_first : (k : Link) → is_up k ≡ false → number_by k ≡ 1 → ⊥
-not_first link.Absent down is = cc
-not_first link.Asked down is = cc
-not_first link.Refused down is = cc
-not_first link.Made down is = cc
-not_first link.Up down is = true≢false down
+queued_answer link.GivenUp e bytes = refl
 
 not_there : (k : Link) → has_stream k ≡ false → is_up k ≡ false
 not_there link.Absent none = refl
@@ -269,9 +280,27 @@ not_there link.Asked none = refl
 not_there link.Refused none = refl
 not_there link.Made none = refl
 not_there link.Up none = none
+not_there link.GivenUp none = refl
+
+not_taken : (k : Link) → is_taken k ≡ false → is_up k ≡ false
+not_taken link.Absent none = refl
+not_taken link.Asked none = refl
+not_taken link.Refused none = refl
+not_taken link.Made none = refl
+not_taken link.Up none = none
+not_taken link.GivenUp none = refl
+
+-- n bytes more are queued where so many more were sent, to a server connection that is up
+untaken_on : (k : Link) (q n counted sent after : ℕ) → (is_up k ≡ false → n ≡ 0) → (has_stream k ≡ true → q + counted ≡ sent_here k sent) → after ≡ sent + n → has_stream k ≡ true → (q + n) + counted ≡ sent_here k after
+untaken_on link.Up q n counted sent after none is more there = let k = is refl in omega (arith, k, more)
+untaken_on link.GivenUp q n counted sent after none is more there = let k = is refl in let z = none refl in omega (arith, k, more, z)
+untaken_on link.Made q n counted sent after none is more there = let k = is refl in let z = none refl in omega (arith, k, z)
+untaken_on link.Absent q n counted sent after none is more there = absurd (cc)
+untaken_on link.Asked q n counted sent after none is more there = absurd (cc)
+untaken_on link.Refused q n counted sent after none is more there = absurd (cc)
 
 -- what is queued to both ends was sent to them
-pub queued_ends : (a : Around) (l at : TraceState) (e : Ends) (es : List Effect) → HoldsEnds a l e → SendsToFirst l.sent.number es → at.client ≡ l.client → at.server ≡ l.server → at.answers.connects ≡ l.answers.connects
+pub queued_ends : (a : Around) (l at : TraceState) (e : Ends) (es : List Effect) → HoldsEnds a l e → SendsWhere (is_up e.link) es → at.client ≡ l.client → at.server ≡ l.server → at.answers.connects ≡ l.answers.connects
     → at.sent.client ≡ l.sent.client + length (client_bytes es) → at.sent.server ≡ l.sent.server + length (server_bytes es) → at.sent.number ≡ l.sent.number → HoldsEnds a at (queue_both (client_bytes es) (server_bytes es) e)
 queued_ends a l at e es h first client server connects to_client to_server number = record {
   client = client ∙ h.client;
@@ -279,19 +308,25 @@ queued_ends a l at e es h first client server connects to_client to_server numbe
   client_untaken = (let k = h.client_untaken in let n = length-append e.client.queued (client_bytes es) in omega (arith, to_client, k, n));
   server = server ∙ h.server ∙ sym (queued_side e.link e.server (server_bytes es));
   connects = connects ∙ h.connects ∙ sym (queued_answer e.link e.server (server_bytes es));
+  earlier = h.earlier;
   number = number ∙ h.number;
   servers_took = h.servers_took;
-  server_untaken = (let k = h.server_untaken in let n = length-append e.server.queued (server_bytes es) in omega (arith, to_server, k, n));
-  unsent = λ down. (let k = h.unsent down in let n = ap length (none down) in omega (arith, to_server, k, n));
+  server_untaken = λ there.
+      ap (λ n. n + a.counted_server) (length-append e.server.queued (server_bytes es))
+      ∙ untaken_on e.link (length e.server.queued) (length (server_bytes es)) a.counted_server l.sent.server at.sent.server (λ down. ap length (none down)) h.server_untaken to_server there;
+  took_all = λ away.
+      (let no_more : length (server_bytes es) ≡ 0 = ap length (none (not_taken e.link away)) in
+      let same : at.sent.server ≡ l.sent.server = omega (arith, to_server, no_more) in
+      ap (λ n. untaken n (taken_of a.took.servers at.sent.number)) same ∙ ap (λ n. untaken l.sent.server (taken_of a.took.servers n)) number ∙ h.took_all away);
   nothing_came = λ away. ap (λ b. queue_end b e.server) (none (not_there e.link away)) ∙ ap (λ q. record e.server { queued = q }) (append-nil e.server.queued) ∙ h.nothing_came away;
   connecting = h.connecting;
 }
   where
     none : is_up e.link ≡ false → server_bytes es ≡ []
-    none down = sends_none l.sent.number es first (λ one. not_first e.link down (sym h.number ∙ one))
+    none down = sends_none (is_up e.link) es first down
 
 -- acts of a body, and what stands behind them; they are its items
-pub acts_gave : (g : Setup) (a : Around) (l at : TraceState) (c : ℕ) (old new : Conn) (xs : List Act) (tail : List Item) {called : List (List (List ℕ))} → Silent c a.took tail → Holds g a l old → DoesActs g l.sent.number xs old new called
+pub acts_gave : (g : Setup) (a : Around) (l at : TraceState) (c : ℕ) (old new : Conn) (xs : List Act) (tail : List Item) {called : List (List (List ℕ))} → Silent c a.took tail → Holds g a l old → DoesActs g (is_up old.ends.link) xs old new called
     → Unfolds g l (map (act_item l.sent.number) xs ++ tail) at → Stands g new.stage at new → l.finished ≡ has_finished new.stage → fits new.stage new.ends.link ≡ true → HostIn new.stage new.host.event → SameBeside l at
     → (gave : Gave g a l at c old new (logs_of c (effects_in xs)) called) × (gave.more ≡ map (act_item l.sent.number) xs ++ tail)
 acts_gave g a l at c old new xs tail {called = called} t h made u stands finished fit ev same =
@@ -314,9 +349,11 @@ acts_gave g a l at c old new xs tail {called = called} t h made u stands finishe
         no_cut = same.cut ∙ h.no_cut;
       };
       client_queue = ap (λ e. e.client.queued) made.ends ∙ ap (λ x. old.ends.client.queued ++ x) (sym (acts_client c number a.took tail t xs));
-      server_queue = ap (λ e. e.server.queued) made.ends ∙ ap (λ x. old.ends.server.queued ++ x) (sym (acts_server c number a.took tail t xs made.first));
+      servers = ap queue_at_server made.ends ∙ sym (acts_server c number a.took tail t xs (queue_at_server old.ends));
       edges = ap (λ e. e.edges) made.ends ∙ sym (logs_keep c (effects_in xs) old.ends.edges);
-      noted = sym (acts_noted c number a.took tail t xs);
+      kept = acts_kept c number a.took tail t xs;
+      to_none = acts_to_none c number a.took tail t (is_up old.ends.link) xs made.first (up_number a l old.ends h.ends);
+      noted = sym (acts_noted c number a.took tail t xs l.sent);
       calls = acts_calls c number a.took tail t xs ∙ made.calls;
       still = λ e. takes;
       uncut = λ e. takes.1;

@@ -12,7 +12,7 @@ use Rattle.core_events.specs.declared.note.CutReason.{CutReason}
 use Rattle.core_events.specs.declared.note.Note.{Note}
 use Rattle.core_events.specs.declared.note.Note.TheVariants as note
 use Rattle.conn_trace.specs.Relay.{meets}
-use Rattle.conn.specs.Acts.{ActedAt, Acted, AnswersBy, BehindFault, CollectsBy, PassesGate, PassesReleased, RelaysBy, Rests, RestsBy, cut_of, has_room}
+use Rattle.conn.specs.Acts.{ActedAt, Acted, AnswersBy, BehindFault, CollectsBy, PassesGate, PassesReleased, RelaysBy, Rests, RestsBy, cut_of, has_room, Connects, ConnectsNext}
 use Rattle.conn.specs.Changes.{Closes, ClosesClient, ClosesServer, GoesTo, Leaves, NextBody, StartsBody}
 use Rattle.conn.specs.Choosing.{ChoosesBy, TakesChosen, plan_of}
 use Rattle.conn.specs.Ends.{is_sought}
@@ -50,9 +50,11 @@ use Rattle.conn.proofs.Choosing.{chooses, chosen}
 use Rattle.conn.proofs.Collecting.{collect_group, collect_noted, collects}
 use Rattle.conn.proofs.Releasing.{release_noted, releases, server_room}
 use Rattle.conn.proofs.Gating.{drains, finishing, gate, gate_group, gate_noted, logs}
-use Rattle.conn.proofs.Linking.{answer_group, answer_noted, answers, connects}
+use Rattle.conn.proofs.Linking.{answer_group, answer_noted, answers, connects, connect_group, connect_noted}
 use Rattle.conn.proofs.Passing.{relay_group, relay_noted, relays}
 use Rattle.conn.proofs.Places.{none_here}
+use Rattle.seg_buffer.specs.Bytes.{is_empty}
+use Rattle.conn.specs.Queues.{queue_in}
 
 -- what an action tells the outside of the ends
 abbrev pub Tells : List Note → Conn → Conn → Type 0
@@ -117,6 +119,14 @@ answer_tells s c link.Refused old new before after did k = ap (λ e. e.edges) k.
 answer_tells s c link.Absent old new before after did k = rest_tells s c old new before after did (cut_of old) k
 answer_tells s c link.Asked old new before after did k = rest_tells s c old new before after did (cut_of old) k
 answer_tells s c link.Up old new before after did k = rest_tells s c old new before after did (cut_of old) k
+answer_tells s c link.GivenUp old new before after did k = rest_tells s c old new before after did (cut_of old) k
+
+connect_tells : (s : code_setup.Setup) (c : ℕ) (to : Addr) (old new : Conn) (before after : List Note) (did : step_act.Act) → ConnectsNext s c to old new before after did → Tells (connect_group (is_empty (queue_in Server old)) c to (cut_of old)) old new
+connect_tells s c to old new before after did k = by_test (is_empty (queue_in Server old)) k
+  where
+    by_test : (b : Bool) → MatchBool b ((did ≡ done.Goes) × Connects c to old new before after) (Rests s c old new before after did) → Tells (connect_group b c to (cut_of old)) old new
+    by_test true k = ap (λ x. x.edges) k.1.ends
+    by_test false k = rest_tells s c old new before after did (cut_of old) k
 
 moved_edges : (side : Side) (n : ℕ) (e : Ends) → (moved side n e).edges ≡ e.edges
 moved_edges Client n e = refl
@@ -231,11 +241,11 @@ acted_well s c old new before after did ticks k = by_stage old.stage refl k
       tells = chosen_tells s addr old new k;
       along = λ g a l serves h awake. as_goes e g a l [] (chosen s g serves a l c old new h addr is (here (stage.Chosen addr) is g a l h) k);
     }
-    by_stage (stage.Connecting to) is (e, k) = record {
-      group = note.Connect c to ∷ [];
-      notes = k.noted;
-      tells = ap (λ x. x.edges) k.ends;
-      along = λ g a l serves h awake. as_goes e g a l (note.Connect c to ∷ []) (connects s g serves a l c old new h to before after is (here (stage.Connecting to) is g a l h) k);
+    by_stage (stage.Connecting to) is k = record {
+      group = connect_group (is_empty (queue_in Server old)) c to (cut_of old);
+      notes = connect_noted s c to old new before after did k;
+      tells = connect_tells s c to old new before after did k;
+      along = λ g a l serves h awake. connects s g serves a l c old new h to before after did is (here (stage.Connecting to) is g a l h) k;
     }
     by_stage (stage.Answering to) is k = record {
       group = answer_group old.ends.link c (cut_of old);
@@ -287,6 +297,14 @@ answer_quiet s c link.Refused old new before after k = k.2
 answer_quiet s c link.Absent old new before after k = rest_quiet s c old new before after (cut_of old) k
 answer_quiet s c link.Asked old new before after k = rest_quiet s c old new before after (cut_of old) k
 answer_quiet s c link.Up old new before after k = rest_quiet s c old new before after (cut_of old) k
+answer_quiet s c link.GivenUp old new before after k = rest_quiet s c old new before after (cut_of old) k
+
+connect_quiet : (s : code_setup.Setup) (c : ℕ) (to : Addr) (old new : Conn) (before after : List Note) → ConnectsNext s c to old new before after done.Rests → after ≡ before
+connect_quiet s c to old new before after k = by_test (is_empty (queue_in Server old)) k
+  where
+    by_test : (b : Bool) → MatchBool b ((done.Rests ≡ done.Goes) × Connects c to old new before after) (Rests s c old new before after done.Rests) → after ≡ before
+    by_test true k = absurd (let e = k.0 in cc)
+    by_test false k = rest_quiet s c old new before after (cut_of old) k
 
 relay_quiet : (s : code_setup.Setup) (c : ℕ) (p : Relay) (old new : Conn) (before after : List Note) → RelaysBy p s c old new before after done.Rests → after ≡ before
 relay_quiet s c relay.Done old new before after k = absurd (let e = k.0 in cc)
@@ -333,7 +351,7 @@ rests_quiet s c old new before after ticks k = by_stage old.stage k
     by_stage (stage.Failing at n kind line) k = absurd (let e = k.0 in cc)
     by_stage stage.Choosing k = k.1
     by_stage (stage.Chosen addr) k = k.2
-    by_stage (stage.Connecting to) k = absurd (let e = k.0 in cc)
+    by_stage (stage.Connecting to) k = connect_quiet s c to old new before after k
     by_stage (stage.Answering to) k = answer_quiet s c old.ends.link old new before after k
     by_stage stage.Collecting k = collect_quiet s c (meets old.host.net.client.asks old.ends.client.unread) old new before after k
     by_stage stage.Releasing k = release_quiet s c old new before after k
@@ -354,6 +372,14 @@ answer_same s c link.Refused old new before after k = absurd (let e = k.0 in cc)
 answer_same s c link.Absent old new before after k = rest_same s c old new before after (cut_of old) k
 answer_same s c link.Asked old new before after k = rest_same s c old new before after (cut_of old) k
 answer_same s c link.Up old new before after k = rest_same s c old new before after (cut_of old) k
+answer_same s c link.GivenUp old new before after k = rest_same s c old new before after (cut_of old) k
+
+connect_same : (s : code_setup.Setup) (c : ℕ) (to : Addr) (old new : Conn) (before after : List Note) → ConnectsNext s c to old new before after done.Rests → new ≡ old
+connect_same s c to old new before after k = by_test (is_empty (queue_in Server old)) k
+  where
+    by_test : (b : Bool) → MatchBool b ((done.Rests ≡ done.Goes) × Connects c to old new before after) (Rests s c old new before after done.Rests) → new ≡ old
+    by_test true k = absurd (let e = k.0 in cc)
+    by_test false k = rest_same s c old new before after (cut_of old) k
 
 -- but the turn of a relay
 relay_same : (s : code_setup.Setup) (c : ℕ) (p : Relay) (old new : Conn) (before after : List Note) → RelaysBy p s c old new before after done.Rests → new ≡ round_begun old
@@ -404,7 +430,7 @@ rests_asking s c old new before after ticks k = by_stage old.stage refl k
     by_stage (stage.Failing at n kind line) is k = absurd (let e = k.0 in cc)
     by_stage stage.Choosing is k = absurd (choose_goes (plan_of old.host.net) k.0)
     by_stage (stage.Chosen addr) is k = absurd (let e = k.0 in cc)
-    by_stage (stage.Connecting to) is k = absurd (let e = k.0 in cc)
+    by_stage (stage.Connecting to) is k = as_before (connect_same s c to old new before after k)
     by_stage (stage.Answering to) is k = as_before (answer_same s c old.ends.link old new before after k)
     by_stage stage.Collecting is k = as_before (collect_same s c (meets old.host.net.client.asks old.ends.client.unread) old new before after k)
     by_stage stage.Releasing is k = as_before (release_same s c old new before after k)
@@ -425,6 +451,14 @@ answer_asks_not s c link.Refused old new before after call k = let e = k.0 in cc
 answer_asks_not s c link.Absent old new before after call k = rest_asks_not s c old new before after call (cut_of old) k
 answer_asks_not s c link.Asked old new before after call k = rest_asks_not s c old new before after call (cut_of old) k
 answer_asks_not s c link.Up old new before after call k = rest_asks_not s c old new before after call (cut_of old) k
+answer_asks_not s c link.GivenUp old new before after call k = rest_asks_not s c old new before after call (cut_of old) k
+
+connect_asks_not : (s : code_setup.Setup) (c : ℕ) (to : Addr) (old new : Conn) (before after : List Note) (call : List (List ℕ)) → ConnectsNext s c to old new before after (done.Asks call) → ⊥
+connect_asks_not s c to old new before after call k = by_test (is_empty (queue_in Server old)) k
+  where
+    by_test : (b : Bool) → MatchBool b ((done.Asks call ≡ done.Goes) × Connects c to old new before after) (Rests s c old new before after (done.Asks call)) → ⊥
+    by_test true k = let e = k.0 in cc
+    by_test false k = rest_asks_not s c old new before after call (cut_of old) k
 
 relay_asks_not : (s : code_setup.Setup) (c : ℕ) (p : Relay) (old new : Conn) (before after : List Note) (call : List (List ℕ)) → RelaysBy p s c old new before after (done.Asks call) → ⊥
 relay_asks_not s c relay.Done old new before after call k = let e = k.0 in cc
@@ -476,7 +510,7 @@ asks_there s c old new before after call ticks k = by_stage old.stage k
     by_stage (stage.Failing at n kind line) k = absurd (let e = k.0 in cc)
     by_stage stage.Choosing k = by_plan (plan_of old.host.net) k.0
     by_stage (stage.Chosen addr) k = absurd (let e = k.0 in cc)
-    by_stage (stage.Connecting to) k = absurd (let e = k.0 in cc)
+    by_stage (stage.Connecting to) k = absurd (connect_asks_not s c to old new before after call k)
     by_stage (stage.Answering to) k = absurd (answer_asks_not s c old.ends.link old new before after call k)
     by_stage stage.Collecting k = absurd (collect_asks_not s c (meets old.host.net.client.asks old.ends.client.unread) old new before after call k)
     by_stage stage.Releasing k = absurd (release_asks_not s c old new before after call k)

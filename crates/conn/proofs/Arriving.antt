@@ -10,10 +10,10 @@ use Rattle.conn_trace.specs.Further.{Coming, nothing_further, nothing_comes, lon
 use Rattle.conn_trace.specs.Heard.{taken_by}
 use Rattle.conn_trace.specs.Item.{Choice}
 use Rattle.conn_trace.specs.Setup.{Handler, Setup}
-use Rattle.conn_trace.specs.State.{Cut, ServerSide, Stream, There, TraceState}
+use Rattle.conn_trace.specs.State.{Cut, ServerSide, Stream, There, TraceState, Retired}
 use Rattle.conn_trace.proofs.Streams.{nothing_stream, nothing_server, nothing_on_last}
 use Rattle.conn.specs.Calls.{Hears, Resets, coming_of, ended_ends, heard_ends, none_at_last, reset_end, reset_ends, reset_in, unless_finished}
-use Rattle.conn.specs.Ends.{arrived, connects_by, fresh_end, has_stream, heard_by, heard_end, hears_at, is_up, server_by, servers_by}
+use Rattle.conn.specs.Ends.{arrived, connects_by, fresh_end, has_stream, heard_by, heard_end, hears_at, is_up, server_by, servers_by, number_by}
 use Rattle.conn.specs.Events.{event_of}
 use Rattle.conn.specs.Holds.{Around, Between, Holds, HoldsEnds, RunsFirst, Stands}
 use Rattle.conn.specs.Stages.{fits, has_finished}
@@ -25,6 +25,7 @@ use Rattle.conn.specs.declared.ends.Link.TheVariants as link
 use Rattle.conn.specs.declared.stage.Stage.{Stage}
 use Rattle.conn.specs.declared.stage.Stage.TheVariants as stage
 use Rattle.conn.proofs.Joining.{longer_nothing}
+use Rattle.conn.proofs.Servers.{none_behind, none_length, none_untaken}
 
 -- the same state with these streams, the same connection with these ends
 abbrev pub changed : Stream → ServerSide → List (Option Stream) → TraceState → TraceState
@@ -111,10 +112,11 @@ module _ (a : Around) (l : TraceState) (e : Ends) (h : HoldsEnds a l e) where
     client_untaken = ap (λ q. length q + a.counted) queued ∙ h.client_untaken;
     server = same_server ∙ h.server;
     connects = same_connects ∙ h.connects;
+    earlier = h.earlier;
     number = h.number;
     servers_took = h.servers_took;
     server_untaken = h.server_untaken;
-    unsent = h.unsent;
+    took_all = h.took_all;
     nothing_came = h.nothing_came;
     connecting = h.connecting;
   }
@@ -126,10 +128,11 @@ module _ (a : Around) (l : TraceState) (e : Ends) (h : HoldsEnds a l e) where
     client_untaken = h.client_untaken;
     server = is_server;
     connects = is_connects;
+    earlier = h.earlier;
     number = h.number;
-    servers_took = h.servers_took ∙ ap (λ b. servers_by e.link b a.counted_server) (sym reset);
-    server_untaken = ap (λ q. length q + a.counted_server) queued ∙ h.server_untaken;
-    unsent = h.unsent;
+    servers_took = h.servers_took ∙ ap (λ b. servers_by h.earlier e.link b a.counted_server) (sym reset);
+    server_untaken = λ there. ap (λ q. length q + a.counted_server) queued ∙ h.server_untaken there;
+    took_all = h.took_all;
     nothing_came = came;
     connecting = h.connecting;
   }
@@ -142,10 +145,11 @@ module _ (a : Around) (l : TraceState) (e : Ends) (h : HoldsEnds a l e) where
     client_untaken = h.client_untaken;
     server = h.server;
     connects = h.connects;
+    earlier = h.earlier;
     number = h.number;
     servers_took = h.servers_took;
     server_untaken = h.server_untaken;
-    unsent = h.unsent;
+    took_all = h.took_all;
     nothing_came = h.nothing_came;
     connecting = λ is. h.connecting (same is);
   }
@@ -157,6 +161,7 @@ server_grows c link.Asked s = refl
 server_grows c link.Refused s = refl
 server_grows c link.Made s = refl
 server_grows c link.Up s = ap There (heard_arrived c s)
+server_grows c link.GivenUp s = ap Retired (heard_arrived c s)
 
 connects_grow : (c : Coming) (k : Link) (s : End) → on_last c (connects_by k s) ++ [] ≡ connects_by k (if has_stream k then heard_end c s else s)
 connects_grow c link.Absent s = refl
@@ -164,6 +169,7 @@ connects_grow c link.Asked s = refl
 connects_grow c link.Refused s = refl
 connects_grow c link.Made s = ap (λ x. Some x ∷ []) (heard_arrived c s)
 connects_grow c link.Up s = refl
+connects_grow c link.GivenUp s = refl
 
 -- by whether bytes of a server may come
 abbrev heard_where : (b : Bool) (c : Coming) (s : End) → End
@@ -263,13 +269,21 @@ ends_connecting Server e = refl
 pub hears_end : (side : Side) (old : Conn) → Hears side (record { bytes = []; ended = true }) old (with_ends (ended_ends (has_finished old.stage) side old.ends) old)
 hears_end side old = hears_with side (record { bytes = []; ended = true }) old (edge_ends side old.ends.edges) (λ e. sym (ends_connecting side old.ends.edges) ∙ e)
 
--- a side that was reset counts as having taken all
-none_taken_by : (k : Link) (b : Bool) (n : ℕ) → none_at_last (servers_by k b n) ≡ servers_by k (if has_stream k then true else b) n
-none_taken_by link.Absent b n = refl
-none_taken_by link.Asked b n = refl
-none_taken_by link.Refused b n = refl
-none_taken_by link.Made b n = refl
-none_taken_by link.Up b n = refl
+-- A side that was reset counts as having taken all. Where none is there it is said of the one before.
+abbrev reset_earlier : Bool → List (Option ℕ) → List (Option ℕ)
+reset_earlier b ts = if b then ts else none_at_last ts
+
+reset_length : (b : Bool) (ts : List (Option ℕ)) → length (reset_earlier b ts) ≡ length ts
+reset_length true ts = refl
+reset_length false ts = none_length ts
+
+none_taken_by : (ts : List (Option ℕ)) (k : Link) (b : Bool) (n : ℕ) → none_at_last (servers_by ts k b n) ≡ servers_by (reset_earlier (has_stream k) ts) k (if has_stream k then true else b) n
+none_taken_by ts link.Absent b n = refl
+none_taken_by ts link.Asked b n = refl
+none_taken_by ts link.Refused b n = refl
+none_taken_by ts link.Made b n = none_behind ts (taken_by b n)
+none_taken_by ts link.Up b n = none_behind ts (taken_by b n)
+none_taken_by ts link.GivenUp b n = none_behind ts (taken_by b n)
 
 -- by whether bytes of a server may come
 abbrev reset_where : Bool → End → End
@@ -289,6 +303,7 @@ reset_same true link.Asked s = (refl, refl, refl)
 reset_same true link.Refused s = (refl, refl, refl)
 reset_same true link.Made s = (refl, refl, refl)
 reset_same true link.Up s = (refl, refl, refl)
+reset_same true link.GivenUp s = (refl, refl, refl)
 reset_same false k s = (refl, refl, refl)
 
 pub resets_ends : (a : Around) (l : TraceState) (side : Side) (e : Ends) → HoldsEnds a l e → HoldsEnds (reset_in side a) l (reset_ends side e)
@@ -298,10 +313,11 @@ resets_ends a l Client e h = record {
   client_untaken = h.client_untaken;
   server = h.server;
   connects = h.connects;
+  earlier = h.earlier;
   number = h.number;
   servers_took = h.servers_took;
   server_untaken = h.server_untaken;
-  unsent = h.unsent;
+  took_all = h.took_all;
   nothing_came = h.nothing_came;
   connecting = h.connecting;
 }
@@ -313,10 +329,12 @@ resets_ends a l Server e h =
       client_untaken = h.client_untaken;
       server = h.server ∙ sym same.0;
       connects = h.connects ∙ sym same.1;
-      number = h.number;
-      servers_took = ap none_at_last h.servers_took ∙ none_taken_by e.link e.server.reset a.counted_server ∙ ap (λ b. servers_by e.link b a.counted_server) (sym (reset_flag (has_stream e.link) e.server));
-      server_untaken = ap (λ q. length q + a.counted_server) same.2 ∙ h.server_untaken;
-      unsent = h.unsent;
+      earlier = reset_earlier (has_stream e.link) h.earlier;
+      number = h.number ∙ ap (number_by e.link) (sym (reset_length (has_stream e.link) h.earlier));
+      servers_took = ap none_at_last h.servers_took ∙ none_taken_by h.earlier e.link e.server.reset a.counted_server
+          ∙ ap (λ b. servers_by (reset_earlier (has_stream e.link) h.earlier) e.link b a.counted_server) (sym (reset_flag (has_stream e.link) e.server));
+      server_untaken = λ there. ap (λ q. length q + a.counted_server) same.2 ∙ h.server_untaken there;
+      took_all = λ away. none_untaken a.took.servers l.sent.number l.sent.server (h.took_all away);
       nothing_came = reset_fresh (has_stream e.link) e.server h.nothing_came;
       connecting = h.connecting;
     }

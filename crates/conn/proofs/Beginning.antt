@@ -1,5 +1,5 @@
 -- A connection that begins stands where its trace does.
-use Rattle.std.proofs.Common.{◌≡◌, refl, sym, ap, subst, ◌∙◌, ℕ, List, Bool, false, arith, if◌then◌else◌, Some, None}
+use Rattle.std.proofs.Common.{◌≡◌, refl, sym, ap, subst, ◌∙◌, ℕ, List, [], Bool, false, arith, if◌then◌else◌, Some, None}
 use Rattle.px_bytes.specs.declared.addr.Addr.{Addr}
 use Rattle.event_order.specs.declared.event.EventName.TheVariants.{ClientAccepted}
 use Rattle.tcl_vars.specs.Scopes.{no_scopes}
@@ -38,10 +38,11 @@ first_ends g h = record {
   client_untaken = refl;
   server = refl;
   connects = refl;
+  earlier = [];
   number = refl;
   servers_took = refl;
-  server_untaken = refl;
-  unsent = λ e. refl;
+  server_untaken = λ e. absurd (cc);
+  took_all = λ e. omega arith;
   nothing_came = λ e. refl;
   connecting = λ e. absurd (cc);
 }

@@ -33,7 +33,7 @@ use Rattle.frames.specs.Given.{setting}
 use Rattle.frames.specs.Went.{Went, place, comes_by, effects_in, TurnIs}
 use Rattle.frames.specs.declared.turn.Turn.{Turn}
 use Rattle.frames.specs.declared.turn.Turn.TheVariants as turn
-use Rattle.conn.specs.Ends.{link_by, number_by}
+use Rattle.conn.specs.Ends.{is_up, link_by}
 use Rattle.conn.specs.Steps.{BodySteps, GoesOn, ended_of, one_of, said_of}
 use Rattle.conn.specs.Bodies.{SaidIs}
 use Rattle.conn.specs.Events.{event_of, is_closed}
@@ -59,26 +59,25 @@ use Rattle.conn.proofs.Asking.{asking_waits}
 use Rattle.conn.proofs.BodyActs.{acts_come, end_comes}
 use Rattle.conn.proofs.FramesKeep.{acts_stay}
 use Rattle.conn.proofs.Leading.{ended_starts}
-use Rattle.conn.proofs.Passing.{up_is}
 use Rattle.conn.proofs.Paying.{ActPaid, begins_paid, end_paid, paid_within, step_paid}
 use Rattle.conn.proofs.Places.{GoneTo, first_left, link_is, next_gone, same_told}
 
--- bytes go to a server only in the event of the first connection
-first_by : (at : At) (k : code.Link) → at_fits at k ≡ true → side_of (event_of at) ≡ Server → number_by k ≡ 1
-first_by event.Accepted k fit to = absurd (cc)
-first_by event.ClientData k fit to = absurd (cc)
-first_by event.Selected k fit to = absurd (cc)
-first_by event.Failed k fit to = absurd (cc)
-first_by event.Connected k fit to = ap number_by (up_is k fit)
-first_by event.ServerData k fit to = ap number_by (up_is k fit)
-first_by event.ServerClosed k fit to = absurd (cc)
-first_by event.Closed k fit to = absurd (cc)
+-- bytes go to a server only in the events of a connection that is up
+up_by : (at : At) (k : code.Link) → at_fits at k ≡ true → side_of (event_of at) ≡ Server → is_up k ≡ true
+up_by event.Accepted k fit to = absurd (cc)
+up_by event.ClientData k fit to = absurd (cc)
+up_by event.Selected k fit to = absurd (cc)
+up_by event.Failed k fit to = absurd (cc)
+up_by event.Connected k fit to = fit
+up_by event.ServerData k fit to = fit
+up_by event.ServerClosed k fit to = absurd (cc)
+up_by event.Closed k fit to = absurd (cc)
 
 -- a step of the body of which the state of the trace tells
 module _ (s : code_setup.Setup) (g : Setup) (serves : Serves s g) (a : Around) (l : TraceState) (c : ℕ) (old mid : Conn) (at : At) (number : ℕ) (h : Handler) (bs : List Handler)
     (holds : Holds g a l old) (k : BodyGoesOn g (event_of at) h bs 0 l old) (said : Turn) (ticks : ℕ) (made : List Effect → Type 0)
     (w : Went (body_setting g h.procedures) h.body (place old.body.machine.at old.vars (seen_host old.host)) (place mid.body.machine.at mid.vars (seen_host mid.host)) said made ticks)
-    (is_here : old.stage ≡ stage.Running at number) (done_acts : DoesActs g l.sent.number w.acts old mid []) (same_event : event_of mid.host.event ≡ event_of old.host.event) (keeps : KeepsCollects (event_of at) old.host.net mid.host.net) where
+    (is_here : old.stage ≡ stage.Running at number) (done_acts : DoesActs g (is_up old.ends.link) w.acts old mid []) (same_event : event_of mid.host.event ≡ event_of old.host.event) (keeps : KeepsCollects (event_of at) old.host.net mid.host.net) where
   abbrev group : List Note
   group = logs_of c (effects_in w.acts)
 
@@ -178,7 +177,7 @@ module _ (s : code_setup.Setup) (g : Setup) (serves : Serves s g) (a : Around) (
       let now : BodyGoesOn g e b bs 1 at' asked = record { acts = acts; cost = k.cost + w.spent; phase = refl; kept = λ side free. keeps.kept side free ∙ k.kept side free; same = subst T is_ask same } in
       let R : List Handler → Type 0 = λ hs. RunsFirst g e hs 1 at' asked in
       let G : List Effect → Type 0 = λ es. Gave g a l at' c old asked (logs_of c es) (call ∷ []) in
-      let gave = subst G (called_is_none w.acts path call) (acts_gave g a l at' c old asked xs [] (no_tail c a.took) holds (calls_too g l.sent.number w.acts path call old asked (record { calls = done_acts.calls; first = done_acts.first; ends = done_acts.ends; told = done_acts.told })) (with_tail xs at' u) (subst R (sym left) now, waits) fin fit ev (same_beside (length acts + 1) xs)).0 in
+      let gave = subst G (called_is_none w.acts path call) (acts_gave g a l at' c old asked xs [] (no_tail c a.took) holds (calls_too g (is_up old.ends.link) w.acts path call old asked (record { calls = done_acts.calls; first = done_acts.first; ends = done_acts.ends; told = done_acts.told })) (with_tail xs at' u) (subst R (sym left) now, waits) fin fit ev (same_beside (length acts + 1) xs)).0 in
       record {
         act = record {
           at = at';
@@ -232,7 +231,7 @@ module _ (s : code_setup.Setup) (g : Setup) (serves : Serves s g) (a : Around) (
       let gone = ended_gone L refl refl behind new (uncaught_of code) did n in
       let same_link : link_by mid.ends.link ≡ link_of l.server = ap (λ x. link_by x.link) done_acts.ends ∙ sym (link_is a l old.ends holds.ends) in
       let stands : Stands g new.stage at2 new = subst (λ k'. Stands g new.stage (put (after_body g e l.finished k' b bs (uncaught_of code) (seen_host mid.host)) L) new) same_link gone.0.stands in
-      let acted : DoesActs g l.sent.number w.acts old new [] = record { calls = done_acts.calls; first = done_acts.first; ends = gone.0.ends ∙ done_acts.ends; told = gone.0.told } in
+      let acted : DoesActs g (is_up old.ends.link) w.acts old new [] = record { calls = done_acts.calls; first = done_acts.first; ends = gone.0.ends ∙ done_acts.ends; told = gone.0.told } in
       let given = acts_gave g a l at2 c old new w.acts (Ran e st.cost ∷ []) (end_tail c a.took e st.cost) holds acted
       (unfolds_on g l at1 at2 (map (act_item l.sent.number) w.acts) (Ran e st.cost ∷ []) u (unfolds_one g at1 at2 (Ran e st.cost) last))
       stands gone.0.finished gone.0.fits gone.0.event (record { finished = refl; client = refl; server = refl; connects = refl; choices = refl; cut = refl }) in
@@ -252,7 +251,7 @@ module _ (s : code_setup.Setup) (g : Setup) (serves : Serves s g) (a : Around) (
     (holds : Holds g a l old) (k : BodyGoesOn g (event_of at) h bs 0 l old) (left : drop number (g.handlers (event_of at)) ≡ h ∷ bs) (behind : drop (number + 1) (g.handlers (event_of at)) ≡ bs)
     (is_here : old.stage ≡ stage.Running at number) (there : mid.stage ≡ stage.Running at number) (ticks : ℕ) (made : List Effect → Type 0) where
   said_gives : (said : Turn) (w : Went (body_setting g h.procedures) h.body (place old.body.machine.at old.vars (seen_host old.host)) (place mid.body.machine.at mid.vars (seen_host mid.host)) said made ticks)
-      → DoesActs g l.sent.number w.acts old mid [] → event_of mid.host.event ≡ event_of old.host.event → KeepsCollects (event_of at) old.host.net mid.host.net → SaidIs said mid.body → (did : step_act.Act) → GoesOn s at number (said_of h at said) mid new did → ActPaid g a l c old new (logs_of c (effects_in w.acts)) did ticks
+      → DoesActs g (is_up old.ends.link) w.acts old mid [] → event_of mid.host.event ≡ event_of old.host.event → KeepsCollects (event_of at) old.host.net mid.host.net → SaidIs said mid.body → (did : step_act.Act) → GoesOn s at number (said_of h at said) mid new did → ActPaid g a l c old new (logs_of c (effects_in w.acts)) did ticks
   said_gives turn.More w d ev keeps is did t =
       let P : Conn → Type 0 = λ x. ActPaid g a l c old x (logs_of c (effects_in w.acts)) did ticks in
       let Q : step_act.Act → Type 0 = λ x. ActPaid g a l c old mid (logs_of c (effects_in w.acts)) x ticks in
@@ -285,10 +284,9 @@ body_gives s g serves a l c old new at number h before after did ticks got k is 
     let w0 : W (body_setting g h.procedures) k.stepped = subst (λ x. W x k.stepped) same (k.went here.1) in
     let moved = made_done c k.stepped k.mid before after k.does in
     let w : W (body_setting g h.procedures) k.mid = went_same (body_setting g h.procedures) h.body (place old.body.machine.at old.vars (seen_host old.host)) k.stepped k.mid k.turned made ticks moved w0 in
-    let to_server : side_of (event_of old.host.event) ≡ Server → l.sent.number ≡ 1 =
-    λ to. holds.ends.number ∙ first_by at old.ends.link (sym (ap (λ x. fits x old.ends.link) is) ∙ holds.fits) (sym (ap side_of (subst (λ x. HostIn x old.host.event) is holds.event)) ∙ to) in
-    let relays_to : old.host.net.relays ≡ true → l.sent.number ≡ 1 = λ r. holds.ends.number ∙ ap number_by (up_is old.ends.link (holds.told.relays r)) in
+    let to_server : side_of (event_of old.host.event) ≡ Server → is_up old.ends.link ≡ true =
+    λ to. up_by at old.ends.link (sym (ap (λ x. fits x old.ends.link) is) ∙ holds.fits) (sym (ap side_of (subst (λ x. HostIn x old.host.event) is holds.event)) ∙ to) in
     let same_at : event_of old.host.event ≡ event_of at = subst (λ x. HostIn x old.host.event) is holds.event in
-    let acted = acts_done g l.sent.number (body_setting g h.procedures) refl c old k.stepped k.mid before after k.does k.ends holds.told to_server relays_to w.acts w.called w.once w.by in
+    let acted = acts_done g (is_up old.ends.link) (body_setting g h.procedures) refl c old k.stepped k.mid before after k.does k.ends holds.told to_server holds.told.relays w.acts w.called w.once w.by in
     let N : List Effect → Type 0 = λ es. ActPaid g a l c old new (logs_of c es) did ticks in
     subst N acted.taken (said_gives s g serves a l c old k.mid new at number h bs holds goes left behind is (k.does.there ∙ k.there ∙ is) ticks made k.turned w acted.acts acted.event (subst (λ x. KeepsCollects x old.host.net k.mid.host.net) same_at acted.keeps) (said_same k.turned k.stepped.body k.mid.body (sym k.does.body) (k.said_is here.1)) did k.goes_on)

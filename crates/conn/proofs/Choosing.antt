@@ -29,7 +29,7 @@ use Rattle.conn.specs.declared.turn.Act as step_act
 use Rattle.conn.specs.declared.turn.Act.TheVariants as done
 use Rattle.conn.proofs.Acting.{ActGave, SameBeside, gone_holds}
 use Rattle.conn.proofs.Gating.{stands_in}
-use Rattle.conn.proofs.Giving.{ends_kept, gave_one}
+use Rattle.conn.proofs.Giving.{ends_kept, gave_one, same_queue}
 use Rattle.conn.proofs.Places.{enters_gone, link_is}
 use Rattle.conn.proofs.SelectItems.{asking, choosing_item, node, picked, selected_by, selecting_item, default_leads, target_leads, unreplied}
 
@@ -42,9 +42,9 @@ module _ (s : code_setup.Setup) (g : Setup) (serves : Serves s g) (a : Around) (
       let gone = enters_gone g l' s serves at host old.ends old new k vars replies from fit open_yet plain in
       record {
         at = put p l';
-        gave = gave_one g a l (put p l') c old new Resumed h.no_cut (record { calls = refl; client = refl; server = refl; takes = (refl, λ t. refl) }) step refl
+        gave = gave_one g a l (put p l') c old new Resumed h.no_cut (record { calls = refl; client = refl; kept = refl; to_none = refl; opens = λ c s t. refl; takes = (refl, λ t. refl) }) step refl
             (gone_holds g a false p l' old.ends new gone (same.finished ∙ going) (ends_kept a l (put p l') old.ends old.ends h.ends same.client same.server same.connects sent refl) (same.choices ∙ h.no_choice) (same.cut ∙ h.no_cut))
-            (ap (λ e. e.client.queued) gone.ends) (ap (λ e. e.server.queued) gone.ends) (ap (λ e. e.edges) gone.ends) (λ f. same.finished ∙ f);
+            (ap (λ e. e.client.queued) gone.ends) (same_queue gone.ends) (ap (λ e. e.edges) gone.ends) (λ f. same.finished ∙ f);
         stops = gone.awake;
       }
 
@@ -66,7 +66,7 @@ module _ (s : code_setup.Setup) (g : Setup) (serves : Serves s g) (a : Around) (
       let waits : next_item g at ≡ Waits (ForReply call) = unreplied g (link_by old.ends.link) hs at call (record { phase = refl; host = refl; link = link_is a l old.ends h.ends; no_cut = h.no_cut }) b.replies in
       subst (λ d. ActGave g a l c old new [] d) (sym (k.asks ∙ ap done.Asks (sym (call_is pool (wanted_of only))))) (record {
         at = at;
-        gave = gave_one g a l at c old new (Called call) h.no_cut (record { calls = refl; client = refl; server = refl; takes = (refl, λ t. refl) }) step refl
+        gave = gave_one g a l at c old new (Called call) h.no_cut (record { calls = refl; client = refl; kept = refl; to_none = refl; opens = λ c s t. refl; takes = (refl, λ t. refl) }) step refl
             (record {
               stage = subst (λ x. Stands g x at new) (sym k.there) stands;
               finished = going ∙ ap has_finished (sym k.there);
@@ -77,7 +77,7 @@ module _ (s : code_setup.Setup) (g : Setup) (serves : Serves s g) (a : Around) (
               no_choice = h.no_choice;
               no_cut = h.no_cut;
             })
-            (ap (λ e. e.client.queued) k.ends) (ap (λ e. e.server.queued) k.ends) (ap (λ e. e.edges) k.ends) (λ f. f);
+            (ap (λ e. e.client.queued) k.ends) (same_queue k.ends) (ap (λ e. e.edges) k.ends) (λ f. f);
         stops = waits;
       })
 

@@ -103,7 +103,7 @@ module _ (s : code_setup.Setup) (g : Setup) (serves : Serves s g) (a : Around) (
       by_met : (o : Option ℕ) → meets old.host.net.client.asks old.ends.client.unread ≡ o → CollectsBy o s c old new before after did → ActGave g a l c old new (collect_group o c (cut_of old)) did
       by_met None unmet k =
           let stops = collect_rests g old.host.net.client.asks old.ends.client.unread l here a.took h.no_choice unmet in
-          rests_gave s g serves a l c old new h st.1 before after did (ap is_in_body is) (λ m. true≢false (sym fit ∙ ap (λ x. not (is_sought x)) m)) stops.0 stops.1 k
+          rests_gave s g serves a l c old new h st.1 before after did (ap is_in_body is) stops.0 stops.1 k
       by_met (Some n) met (goes, k) =
           let asked = met_by old.host.net.client.asks old.ends.client.unread n met in
           subst (λ d. ActGave g a l c old new (note.Fired c Client ∷ []) d) (sym goes)

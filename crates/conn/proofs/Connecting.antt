@@ -1,11 +1,11 @@
 -- Whether the server took the connection is the next of each state that the connection may stand for.
-use Rattle.std.proofs.Common.{◌≡◌, refl, sym, ap, subst, ◌∙◌, ◌+◌, [], ◌∷◌, ◌++◌, length, Bool, true, false, true≢false, ◌&&◌, not, Some, None, arith}
+use Rattle.std.proofs.Common.{◌≡◌, refl, sym, ap, subst, ◌∙◌, ◌+◌, [], ◌∷◌, ◌++◌, length, Bool, true, false, true≢false, ◌&&◌, not, Some, None, arith, ℕ}
 use Rattle.core_events.specs.Edges.{answered_edge, is_connecting}
 use Rattle.conn_trace.specs.Further.{nothing_comes, longer_server, left_for, on_last, longer}
 use Rattle.conn_trace.specs.State.{TraceState}
 use Rattle.conn_trace.proofs.Streams.{nothing_stream, nothing_server, nothing_on_last}
 use Rattle.conn.specs.Calls.{Connects, answer_of, answered_by, answered_in, connect_answer, connected_ends, link_answered, unless_finished}
-use Rattle.conn.specs.Ends.{connects_by, fresh_end, has_stream, is_sought, is_up, number_by, server_by, servers_by}
+use Rattle.conn.specs.Ends.{connects_by, fresh_end, has_stream, is_sought, is_up, number_by, server_by, servers_by, is_taken}
 use Rattle.conn.specs.Holds.{Around, Holds, HoldsEnds}
 use Rattle.conn.specs.Stages.{at_fits, fits, has_finished}
 use Rattle.conn.specs.declared.connection.Conn.{Conn}
@@ -19,6 +19,8 @@ use Rattle.conn.specs.declared.stage.Stage.{Stage}
 use Rattle.conn.specs.declared.stage.Stage.TheVariants as stage
 use Rattle.conn.proofs.Arriving.{changed, holds, longer_is, with_edges, with_ends}
 use Rattle.conn.proofs.Joining.{longer_nothing}
+use Rattle.conn_trace.specs.Gates.{untaken}
+use Rattle.conn.proofs.Servers.{taken_front}
 
 -- an end that was told of isn't asked for any more
 not_connecting : (made : Bool) → is_connecting (answered_edge made).state ≡ false
@@ -33,11 +35,14 @@ module _ (a : Around) (l : TraceState) (e : Ends) (h : HoldsEnds a l e) (asked :
   fresh : e.server ≡ fresh_end
   fresh = h.nothing_came (subst P (sym asked) refl)
 
-  counted : length e.server.queued + a.counted_server ≡ 0
-  counted = h.server_untaken ∙ h.unsent (ap is_up asked)
+  servers : a.took.servers ≡ h.earlier
+  servers = h.servers_took ∙ ap (λ k. servers_by h.earlier k e.server.reset a.counted_server) asked
 
-  none_counted : a.counted_server ≡ 0
-  none_counted = let k = counted in omega (arith, k)
+  made : l.sent.number ≡ length h.earlier
+  made = h.number ∙ ap (λ k. number_by k (length h.earlier)) asked
+
+  taken : length a.took.servers ≡ length h.earlier
+  taken = ap length servers
 
   no_connects : l.answers.connects ≡ []
   no_connects = h.connects ∙ ap (λ k. connects_by k e.server) asked
@@ -60,10 +65,11 @@ module _ (a : Around) (l : TraceState) (e : Ends) (h : HoldsEnds a l e) (asked :
     client_untaken = h.client_untaken;
     server = h.server ∙ ap (λ k. server_by k e.server) asked;
     connects = ap (λ x. connects_by link.Made x) (sym fresh);
-    number = h.number ∙ ap number_by asked;
-    servers_took = ap (λ x. x ++ Some 0 ∷ []) (h.servers_took ∙ ap (λ k. servers_by k e.server.reset a.counted_server) asked) ∙ ap (λ x. servers_by link.Made x.reset 0) (sym fresh);
-    server_untaken = ap (λ n. length e.server.queued + n) (sym none_counted) ∙ h.server_untaken;
-    unsent = λ up. h.unsent (ap is_up asked);
+    earlier = h.earlier;
+    number = h.number ∙ ap (λ k. number_by k (length h.earlier)) asked;
+    servers_took = ap (λ x. x ++ Some 0 ∷ []) servers ∙ ap (λ x. servers_by h.earlier link.Made x.reset 0) (sym fresh);
+    server_untaken = λ there. ap (λ x. length x.queued + 0) fresh;
+    took_all = λ away. ap (untaken l.sent.server) (taken_front a.took.servers (Some 0 ∷ []) l.sent.number (omega (arith, made, taken))) ∙ h.took_all (ap is_taken asked);
     nothing_came = λ up. absurd (let t : true ≡ false = up in cc);
     connecting = λ is. absurd (let t : false ≡ true = is in cc);
   }
@@ -73,10 +79,11 @@ module _ (a : Around) (l : TraceState) (e : Ends) (h : HoldsEnds a l e) (asked :
     client_untaken = h.client_untaken;
     server = h.server ∙ ap (λ k. server_by k e.server) asked;
     connects = refl;
-    number = h.number ∙ ap number_by asked;
-    servers_took = h.servers_took ∙ ap (λ k. servers_by k e.server.reset a.counted_server) asked;
-    server_untaken = h.server_untaken;
-    unsent = λ up. h.unsent (ap is_up asked);
+    earlier = h.earlier;
+    number = h.number ∙ ap (λ k. number_by k (length h.earlier)) asked;
+    servers_took = servers;
+    server_untaken = λ there. absurd (let t : false ≡ true = there in cc);
+    took_all = λ away. h.took_all (ap is_taken asked);
     nothing_came = λ up. fresh;
     connecting = λ is. absurd (let t : false ≡ true = is in cc);
   }

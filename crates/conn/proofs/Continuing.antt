@@ -27,7 +27,7 @@ use Rattle.conn_trace.proofs.Unfolding.{trace_unfolds}
 use Rattle.frames.specs.Frames.{comes_to, path_of}
 use Rattle.frames.specs.declared.frame.Mode.TheVariants as mode
 use Rattle.frames.specs.declared.frame.Standing.{Standing}
-use Rattle.conn.specs.Continues.{gated_phase, phase_at, sent_by, own_state, items_of, first_ahead, ahead_at, MayCome, ConnectionContinues}
+use Rattle.conn.specs.Continues.{gated_phase, phase_at, sent_by, own_state, items_of, first_ahead, ahead_at, MayCome, ConnectionContinues, made_by}
 use Rattle.conn.specs.Events.{event_of}
 use Rattle.conn.specs.Holds.{Around, Between, BodyGoesOn, GatedBefore, HoldsEnds, RunsFirst, Stands, Holds, call_of}
 use Rattle.conn.specs.Hosts.{seen_host}
@@ -37,11 +37,14 @@ use Rattle.conn.specs.declared.ends.Ends.{Ends as BothEnds}
 use Rattle.conn.specs.declared.connection.Conn.{Conn}
 use Rattle.conn.specs.declared.stage.Stage.{Stage}
 use Rattle.conn.specs.declared.stage.Stage.TheVariants as stage
-use Rattle.conn.specs.Ends.{arrived, connects_by, number_by, server_by}
+use Rattle.conn.specs.Ends.{arrived, connects_by, number_by, server_by, has_stream, is_taken, sent_here, servers_by}
 use Rattle.conn.proofs.ActItems.{no_tail, acts_met}
 use Rattle.conn.proofs.Asking.{asking_waits}
 use Rattle.conn.proofs.FramesKeep.{all_behind, frames_keep, acts_behind, acts_stay}
 use Rattle.conn.proofs.Replying.{asked_mode, goes_on}
+use Rattle.conn.specs.declared.ends.Link.{Link}
+use Rattle.conn_trace.specs.Heard.{taken_by}
+use Rattle.conn.specs.declared.ends.Link.TheVariants as link
 
 -- the first items
 take_more : (n k : ℕ) (g : Setup) (o : Next) → n ≤ k → take n (trace_from k g o) ≡ trace_from n g o
@@ -59,36 +62,56 @@ trace_front (suc n) k g l m (i ∷ items) within (mid, step, more) =
     ap (trace_from (suc n) g) step ∙ ap (λ r. i ∷ r) (trace_front n k g mid m items (omega (arith, within)) more)
 
 -- the connection's own fields, but for these
-abbrev own_at : Around → Conn → Phase → Scopes → HostState → List Reply → TraceState
-own_at a c p v h replies = record {
+abbrev own_at : Around → (before : ℕ) → Conn → Phase → Scopes → HostState → List Reply → TraceState
+own_at a before c p v h replies = record {
   phase = p;
   vars = v;
   host = h;
   finished = has_finished c.stage;
   client = arrived c.ends.client;
   server = server_by c.ends.link c.ends.server;
-  sent = sent_by a c.ends;
+  sent = sent_by before a c.ends;
   answers = record { replies = replies; connects = connects_by c.ends.link c.ends.server; choices = []; cut = None };
 }
 
 abbrev counts : ℕ → ℕ → ℕ → Counts
 counts client server number = record { client = client; server = server; number = number }
 
-sent_is : (a : Around) (l : TraceState) (e : BothEnds) → HoldsEnds a l e → l.sent ≡ sent_by a e
+-- as many were made as the trace took, but for one whose answer waits
+made_is : (k : Link) (ts : List (Option ℕ)) (b : Bool) (n : ℕ) → number_by k (length ts) ≡ made_by k (length (servers_by ts k b n))
+made_is link.Absent ts b n = refl
+made_is link.Asked ts b n = refl
+made_is link.Refused ts b n = refl
+made_is link.Made ts b n = let k = length-append ts (taken_by b n ∷ []) in omega (arith, k)
+made_is link.Up ts b n = let k = length-append ts (taken_by b n ∷ []) in omega (arith, k)
+made_is link.GivenUp ts b n = let k = length-append ts (taken_by b n ∷ []) in omega (arith, k)
+
+sent_is : (a : Around) (l : TraceState) (e : BothEnds) → HoldsEnds a l e → l.sent ≡ sent_by l.sent.server a e
 sent_is a l e h =
     ap (λ x. counts x l.sent.server l.sent.number) (sym h.client_untaken)
-    ∙ ap (λ x. counts (sent_by a e).client x l.sent.number) (sym h.server_untaken)
-    ∙ ap (λ x. counts (sent_by a e).client (sent_by a e).server x) h.number
+    ∙ ap (λ x. counts (sent_by l.sent.server a e).client x l.sent.number) (by_link e.link refl)
+    ∙ ap (λ x. counts (sent_by l.sent.server a e).client (sent_by l.sent.server a e).server x) (h.number ∙ made_is e.link h.earlier e.server.reset a.counted_server ∙ ap (λ ts. made_by e.link (length ts)) (sym h.servers_took))
+  where
+    taken : (k : Link) → e.link ≡ k → has_stream k ≡ true → sent_here k l.sent.server ≡ l.sent.server → l.sent.server ≡ length e.server.queued + a.counted_server
+    taken k is there here = sym (h.server_untaken (ap has_stream is ∙ there) ∙ ap (λ x. sent_here x l.sent.server) is ∙ here)
+
+    by_link : (k : Link) → e.link ≡ k → l.sent.server ≡ (sent_by l.sent.server a e).server
+    by_link link.Absent is = ap (λ x. if is_taken x then length e.server.queued + a.counted_server else l.sent.server) (sym is)
+    by_link link.Asked is = ap (λ x. if is_taken x then length e.server.queued + a.counted_server else l.sent.server) (sym is)
+    by_link link.Refused is = ap (λ x. if is_taken x then length e.server.queued + a.counted_server else l.sent.server) (sym is)
+    by_link link.Made is = ap (λ x. if is_taken x then length e.server.queued + a.counted_server else l.sent.server) (sym is)
+    by_link link.Up is = taken link.Up is refl refl ∙ ap (λ x. if is_taken x then length e.server.queued + a.counted_server else l.sent.server) (sym is)
+    by_link link.GivenUp is = taken link.GivenUp is refl refl ∙ ap (λ x. if is_taken x then length e.server.queued + a.counted_server else l.sent.server) (sym is)
 
 abbrev own_parts : TraceState → Bool → Stream → ServerSide → Counts → List (Option Stream) → List Choice → Option Cut → TraceState
 own_parts l f t s n k ch cut = record l { finished = f; client = t; server = s; sent = n; answers = record l.answers { connects = k; choices = ch; cut = cut } }
 
-is_own : (g : Setup) (a : Around) (l : TraceState) (c : Conn) → Holds g a l c → l ≡ own_at a c l.phase l.vars l.host l.answers.replies
+is_own : (g : Setup) (a : Around) (l : TraceState) (c : Conn) → Holds g a l c → l ≡ own_at a l.sent.server c l.phase l.vars l.host l.answers.replies
 is_own g a l c h =
     let f = has_finished c.stage in
     let t = arrived c.ends.client in
     let s = server_by c.ends.link c.ends.server in
-    let n = sent_by a c.ends in
+    let n = sent_by l.sent.server a c.ends in
     let k = connects_by c.ends.link c.ends.server in
     ap (λ x. own_parts l x l.client l.server l.sent l.answers.connects l.answers.choices l.answers.cut) h.finished
     ∙ ap (λ x. own_parts l f x l.server l.sent l.answers.connects l.answers.choices l.answers.cut) h.ends.client
@@ -154,11 +177,15 @@ cut_front g number l m acts (Some k) none later is =
     cut_keeps g l m k items none (subst M (append-nil items) (acts_met 0 number k.took [] (no_tail 0 k.took) acts l.sent)) is
 
 module _ (g : Setup) (a : Around) (l : TraceState) (c : Conn) (h : Holds g a l c) where
+  -- what was sent to the last server connection
+  abbrev before : ℕ
+  before = l.sent.server
+
   abbrev own : TraceState
-  own = own_state g a c
+  own = own_state g a before c
 
   same_end : (f : Further) (e : EventName) (b : Handler) (bs : List Handler) (p : Phase) (v : Scopes) (hs : HostState) (rs : List Reply) (m : ℕ) (sent : Counts) (acts : List Act) (o : Outcome HostState)
-      → counted sent (ended_next g e b bs (running e b bs m sent (longer f (own_at a c p v hs rs))) (all_behind acts o)) ≡ ended_next g e b bs (record (longer f own) { sent = sent }) o
+      → counted sent (ended_next g e b bs (running e b bs m sent (longer f (own_at a before c p v hs rs))) (all_behind acts o)) ≡ ended_next g e b bs (record (longer f own) { sent = sent }) o
   same_end f e b bs p v hs rs m sent acts (Ends code st) = refl
   same_end f e b bs p v hs rs m sent acts (Stops path call st) = refl
 
@@ -176,17 +203,17 @@ module _ (g : Setup) (a : Around) (l : TraceState) (c : Conn) (h : Holds g a l c
       let given = length k.acts + w in
       let all_given = given + length todo in
       let now : Phase = InEvent e (Running b bs given) in
-      let at : TraceState = own_at a c now l.vars l.host l.answers.replies in
+      let at : TraceState = own_at a before c now l.vars l.host l.answers.replies in
       let plain : TraceState = longer (record f { cut = None }) at in
-      let number = number_by c.ends.link in
+      let number = (sent_by before a c.ends).number in
       let items = map (act_item number) todo in
-      let sent = sent_from (sent_by a c.ends) items in
+      let sent = sent_from (sent_by before a c.ends) items in
       let is : run_body g b (longer f at) ≡ all_behind k.acts o = k.same f.replies ∙ frames_keep S b.body m c.vars (seen_host c.host) f.replies k.cost k.acts in
       let acts : (state_after (all_behind k.acts o)).acts ≡ done ++ todo = acts_behind k.acts o ∙ ap (λ x. k.acts ++ x) p.split ∙ sym (append_assoc k.acts p.first todo) in
       let here : given ≡ length done = omega (arith, p.count, length-append k.acts p.first) in
       let past : length (state_after (all_behind k.acts o)).acts ≤ all_given = omega (arith, here, ap length acts, length-append done todo) in
-      let same : l ≡ at = is_own g a l c h ∙ ap (λ x. own_at a c x l.vars l.host l.answers.replies) k.phase in
-      let front : Unfolds g plain items (running e b bs all_given sent plain) = acts_unfold g e b bs plain (all_behind k.acts o) refl is done todo given all_given number (sent_by a c.ends) refl acts here refl in
+      let same : l ≡ at = is_own g a l c h ∙ ap (λ x. own_at a before c x l.vars l.host l.answers.replies) k.phase in
+      let front : Unfolds g plain items (running e b bs all_given sent plain) = acts_unfold g e b bs plain (all_behind k.acts o) refl is done todo given all_given number (sent_by before a c.ends) refl acts here refl in
       let stood : TraceState = running e b bs all_given sent (longer f at) in
       let next : next_item g stood ≡ ended_next g e b bs (record (longer f own) { sent = sent }) o =
       ends_next g e b bs (longer f at) all_given sent (all_behind k.acts o) is (slice_get_past (state_after (all_behind k.acts o)).acts all_given past)
@@ -210,10 +237,10 @@ module _ (g : Setup) (a : Around) (l : TraceState) (c : Conn) (h : Holds g a l c
   between_follows : l.phase ≡ phase_at g c.host.net c.stage → Between l c → (f : Further) (n : ℕ) → trace n g (longer f l) ≡ take n (trace n g (longer f own))
   between_follows here b f n =
       let same : l ≡ own = is_own g a l c h
-      ∙ ap (λ x. own_at a c x l.vars l.host l.answers.replies) here
-      ∙ ap (λ x. own_at a c (phase_at g c.host.net c.stage) x l.host l.answers.replies) b.vars
-      ∙ ap (λ x. own_at a c (phase_at g c.host.net c.stage) c.vars x l.answers.replies) b.host
-      ∙ ap (λ x. own_at a c (phase_at g c.host.net c.stage) c.vars (seen_host c.host) x) b.replies in
+      ∙ ap (λ x. own_at a before c x l.vars l.host l.answers.replies) here
+      ∙ ap (λ x. own_at a before c (phase_at g c.host.net c.stage) x l.host l.answers.replies) b.vars
+      ∙ ap (λ x. own_at a before c (phase_at g c.host.net c.stage) c.vars x l.answers.replies) b.host
+      ∙ ap (λ x. own_at a before c (phase_at g c.host.net c.stage) c.vars (seen_host c.host) x) b.replies in
       ap (λ x. trace n g (longer f x)) same ∙ sym (take_more n n g (next_item g (longer f own)) (omega arith))
 
   -- the reply that came selects this address or none
@@ -235,7 +262,7 @@ module _ (g : Setup) (a : Around) (l : TraceState) (c : Conn) (h : Holds g a l c
       cut_passes_on (Some x) None = if_same k.finished (selected_next g k f.replies None)
       cut_passes_on (Some x) (Some a) = if_same k.finished (selected_next g k f.replies (Some a))
 
-  chosen_same : (f : Further) (r : Reply) (addr : Option Addr) → counted (sent_by a c.ends) (selected_next g (longer f (own_at a c (phase_at g c.host.net c.stage) c.vars (seen_host c.host) (r ∷ []))) f.replies addr) ≡ counted (sent_by a c.ends) (selected_next g (longer f own) f.replies addr)
+  chosen_same : (f : Further) (r : Reply) (addr : Option Addr) → counted (sent_by before a c.ends) (selected_next g (longer f (own_at a before c (phase_at g c.host.net c.stage) c.vars (seen_host c.host) (r ∷ []))) f.replies addr) ≡ counted (sent_by before a c.ends) (selected_next g (longer f own) f.replies addr)
   chosen_same f r None = refl
   chosen_same f r (Some x) = refl
 
@@ -243,12 +270,12 @@ module _ (g : Setup) (a : Around) (l : TraceState) (c : Conn) (h : Holds g a l c
   chosen_follows addr is k f n =
       let b = k.1 in
       let here : l.phase ≡ phase_at g c.host.net c.stage = k.0 ∙ sym (ap (phase_at g c.host.net) is) in
-      let at = own_at a c (phase_at g c.host.net c.stage) c.vars (seen_host c.host) (b.reply ∷ []) in
+      let at = own_at a before c (phase_at g c.host.net c.stage) c.vars (seen_host c.host) (b.reply ∷ []) in
       let same : l ≡ at = is_own g a l c h
-      ∙ ap (λ x. own_at a c x l.vars l.host l.answers.replies) here
-      ∙ ap (λ x. own_at a c (phase_at g c.host.net c.stage) x l.host l.answers.replies) b.vars
-      ∙ ap (λ x. own_at a c (phase_at g c.host.net c.stage) c.vars x l.answers.replies) b.host
-      ∙ ap (λ x. own_at a c (phase_at g c.host.net c.stage) c.vars (seen_host c.host) x) b.replies in
+      ∙ ap (λ x. own_at a before c x l.vars l.host l.answers.replies) here
+      ∙ ap (λ x. own_at a before c (phase_at g c.host.net c.stage) x l.host l.answers.replies) b.vars
+      ∙ ap (λ x. own_at a before c (phase_at g c.host.net c.stage) c.vars x l.answers.replies) b.host
+      ∙ ap (λ x. own_at a before c (phase_at g c.host.net c.stage) c.vars (seen_host c.host) x) b.replies in
       ap (λ x. trace n g (longer f x)) same
       ∙ ap (trace_from n g) (chosen_next f (longer f at) (call_of g c.host.net) b.reply addr (ap (phase_at g c.host.net) is) refl b.selects ∙ chosen_same f b.reply addr)
       ∙ sym (take_more n n g _ (omega arith))
@@ -284,6 +311,7 @@ pub continues : ConnectionContinues
 continues g a client answers given at c none k =
     let first = start g client answers in
     let more = follows_at g a at c k.holds c.stage refl k.holds.stage in (
+      at.sent.server,
       more.0,
       λ f n may.
           trace_unfolds n g (longer f first) (longer f at) given (further_keeps g first at f given none (cut_meets first.sent a.took given f.cut k.met may) k.passed)

@@ -18,7 +18,7 @@ use Rattle.frames.specs.Went.{CalledBy, IsCall, Place, Went, effects_in, place}
 use Rattle.frames.specs.declared.turn.Turn.{Turn}
 use Rattle.conn.specs.Bodies.{SaidIs}
 use Rattle.conn.specs.Events.{event_of}
-use Rattle.conn.specs.Hosts.{KeepsCollects, Made, OneAtMost, SendsToFirst, Told, cleared_host, client_bytes, seen_host, server_bytes}
+use Rattle.conn.specs.Hosts.{KeepsCollects, Made, OneAtMost, SendsWhere, Told, cleared_host, client_bytes, seen_host, server_bytes}
 use Rattle.conn.specs.Steps.{DoesMade, one_of, queue_both}
 use Rattle.conn.specs.declared.body.Body.{Body}
 use Rattle.conn.specs.declared.connection.Conn.{Conn}
@@ -47,15 +47,15 @@ went_same g t old a b said made ticks k w =
 pub said_same : (said : Turn) (a b : Body) → a ≡ b → SaidIs said a → SaidIs said b
 said_same said a b is k = let P : Body → Type 0 = λ x. SaidIs said x in subst P is k
 
--- one effect at most, and to a server only where it is the first
-one_first : (number : ℕ) (side : Side) (relays : Bool) (es : List Effect) → (side ≡ Server → number ≡ 1) → (relays ≡ true → number ≡ 1) → OneTo side relays es → SendsToFirst number es × OneAtMost es
-one_first number side relays [] is up k = (tt, tt)
-one_first number side relays (Logged text ∷ []) is up k = (tt, tt)
-one_first number side relays (Sent Client bytes ∷ []) is up k = (tt, tt)
-one_first number Client relays (Sent Server bytes ∷ []) is up k = ((up k, tt), tt)
-one_first number Server relays (Sent Server bytes ∷ []) is up k = ((is refl, tt), tt)
-one_first number side relays (Logged text ∷ (f ∷ es)) is up k = absurd k
-one_first number side relays (Sent to bytes ∷ (f ∷ es)) is up k = absurd k
+-- one effect at most, and to a server only where one is up
+one_first : (up : Bool) (side : Side) (relays : Bool) (es : List Effect) → (side ≡ Server → up ≡ true) → (relays ≡ true → up ≡ true) → OneTo side relays es → SendsWhere up es × OneAtMost es
+one_first up side relays [] is to k = (tt, tt)
+one_first up side relays (Logged text ∷ []) is to k = (tt, tt)
+one_first up side relays (Sent Client bytes ∷ []) is to k = (tt, tt)
+one_first up Client relays (Sent Server bytes ∷ []) is to k = ((to k, tt), tt)
+one_first up Server relays (Sent Server bytes ∷ []) is to k = ((is refl, tt), tt)
+one_first up side relays (Logged text ∷ (f ∷ es)) is to k = absurd k
+one_first up side relays (Sent to_side bytes ∷ (f ∷ es)) is to k = absurd k
 
 -- what the rules are told stays
 told_on : (g : Setup) (k : Link) (e : EventName) (s t : NetState) → KeepsCollects e s t → Told g k s → Told g k t
@@ -66,28 +66,28 @@ effects_of [] = refl
 effects_of (e ∷ es) = ap (λ x. e ∷ x) (effects_of es)
 
 -- what one call of the host at most leaves, and what it made
-record Called (number : ℕ) (h after : HostState) (acts : List Act) : Type 0 where
+record Called (up : Bool) (h after : HostState) (acts : List Act) : Type 0 where
   keeps : KeepsCollects h.event h.net after.net
-  first : SendsToFirst number (effects_in acts)
+  first : SendsWhere up (effects_in acts)
   one : OneAtMost (effects_in acts)
   calls : calls_made acts ≡ []
   event : after.event ≡ h.event
 
-module _ (number : ℕ) (h : HostState) (to_server : side_of h.event ≡ Server → number ≡ 1) (relays : h.net.relays ≡ true → number ≡ 1) (plain : h.http ≡ None) where
-  answered : (t after : HostState) (acts : List Act) (es : List Effect) → (t.event ≡ h.event) × KeepsCollects h.event h.net t.net × OneTo (side_of h.event) h.net.relays es → (after ≡ t) × (acts ≡ map Did es) → Called number h after acts
+module _ (up : Bool) (h : HostState) (to_server : side_of h.event ≡ Server → up ≡ true) (relays : h.net.relays ≡ true → up ≡ true) (plain : h.http ≡ None) where
+  answered : (t after : HostState) (acts : List Act) (es : List Effect) → (t.event ≡ h.event) × KeepsCollects h.event h.net t.net × OneTo (side_of h.event) h.net.relays es → (after ≡ t) × (acts ≡ map Did es) → Called up h after acts
   answered t after acts es k is =
       let made : effects_in acts ≡ es = ap effects_in is.1 ∙ effects_of es in
-      let one = one_first number (side_of h.event) h.net.relays es to_server relays k.2 in
-      record { keeps = subst (λ x. KeepsCollects h.event h.net x.net) (sym is.0) k.1; first = subst (SendsToFirst number) (sym made) one.0; one = subst OneAtMost (sym made) one.1; calls = ap calls_made is.1 ∙ effects_call_none es; event = ap (λ x. x.event) is.0 ∙ k.0 }
+      let one = one_first up (side_of h.event) h.net.relays es to_server relays k.2 in
+      record { keeps = subst (λ x. KeepsCollects h.event h.net x.net) (sym is.0) k.1; first = subst (SendsWhere up) (sym made) one.0; one = subst OneAtMost (sym made) one.1; calls = ap calls_made is.1 ∙ effects_call_none es; event = ap (λ x. x.event) is.0 ∙ k.0 }
 
-  call_answers : (step : HostStep HostState) (after : HostState) (acts : List Act) → QuickHost h step → IsCall step after acts → Called number h after acts
+  call_answers : (step : HostStep HostState) (after : HostState) (acts : List Act) → QuickHost h step → IsCall step after acts → Called up h after acts
   call_answers (Gives v t es) after acts k is = answered t after acts es k is
   call_answers (Faults f t es) after acts k is = answered t after acts es k is
   call_answers (Asks call t) after acts k is = answered t after acts [] (k.0, k.1, tt) is
 
-  called_once : (groups : Groups) (setting : given.Setting HostState) → setting.table ≡ commands groups → (after : HostState) (called : Option (List (List ℕ))) (acts : List Act) → CalledBy setting h after called acts → Called number h after acts
+  called_once : (groups : Groups) (setting : given.Setting HostState) → setting.table ≡ commands groups → (after : HostState) (called : Option (List (List ℕ))) (acts : List Act) → CalledBy setting h after called acts → Called up h after acts
   called_once groups setting is after None acts (same, none) =
-      let made : SendsToFirst number (effects_in acts) × OneAtMost (effects_in acts) = subst (λ x. SendsToFirst number (effects_in x) × OneAtMost (effects_in x)) (sym none) (tt, tt) in
+      let made : SendsWhere up (effects_in acts) × OneAtMost (effects_in acts) = subst (λ x. SendsWhere up (effects_in x) × OneAtMost (effects_in x)) (sym none) (tt, tt) in
       record { keeps = subst (λ x. KeepsCollects h.event h.net x.net) (sym same) (keeps_all h.event h.net); first = made.0; one = made.1; calls = ap calls_made none; event = ap (λ x. x.event) same }
   called_once groups setting is after (Some words) acts call =
       let T : (HostState → List (List ℕ) → HostStep HostState) → Type 0 = λ t. IsCall (t h words) after acts in
@@ -100,17 +100,17 @@ all_of (e ∷ []) one = refl
 all_of (e ∷ (f ∷ es)) one = absurd one
 
 -- what a step made was done
-pub record ActsDone (g : Setup) (number : ℕ) (old stepped mid : Conn) (xs : List Act) : Type 0 where
+pub record ActsDone (g : Setup) (up : Bool) (old stepped mid : Conn) (xs : List Act) : Type 0 where
   pub taken : effects_in xs ≡ one_of stepped.host.made
-  pub acts : DoesActs g number xs old mid []
+  pub acts : DoesActs g up xs old mid []
   pub event : event_of mid.host.event ≡ event_of old.host.event
   pub keeps : KeepsCollects (event_of old.host.event) old.host.net mid.host.net
 
-pub acts_done : (g : Setup) (number : ℕ) (setting : given.Setting HostState) → setting.table ≡ commands g.groups → (c : ℕ) (old stepped mid : Conn) (before after : List Note) → DoesMade c stepped mid before after → stepped.ends ≡ old.ends → Told g old.ends.link old.host.net
-    → (side_of (event_of old.host.event) ≡ Server → number ≡ 1) → (old.host.net.relays ≡ true → number ≡ 1) → (acts : List Act) (called : Option (List (List ℕ))) → CalledBy setting (seen_host old.host) (seen_host mid.host) called acts → Made (cleared_host old.host) (effects_in acts) stepped.host
-    → ActsDone g number old stepped mid acts
-acts_done g number setting is c old stepped mid before after d ends told to_server relays acts called once by =
-    let one = called_once number (seen_host old.host) to_server relays refl g.groups setting is (seen_host mid.host) called acts once in
+pub acts_done : (g : Setup) (up : Bool) (setting : given.Setting HostState) → setting.table ≡ commands g.groups → (c : ℕ) (old stepped mid : Conn) (before after : List Note) → DoesMade c stepped mid before after → stepped.ends ≡ old.ends → Told g old.ends.link old.host.net
+    → (side_of (event_of old.host.event) ≡ Server → up ≡ true) → (old.host.net.relays ≡ true → up ≡ true) → (acts : List Act) (called : Option (List (List ℕ))) → CalledBy setting (seen_host old.host) (seen_host mid.host) called acts → Made (cleared_host old.host) (effects_in acts) stepped.host
+    → ActsDone g up old stepped mid acts
+acts_done g up setting is c old stepped mid before after d ends told to_server relays acts called once by =
+    let one = called_once up (seen_host old.host) to_server relays refl g.groups setting is (seen_host mid.host) called acts once in
     let taken : one_of stepped.host.made ≡ effects_in acts = ap one_of by ∙ all_of (effects_in acts) one.one in
     record {
       taken = sym taken;
@@ -125,12 +125,12 @@ acts_done g number setting is c old stepped mid before after d ends told to_serv
     }
 
 -- a call that was asked does no more
-pub calls_too : (g : Setup) (number : ℕ) (acts : List Act) (path : List ℕ) (call : List (List ℕ)) (old new : Conn) → DoesActs g number acts old new [] → DoesActs g number (acts ++ act.Called path call ∷ []) old new (call ∷ [])
-calls_too g number acts path call old new d =
+pub calls_too : (g : Setup) (up : Bool) (acts : List Act) (path : List ℕ) (call : List (List ℕ)) (old new : Conn) → DoesActs g up acts old new [] → DoesActs g up (acts ++ act.Called path call ∷ []) old new (call ∷ [])
+calls_too g up acts path call old new d =
     let same = called_is_none acts path call in
     record {
       calls = call_behind acts path call ∙ ap (λ cs. cs ++ call ∷ []) d.calls;
-      first = subst (SendsToFirst number) (sym same) d.first;
+      first = subst (SendsWhere up) (sym same) d.first;
       ends = d.ends ∙ ap (λ es. queue_both (client_bytes es) (server_bytes es) old.ends) (sym same);
       told = d.told;
     }

@@ -13,7 +13,7 @@ use Rattle.conn_trace.specs.Trace.{counted, fired_next, next_item}
 use Rattle.core_events.specs.declared.note.Note.{Note}
 use Rattle.core_events.specs.declared.note.Note.TheVariants as note
 use Rattle.conn.specs.Changes.{Enters}
-use Rattle.conn.specs.Ends.{connects_by, has_stream, is_up, link_by, server_by}
+use Rattle.conn.specs.Ends.{connects_by, has_stream, is_up, link_by, server_by, is_taken}
 use Rattle.conn.specs.Events.{event_of, is_closed}
 use Rattle.conn.specs.Holds.{Around, Between, Holds, HoldsEnds}
 use Rattle.conn.specs.Hosts.{fired_host, seen_host}
@@ -29,9 +29,10 @@ use Rattle.conn.specs.declared.host.RuleHost.{RuleHost}
 use Rattle.conn.specs.declared.setup.Setup as code_setup
 use Rattle.conn.specs.declared.turn.Act.TheVariants as done
 use Rattle.conn.proofs.Acting.{ActGave, gone_holds}
-use Rattle.conn.proofs.Giving.{ends_kept}
+use Rattle.conn.proofs.Giving.{ends_kept, quiet_queue}
 use Rattle.conn.proofs.PassItems.{longer_choices}
 use Rattle.conn.proofs.Places.{enters_gone, link_is}
+use Rattle.conn.specs.Servers.{queue_at_server}
 
 -- n bytes of a side were read, on a choice that was recorded
 abbrev pub fired_client : ℕ → TraceState → TraceState
@@ -43,7 +44,7 @@ fired_server n l = record l { server = read_server n l.server; answers = record 
 -- these ends are queued the same
 record SameQueues (e f : Ends) : Type 0 where
   client : f.client.queued ≡ e.client.queued
-  server : f.server.queued ≡ e.server.queued
+  server : queue_at_server f ≡ queue_at_server e
   edges : f.edges ≡ e.edges
 
 -- the same answers but for the choices, and what stands beside
@@ -61,10 +62,11 @@ client_read a l n e h = record {
   client_untaken = h.client_untaken;
   server = h.server;
   connects = h.connects;
+  earlier = h.earlier;
   number = h.number;
   servers_took = h.servers_took;
   server_untaken = h.server_untaken;
-  unsent = h.unsent;
+  took_all = h.took_all;
   nothing_came = h.nothing_came;
   connecting = h.connecting;
 }
@@ -76,10 +78,11 @@ server_read a l n e h up = record {
   client_untaken = h.client_untaken;
   server = ap (read_server n) (h.server ∙ ap (λ k. server_by k e.server) up) ∙ ap (λ k. server_by k (read_end n e.server)) (sym up);
   connects = h.connects ∙ ap (λ k. connects_by k e.server) up ∙ ap (λ k. connects_by k (read_end n e.server)) (sym up);
+  earlier = h.earlier;
   number = h.number;
   servers_took = h.servers_took;
   server_untaken = h.server_untaken;
-  unsent = h.unsent;
+  took_all = h.took_all;
   nothing_came = λ away. absurd (true≢false (sym (ap has_stream up) ∙ away));
   connecting = h.connecting;
 }
@@ -98,7 +101,9 @@ module _ (s : code_setup.Setup) (g : Setup) (serves : Serves s g) (a : Around) (
           passes = record { passed = (put p l', step, refl); met = (refl, tt); cut = λ reason e. absurd (cc) };
           holds = gone_holds g a false p l' ends new gone (same.finished ∙ going) (ends_kept a l' (put p l') ends ends holds refl refl refl refl refl) same.choices (same.cut ∙ h.no_cut);
           client_queue = ap (λ x. x.client.queued) gone.ends ∙ queues.client ∙ sym (append-nil old.ends.client.queued);
-          server_queue = ap (λ x. x.server.queued) gone.ends ∙ queues.server ∙ sym (append-nil old.ends.server.queued);
+          kept = refl;
+          to_none = refl;
+          servers = ap queue_at_server gone.ends ∙ queues.server ∙ sym (quiet_queue (queue_at_server old.ends));
           edges = ap (λ x. x.edges) gone.ends ∙ queues.edges;
           noted = refl;
           calls = refl;

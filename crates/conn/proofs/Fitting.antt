@@ -112,6 +112,8 @@ after_no_body at k net = by_close (is_closed at) refl
 data_fits : (k : Link) (released : Bool) → at_fits at.ClientData k ≡ true → fits (data_stage (is_up k) released) k ≡ true
 data_fits link.Absent true fit = refl
 data_fits link.Absent false fit = refl
+data_fits link.GivenUp true fit = refl
+data_fits link.GivenUp false fit = refl
 data_fits link.Asked released fit = absurd (true≢false (sym fit))
 data_fits link.Refused released fit = absurd (true≢false (sym fit))
 data_fits link.Made released fit = absurd (true≢false (sym fit))

@@ -1,8 +1,12 @@
 -- Between bodies: the gate before them, the line of a fault, the Finish, and the end.
-use Rattle.std.proofs.Common.{◌≡◌, refl, sym, ap, subst, ◌∙◌, ℕ, List, [], ◌∷◌, ◌++◌, append-nil, drop, Bool, true, false, true≢false, not, Option, if◌then◌else◌}
+use Rattle.std.proofs.Common.{◌≡◌, ◌≤◌, refl, sym, ap, subst, ◌∙◌, ℕ, List, [], ◌∷◌, ◌++◌, append-nil, drop, length, Bool, true, false, true≢false, not, nat_lt, Option, if◌then◌else◌, arith}
 use Rattle.std.specs.Bool.{MatchBool}
 use Rattle.std.proofs.lemmas.Bool.{and_parts, not-true}
+use Rattle.px_bytes.specs.declared.addr.Addr.{Addr}
+use Rattle.px_bytes.specs.declared.addr.Side.TheVariants.{Server}
 use Rattle.px_bytes.specs.declared.fault.FaultKind.{FaultKind}
+use Rattle.seg_buffer.specs.Bytes.{is_empty}
+use Rattle.conn_trace.specs.Gates.{room_limit}
 use Rattle.conn_trace.specs.Item.{BeforeBodies, Logged, Opened}
 use Rattle.conn_trace.specs.Places.{Place, at as put, after_fault, is_closing, next_body, place}
 use Rattle.conn_trace.specs.Setup.{Handler, Setup}
@@ -12,7 +16,9 @@ use Rattle.core_events.specs.declared.note.CutReason.{CutReason}
 use Rattle.core_events.specs.declared.note.CutReason.TheVariants.{ClientReset, ServerReset}
 use Rattle.core_events.specs.declared.note.Note.{Note}
 use Rattle.core_events.specs.declared.note.Note.TheVariants as note
-use Rattle.conn.specs.Acts.{BehindFault, Finishes, PassesGate, Rests, cut_of, has_room}
+use Rattle.conn.specs.Acts.{BehindFault, Connects, ConnectsNext, Finishes, PassesGate, PassesReleased, Rests, cut_of, has_room}
+use Rattle.conn.specs.Queues.{queue_in}
+use Rattle.conn.specs.Relaying.{Releases}
 use Rattle.conn.specs.Changes.{GoesTo, NextBody, StartsBody}
 use Rattle.conn.specs.Ends.{link_by}
 use Rattle.conn.specs.Events.{event_of, is_closed}
@@ -33,21 +39,10 @@ use Rattle.conn.specs.declared.stage.Stage.TheVariants as stage
 use Rattle.conn.specs.declared.turn.Act as step_act
 use Rattle.conn.specs.declared.turn.Act.TheVariants as done
 use Rattle.conn.proofs.Acting.{ActGave, IsPlain, finishes_gave, gone_holds, rest_group, rest_noted, rests_gave, stays}
-use Rattle.conn.proofs.Giving.{ends_kept, gave_one}
+use Rattle.conn.proofs.Giving.{ends_kept, gave_one, same_queue}
 use Rattle.conn.proofs.Pending.{gate_is}
 use Rattle.conn.proofs.Places.{From, GoneTo, link_is, next_gone, same_told, starts_gone}
 use Rattle.conn.proofs.SelectItems.{StandsIn, next_in}
-
--- a connection that was made and to which nothing was done yet stands at no gate
-gated_made : (at : At) (k : code.Link) → is_closed at ≡ false → at_fits at k ≡ true → k ≡ link.Made → ⊥
-gated_made event.Accepted k open_yet fit is = true≢false (sym fit ∙ ap (at_fits event.Accepted) is)
-gated_made event.ClientData k open_yet fit is = true≢false (sym fit ∙ ap (at_fits event.ClientData) is)
-gated_made event.Selected k open_yet fit is = true≢false (sym fit ∙ ap (at_fits event.Selected) is)
-gated_made event.Failed k open_yet fit is = true≢false (sym fit ∙ ap (at_fits event.Failed) is)
-gated_made event.Connected k open_yet fit is = true≢false (sym fit ∙ ap (at_fits event.Connected) is)
-gated_made event.ServerData k open_yet fit is = true≢false (sym fit ∙ ap (at_fits event.ServerData) is)
-gated_made event.ServerClosed k open_yet fit is = true≢false open_yet
-gated_made event.Closed k open_yet fit is = true≢false open_yet
 
 closing_is : (at : At) → is_closing (event_of at) ≡ is_closed at
 closing_is event.Accepted = refl
@@ -75,6 +70,18 @@ gate_noted s c at old new before after did k = by_test (has_room old) k
 pub gate_rests : (s : code_setup.Setup) (c : ℕ) (at : At) (old new : Conn) (before after : List Note) (did : step_act.Act) → has_room old ≡ false → Rests s c old new before after did → PassesGate s c at old new before after did
 gate_rests s c at old new before after did shut k = subst (λ b. MatchBool b ((did ≡ done.Goes) × StartsBody s at 0 old new × (after ≡ before)) (Rests s c old new before after did)) (sym shut) k
 
+-- no room for released bytes
+pub release_rests : (s : code_setup.Setup) (c : ℕ) (old new : Conn) (before after : List Note) (did : step_act.Act) → nat_lt (length (queue_in Server old)) room_limit ≡ false → Rests s c old new before after did → PassesReleased s c old new before after did
+release_rests s c old new before after did full k = subst (λ b. MatchBool b ((did ≡ done.Goes) × Releases old new × (after ≡ before)) (Rests s c old new before after did)) (sym full) k
+
+-- the server connection before is still to take bytes
+pub some_waits : (q : List ℕ) → 1 ≤ length q → is_empty q ≡ false
+some_waits [] some = absurd (omega (arith, some))
+some_waits (b ∷ q) some = refl
+
+pub connect_rests : (s : code_setup.Setup) (c : ℕ) (to : Addr) (old new : Conn) (before after : List Note) (did : step_act.Act) → is_empty (queue_in Server old) ≡ false → Rests s c old new before after did → ConnectsNext s c to old new before after did
+connect_rests s c to old new before after did waits k = subst (λ b. MatchBool b ((did ≡ done.Goes) × Connects c to old new before after) (Rests s c old new before after did)) (sym waits) k
+
 -- no cut is left to be finished
 pub fit_plain : (f : Finish) (k : code.Link) → fits (stage.Finishing f) k ≡ true → IsPlain f
 fit_plain finish.Closed k fit = tt
@@ -101,9 +108,9 @@ module _ (s : code_setup.Setup) (g : Setup) (serves : Serves s g) (a : Around) (
       next_in g (InEvent (event_of at) (Gated x xs)) (seen_host old.host) (link_by old.ends.link) l (stands_in _ k b) ∙ ap (λ hs. Does (Opened BeforeBodies) (put (place (InEvent (event_of at) (Running x xs 0)) hs) l)) b.host in
       record {
         at = put p l;
-        gave = gave_one g a l (put p l) c old new (Opened BeforeBodies) h.no_cut (record { calls = refl; client = refl; server = refl; takes = (refl, λ t. refl) }) step (gate_is a l old.ends h.ends ∙ room)
+        gave = gave_one g a l (put p l) c old new (Opened BeforeBodies) h.no_cut (record { calls = refl; client = refl; kept = refl; to_none = refl; opens = λ c s t. refl; takes = (refl, λ t. refl) }) step (gate_is a l old.ends h.ends ∙ room)
             (gone_holds g a false p l old.ends new gone going (ends_kept a l (put p l) old.ends old.ends h.ends refl refl refl refl refl) h.no_choice h.no_cut)
-            (ap (λ e. e.client.queued) gone.ends) (ap (λ e. e.server.queued) gone.ends) (ap (λ e. e.edges) gone.ends) (λ f. f);
+            (ap (λ e. e.client.queued) gone.ends) (same_queue gone.ends) (ap (λ e. e.edges) gone.ends) (λ f. f);
         stops = gone.awake;
       }
 
@@ -128,7 +135,7 @@ module _ (s : code_setup.Setup) (g : Setup) (serves : Serves s g) (a : Around) (
       by_test x xs e p false room k =
           let step = next_in g (InEvent (event_of at) (Gated x xs)) (seen_host old.host) (link_by old.ends.link) l (stands_in _ p st.1) in
           let shut : GivesNoMore false l.sent a.took (next_item g l) = subst (λ o. GivesNoMore false l.sent a.took o) (sym step) (gate_is a l old.ends h.ends ∙ room) in
-          rests_gave s g serves a l c old new h st.1 before after did (ap is_in_body is) (gated_made at old.ends.link open_yet fit.1) shut (λ o. let e = sym step ∙ o in cc) k
+          rests_gave s g serves a l c old new h st.1 before after did (ap is_in_body is) shut (λ o. let e = sym step ∙ o in cc) k
 
       by_bodies : (hs : List Handler) → g.handlers (event_of at) ≡ hs → GatedBefore (event_of at) hs l.phase → ActGave g a l c old new (gate_group (has_room old) c (cut_of old)) did
       by_bodies [] e p = absurd p
@@ -156,9 +163,9 @@ module _ (s : code_setup.Setup) (g : Setup) (serves : Serves s g) (a : Around) (
       gives : (p : Place) → GoneTo g l.finished p l old.ends new → after_fault g (event_of at) l.finished (link_by old.ends.link) kind bs (seen_host old.host) ≡ p → ActGave g a l c old new (note.Log c line ∷ []) done.Goes
       gives p gone there = record {
         at = put p l;
-        gave = gave_one g a l (put p l) c old new (Logged line) h.no_cut (record { calls = refl; client = refl; server = refl; takes = (refl, λ t. refl) }) (step ∙ ap (λ x. Does (Logged line) (put x l)) there) refl
+        gave = gave_one g a l (put p l) c old new (Logged line) h.no_cut (record { calls = refl; client = refl; kept = refl; to_none = refl; opens = λ c s t. refl; takes = (refl, λ t. refl) }) (step ∙ ap (λ x. Does (Logged line) (put x l)) there) refl
             (gone_holds g a l.finished p l old.ends new gone refl (ends_kept a l (put p l) old.ends old.ends h.ends refl refl refl refl refl) h.no_choice h.no_cut)
-            (ap (λ e. e.client.queued) gone.ends) (ap (λ e. e.server.queued) gone.ends) (ap (λ e. e.edges) gone.ends) (λ f. f);
+            (ap (λ e. e.client.queued) gone.ends) (same_queue gone.ends) (ap (λ e. e.edges) gone.ends) (λ f. f);
         stops = gone.awake;
       }
 
@@ -191,4 +198,4 @@ module _ (s : code_setup.Setup) (g : Setup) (serves : Serves s g) (a : Around) (
   pub drains : (did : step_act.Act) → old.stage ≡ stage.Draining → Stands g stage.Draining l old → did ≡ done.Rests → new ≡ old → ActGave g a l c old new [] did
   drains did is st rests same =
       let over : next_item g l ≡ Over = next_in g Draining (seen_host old.host) (link_by old.ends.link) l (stands_in _ st.0 st.1) in
-      stays g a l c old new did h (ap is_in_body is) rests same (subst (λ o. GivesNoMore false l.sent a.took o) (sym over) tt) (ap (λ b. if b then false else (if licenses ClientReset l.sent a.took then true else licenses ServerReset l.sent a.took)) (h.finished ∙ ap has_finished is))
+      stays g a l c old new did h (ap is_in_body is) rests same (subst (λ o. GivesNoMore false l.sent a.took o) (sym over) tt) (ap (λ b. if b then false else (if licenses ClientReset l a.took then true else licenses ServerReset l a.took)) (h.finished ∙ ap has_finished is))

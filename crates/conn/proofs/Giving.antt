@@ -1,19 +1,26 @@
 -- Items that were given, one after another.
-use Rattle.std.proofs.Common.{◌≡◌, refl, sym, ap, subst, ◌∙◌, ℕ, List, [], ◌∷◌, ◌++◌, Bool, true, false, append-nil, append_assoc, None}
+use Rattle.std.proofs.Common.{◌≡◌, refl, sym, ap, subst, ◌∙◌, ℕ, List, [], ◌∷◌, ◌++◌, Bool, true, false, append-nil, append_assoc, None, ◌||◌}
 use Rattle.std.proofs.lemmas.Grind.{flat_map-append}
 use Rattle.core_events.specs.Edges.{edges_by, edges_noted}
 use Rattle.core_events.specs.declared.edges.Edges.{Edges}
 use Rattle.core_events.specs.declared.note.Note.{Note}
-use Rattle.conn_trace.specs.Gates.{may_give}
-use Rattle.conn_trace.specs.Item.{Item, listed, shown, calls_in, to_client, client_output, to_server, server_output, note_of, notes_of}
+use Rattle.px_bytes.specs.declared.addr.Side.TheVariants.{Server}
+use Rattle.conn_trace.specs.Further.{longer}
+use Rattle.conn_trace.specs.Gates.{Counts, TakenCounts, may_give, sent_after, to_take}
+use Rattle.conn_trace.specs.HeardLaws.{taken_by_items}
+use Rattle.conn_trace.specs.Item.{Item, listed, shown, calls_in, to_client, client_output, note_of, to_server, server_output}
 use Rattle.conn_trace.specs.Setup.{Setup}
 use Rattle.conn_trace.specs.State.{TraceState, Does}
 use Rattle.conn_trace.specs.Trace.{next_item}
+use Rattle.conn_trace.proofs.Given.{sent_counted}
 use Rattle.conn_trace.proofs.Unfolding.{unfolds_one}
+use Rattle.conn.specs.Ends.{sent_here}
 use Rattle.conn.specs.Holds.{Around, Holds, HoldsEnds}
 use Rattle.conn.specs.RunsItems.{Passes}
+use Rattle.conn.specs.Servers.{ServerQueue, closed_behind, queue_along, queue_at_server, queue_behind, run_notes, gives_up}
 use Rattle.conn.specs.declared.connection.Conn.{Conn}
 use Rattle.conn.specs.declared.ends.Ends.{Ends}
+use Rattle.conn.proofs.Servers.{queue_joins, run_joins, gives_up_on}
 use Rattle.conn.proofs.Joining.{TakesNoCut, TakesNone, no_cut_on, none_on, passes_join, passes_none, passes_one}
 
 -- The connection went on by these items, with these notes and calls. Where it had finished they took no choice
@@ -23,9 +30,11 @@ pub record Gave (g : Setup) (a : Around) (l at : TraceState) (c : ℕ) (old new 
   pub passes : Passes g a.took l more at
   pub holds : Holds g a at new
   pub client_queue : new.ends.client.queued ≡ old.ends.client.queued ++ client_output more
-  pub server_queue : new.ends.server.queued ≡ old.ends.server.queued ++ server_output 1 more
+  pub servers : queue_at_server new.ends ≡ queue_along more (queue_at_server old.ends)
   pub edges : new.ends.edges ≡ edges_noted group old.ends.edges
-  pub noted : group ≡ notes_of c more
+  pub kept : gives_up more ≡ false
+  pub to_none : server_output 0 more ≡ []
+  pub noted : group ≡ run_notes c l.sent a.took more
   pub calls : calls_in more ≡ called
   pub still : l.finished ≡ true → TakesNone more
   pub uncut : at.finished ≡ false → TakesNoCut more
@@ -37,7 +46,9 @@ gave_none g a l c old h = record {
   passes = passes_none g a.took l h.no_cut;
   holds = h;
   client_queue = sym (append-nil old.ends.client.queued);
-  server_queue = sym (append-nil old.ends.server.queued);
+  servers = refl;
+  kept = refl;
+  to_none = refl;
   edges = refl;
   noted = refl;
   calls = refl;
@@ -62,34 +73,47 @@ gave_more g a l m at c old mid new first second none p q = record {
   holds = q.holds;
   client_queue = q.client_queue ∙ ap (λ x. x ++ client_output q.more) p.client_queue ∙ append_assoc old.ends.client.queued (client_output p.more) (client_output q.more)
       ∙ ap (λ x. old.ends.client.queued ++ x) (sym (flat_map-append to_client p.more q.more));
-  server_queue = q.server_queue ∙ ap (λ x. x ++ server_output 1 q.more) p.server_queue ∙ append_assoc old.ends.server.queued (server_output 1 p.more) (server_output 1 q.more)
-      ∙ ap (λ x. old.ends.server.queued ++ x) (sym (flat_map-append (to_server 1) p.more q.more));
+  servers = q.servers ∙ ap (queue_along q.more) p.servers ∙ sym (queue_joins p.more q.more (queue_at_server old.ends));
   edges = q.edges ∙ ap (edges_noted second) p.edges ∙ sym (edges_on first second old.ends.edges);
-  noted = ap (λ x. x ++ second) p.noted ∙ ap (λ x. notes_of c p.more ++ x) q.noted ∙ sym (flat_map-append (note_of c) p.more q.more);
+  kept = gives_up_on p.more q.more ∙ ap (λ b. b || gives_up q.more) p.kept ∙ q.kept;
+  to_none = flat_map-append (to_server 0) p.more q.more ∙ ap (λ x. x ++ server_output 0 q.more) p.to_none ∙ q.to_none;
+  noted = ap (λ x. x ++ second) p.noted ∙ ap (λ x. run_notes c l.sent a.took p.more ++ x) (q.noted ∙ ap (λ s. run_notes c s a.took q.more) (sent_counted g (longer (taken_by_items a.took p.more) l) m p.more p.passes.passed))
+      ∙ sym (run_joins c l.sent a.took p.more q.more);
   calls = flat_map-append (λ i. listed (shown i).call) p.more q.more ∙ ap (λ x. x ++ calls_in q.more) p.calls ∙ q.calls;
   still = λ e. none_on p.more q.more (p.still e) (q.still (p.stays e));
   uncut = λ e. no_cut_on p.more q.more (p.uncut (other_way m.finished at.finished q.stays e)) (q.uncut e);
   stays = λ e. q.stays (p.stays e);
 }
 
--- an item that sends nothing, and takes no choice and no cut; the calls that it is
+-- an item that sends nothing to the client, closes nothing, and takes no choice and no cut; the calls that it is
 pub record Plain (i : Item) (called : List (List (List ℕ))) : Type 0 where
   pub calls : calls_in (i ∷ []) ≡ called
   pub client : to_client i ≡ []
-  pub server : to_server 1 i ≡ []
+  pub kept : gives_up (i ∷ []) ≡ false
+  pub to_none : server_output 0 (i ∷ []) ≡ []
+  pub opens : (c : ℕ) (sent : Counts) (took : TakenCounts) → closed_behind c sent took i ≡ []
   pub takes : TakesNone (i ∷ [])
 
--- it comes, and changes no queue
+-- an item that sends nothing leaves the queue
+pub quiet_queue : (q : ServerQueue) → record q { queued = q.queued ++ [] } ≡ q
+quiet_queue q = ap (λ x. record q { queued = x }) (append-nil q.queued)
+
+pub same_queue : {e f : Ends} → f ≡ e → queue_at_server f ≡ record (queue_at_server e) { queued = e.server.queued ++ [] }
+same_queue {e = e} is = ap queue_at_server is ∙ sym (quiet_queue (queue_at_server e))
+
+-- it comes, and changes no queue of the client
 pub gave_one : (g : Setup) (a : Around) (l at : TraceState) {called : List (List (List ℕ))} (c : ℕ) (old new : Conn) (i : Item) → l.answers.cut ≡ None → Plain i called → next_item g l ≡ Does i at → may_give i l.sent a.took ≡ true → Holds g a at new
-    → new.ends.client.queued ≡ old.ends.client.queued → new.ends.server.queued ≡ old.ends.server.queued → new.ends.edges ≡ edges_noted (note_of c i) old.ends.edges → (l.finished ≡ true → at.finished ≡ true) → Gave g a l at c old new (note_of c i) called
+    → new.ends.client.queued ≡ old.ends.client.queued → queue_at_server new.ends ≡ queue_behind i (queue_at_server old.ends) → new.ends.edges ≡ edges_noted (note_of c i) old.ends.edges → (l.finished ≡ true → at.finished ≡ true) → Gave g a l at c old new (note_of c i) called
 gave_one g a l at c old new i none plain step may holds client server edges stays = record {
   more = i ∷ [];
   passes = passes_one g a.took l at i none plain.takes (unfolds_one g l at i step) (may, tt);
   holds = holds;
   client_queue = client ∙ sym (ap (λ x. old.ends.client.queued ++ x) (ap (λ x. x ++ []) plain.client) ∙ append-nil old.ends.client.queued);
-  server_queue = server ∙ sym (ap (λ x. old.ends.server.queued ++ x) (ap (λ x. x ++ []) plain.server) ∙ append-nil old.ends.server.queued);
+  servers = server;
+  kept = plain.kept;
+  to_none = plain.to_none;
   edges = edges;
-  noted = sym (append-nil (note_of c i));
+  noted = sym (append-nil (note_of c i)) ∙ ap (λ x. note_of c i ++ (x ++ [])) (sym (plain.opens c (sent_after i l.sent) a.took));
   calls = plain.calls;
   still = λ e. plain.takes;
   uncut = λ e. plain.takes.1;
@@ -106,10 +130,11 @@ ends_kept a l at e f h client server connects sent same =
       client_untaken = h.client_untaken ∙ ap (λ s. s.client) (sym sent);
       server = server ∙ h.server;
       connects = connects ∙ h.connects;
+      earlier = h.earlier;
       number = ap (λ s. s.number) sent ∙ h.number;
       servers_took = h.servers_took;
-      server_untaken = h.server_untaken ∙ ap (λ s. s.server) (sym sent);
-      unsent = λ up. ap (λ s. s.server) sent ∙ h.unsent up;
+      server_untaken = λ there. h.server_untaken there ∙ ap (λ s. sent_here e.link s.server) (sym sent);
+      took_all = λ away. ap (λ s. to_take s a.took Server) sent ∙ h.took_all away;
       nothing_came = h.nothing_came;
       connecting = h.connecting;
     })

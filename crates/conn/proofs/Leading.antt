@@ -11,7 +11,7 @@ use Rattle.conn_trace.specs.Relay.{meets}
 use Rattle.conn_trace.specs.Setup.{Handler, uncaught_line}
 use Rattle.irule_net.specs.declared.state.NetState.{NetState}
 use Rattle.irule_net.specs.declared.state.Selected.{Selected}
-use Rattle.conn.specs.Acts.{Acted, ActedAt, AnswersBy, BehindFault, CollectsBy, RelaysBy, Rests, RestsBy, cut_of, has_room}
+use Rattle.conn.specs.Acts.{Acted, ActedAt, AnswersBy, BehindFault, CollectsBy, RelaysBy, Rests, RestsBy, cut_of, has_room, Connects}
 use Rattle.conn.specs.Bodies.{Fresh}
 use Rattle.conn.specs.Changes.{Closes, ClosesClient, ClosesServer, Enters, GoesTo, Leaves, NextBody, StartsBody, left_stage}
 use Rattle.conn.specs.Choosing.{ChoosesBy, TakesChosen, plan_of}
@@ -42,6 +42,9 @@ use Rattle.conn.specs.declared.turn.Act.{Act}
 use Rattle.conn.specs.declared.turn.Act.TheVariants as done
 use Rattle.conn.proofs.Fitting.{after_no_body, entered_no_body}
 use Rattle.conn.proofs.Releasing.{server_room}
+use Rattle.seg_buffer.specs.Bytes.{is_empty}
+use Rattle.conn.specs.Queues.{queue_in}
+use Rattle.px_bytes.specs.declared.addr.Side.TheVariants.{Server}
 
 -- its body has just begun
 pub record BodyBegins (c : Conn) (budget : ℕ) : Type 0 where
@@ -202,6 +205,11 @@ module _ (s : code.Setup) (c : ℕ) (old new : Conn) (before after : List Note) 
   by_answer is calm link.Absent k = by_rest (cut_of old) old calm k
   by_answer is calm link.Asked k = by_rest (cut_of old) old calm k
   by_answer is calm link.Up k = by_rest (cut_of old) old calm k
+  by_answer is calm link.GivenUp k = by_rest (cut_of old) old calm k
+
+  by_connect : has_body old.stage ≡ false → (to : Addr) (b : Bool) → MatchBool b ((did ≡ done.Goes) × Connects c to old new before after) (Rests s c old new before after did) → Leads
+  by_connect calm to true k = noted _ (inl (ap has_body k.1.there)) k.1.noted
+  by_connect calm to false k = by_rest (cut_of old) old calm k
 
   by_collect : has_body old.stage ≡ false → (o : Option ℕ) → CollectsBy o s c old new before after did → Leads
   by_collect calm None k = by_rest (cut_of old) old calm k
@@ -231,7 +239,7 @@ module _ (s : code.Setup) (c : ℕ) (old new : Conn) (before after : List Note) 
       by_stage (stage.Failing at n kind line) is k = noted _ (behind_fault s at n kind old new k.1) k.2
       by_stage stage.Choosing is k = by_plan (ap rank is) k.1 (plan_of old.host.net) k.0
       by_stage (stage.Chosen addr) is k = by_reply (ap rank is) k.2 addr k.1
-      by_stage (stage.Connecting to) is k = noted _ (inl (ap has_body k.1.there)) k.1.noted
+      by_stage (stage.Connecting to) is k = by_connect calm to (is_empty (queue_in Server old)) k
       by_stage (stage.Answering to) is k = by_answer (ap rank is) calm old.ends.link k
       by_stage stage.Collecting is k = by_collect calm (meets old.host.net.client.asks old.ends.client.unread) k
       by_stage stage.Releasing is k = by_release (ap rank is) calm (server_room old) k

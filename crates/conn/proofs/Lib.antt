@@ -1,10 +1,10 @@
+pub mod Servers
 pub mod Joining
 pub mod Fine
 pub mod FramesAlike
 pub mod FramesKeep
 pub mod Giving
 pub mod Fitting
-pub mod Untaken
 pub mod HttpNexts
 pub mod Settling
 pub mod Places
@@ -46,3 +46,4 @@ pub mod Passing
 pub mod Changing
 mod Outside
 pub mod SliceRows
+mod ServerRows

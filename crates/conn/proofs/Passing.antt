@@ -1,15 +1,15 @@
 -- A relay passes bytes on, finishes or rests.
-use Rattle.std.proofs.Common.{◌≡◌, refl, sym, ap, subst, ◌∙◌, ℕ, ◌≤◌, ◌<◌, List, [], ◌∷◌, ◌++◌, append-nil, length, length-append, take, Bool, true, false, true≢false, ◌&&◌, ◌||◌, not, nat_le, nat_lt, Option, None, arith, eq-eqb, length-take-le, if◌then◌else◌}
+use Rattle.std.proofs.Common.{◌≡◌, refl, sym, ap, subst, ◌∙◌, ℕ, ◌≤◌, ◌<◌, List, [], ◌∷◌, ◌++◌, append-nil, length, length-append, take, Bool, true, false, true≢false, ◌&&◌, ◌||◌, not, nat_le, nat_lt, Option, None, arith, length-take-le, if◌then◌else◌}
 use Rattle.std.proofs.lemmas.Bool.Decides.{nat_tests}
 use Rattle.px_bytes.specs.declared.addr.Side.{Side}
 use Rattle.px_bytes.specs.declared.addr.Side.TheVariants.{Client, Server}
 use Rattle.conn_trace.specs.Further.{choosing, longer}
 use Rattle.irule_net.specs.declared.state.Asks.{Asks}
 use Rattle.irule_net.specs.declared.state.Asks.TheVariants.{NotAsked, Stated}
-use Rattle.conn_trace.specs.Gates.{has_room, may_give, other, room_limit}
+use Rattle.conn_trace.specs.Gates.{has_room, may_give, other, room_limit, Counts, sent_after}
 use Rattle.conn_trace.specs.HeardLaws.{cut_in, taken_by_items}
 use Rattle.conn_trace.specs.Relay.{Incoming, is_done, ready, ready_of}
-use Rattle.conn_trace.specs.Item.{Choice, Fires, Item, PassesOn, Passed, ToClient, ToServer, choices_in, note_of, to_client, to_server, calls_in}
+use Rattle.conn_trace.specs.Item.{Choice, Fires, Item, PassesOn, Passed, ToClient, ToServer, choices_in, note_of, to_client, calls_in, server_output}
 use Rattle.conn_trace.specs.Setup.{Setup}
 use Rattle.conn_trace.specs.State.{TraceState, Does, with_choices}
 use Rattle.conn_trace.specs.Trace.{GivesNoMore, may_relay, next_item}
@@ -17,10 +17,10 @@ use Rattle.core_events.specs.declared.note.CutReason.{CutReason}
 use Rattle.core_events.specs.declared.note.Note.{Note}
 use Rattle.core_events.specs.declared.note.Note.TheVariants as note
 use Rattle.conn.specs.Acts.{Relays, RelaysBy, Rests, cut_of}
-use Rattle.conn.specs.Ends.{arrived, connects_by, end_of, has_stream, is_sought, is_up, number_by, queue_of, server_by}
+use Rattle.conn.specs.Ends.{arrived, connects_by, end_of, has_stream, is_sought, is_up, queue_of, server_by, is_taken}
 use Rattle.conn.specs.Holds.{Around, Between, Holds, HoldsEnds, Stands}
 use Rattle.conn.specs.Hosts.{seen_host}
-use Rattle.conn.specs.Relaying.{Fires as FiresBytes, PassesOn as PassesBytes, incoming_of, moved, plan_of, queue_end, read_end, relay_plan, round_begun, side_plan, to_pass}
+use Rattle.conn.specs.Relaying.{Fires as FiresBytes, PassesOn as PassesBytes, incoming_of, moved, plan_of, queue_end, read_end, read_ends, relay_plan, round_begun, side_plan, to_pass}
 use Rattle.conn.specs.Setups.{Serves}
 use Rattle.conn.specs.Stages.{InEvent as HostIn, cause_for, fits, has_finished, is_asking}
 use Rattle.conn.specs.declared.connection.Conn.{Conn}
@@ -39,8 +39,10 @@ use Rattle.conn.proofs.Acting.{ActGave, finishes_gave, rest_group, rest_noted, r
 use Rattle.conn.proofs.Firing.{fires_client, fires_server}
 use Rattle.conn.proofs.Joining.{TakesNoCut}
 use Rattle.conn.proofs.PassItems.{passed_client, passed_server, passes_client, passes_server}
-use Rattle.conn.proofs.Pending.{client_waits, server_waits}
+use Rattle.conn.proofs.Pending.{client_waits, here_untaken, server_waits, up_untaken, up_number}
 use Rattle.conn.proofs.RelayItems.{InRelay, none_passes, passes_within, relay_ends, relay_fires, relay_rests, relay_waits, some_passes, unmet_waits}
+use Rattle.conn.specs.Servers.{closed_behind, queue_at_server, queue_behind, gives_up}
+use Rattle.conn.proofs.Giving.{quiet_queue}
 
 taken_is : (n : ℕ) (bytes : List ℕ) → n ≤ length bytes → length (take n bytes) ≡ n
 taken_is n bytes within = length-take-le n bytes within
@@ -52,6 +54,7 @@ up_is link.Asked fit = absurd (true≢false (sym fit))
 up_is link.Refused fit = absurd (true≢false (sym fit))
 up_is link.Made fit = absurd (true≢false (sym fit))
 up_is link.Up fit = refl
+up_is link.GivenUp fit = absurd (true≢false (sym fit))
 
 -- bytes of the client go to the server, and bytes of the server to the client
 client_moved : (a : Around) (l : TraceState) (n : ℕ) (e : Ends) → HoldsEnds a l e → e.link ≡ link.Up → HoldsEnds a (passed_client n (arrived e.client) l) (moved Client n e)
@@ -61,10 +64,11 @@ client_moved a l n e h up = record {
   client_untaken = h.client_untaken;
   server = h.server ∙ ap (λ k. server_by k e.server) up ∙ ap (λ k. server_by k (queue_end (take n e.client.unread) e.server)) (sym up);
   connects = h.connects ∙ ap (λ k. connects_by k e.server) up ∙ ap (λ k. connects_by k (queue_end (take n e.client.unread) e.server)) (sym up);
+  earlier = h.earlier;
   number = h.number;
   servers_took = h.servers_took;
-  server_untaken = (let k = h.server_untaken in let m = length-append e.server.queued (take n e.client.unread) in omega (arith, k, m));
-  unsent = λ down. absurd (true≢false (sym (ap is_up up) ∙ down));
+  server_untaken = up_untaken e up (let k = here_untaken a l e h up in let m = length-append e.server.queued (take n e.client.unread) in omega (arith, k, m));
+  took_all = λ away. absurd (true≢false (sym (ap is_taken up) ∙ away));
   nothing_came = λ away. absurd (true≢false (sym (ap has_stream up) ∙ away));
   connecting = h.connecting;
 }
@@ -76,10 +80,11 @@ server_moved a l n e h up = record {
   client_untaken = (let k = h.client_untaken in let m = length-append e.client.queued (take n e.server.unread) in omega (arith, k, m));
   server = ap (λ k. server_by k (read_end n e.server)) (sym up);
   connects = h.connects ∙ ap (λ k. connects_by k e.server) up ∙ ap (λ k. connects_by k (read_end n e.server)) (sym up);
+  earlier = h.earlier;
   number = h.number;
   servers_took = h.servers_took;
   server_untaken = h.server_untaken;
-  unsent = λ down. absurd (true≢false (sym (ap is_up up) ∙ down));
+  took_all = λ away. absurd (true≢false (sym (ap is_taken up) ∙ away));
   nothing_came = λ away. absurd (true≢false (sym (ap has_stream up) ∙ away));
   connecting = h.connecting;
 }
@@ -170,9 +175,6 @@ module _ (s : code_setup.Setup) (g : Setup) (serves : Serves s g) (a : Around) (
   on_choices : (choices : List Choice) → InRelay (of_client old) (of_server old) (with_choices choices l)
   on_choices choices = record { no_cut = here.no_cut; phase = here.phase; client = here.client; server = here.server; client_asks = here.client_asks; server_asks = here.server_asks }
 
-  number : l.sent.number ≡ 1
-  number = h.ends.number ∙ ap number_by up
-
   relays_on : (at : TraceState) (side : Side) (n : ℕ) (before after : List Note) → PassesBytes c side n old new before after → at.phase ≡ l.phase → at.vars ≡ l.vars → at.host ≡ l.host → at.answers.replies ≡ l.answers.replies → Stands g new.stage at new
   relays_on at side n before after k phase vars host replies =
       subst (λ x. Stands g x at new) (sym k.there) (phase ∙ st.0, record { vars = vars ∙ b.vars ∙ sym k.vars; host = host ∙ b.host ∙ ap seen_host (sym k.host); replies = replies ∙ b.replies })
@@ -192,9 +194,9 @@ module _ (s : code_setup.Setup) (g : Setup) (serves : Serves s g) (a : Around) (
 
   -- one item, on the choice that it takes
   chosen_gave : (at : TraceState) (i : Item) (side : Side) (n : ℕ) (before after : List Note) → PassesBytes c side n old new before after → Holds g a at new → calls_in (i ∷ []) ≡ [] → choices_in (i ∷ []) ≡ PassesOn side n ∷ [] → TakesNoCut (i ∷ []) → may_give i l.sent a.took ≡ true
-      → next_item g (longer (choosing (PassesOn side n ∷ []) None) l) ≡ Does i at → note_of c i ≡ note.Pass c side n ∷ []
-      → (moved side n old.ends).client.queued ≡ old.ends.client.queued ++ to_client i → (moved side n old.ends).server.queued ≡ old.ends.server.queued ++ to_server 1 i → (moved side n old.ends).edges ≡ old.ends.edges → ActGave g a l c old new (note.Pass c side n ∷ []) done.Goes
-  chosen_gave at i side n before after k holds called choice uncut may step noted client server edges =
+      → next_item g (longer (choosing (PassesOn side n ∷ []) None) l) ≡ Does i at → gives_up (i ∷ []) ≡ false → server_output 0 (i ∷ []) ≡ [] → ((sent : Counts) → closed_behind c sent a.took i ≡ []) → note_of c i ≡ note.Pass c side n ∷ []
+      → (moved side n old.ends).client.queued ≡ old.ends.client.queued ++ to_client i → queue_at_server (moved side n old.ends) ≡ queue_behind i (queue_at_server old.ends) → (moved side n old.ends).edges ≡ old.ends.edges → ActGave g a l c old new (note.Pass c side n ∷ []) done.Goes
+  chosen_gave at i side n before after k holds called choice uncut may step kept to_none opens noted client server edges =
       let taken : longer (taken_by_items a.took (i ∷ [])) l ≡ longer (choosing (PassesOn side n ∷ []) None) l = ap (λ x. longer (choosing x (cut_in a.took (i ∷ []))) l) choice ∙ ap (λ x. longer (choosing (PassesOn side n ∷ []) x) l) (uncut a.took) in
       record {
         at = at;
@@ -203,9 +205,11 @@ module _ (s : code_setup.Setup) (g : Setup) (serves : Serves s g) (a : Around) (
           passes = record { passed = (at, ap (next_item g) taken ∙ step, refl); met = (may, tt); cut = λ reason e. absurd (let x = sym (uncut a.took) ∙ e in cc) };
           holds = holds;
           client_queue = ap (λ e. e.client.queued) k.ends ∙ client ∙ ap (λ x. old.ends.client.queued ++ x) (sym (append-nil (to_client i)));
-          server_queue = ap (λ e. e.server.queued) k.ends ∙ server ∙ ap (λ x. old.ends.server.queued ++ x) (sym (append-nil (to_server 1 i)));
+          servers = ap queue_at_server k.ends ∙ server;
+          kept = kept;
+          to_none = to_none;
           edges = ap (λ e. e.edges) k.ends ∙ edges;
-          noted = sym noted ∙ sym (append-nil (note_of c i));
+          noted = sym noted ∙ sym (append-nil (note_of c i)) ∙ ap (λ x. note_of c i ++ (x ++ [])) (sym (opens (sent_after i l.sent)));
           calls = called;
           still = λ e. absurd (true≢false (sym e ∙ going));
           uncut = λ e. uncut;
@@ -229,8 +233,8 @@ module _ (s : code_setup.Setup) (g : Setup) (serves : Serves s g) (a : Around) (
       chosen_gave at i Client n before after k
       (holds_on at Client n before after k (relays_on at Client n before after k refl refl refl refl) refl (client_moved a l n old.ends h.ends up) refl refl h.no_cut)
       refl (ap (λ m. PassesOn Client m ∷ []) count) (λ t. refl) (ap (λ m. nat_lt m room_limit) (server_waits a l old.ends h.ends) ∙ some_passes u (length (queue_of old.ends.server)) some)
-      (passes_client g (of_client old) (of_server old) l n here h.no_choice more some free within) (ap (λ m. note.Pass c Client m ∷ []) count)
-      (sym (append-nil old.ends.client.queued)) (ap (λ x. old.ends.server.queued ++ (if x then take n u else [])) (sym (eq-eqb l.sent.number 1 number))) refl
+      (passes_client g (of_client old) (of_server old) l n here h.no_choice more some free within) refl (ap (λ b. (if b then take n u else []) ++ []) (up_number a l old.ends h.ends (ap is_up up))) (λ x. refl) (ap (λ m. note.Pass c Client m ∷ []) count)
+      (sym (append-nil old.ends.client.queued)) refl refl
   passes_side Server before after more free some k =
       let n = to_pass old.ends.server old.ends.client in
       let u = old.ends.server.unread in
@@ -241,8 +245,8 @@ module _ (s : code_setup.Setup) (g : Setup) (serves : Serves s g) (a : Around) (
       chosen_gave at i Server n before after k
       (holds_on at Server n before after k (relays_on at Server n before after k refl refl refl refl) refl (server_moved a l n old.ends h.ends up) refl refl h.no_cut)
       refl (ap (λ m. PassesOn Server m ∷ []) count) (λ t. refl) (ap (λ m. nat_lt m room_limit) (client_waits a l old.ends h.ends) ∙ some_passes u (length (queue_of old.ends.client)) some)
-      (passes_server g (of_client old) (of_server old) l n here h.no_choice more some free within) (ap (λ m. note.Pass c Server m ∷ []) count)
-      refl (sym (append-nil old.ends.server.queued)) refl
+      (passes_server g (of_client old) (of_server old) l n here h.no_choice more some free within) refl refl (λ x. refl) (ap (λ m. note.Pass c Server m ∷ []) count)
+      refl (sym (quiet_queue (queue_at_server (read_ends Server n old.ends)))) refl
 
   fires_side : (side : Side) (n : ℕ) (before after : List Note) → left → asks_of side old ≡ Stated n → n ≤ length (end_of side old.ends).unread → FiresBytes s c side n old new before after → ActGave g a l c old new (note.Fired c side ∷ []) done.Goes
   fires_side Client n before after more asked met k =
@@ -268,7 +272,7 @@ module _ (s : code_setup.Setup) (g : Setup) (serves : Serves s g) (a : Around) (
       let of_c : may_relay (ready_of (of_client old)) (has_room l.sent a.took Server) ≡ false = ap (λ m. may_relay (ready_of (of_client old)) (nat_lt m room_limit)) (server_waits a l old.ends h.ends) ∙ client in
       let of_s : may_relay (ready_of (of_server old)) (has_room l.sent a.took Client) ≡ false = ap (λ m. may_relay (ready_of (of_server old)) (nat_lt m room_limit)) (client_waits a l old.ends h.ends) ∙ server in
       let stop : GivesNoMore false l.sent a.took (next_item g l) = subst (λ o. GivesNoMore false l.sent a.took o) (sym waiting) (relay_rests (of_client old) (of_server old) l.sent a.took of_c of_s) in
-      let gave = rests_gave s g serves a l c (round_begun old) new round between_round before after did refl (λ m. let x = sym up ∙ m in cc) stop (λ o. let x = sym waiting ∙ o in cc) k in
+      let gave = rests_gave s g serves a l c (round_begun old) new round between_round before after did refl stop (λ o. let x = sym waiting ∙ o in cc) k in
       record {
         at = gave.at;
         gave = record {
@@ -276,7 +280,9 @@ module _ (s : code_setup.Setup) (g : Setup) (serves : Serves s g) (a : Around) (
           passes = gave.gave.passes;
           holds = gave.gave.holds;
           client_queue = gave.gave.client_queue;
-          server_queue = gave.gave.server_queue;
+          servers = gave.gave.servers;
+          kept = gave.gave.kept;
+          to_none = gave.gave.to_none;
           edges = gave.gave.edges;
           noted = gave.gave.noted;
           calls = gave.gave.calls;

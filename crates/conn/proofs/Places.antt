@@ -134,6 +134,7 @@ up_is link.Asked = refl
 up_is link.Refused = refl
 up_is link.Made = refl
 up_is link.Up = refl
+up_is link.GivenUp = refl
 
 link_side : (k : Link) (e : End) → link_of (server_by k e) ≡ link_by k
 link_side link.Absent e = refl
@@ -141,6 +142,7 @@ link_side link.Asked e = refl
 link_side link.Refused e = refl
 link_side link.Made e = refl
 link_side link.Up e = refl
+link_side link.GivenUp e = refl
 
 -- the link is that of the trace
 pub link_is : (a : Around) (l : TraceState) (e : Ends) → HoldsEnds a l e → link_of l.server ≡ link_by e.link
@@ -187,6 +189,7 @@ module _ (g : Setup) (l : TraceState) where
       by_link link.Asked b = by_release b
       by_link link.Refused b = by_release b
       by_link link.Made b = by_release b
+      by_link link.GivenUp b = by_release b
       by_link link.Up b = (refl, between _)
 
       by_loose : (bytes : List ℕ) → Stands g (connected_stage bytes) (here (behind_connected bytes)) new
@@ -314,6 +317,7 @@ module _ (g : Setup) (l : TraceState) where
       where
         by_link : (x : Link) → old.ends.link ≡ x → MatchBool (is_sought x) (ClosesServer s old new) (ClosesClient s old new) → GoneTo g true (closed g (link_by x) (seen_host old.host)) l old.ends new
         by_link link.Absent is c = subst (λ x. GoneTo g true (closed_client g (link_by x) (seen_host old.host)) l old.ends new) is (client_gone old new c f)
+        by_link link.GivenUp is c = subst (λ x. GoneTo g true (closed_client g (link_by x) (seen_host old.host)) l old.ends new) is (client_gone old new c f)
         by_link link.Asked is c = subst (λ x. GoneTo g true (closed_server g (link_by x) (seen_host old.host)) l old.ends new) is (server_gone old new c f)
         by_link link.Refused is c = subst (λ x. GoneTo g true (closed_server g (link_by x) (seen_host old.host)) l old.ends new) is (server_gone old new c f)
         by_link link.Made is c = subst (λ x. GoneTo g true (closed_server g (link_by x) (seen_host old.host)) l old.ends new) is (server_gone old new c f)

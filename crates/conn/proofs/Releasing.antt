@@ -1,5 +1,5 @@
 -- The client's bytes that were released before there was a server go to it.
-use Rattle.std.proofs.Common.{◌≡◌, refl, sym, ap, subst, ◌∙◌, ℕ, ◌+◌, List, [], ◌∷◌, ◌++◌, append-nil, length, length-append, Bool, true, false, true≢false, nat_lt, arith, eq-eqb, if◌then◌else◌}
+use Rattle.std.proofs.Common.{◌≡◌, refl, sym, ap, subst, ◌∙◌, ℕ, ◌+◌, List, [], ◌∷◌, ◌++◌, append-nil, length, length-append, Bool, true, false, true≢false, nat_lt, arith, if◌then◌else◌}
 use Rattle.std.specs.Bool.{MatchBool}
 use Rattle.px_bytes.specs.declared.addr.Side.TheVariants.{Client, Server}
 use Rattle.conn_trace.specs.Gates.{room_limit}
@@ -11,7 +11,7 @@ use Rattle.conn_trace.specs.Trace.{GivesNoMore, next_item}
 use Rattle.core_events.specs.declared.note.Note.{Note}
 use Rattle.conn_trace.proofs.Unfolding.{unfolds_one}
 use Rattle.conn.specs.Acts.{PassesReleased, Rests, cut_of}
-use Rattle.conn.specs.Ends.{connects_by, has_stream, is_up, link_by, number_by, server_by}
+use Rattle.conn.specs.Ends.{connects_by, has_stream, is_up, link_by, server_by, is_taken}
 use Rattle.conn.specs.Holds.{Around, Between, Holds, HoldsEnds, Stands}
 use Rattle.conn.specs.Hosts.{released_host, seen_host}
 use Rattle.conn.specs.Queues.{queue_in}
@@ -29,8 +29,9 @@ use Rattle.conn.proofs.Acting.{ActGave, rest_noted, rests_gave}
 use Rattle.conn.proofs.Gating.{gate_group, stands_in}
 use Rattle.conn.proofs.Joining.{passes_one}
 use Rattle.conn.proofs.Passing.{up_is}
-use Rattle.conn.proofs.Pending.{server_waits}
+use Rattle.conn.proofs.Pending.{here_untaken, server_waits, up_untaken, up_number}
 use Rattle.conn.proofs.SelectItems.{next_in}
+use Rattle.conn.specs.Servers.{queue_at_server}
 
 -- there is room at the server
 abbrev pub server_room : Conn → Bool
@@ -54,10 +55,11 @@ released_ends a l hs bytes e h up = record {
   client_untaken = h.client_untaken;
   server = h.server ∙ ap (λ k. server_by k e.server) up ∙ ap (λ k. server_by k (queue_end bytes e.server)) (sym up);
   connects = h.connects ∙ ap (λ k. connects_by k e.server) up ∙ ap (λ k. connects_by k (queue_end bytes e.server)) (sym up);
+  earlier = h.earlier;
   number = h.number;
   servers_took = h.servers_took;
-  server_untaken = (let k = h.server_untaken in let m = length-append e.server.queued bytes in omega (arith, k, m));
-  unsent = λ down. absurd (true≢false (sym (ap is_up up) ∙ down));
+  server_untaken = up_untaken e up (let k = here_untaken a l e h up in let m = length-append e.server.queued bytes in omega (arith, k, m));
+  took_all = λ away. absurd (true≢false (sym (ap is_taken up) ∙ away));
   nothing_came = λ away. absurd (true≢false (sym (ap has_stream up) ∙ away));
   connecting = h.connecting;
 }
@@ -68,9 +70,6 @@ module _ (s : code_setup.Setup) (g : Setup) (serves : Serves s g) (a : Around) (
 
   up : old.ends.link ≡ link.Up
   up = up_is old.ends.link (sym (ap (λ x. fits x old.ends.link) is) ∙ h.fits)
-
-  number : l.sent.number ≡ 1
-  number = h.ends.number ∙ ap number_by up
 
   going : l.finished ≡ false
   going = h.finished ∙ ap has_finished is
@@ -108,7 +107,9 @@ module _ (s : code_setup.Setup) (g : Setup) (serves : Serves s g) (a : Around) (
           passes = passes_one g a.took l at i h.no_cut (refl, λ t. refl) (unfolds_one g l at i step) (ap (λ m. nat_lt m room_limit) (server_waits a l old.ends h.ends) ∙ room, tt);
           holds = holds k;
           client_queue = ap (λ e. e.client.queued) k.ends ∙ sym (append-nil old.ends.client.queued);
-          server_queue = ap (λ e. e.server.queued) k.ends ∙ ap (λ x. old.ends.server.queued ++ (if x then loose else [])) (sym (eq-eqb l.sent.number 1 number)) ∙ ap (λ x. old.ends.server.queued ++ x) (sym (append-nil _));
+          servers = ap queue_at_server k.ends;
+          kept = refl;
+          to_none = ap (λ b. (if b then loose else []) ++ []) (up_number a l old.ends h.ends (ap is_up up));
           edges = ap (λ e. e.edges) k.ends;
           noted = refl;
           calls = refl;
@@ -126,4 +127,4 @@ module _ (s : code_setup.Setup) (g : Setup) (serves : Serves s g) (a : Around) (
       by_test true room (goes, k, none) = subst (λ d. ActGave g a l c old new [] d) (sym goes) (passes room k)
       by_test false room k =
           let shut : GivesNoMore false l.sent a.took (next_item g l) = subst (λ o. GivesNoMore false l.sent a.took o) (sym step) (ap (λ m. nat_lt m room_limit) (server_waits a l old.ends h.ends) ∙ room) in
-          rests_gave s g serves a l c old new h b before after did (ap is_in_body is) (λ m. let x = sym up ∙ m in cc) shut (λ o. let e = sym step ∙ o in cc) k
+          rests_gave s g serves a l c old new h b before after did (ap is_in_body is) shut (λ o. let e = sym step ∙ o in cc) k

@@ -7,7 +7,7 @@ use Rattle.px_bytes.specs.declared.addr.Side.TheVariants.{Client, Server}
 use Rattle.seg_buffer.specs.Bytes.{is_empty}
 use Rattle.core_events.specs.Edges.{edges_noted, is_connecting}
 use Rattle.conn_trace.specs.Costs.{in_body, paid_by}
-use Rattle.conn_trace.specs.Item.{Item, client_output, notes_of, server_output}
+use Rattle.conn_trace.specs.Item.{Item, client_output}
 use Rattle.conn_trace.specs.Setup.{Setup}
 use Rattle.conn_trace.specs.State.{TraceState}
 use Rattle.conn_trace.specs.Trace.{GivesNoMore, next_item}
@@ -23,7 +23,7 @@ use Rattle.conn.specs.Paid.{Paid}
 use Rattle.conn.specs.Queues.{dropped_at, dropped_by, queue_in}
 use Rattle.conn.specs.Runs.{DropsQueued, IsWhole, GoesOnWith, Runs, Rested, RestsThere, TellsDropped}
 use Rattle.conn.specs.RunsItems.{GoesForward, StopsAt, asked_at, asks, is_cut, told_behind}
-use Rattle.conn.specs.Settling.{close_notes, closing, half_due, half_notes, is_there, note_if, noted_in, over_in, rest_notes, settle_notes, settling}
+use Rattle.conn.specs.Settling.{close_notes, closing, half_due, half_notes, is_there, note_if, noted_in, over_in, rest_notes, settle_notes, settling, gave_up}
 use Rattle.conn.specs.Setups.{Serves}
 use Rattle.conn.specs.Stages.{is_asking, is_draining, is_running}
 use Rattle.conn.specs.declared.connection.Conn.{Conn}
@@ -39,6 +39,8 @@ use Rattle.conn.proofs.Giving.{Gave, edges_on, gave_none, gave_more}
 use Rattle.conn.proofs.Paying.{paid_ends, paid_within, runs_in}
 use Rattle.conn.proofs.Settling.{rests_with, settles}
 use Rattle.conn.proofs.Spending.{PaidWell, paid_well}
+use Rattle.conn.specs.Servers.{queue_at_server, run_notes, servers_output}
+use Rattle.conn.proofs.Servers.{left_along}
 
 -- what was given so far, and no call is open; the steps that were counted are paid for, and where there were some a
 -- body runs or an item was given
@@ -120,20 +122,22 @@ one_more s c old mid new before notes after steps ticks r acted counts =
 
 -- a Run that gave these items, and told this behind them
 gives : (g : Setup) (a : Around) (l at : TraceState) (c : ℕ) (old mid new : Conn) (group last : List Note) (t : ConnTurn) (steps : ℕ) (p : Gave g a l at c old mid group (asked_at t)) → last ≡ told_behind t g a.took at c mid.ends.edges (queued_in new.ends) → StopsAt g a.took at t → GoesForward t p.more at → Holds g a at new
-    → new.ends.client.queued ≡ mid.ends.client.queued → new.ends.server.queued ≡ mid.ends.server.queued → is_asking new.stage ≡ asks t → ((counted paid : ℕ) → Paid g l old counted paid → Paid g at new (counted + steps) (paid + paid_by p.more)) → GoesOnWith g a l c old new (group ++ last) t steps
+    → new.ends.client.queued ≡ mid.ends.client.queued → queue_at_server new.ends ≡ queue_at_server mid.ends → is_asking new.stage ≡ asks t → ((counted paid : ℕ) → Paid g l old counted paid → Paid g at new (counted + steps) (paid + paid_by p.more)) → GoesOnWith g a l c old new (group ++ last) t steps
 gives g a l at c old mid new group last t steps p is stops forward now client server awake pays = record {
   more = p.more;
   at = at;
   items = record {
     passes = p.passes;
-    noted = ap (λ x. x ++ last) p.noted ∙ ap (λ x. notes_of c p.more ++ x) (is ∙ ap (λ e. told_behind t g a.took at c e (queued_in new.ends)) (p.edges ∙ ap (λ n. edges_noted n old.ends.edges) p.noted));
+    kept = p.kept;
+    noted = ap (λ x. x ++ last) p.noted ∙ ap (λ x. run_notes c l.sent a.took p.more ++ x) (is ∙ ap (λ e. told_behind t g a.took at c e (queued_in new.ends)) (p.edges ∙ ap (λ n. edges_noted n old.ends.edges) p.noted));
     stops = stops;
     forward = forward;
     calls = p.calls;
   };
   holds = now;
   client_queue = client ∙ p.client_queue;
-  server_queue = server ∙ p.server_queue;
+  servers = server ∙ p.servers;
+  to_none = p.to_none;
   asking = awake;
   pays = pays;
 }
@@ -143,8 +147,8 @@ forward_by : (more : List Item) (at : TraceState) → (more ≡ [] → in_body a
 forward_by [] at k = k refl
 forward_by (i ∷ more) at k = tt
 
-went_forward : (g : Setup) (a : Around) (at : TraceState) (c : ℕ) (new : Conn) (group : List Note) (more : List Item) (steps : ℕ) → group ≡ notes_of c more → Holds g a at new → (0 < steps → (is_running new.stage ≡ true) ⊎ (0 < length more)) → (0 < steps) ⊎ (0 < length group) → GoesForward turn.More more at
-went_forward g a at c new group more steps noted h busy k = forward_by more at (λ none. by_case none k)
+went_forward : (g : Setup) (a : Around) (l at : TraceState) (c : ℕ) (new : Conn) (group : List Note) (more : List Item) (steps : ℕ) → group ≡ run_notes c l.sent a.took more → Holds g a at new → (0 < steps → (is_running new.stage ≡ true) ⊎ (0 < length more)) → (0 < steps) ⊎ (0 < length group) → GoesForward turn.More more at
+went_forward g a l at c new group more steps noted h busy k = forward_by more at (λ none. by_case none k)
   where
     by_busy : more ≡ [] → (is_running new.stage ≡ true) ⊎ (0 < length more) → in_body at.phase ≡ true
     by_busy none (inl runs) = runs_in g a at new h runs
@@ -152,7 +156,7 @@ went_forward g a at c new group more steps noted h busy k = forward_by more at (
 
     by_case : more ≡ [] → (0 < steps) ⊎ (0 < length group) → in_body at.phase ≡ true
     by_case none (inl some) = by_busy none (busy some)
-    by_case none (inr some) = absurd (let n = ap length (noted ∙ ap (λ x. notes_of c x) none) in omega (arith, n, some))
+    by_case none (inr some) = absurd (let n = ap length (noted ∙ ap (run_notes c l.sent a.took) none) in omega (arith, n, some))
 
 pub runs_more : (s : code.Setup) (c : ℕ) (old new : Conn) (before after : List Note) (steps : ℕ) → RunsOn s c old new before after steps → (0 < steps) ⊎ (length before < length after) → RunsBy s c old new before after turn.More steps
 runs_more s c old new before after steps r whole = (
@@ -161,7 +165,7 @@ runs_more s c old new before after steps r whole = (
   tells_same old new r.group r.tells,
   λ g a l serves h awake.
       (let p = r.along g a l serves h awake in
-      inl (gives g a l p.at c old new new r.group [] turn.More steps p.gave refl tt (went_forward g a p.at c new r.group p.gave.more steps p.gave.noted p.gave.holds p.busy (some whole)) p.gave.holds refl refl p.awake p.pays)),
+      inl (gives g a l p.at c old new new r.group [] turn.More steps p.gave refl tt (went_forward g a l p.at c new r.group p.gave.more steps p.gave.noted p.gave.holds p.busy (some whole)) p.gave.holds refl refl p.awake p.pays)),
 )
   where
     some : (0 < steps) ⊎ (length before < length after) → (0 < steps) ⊎ (0 < length r.group)
@@ -206,16 +210,16 @@ close_asks c server client e =
     none_both (note_if (server && is_there e.server.state) (note.CloseServer c)) (note_if (client && is_there e.client.state) (note.CloseClient c))
     (none_if (server && is_there e.server.state) (note.CloseServer c) (λ f is. absurd (true≢false (sym is)))) (none_if (client && is_there e.client.state) (note.CloseClient c) (λ f is. is))
 
-settle_asks : (over : Bool) (c : ℕ) (e : Edges) (server client : Bool) (dropped : ℕ) → AsksNone (settling over c e server client dropped)
-settle_asks true c e server client dropped =
+settle_asks : (over given : Bool) (c : ℕ) (e : Edges) (server client : Bool) (dropped : ℕ) → AsksNone (settling over given c e server client dropped)
+settle_asks true given c e server client dropped =
     none_both (close_notes c server client e) (note_if (client && server) (note.Ended c dropped)) (close_asks c server client e) (none_if (client && server) (note.Ended c dropped) (λ f is. is))
-settle_asks false c e server client dropped = λ f is. is
+settle_asks false given c e server client dropped = none_if ((given && server) && is_there e.server.state) (note.CloseServer c) (λ f is. absurd (true≢false (sym is)))
 
 rest_asks : (c : ℕ) (conn : Conn) → AsksNone (rest_notes c conn)
 rest_asks c conn =
     none_both (half_notes c Client conn) (half_notes c Server conn ++ settle_notes c conn) (none_if (half_due Client conn) (note.HalfClose c Client) (half_asks c Client))
     (none_both (half_notes c Server conn) (settle_notes c conn) (none_if (half_due Server conn) (note.HalfClose c Server) (half_asks c Server))
-    (settle_asks (is_draining conn.stage) c conn.ends.edges (is_empty (queue_in Server conn)) (is_empty (queue_in Client conn)) (queued_in conn.ends)))
+    (settle_asks (is_draining conn.stage) (gave_up conn) c conn.ends.edges (is_empty (queue_in Server conn)) (is_empty (queue_in Client conn)) (queued_in conn.ends)))
 
 -- and it holds the same
 told_holds : (g : Setup) (a : Around) (l : TraceState) (c : ℕ) (conn : Conn) → Holds g a l conn → Holds g a l (noted_in (rest_notes c conn) conn)
@@ -281,16 +285,17 @@ runs_out s c pending old mid lost new before notes after t steps all r waits kep
       (let given = r.along g a l serves h awake in
       let p = given.gave in
       let client = ap length p.client_queue ∙ length-append old.ends.client.queued (client_output p.more) in
-      let server = ap length p.server_queue ∙ length-append old.ends.server.queued (server_output 1 p.more) in
-      let q : pending ≡ queued_in old.ends + (length (client_output p.more) + length (server_output 1 p.more)) = omega (arith, waits, client, server) in
+      let server = ap (λ q. length q.queued + q.lost) p.servers ∙ left_along p.more (queue_at_server old.ends) in
+      let q : pending ≡ queued_in old.ends + (length (client_output p.more) + length (servers_output p.more)) = omega (arith, waits, client, server) in
       inr (record {
         more = p.more;
         at = given.at;
         passes = p.passes;
+        kept = p.kept;
+        to_none = p.to_none;
         no_call = p.calls;
-        sent = omega (arith, h.ends.server_untaken, p.holds.ends.server_untaken, server);
-        noted = ap (λ x. x ++ note.Finish c Memory ∷ closing c mid.ends.edges pending) p.noted ∙ ap (λ n. notes_of c p.more ++ note.Finish c Memory ∷ closing c mid.ends.edges n) q
-            ∙ ap (λ e. notes_of c p.more ++ note.Finish c Memory ∷ closing c e (queued_in old.ends + (length (client_output p.more) + length (server_output 1 p.more)))) (p.edges ∙ ap (λ n. edges_noted n old.ends.edges) p.noted);
+        noted = ap (λ x. x ++ note.Finish c Memory ∷ closing c mid.ends.edges pending) p.noted ∙ ap (λ n. run_notes c l.sent a.took p.more ++ note.Finish c Memory ∷ closing c mid.ends.edges n) q
+            ∙ ap (λ e. run_notes c l.sent a.took p.more ++ note.Finish c Memory ∷ closing c e (queued_in old.ends + (length (client_output p.more) + length (servers_output p.more)))) (p.edges ∙ ap (λ n. edges_noted n old.ends.edges) p.noted);
         over = refl;
       })),
 )
@@ -306,7 +311,7 @@ rests_whole c old conn before after turn.Over steps notes r = tt
 pub drops_told : (c given : ℕ) (old new : Conn) (before after : List Note) (t : ConnTurn) → DropsQueued c given old new before after t → TellsDropped t c new after
 drops_told c given old new before after t d =
     let close = close_notes c true true old.ends.edges in
-    let dropped : dropped_by new ≡ given = ap (λ st. dropped_at st (lost_at new.ends.client + lost_at new.ends.server)) d.there in
+    let dropped : dropped_by new ≡ given = ap (λ st. dropped_at st (lost_at new.ends.client + (lost_at new.ends.server + new.ends.lost))) d.there in
     subst (λ x. TellsDropped x c new after) (sym d.over) (before ++ close, d.noted ∙ sym (append_assoc before close (note.Ended c given ∷ [])) ∙ ap (λ n. (before ++ close) ++ note.Ended c n ∷ []) (sym dropped))
 
 -- nothing is queued that no reset left
@@ -323,16 +328,17 @@ over_told : (c : ℕ) (conn : Conn) (before : List Note) → over_in conn ≡ tr
 over_told c conn before over =
     let first = and_parts (is_draining conn.stage) _ over in
     let both = and_parts (is_empty (queue_in Client conn)) (is_empty (queue_in Server conn)) first.1 in
+    let given = gave_up conn in
     let halves = half_notes c Client conn ++ half_notes c Server conn in
     let close = close_notes c true true conn.ends.edges in
     let dropped : queued_in conn.ends ≡ dropped_by conn =
-    ap (λ n. n + length conn.ends.server.queued) (lost_all conn.ends.client.reset conn.ends.client.queued both.0)
-    ∙ ap (λ n. lost_at conn.ends.client + n) (lost_all conn.ends.server.reset conn.ends.server.queued both.1)
-    ∙ sym (draining_at conn.stage (lost_at conn.ends.client + lost_at conn.ends.server) first.0) in
+    ap (λ n. n + (length conn.ends.server.queued + conn.ends.lost)) (lost_all conn.ends.client.reset conn.ends.client.queued both.0)
+    ∙ ap (λ n. lost_at conn.ends.client + (n + conn.ends.lost)) (lost_all conn.ends.server.reset conn.ends.server.queued both.1)
+    ∙ sym (draining_at conn.stage (lost_at conn.ends.client + (lost_at conn.ends.server + conn.ends.lost)) first.0) in
     let last : settle_notes c conn ≡ close ++ note.Ended c (dropped_by conn) ∷ [] =
-    ap (λ b. settling b c conn.ends.edges (is_empty (queue_in Server conn)) (is_empty (queue_in Client conn)) (queued_in conn.ends)) first.0
-    ∙ ap (λ b. settling true c conn.ends.edges b (is_empty (queue_in Client conn)) (queued_in conn.ends)) both.1
-    ∙ ap (λ b. settling true c conn.ends.edges true b (queued_in conn.ends)) both.0
+    ap (λ b. settling b given c conn.ends.edges (is_empty (queue_in Server conn)) (is_empty (queue_in Client conn)) (queued_in conn.ends)) first.0
+    ∙ ap (λ b. settling true given c conn.ends.edges b (is_empty (queue_in Client conn)) (queued_in conn.ends)) both.1
+    ∙ ap (λ b. settling true given c conn.ends.edges true b (queued_in conn.ends)) both.0
     ∙ ap (λ n. close ++ note.Ended c n ∷ []) dropped in
     let ended = note.Ended c (dropped_by conn) ∷ [] in (
       before ++ (half_notes c Client conn ++ (half_notes c Server conn ++ close)),
@@ -363,12 +369,12 @@ close_few c server client e =
 pub closing_few : (c : ℕ) (e : Edges) (dropped : ℕ) → length (closing c e dropped) ≤ 3
 closing_few c e dropped = let a = close_few c true true e in let n = length-append (close_notes c true true e) (note.Ended c dropped ∷ []) in omega (arith, a, n)
 
-settle_few : (over : Bool) (c : ℕ) (e : Edges) (server client : Bool) (dropped : ℕ) → length (settling over c e server client dropped) ≤ 3
-settle_few true c e server client dropped =
+settle_few : (over given : Bool) (c : ℕ) (e : Edges) (server client : Bool) (dropped : ℕ) → length (settling over given c e server client dropped) ≤ 3
+settle_few true given c e server client dropped =
     let a = close_few c server client e in
     let b = one_if (client && server) (note.Ended c dropped) in
     let n = length-append (close_notes c server client e) (note_if (client && server) (note.Ended c dropped)) in omega (arith, a, b, n)
-settle_few false c e server client dropped = omega arith
+settle_few false given c e server client dropped = let a = one_if ((given && server) && is_there e.server.state) (note.CloseServer c) in omega (arith, a)
 
 pub rest_few : (c : ℕ) (conn : Conn) → length (rest_notes c conn) ≤ 5
 rest_few c conn =
@@ -377,7 +383,7 @@ rest_few c conn =
     let last = settle_notes c conn in
     let a = one_if (half_due Client conn) (note.HalfClose c Client) in
     let b = one_if (half_due Server conn) (note.HalfClose c Server) in
-    let d = settle_few (is_draining conn.stage) c conn.ends.edges (is_empty (queue_in Server conn)) (is_empty (queue_in Client conn)) (queued_in conn.ends) in
+    let d = settle_few (is_draining conn.stage) (gave_up conn) c conn.ends.edges (is_empty (queue_in Server conn)) (is_empty (queue_in Client conn)) (queued_in conn.ends) in
     let n = length-append first (second ++ last) in
     let m = length-append second last in omega (arith, a, b, d, n, m)
 

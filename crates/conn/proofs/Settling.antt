@@ -34,13 +34,13 @@ use Rattle.conn_trace.specs.State as next
 use Rattle.conn_trace.specs.Trace.{answering_next, choosing_next, collect_next, collecting_next, counted, default_next, next_item, phase_next, relay_next, selected_next, selecting_next}
 use Rattle.conn_trace.proofs.Longer.{plain_next}
 use Rattle.conn.proofs.HttpNexts.{answer_goes, dropping_goes, gathering_goes, head_goes, reuse_goes, sending_goes}
-use Rattle.conn.specs.Ends.{arrived, end_of, is_done, is_up, lost_at, number_by, queued_in, server_by, servers_by}
+use Rattle.conn.specs.Ends.{arrived, end_of, is_done, is_up, lost_at, queued_in, server_by, has_stream, is_given_up, is_taken, sent_here}
 use Rattle.conn.specs.Events.{event_of, is_data}
-use Rattle.conn.specs.Holds.{Around, Between, GatedBefore, Holds, RunsFirst, Stands}
+use Rattle.conn.specs.Holds.{Around, Between, GatedBefore, Holds, RunsFirst, Stands, HoldsEnds}
 use Rattle.conn.specs.Queues.{dropped_at, dropped_by, queue_in}
 use Rattle.core_events.specs.declared.note.Note.TheVariants.{HalfClose}
 use Rattle.conn.specs.Settling as settle
-use Rattle.conn.specs.Settling.{DropsReset, RestsWith, Settles, SettlesNotes, half_close, half_due, half_notes, is_drained, is_over, is_spent, lost_by, lost_of, note_if, noted_in, over_in, rest_notes, settle_notes, settling, settling_at}
+use Rattle.conn.specs.Settling.{DropsReset, RestsWith, Settles, SettlesNotes, half_close, half_due, half_notes, is_drained, is_over, is_spent, lost_by, lost_of, note_if, noted_in, over_in, rest_notes, settle_notes, settling, settling_at, server_lost, gave_up, gave_up_at}
 use Rattle.conn.specs.Stages.{has_finished, is_draining, is_in_body, is_relaying, reason_for}
 use Rattle.conn.specs.declared.connection.Conn.{Conn}
 use Rattle.conn.specs.declared.ends.End.{End}
@@ -51,7 +51,7 @@ use Rattle.conn.specs.declared.events.At.{At}
 use Rattle.conn.specs.declared.events.At.TheVariants as at
 use Rattle.conn.specs.declared.stage.Stage.{Stage}
 use Rattle.conn.specs.declared.stage.Stage.TheVariants as stage
-use Rattle.conn.proofs.Untaken.{took_all, client_reset, server_reset}
+use Rattle.conn.proofs.Pending.{client_reset, server_reset, took_all, up_took}
 
 -- a trace is over in its last phase alone
 abbrev pub is_last : Phase → Bool
@@ -172,13 +172,42 @@ settles c over e g a l h =
     ∙ ap (λ x. is_over (next_item g l) && (x && is_empty (queue_in Server c))) (sym (took_all a l c.ends h.ends Client))
     ∙ ap (λ x. is_over (next_item g l) && (settle.took_all l a.took Client && x)) (sym (took_all a l c.ends h.ends Server))
 
+given_up_side : (k : CodeLink) (e : End) → settle.is_given_up (link_of (server_by k e)) ≡ is_given_up k
+given_up_side link.Absent e = refl
+given_up_side link.Asked e = refl
+given_up_side link.Refused e = refl
+given_up_side link.Made e = refl
+given_up_side link.Up e = refl
+given_up_side link.GivenUp e = refl
+
+gave_up_is : (g : Setup) (st : Stage) (l : TraceState) (c : Conn) (k : CodeLink) → Stands g st l c → gave_up_at st k ≡ is_given_up k
+gave_up_is g (stage.Gated at) l c k r = refl
+gave_up_is g (stage.Running at n) l c k r = refl
+gave_up_is g (stage.Asking at n) l c k r = refl
+gave_up_is g (stage.Failing at n kind line) l c k r = refl
+gave_up_is g stage.Choosing l c k r = refl
+gave_up_is g stage.Selecting l c k r = refl
+gave_up_is g (stage.Chosen addr) l c k r = refl
+gave_up_is g (stage.Connecting to) l c k r = refl
+gave_up_is g (stage.Answering to) l c k r = refl
+gave_up_is g stage.Collecting l c k r = refl
+gave_up_is g stage.Releasing l c k r = refl
+gave_up_is g (stage.Relaying first) l c k r = refl
+gave_up_is g (stage.Finishing f) l c k r = refl
+gave_up_is g stage.Draining l c k r = refl
+gave_up_is g stage.OutOfMemory l c k r = absurd r
+gave_up_is g (stage.Dropped n) l c k r = absurd r
+
 pub settles_notes : (number : ℕ) (c : Conn) → SettlesNotes number c
 settles_notes number c g a l h =
     let e = c.ends.edges in
     let d = queued_in c.ends in
-    ap (λ x. settling x number e (is_empty (queue_in Server c)) (is_empty (queue_in Client c)) d) (sym (over_at g a l c h))
-    ∙ ap (λ x. settling (is_over (next_item g l)) number e x (is_empty (queue_in Client c)) d) (sym (took_all a l c.ends h.ends Server))
-    ∙ ap (λ x. settling (is_over (next_item g l)) number e (settle.took_all l a.took Server) x d) (sym (took_all a l c.ends h.ends Client))
+    let given = gave_up c in
+    let same : settle.given_up_at l ≡ given = ap (λ v. settle.is_given_up (link_of v)) h.ends.server ∙ given_up_side c.ends.link c.ends.server ∙ sym (gave_up_is g c.stage l c c.ends.link h.stage) in
+    ap (λ x. settling x given number e (is_empty (queue_in Server c)) (is_empty (queue_in Client c)) d) (sym (over_at g a l c h))
+    ∙ ap (λ x. settling (is_over (next_item g l)) x number e (is_empty (queue_in Server c)) (is_empty (queue_in Client c)) d) (sym same)
+    ∙ ap (λ x. settling (is_over (next_item g l)) (settle.given_up_at l) number e x (is_empty (queue_in Client c)) d) (sym (took_all a l c.ends h.ends Server))
+    ∙ ap (λ x. settling (is_over (next_item g l)) (settle.given_up_at l) number e (settle.took_all l a.took Server) x d) (sym (took_all a l c.ends h.ends Client))
 
 -- Bytes are passed on where it relays, and at the gate of an event of collected bytes.
 closed_relay : (p q : Phase) (s : Link) → p ≡ q → relays_at q s ≡ false → relays_at p s ≡ false
@@ -190,6 +219,7 @@ up_relay link.Asked e = refl
 up_relay link.Refused e = refl
 up_relay link.Made e = refl
 up_relay link.Up e = refl
+up_relay link.GivenUp e = refl
 
 client_relay : (bodies : Bodies) (k : CodeLink) (e : End) → relays_at (InEvent ClientData bodies) (link_of (server_by k e)) ≡ is_up k
 client_relay bodies link.Absent e = refl
@@ -197,6 +227,7 @@ client_relay bodies link.Asked e = refl
 client_relay bodies link.Refused e = refl
 client_relay bodies link.Made e = refl
 client_relay bodies link.Up e = refl
+client_relay bodies link.GivenUp e = refl
 
 server_relay : (bodies : Bodies) (k : CodeLink) (e : End) → relays_at (InEvent ServerData bodies) (link_of (server_by k e)) ≡ is_up k
 server_relay bodies link.Absent e = refl
@@ -204,6 +235,7 @@ server_relay bodies link.Asked e = refl
 server_relay bodies link.Refused e = refl
 server_relay bodies link.Made e = refl
 server_relay bodies link.Up e = refl
+server_relay bodies link.GivenUp e = refl
 
 at_relays : (at : At) (bodies : Bodies) (k : CodeLink) (e : End) → relays_at (InEvent (event_of at) bodies) (link_of (server_by k e)) ≡ (is_data at && is_up k)
 at_relays at.Accepted bodies k e = refl
@@ -243,6 +275,7 @@ up_is link.Absent e = absurd (true≢false (sym e))
 up_is link.Asked e = absurd (true≢false (sym e))
 up_is link.Refused e = absurd (true≢false (sym e))
 up_is link.Made e = absurd (true≢false (sym e))
+up_is link.GivenUp e = absurd (true≢false (sym e))
 up_is link.Up e = refl
 
 record Relays (l : TraceState) (c : Conn) (st : Stage) (k : CodeLink) : Type 0 where
@@ -310,7 +343,7 @@ module _ (g : Setup) (a : Around) (l : TraceState) (c : Conn) (h : Holds g a l c
 
     reset_is : (side : Side) → is_reset l.sent a.took side ≡ (end_of side c.ends).reset
     reset_is Client = client_reset a l c.ends h.ends
-    reset_is Server = server_reset a l c.ends h.ends k.up
+    reset_is Server = server_reset a l c.ends h.ends (ap is_taken k.up)
 
     due_is : (side : Side) → relays_at l.phase (link_of l.server) ≡ true → half_close_due l a.took side ≡ tests true false (arrived (end_of (other side) c.ends)) (own_held (other side)) c.host.net.loose (is_empty (queue_in side c)) (end_of side c.ends).reset
     due_is side relays =
@@ -386,16 +419,38 @@ lost_client : (b : Bool) (q : List ℕ) (counted sent : ℕ) → length q + coun
 lost_client true q counted sent is = omega (arith, is)
 lost_client false q counted sent is = refl
 
-none_lost : (b : Bool) (q : List ℕ) (counted sent : ℕ) → length q + counted ≡ sent → sent ≡ 0 → (if b then length q else 0) ≡ lost_by (Some 0) (sent - counted)
-none_lost true q counted sent is none = omega (arith, is, none)
-none_lost false q counted sent is none = refl
+taken_streams : (k : CodeLink) → is_taken k ≡ true → has_stream k ≡ true
+taken_streams link.Up e = refl
+taken_streams link.GivenUp e = refl
+taken_streams link.Absent e = absurd (true≢false (sym e))
+taken_streams link.Asked e = absurd (true≢false (sym e))
+taken_streams link.Refused e = absurd (true≢false (sym e))
+taken_streams link.Made e = absurd (true≢false (sym e))
 
-lost_server : (k : CodeLink) (b : Bool) (q : List ℕ) (counted sent : ℕ) → length q + counted ≡ sent → (is_up k ≡ false → sent ≡ 0) → (if b then length q else 0) ≡ lost_by (taken_of (servers_by k b counted) (number_by k)) (sent - counted)
-lost_server link.Absent b q counted sent is none = none_lost b q counted sent is (none refl)
-lost_server link.Asked b q counted sent is none = none_lost b q counted sent is (none refl)
-lost_server link.Refused b q counted sent is none = none_lost b q counted sent is (none refl)
-lost_server link.Made b q counted sent is none = none_lost b q counted sent is (none refl)
-lost_server link.Up b q counted sent is none = lost_client b q counted sent is
+-- a fresh end lost nothing, nor did one to which nothing was sent
+none_lost : (b : Bool) (q : List ℕ) → length q ≡ 0 → (if b then length q else 0) ≡ 0
+none_lost true q is = is
+none_lost false q is = refl
+
+module _ (a : Around) (l : TraceState) (e : BothEnds) (h : HoldsEnds a l e) where
+  server_lost_is : lost_at e.server ≡ server_lost (link_of l.server) a l.sent
+  server_lost_is = by_link e.link refl ∙ ap (λ v. server_lost (link_of v) a l.sent) (sym h.server)
+    where
+      taken : (k : CodeLink) → e.link ≡ k → is_taken k ≡ true → sent_here k l.sent.server ≡ l.sent.server → lost_at e.server ≡ lost_by (taken_of a.took.servers l.sent.number) (l.sent.server - a.counted_server)
+      taken k is there here =
+          lost_client e.server.reset e.server.queued a.counted_server l.sent.server (h.server_untaken (ap has_stream is ∙ taken_streams k there) ∙ ap (λ x. sent_here x l.sent.server) is ∙ here)
+          ∙ ap (λ o. lost_by o (l.sent.server - a.counted_server)) (sym (up_took a l e h (ap is_taken is ∙ there)))
+
+      none : (k : CodeLink) → e.link ≡ k → has_stream k ≡ false → lost_at e.server ≡ 0
+      none k is away = none_lost e.server.reset e.server.queued (ap (λ x. length x.queued) (h.nothing_came (ap has_stream is ∙ away)))
+
+      by_link : (k : CodeLink) → e.link ≡ k → lost_at e.server ≡ server_lost (link_of (server_by k e.server)) a l.sent
+      by_link link.Absent is = none link.Absent is refl
+      by_link link.Asked is = none link.Asked is refl
+      by_link link.Refused is = none link.Refused is refl
+      by_link link.Made is = none_lost e.server.reset e.server.queued (let k : length e.server.queued + a.counted_server ≡ 0 = h.server_untaken (ap has_stream is) ∙ ap (λ x. sent_here x l.sent.server) is in omega (arith, k))
+      by_link link.Up is = taken link.Up is refl refl
+      by_link link.GivenUp is = taken link.GivenUp is refl refl
 
 pub drops_reset : (c : Conn) → DropsReset c (dropped_by c)
 drops_reset c g a l h = by_stage c.stage h.stage
@@ -403,15 +458,12 @@ drops_reset c g a l h = by_stage c.stage h.stage
     e : BothEnds
     e = c.ends
 
-    lost_is : (lost_at e.client + lost_at e.server) ≡ lost_of a l.sent
+    lost_is : lost_at e.client + (lost_at e.server + e.lost) ≡ lost_of a l + e.lost
     lost_is =
-        ap (λ n. n + lost_at e.server) (lost_client e.client.reset e.client.queued a.counted l.sent.client h.ends.client_untaken)
-        ∙ ap (λ o. lost_by o (l.sent.client - a.counted) + lost_at e.server) (sym h.ends.client_took)
-        ∙ ap (λ n. lost_by a.took.client (l.sent.client - a.counted) + n) (lost_server e.link e.server.reset e.server.queued a.counted_server l.sent.server h.ends.server_untaken h.ends.unsent)
-        ∙ ap (λ s. lost_by a.took.client (l.sent.client - a.counted) + lost_by (taken_of s (number_by e.link)) (l.sent.server - a.counted_server)) (sym h.ends.servers_took)
-        ∙ ap (λ n. lost_by a.took.client (l.sent.client - a.counted) + lost_by (taken_of a.took.servers n) (l.sent.server - a.counted_server)) (sym h.ends.number)
+        (let client = lost_client e.client.reset e.client.queued a.counted l.sent.client h.ends.client_untaken ∙ ap (λ o. lost_by o (l.sent.client - a.counted)) (sym h.ends.client_took) in
+        let server = server_lost_is a l e h.ends in omega (arith, client, server))
 
-    by_stage : (st : Stage) → Stands g st l c → dropped_at st (lost_at e.client + lost_at e.server) ≡ lost_of a l.sent
+    by_stage : (st : Stage) → Stands g st l c → dropped_at st (lost_at e.client + (lost_at e.server + e.lost)) ≡ lost_of a l + e.lost
     by_stage (stage.Dropped n) k = absurd k
     by_stage stage.OutOfMemory k = absurd k
     by_stage (stage.Gated at) k = lost_is

@@ -1,12 +1,12 @@
 -- A connection of which more is taken.
-use Rattle.std.proofs.Common.{◌≡◌, refl, sym, ap, subst, ◌∙◌, ℕ, zero, suc, ◌+◌, ◌≤◌, List, [], ◌∷◌, length, drop, arith, Bool, true, false, option_map, if◌then◌else◌}
+use Rattle.std.proofs.Common.{◌≡◌, refl, sym, ap, subst, ◌∙◌, ℕ, zero, suc, ◌+◌, ◌≤◌, List, [], ◌∷◌, ◌++◌, length, drop, arith, Bool, true, false, Option, option_map, if◌then◌else◌}
 use Rattle.std.proofs.lemmas.List.{length-drop}
 use Rattle.px_bytes.specs.declared.addr.Side.{Side}
 use Rattle.px_bytes.specs.declared.addr.Side.TheVariants.{Client, Server}
 use Rattle.conn_trace.specs.Heard.{taken_by}
 use Rattle.conn_trace.specs.State.{TraceState}
 use Rattle.conn.specs.Calls.{Takes, more_at_last, took_ends, took_more}
-use Rattle.conn.specs.Ends.{connects_by, end_of, fresh_end, is_up, queue_of, server_by, servers_by}
+use Rattle.conn.specs.Ends.{connects_by, end_of, fresh_end, is_up, queue_of, server_by, servers_by, has_stream, number_by, sent_here}
 use Rattle.conn.specs.Holds.{Around, HoldsEnds}
 use Rattle.conn.specs.Stages.{fits}
 use Rattle.conn.specs.declared.connection.Conn.{Conn}
@@ -15,6 +15,7 @@ use Rattle.conn.specs.declared.ends.Ends.{Ends}
 use Rattle.conn.specs.declared.ends.Link.{Link}
 use Rattle.conn.specs.declared.ends.Link.TheVariants as link
 use Rattle.conn.proofs.Arriving.{holds, with_ends}
+use Rattle.conn.proofs.Servers.{more_behind, more_length, more_untaken}
 
 -- no more is queued than wasn't taken
 pub queue_within : (e : End) → length (queue_of e) ≤ length e.queued
@@ -28,12 +29,20 @@ counted_more : (b : Bool) (k n : ℕ) → option_map (λ x. x + n) (taken_by b k
 counted_more true k n = refl
 counted_more false k n = refl
 
-servers_more : (k : Link) (b : Bool) (m n : ℕ) → more_at_last n (servers_by k b m) ≡ servers_by k b (m + n)
-servers_more link.Absent b m n = refl
-servers_more link.Asked b m n = refl
-servers_more link.Refused b m n = refl
-servers_more link.Made b m n = ap (λ x. x ∷ []) (counted_more b m n)
-servers_more link.Up b m n = ap (λ x. x ∷ []) (counted_more b m n)
+abbrev more_earlier : Bool → ℕ → List (Option ℕ) → List (Option ℕ)
+more_earlier b n ts = if b then ts else more_at_last n ts
+
+earlier_length : (b : Bool) (n : ℕ) (ts : List (Option ℕ)) → length (more_earlier b n ts) ≡ length ts
+earlier_length true n ts = refl
+earlier_length false n ts = more_length n ts
+
+servers_more : (ts : List (Option ℕ)) (k : Link) (b : Bool) (m n : ℕ) → more_at_last n (servers_by ts k b m) ≡ servers_by (more_earlier (has_stream k) n ts) k b (m + n)
+servers_more ts link.Absent b m n = refl
+servers_more ts link.Asked b m n = refl
+servers_more ts link.Refused b m n = refl
+servers_more ts link.Made b m n = more_behind n ts (taken_by b m) ∙ ap (λ t. ts ++ t ∷ []) (counted_more b m n)
+servers_more ts link.Up b m n = more_behind n ts (taken_by b m) ∙ ap (λ t. ts ++ t ∷ []) (counted_more b m n)
+servers_more ts link.GivenUp b m n = more_behind n ts (taken_by b m) ∙ ap (λ t. ts ++ t ∷ []) (counted_more b m n)
 
 left_of : (n k sent : ℕ) (e : End) → n ≤ length (queue_of e) → length e.queued + k ≡ sent → length (drop n e.queued) + (k + n) ≡ sent
 left_of n k sent e within is = let d = length-drop n e.queued in let most = queue_within e in omega (arith, d, within, most, is)
@@ -56,6 +65,7 @@ took_same link.Asked n s = (refl, refl)
 took_same link.Refused n s = (refl, refl)
 took_same link.Made n s = (refl, refl)
 took_same link.Up n s = (refl, refl)
+took_same link.GivenUp n s = (refl, refl)
 
 pub takes_ends : (a : Around) (l : TraceState) (side : Side) (n : ℕ) (e : Ends) → n ≤ length (queue_of (end_of side e)) → HoldsEnds a l e → HoldsEnds (took_more side n a) l (took_ends side n e)
 takes_ends a l Client n e within h = record {
@@ -64,10 +74,11 @@ takes_ends a l Client n e within h = record {
   client_untaken = left_of n a.counted l.sent.client e.client within h.client_untaken;
   server = h.server;
   connects = h.connects;
+  earlier = h.earlier;
   number = h.number;
   servers_took = h.servers_took;
   server_untaken = h.server_untaken;
-  unsent = h.unsent;
+  took_all = h.took_all;
   nothing_came = h.nothing_came;
   connecting = h.connecting;
 }
@@ -77,10 +88,11 @@ takes_ends a l Server n e within h = record {
   client_untaken = h.client_untaken;
   server = h.server ∙ sym (took_same e.link n e.server).0;
   connects = h.connects ∙ sym (took_same e.link n e.server).1;
-  number = h.number;
-  servers_took = ap (more_at_last n) h.servers_took ∙ servers_more e.link e.server.reset a.counted_server n;
-  server_untaken = left_of n a.counted_server l.sent.server e.server within h.server_untaken;
-  unsent = h.unsent;
+  earlier = more_earlier (has_stream e.link) n h.earlier;
+  number = h.number ∙ ap (number_by e.link) (sym (earlier_length (has_stream e.link) n h.earlier));
+  servers_took = ap (more_at_last n) h.servers_took ∙ servers_more h.earlier e.link e.server.reset a.counted_server n;
+  server_untaken = λ there. left_of n a.counted_server (sent_here e.link l.sent.server) e.server within (h.server_untaken there);
+  took_all = λ away. more_untaken n a.took.servers l.sent.number l.sent.server (h.took_all away);
   nothing_came = λ up. took_fresh n e.server within (h.nothing_came up);
   connecting = h.connecting;
 }

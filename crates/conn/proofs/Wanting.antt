@@ -99,6 +99,7 @@ server_unread link.Asked s none = sym (ap (λ x. x.unread) (none refl))
 server_unread link.Refused s none = sym (ap (λ x. x.unread) (none refl))
 server_unread link.Made s none = refl
 server_unread link.Up s none = refl
+server_unread link.GivenUp s none = refl
 
 unread_is : (a : Around) (l : TraceState) (e : Ends) → HoldsEnds a l e → (side : Side) → unread_at (arriving side l) ≡ (end_of side e).unread
 unread_is a l e h Client = ap (λ s. s.unread) h.client

@@ -1,5 +1,5 @@
 -- What one action changes.
-use Rattle.std.specs.Prelude.{◌≡◌, ℕ, List, [], ◌∷◌, ◌++◌, length, Bool, ◌&&◌, nat_lt}
+use Rattle.std.specs.Prelude.{◌≡◌, ℕ, ◌+◌, List, [], ◌∷◌, ◌++◌, length, Bool, ◌&&◌, nat_lt}
 use Rattle.std.specs.Prelude.{Option, Some, None, if◌then◌else◌}
 use Rattle.std.specs.Bool.{MatchBool}
 use Rattle.px_bytes.specs.declared.addr.Addr.{Addr}
@@ -7,6 +7,7 @@ use Rattle.px_bytes.specs.declared.addr.Side.{Side}
 use Rattle.px_bytes.specs.declared.addr.Side.TheVariants.{Client, Server}
 use Rattle.px_bytes.specs.declared.fault.FaultKind.{FaultKind}
 use Rattle.core_events.specs.Edges.{edge}
+use Rattle.seg_buffer.specs.Bytes.{is_empty}
 use Rattle.conn_trace.specs.Gates.{room_limit}
 use Rattle.conn_trace.specs.Relay.{meets}
 use Rattle.core_events.specs.declared.edges.EdgeState.TheVariants as state
@@ -31,6 +32,7 @@ use Rattle.conn.specs.declared.turn.Act.{Act}
 use Rattle.conn.specs.declared.turn.Act.TheVariants as act
 use Rattle.conn.specs.Changes.{Closes, Enters, GoesTo, NextBody, StartsBody}
 use Rattle.conn.specs.Choosing.{Chooses, TakesChosen}
+use Rattle.conn.specs.Ends.{fresh_end, is_up}
 use Rattle.conn.specs.Events.{is_closed}
 use Rattle.conn.specs.Queues.{queue_in}
 use Rattle.conn.specs.Relaying.{Fires, PassesOn, Releases, relay_plan, round_begun}
@@ -47,7 +49,7 @@ abbrev pub cut_of : Conn → Option CutReason
 cut_of c =
     if has_finished c.stage then None
     else (if c.ends.client.reset then Some ClientReset
-    else (if c.ends.server.reset then Some ServerReset else None))
+    else (if is_up c.ends.link && c.ends.server.reset then Some ServerReset else None))
 
 -- where nothing may be given it is cut by a reset that was told, or rests
 abbrev pub RestsBy : Option CutReason → Setup → ℕ → Conn → Conn → List Note → List Note → Act
@@ -75,10 +77,15 @@ abbrev pub BehindFault : Setup → At → ℕ → FaultKind → Conn → Conn �
 BehindFault s at next kind old new = MatchBool (is_closed at)
     (NextBody s at next old new) (GoesTo (stage.Finishing (finish.Fault kind)) old new)
 
--- the server is asked for a connection
+-- the server is asked for a connection: nothing is queued to it, and what the one before didn't take is
+-- lost
 abbrev pub asked_ends : Ends → Ends
-asked_ends e =
-    record e { link = link.Asked; edges = record e.edges { server = edge state.Connecting } }
+asked_ends e = record e {
+  server = fresh_end;
+  lost = e.lost + length e.server.queued;
+  link = link.Asked;
+  edges = record e.edges { server = edge state.Connecting };
+}
 
 pub record Connects (c : ℕ) (to : Addr) (old new : Conn) (before after : List Note) : Type 0 where
   pub there : new.stage ≡ stage.Answering to
@@ -86,6 +93,11 @@ pub record Connects (c : ℕ) (to : Addr) (old new : Conn) (before after : List 
   pub host : new.host ≡ old.host
   pub ends : new.ends ≡ asked_ends old.ends
   pub noted : after ≡ before ++ note.Connect c to ∷ []
+
+-- once the server connection before took all
+abbrev pub ConnectsNext : Setup → ℕ → Addr → Conn → Conn → List Note → List Note → Act → Type 0
+ConnectsNext s c to old new before after a = MatchBool (is_empty (queue_in Server old))
+    ((a ≡ act.Goes) × Connects c to old new before after) (Rests s c old new before after a)
 
 -- the answer whether it is made is taken, if that came
 abbrev pub with_link : Link → Ends → Ends
@@ -148,7 +160,7 @@ ActedAt stage.Choosing s c old new before after a ticks =
 ActedAt (stage.Chosen addr) s c old new before after a ticks =
     (a ≡ act.Goes) × TakesChosen s addr old new × (after ≡ before)
 ActedAt (stage.Connecting to) s c old new before after a ticks =
-    (a ≡ act.Goes) × Connects c to old new before after
+    ConnectsNext s c to old new before after a
 ActedAt (stage.Answering to) s c old new before after a ticks =
     Answers s c old new before after a
 ActedAt stage.Collecting s c old new before after a ticks = Collects s c old new before after a

@@ -1,7 +1,7 @@
 -- What a connection is followed by, from its own fields: whatever may still come, its trace is what
 -- was given, and then this.
-use Rattle.std.specs.Prelude.{◌≡◌, ℕ, ◌+◌, List, [], ◌∷◌, ◌++◌, length, map, take, drop}
-use Rattle.std.specs.Prelude.{Option, Some, None}
+use Rattle.std.specs.Prelude.{◌≡◌, ℕ, ◌+◌, ◌-◌, List, [], ◌∷◌, ◌++◌, length, map, take, drop}
+use Rattle.std.specs.Prelude.{Option, Some, None, if◌then◌else◌}
 use Rattle.px_bytes.specs.declared.fault.Reply.{Reply}
 use Rattle.event_order.specs.declared.event.EventName.{EventName}
 use Rattle.rule_model.specs.Laws.{state_after}
@@ -25,10 +25,12 @@ use Rattle.irule_net.specs.declared.state.NetState.{NetState}
 use Rattle.px_bytes.specs.declared.addr.Side.{Side}
 use Rattle.conn.specs.declared.connection.Conn.{Conn}
 use Rattle.conn.specs.declared.ends.Ends.{Ends}
+use Rattle.conn.specs.declared.ends.Link.{Link}
+use Rattle.conn.specs.declared.ends.Link.TheVariants as link
 use Rattle.conn.specs.declared.stage.Stage.{Stage}
 use Rattle.conn.specs.declared.stage.Stage.TheVariants as stage
 use Rattle.conn.specs.declared.turn.ConnTurn.{ConnTurn}
-use Rattle.conn.specs.Ends.{arrived, connects_by, number_by, server_by}
+use Rattle.conn.specs.Ends.{arrived, connects_by, is_taken, server_by}
 use Rattle.conn.specs.Calls.{took_more, Takes, Replies}
 use Rattle.conn.specs.Events.{event_of}
 use Rattle.conn.specs.Holds.{Around, call_of, fresh, Holds}
@@ -62,24 +64,30 @@ phase_at g net (stage.Relaying first) = phase.Relaying
 phase_at g net (stage.Finishing f) = phase.Finishing (reason_for f)
 phase_at g net other = phase.Draining
 
--- what was taken, and what waits for a side, was sent to it
-abbrev pub sent_by : Around → Ends → Counts
-sent_by a e = record {
+-- as many server connections as were made, but for one whose answer wasn't taken
+abbrev pub made_by : Link → ℕ → ℕ
+made_by link.Made n = n - 1
+made_by other n = n
+
+-- What was taken, and what waits for a side, was sent to it. Where no server connection is there so
+-- much was sent to the one before.
+abbrev pub sent_by : (before : ℕ) → Around → Ends → Counts
+sent_by before a e = record {
   client = length e.client.queued + a.counted;
-  server = length e.server.queued + a.counted_server;
-  number = number_by e.link;
+  server = if is_taken e.link then length e.server.queued + a.counted_server else before;
+  number = made_by e.link (length a.took.servers);
 }
 
 -- where its trace stands, by its own fields
-abbrev pub own_state : Setup → Around → Conn → TraceState
-own_state g a c = record {
+abbrev pub own_state : Setup → Around → (before : ℕ) → Conn → TraceState
+own_state g a before c = record {
   phase = phase_at g c.host.net c.stage;
   vars = c.vars;
   host = seen_host c.host;
   finished = has_finished c.stage;
   client = arrived c.ends.client;
   server = server_by c.ends.link c.ends.server;
-  sent = sent_by a c.ends;
+  sent = sent_by before a c.ends;
   answers = record {
     replies = [];
     connects = connects_by c.ends.link c.ends.server;
@@ -125,8 +133,9 @@ ahead_at (stage.Asking at n) g c cost l =
 ahead_at other g c cost l = record { items = []; next = next_item g l }
 
 -- the first n items that follow on this further input, where the body that runs has this cost
-abbrev pub rest : Setup → Around → Conn → (cost : ℕ) → Further → ℕ → List Item
-rest g a c cost f n = items_of n g (ahead_at c.stage g c cost (longer f (own_state g a c)))
+abbrev pub rest : Setup → Around → Conn → (before cost : ℕ) → Further → ℕ → List Item
+rest g a c before cost f n =
+    items_of n g (ahead_at c.stage g c cost (longer f (own_state g a before c)))
 
 -- these items were given, each let through its gate, and it holds what stands behind them
 pub record Continues (g : Setup) (a : Around) (l : TraceState) (given : List Item)
@@ -150,9 +159,9 @@ ConnectionContinues =
     (g : Setup) (a : Around) (client : Stream) (answers : Answers) (given : List Item)
     (at : TraceState) (c : Conn)
     → answers.cut ≡ None → Continues g a (start g client answers) given at c
-    → (cost : ℕ) × ((f : Further) (n : ℕ) → MayCome a.took f.cut
+    → (before : ℕ) × (cost : ℕ) × ((f : Further) (n : ℕ) → MayCome a.took f.cut
     → trace (length given + n) g (longer f (start g client answers))
-    ≡ given ++ rest g a c cost f n)
+    ≡ given ++ rest g a c before cost f n)
 
 -- Each call keeps it: what a connection gives stands behind what it gave before.
 pub record CallsContinue : Type 0 where

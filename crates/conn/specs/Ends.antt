@@ -1,6 +1,6 @@
 -- The two ends of a connection: what came of each and wasn't read, what is queued to it, and what is
--- known of the server connection.
-use Rattle.std.specs.Prelude.{ℕ, ◌+◌, ◌-◌, List, [], ◌∷◌, ◌++◌, length, Bool, true, false, ◌&&◌}
+-- known of the server connections, which are made one after another.
+use Rattle.std.specs.Prelude.{ℕ, suc, ◌+◌, ◌-◌, List, [], ◌∷◌, ◌++◌, length, Bool, true, false, ◌&&◌}
 use Rattle.std.specs.Prelude.{Option, Some, None, if◌then◌else◌}
 use Rattle.px_bytes.specs.declared.addr.Side.{Side}
 use Rattle.px_bytes.specs.declared.addr.Side.TheVariants.{Client, Server}
@@ -9,7 +9,7 @@ use Rattle.core_events.specs.Edges.{accepted_edges}
 use Rattle.conn_trace.specs.Further.{Coming}
 use Rattle.conn_trace.specs.Gates.{room_limit}
 use Rattle.conn_trace.specs.Heard.{taken_by}
-use Rattle.conn_trace.specs.State.{Stream, ServerSide, NoServer, Sought, There}
+use Rattle.conn_trace.specs.State.{Stream, ServerSide, NoServer, Sought, There, Retired}
 use Rattle.conn_trace.specs.State as model
 use Rattle.conn.specs.declared.ends.End.{End}
 use Rattle.conn.specs.declared.ends.Ends.{Ends}
@@ -23,6 +23,7 @@ abbrev pub fresh_ends : Ends
 fresh_ends = record {
   client = fresh_end;
   server = fresh_end;
+  lost = 0;
   link = link.Absent;
   edges = accepted_edges;
 }
@@ -44,9 +45,9 @@ queue_of e = if e.reset then [] else e.queued
 abbrev pub lost_at : End → ℕ
 lost_at e = if e.reset then length e.queued else 0
 
--- what was queued to both and wasn't taken, also behind a reset
+-- what was queued to both and wasn't taken, also behind a reset, and to server connections before
 abbrev pub queued_in : Ends → ℕ
-queued_in e = length e.client.queued + length e.server.queued
+queued_in e = length e.client.queued + (length e.server.queued + e.lost)
 
 -- how many bytes may be moved on to it
 abbrev pub room_left : End → ℕ
@@ -68,16 +69,29 @@ abbrev pub is_up : Link → Bool
 is_up link.Up = true
 is_up other = false
 
--- a server was asked for or is there
+-- the server connection is given up, and may still take bytes
+abbrev pub is_given_up : Link → Bool
+is_given_up link.GivenUp = true
+is_given_up other = false
+
+-- a server was asked for or is there, and isn't given up
 abbrev pub is_sought : Link → Bool
 is_sought link.Absent = false
+is_sought link.GivenUp = false
 is_sought other = true
 
 -- bytes of a server may come
 abbrev pub has_stream : Link → Bool
 has_stream link.Made = true
 has_stream link.Up = true
+has_stream link.GivenUp = true
 has_stream other = false
+
+-- the trace has taken the server connection of this end
+abbrev pub is_taken : Link → Bool
+is_taken link.Up = true
+is_taken link.GivenUp = true
+is_taken other = false
 
 -- what comes of a side, where there is one
 abbrev pub hears_at : Side → Coming → Ends → Ends
@@ -85,18 +99,19 @@ hears_at Client c e = record e { client = heard_end c e.client }
 hears_at Server c e =
     if has_stream e.link then record e { server = heard_end c e.server } else e
 
--- What the link says of the trace: the server's side, the connect answer that wasn't taken, how
--- many connections were made, and what each of them took.
+-- What the link says of the trace: the server's side, and the connect answer that wasn't taken.
 abbrev pub server_by : Link → End → ServerSide
 server_by link.Absent e = NoServer
 server_by link.Asked e = Sought
 server_by link.Refused e = Sought
 server_by link.Made e = Sought
 server_by link.Up e = There (arrived e)
+server_by link.GivenUp e = Retired (arrived e)
 
 abbrev pub link_by : Link → model.Link
 link_by link.Absent = model.Absent
 link_by link.Up = model.Up
+link_by link.GivenUp = model.GivenUp
 link_by other = model.Asked
 
 abbrev pub connects_by : Link → End → List (Option Stream)
@@ -104,11 +119,20 @@ connects_by link.Refused e = None ∷ []
 connects_by link.Made e = Some (arrived e) ∷ []
 connects_by other e = []
 
-abbrev pub number_by : Link → ℕ
-number_by link.Up = 1
-number_by other = 0
+-- What it says where `earlier` is what the server connections before the one of this end took: the
+-- number of the last that the trace took, what was sent to the one of this end, and what each took.
+abbrev pub number_by : Link → ℕ → ℕ
+number_by link.Up earlier = suc earlier
+number_by link.GivenUp earlier = suc earlier
+number_by other earlier = earlier
 
-abbrev pub servers_by : Link → Bool → ℕ → List (Option ℕ)
-servers_by link.Made reset n = taken_by reset n ∷ []
-servers_by link.Up reset n = taken_by reset n ∷ []
-servers_by other reset n = []
+abbrev pub sent_here : Link → ℕ → ℕ
+sent_here link.Up sent = sent
+sent_here link.GivenUp sent = sent
+sent_here other sent = 0
+
+abbrev pub servers_by : List (Option ℕ) → Link → Bool → ℕ → List (Option ℕ)
+servers_by earlier link.Made reset n = earlier ++ taken_by reset n ∷ []
+servers_by earlier link.Up reset n = earlier ++ taken_by reset n ∷ []
+servers_by earlier link.GivenUp reset n = earlier ++ taken_by reset n ∷ []
+servers_by earlier other reset n = earlier

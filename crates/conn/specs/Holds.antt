@@ -3,6 +3,7 @@ use Rattle.std.specs.Prelude.{◌≡◌, ℕ, ◌+◌, List, [], ◌∷◌, ◌+
 use Rattle.std.specs.Prelude.{Option, None}
 use Rattle.px_bytes.specs.declared.addr.Addr.{Addr}
 use Rattle.px_bytes.specs.declared.addr.Side.{Side}
+use Rattle.px_bytes.specs.declared.addr.Side.TheVariants.{Server}
 use Rattle.px_bytes.specs.declared.fault.Reply.{Reply}
 use Rattle.event_order.specs.declared.event.EventName.{EventName}
 use Rattle.irule_net.specs.State.{collected}
@@ -12,7 +13,7 @@ use Rattle.irule_net.specs.declared.state.Target.TheVariants.{Default, PoolOf, M
 use Rattle.rule_model.specs.Evaluator.{evaluate}
 use Rattle.rule_model.specs.Outcome.{Act}
 use Rattle.core_events.specs.Edges.{is_connecting}
-use Rattle.conn_trace.specs.Gates.{TakenCounts, none_taken}
+use Rattle.conn_trace.specs.Gates.{TakenCounts, none_taken, to_take}
 use Rattle.conn_trace.specs.Heard.{taken_by}
 use Rattle.conn_trace.specs.Host.{body_setting}
 use Rattle.conn_trace.specs.Selected.{any_member, only_member, select_call}
@@ -25,8 +26,8 @@ use Rattle.conn.specs.declared.ends.Ends.{Ends}
 use Rattle.conn.specs.declared.ends.Link.TheVariants as link
 use Rattle.conn.specs.declared.stage.Stage.{Stage}
 use Rattle.conn.specs.declared.stage.Stage.TheVariants as stage
-use Rattle.conn.specs.Ends.{arrived, connects_by, fresh_end, has_stream, is_up, number_by}
-use Rattle.conn.specs.Ends.{server_by, servers_by}
+use Rattle.conn.specs.Ends.{arrived, connects_by, fresh_end, has_stream, is_taken, number_by}
+use Rattle.conn.specs.Ends.{sent_here, server_by, servers_by}
 use Rattle.conn.specs.Events.{collects_in, event_of}
 use Rattle.conn.specs.Hosts.{Told, seen_host}
 use Rattle.conn.specs.Stages.{InEvent as HostIn, fits, has_finished, reason_for, selects}
@@ -118,17 +119,20 @@ Stands g (stage.Dropped n) l c = ⊥
 
 -- What its two ends say where its trace stands at l: what waits for a side is what was sent to it and
 -- not taken, what came of it and wasn't read is that of the trace, and the link says the rest of the
--- server's side. Where no server connection was made nothing came of it, and nothing was sent to it.
+-- server's side. `earlier` is what the server connections before the one of this end took. Where none
+-- is there, nothing came of it, and the one before took all.
 pub record HoldsEnds (a : Around) (l : TraceState) (e : Ends) : Type 0 where
   pub client : l.client ≡ arrived e.client
   pub client_took : a.took.client ≡ taken_by e.client.reset a.counted
   pub client_untaken : length e.client.queued + a.counted ≡ l.sent.client
   pub server : l.server ≡ server_by e.link e.server
   pub connects : l.answers.connects ≡ connects_by e.link e.server
-  pub number : l.sent.number ≡ number_by e.link
-  pub servers_took : a.took.servers ≡ servers_by e.link e.server.reset a.counted_server
-  pub server_untaken : length e.server.queued + a.counted_server ≡ l.sent.server
-  pub unsent : is_up e.link ≡ false → l.sent.server ≡ 0
+  pub earlier : List (Option ℕ)
+  pub number : l.sent.number ≡ number_by e.link (length earlier)
+  pub servers_took : a.took.servers ≡ servers_by earlier e.link e.server.reset a.counted_server
+  pub server_untaken : has_stream e.link ≡ true
+      → length e.server.queued + a.counted_server ≡ sent_here e.link l.sent.server
+  pub took_all : is_taken e.link ≡ false → to_take l.sent a.took Server ≡ 0
   pub nothing_came : has_stream e.link ≡ false → e.server ≡ fresh_end
   pub connecting : is_connecting e.edges.server.state ≡ true → e.link ≡ link.Asked
 

@@ -70,12 +70,12 @@ logs_of c [] = []
 logs_of c (Logged text ∷ es) = note.Log c text ∷ logs_of c es
 logs_of c (Sent side bytes ∷ es) = logs_of c es
 
--- bytes are sent to a server connection only where it is the first one
-abbrev pub SendsToFirst : (number : ℕ) → List Effect → Type 0
-SendsToFirst number [] = Unit {0}
-SendsToFirst number (Logged text ∷ es) = SendsToFirst number es
-SendsToFirst number (Sent Client bytes ∷ es) = SendsToFirst number es
-SendsToFirst number (Sent Server bytes ∷ es) = (number ≡ 1) × SendsToFirst number es
+-- bytes are sent to a server connection only where one is up
+abbrev pub SendsWhere : (up : Bool) → List Effect → Type 0
+SendsWhere up [] = Unit {0}
+SendsWhere up (Logged text ∷ es) = SendsWhere up es
+SendsWhere up (Sent Client bytes ∷ es) = SendsWhere up es
+SendsWhere up (Sent Server bytes ∷ es) = (up ≡ true) × SendsWhere up es
 
 -- one effect at most
 abbrev pub OneAtMost : List Effect → Type 0

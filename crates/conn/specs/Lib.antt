@@ -15,6 +15,7 @@ pub mod Acts
 pub mod Holds
 pub mod Paid
 pub mod Settling
+pub mod Servers
 pub mod RunsItems
 pub mod Calls
 pub mod Runs

@@ -9,10 +9,11 @@ use Rattle.conn.specs.declared.stage.Stage.TheVariants as stage
 abbrev pub queue_in : Side → Conn → List ℕ
 queue_in side c = queue_of (end_of side c.ends)
 
--- so many bytes were dropped: those that were queued when it found no memory, or those of resets
+-- so many bytes were dropped: those that were queued when it found no memory, or those of resets, of
+-- server connections before too
 abbrev pub dropped_at : Stage → ℕ → ℕ
 dropped_at (stage.Dropped n) lost = n
 dropped_at other lost = lost
 
 abbrev pub dropped_by : Conn → ℕ
-dropped_by c = dropped_at c.stage (lost_at c.ends.client + lost_at c.ends.server)
+dropped_by c = dropped_at c.stage (lost_at c.ends.client + (lost_at c.ends.server + c.ends.lost))

@@ -18,10 +18,12 @@ use Rattle.conn.specs.Paid.{Paid}
 use Rattle.conn.specs.RunsItems.{Passes, RunsItems, asks, out_of_memory}
 use Rattle.conn.specs.Setups.{Serves}
 use Rattle.conn.specs.Queues.{dropped_by}
+use Rattle.conn.specs.Servers.{gives_up, queue_along, queue_at_server, servers_output}
 use Rattle.conn.specs.Settling.{closing, noted_in, over_in, rest_notes}
 use Rattle.conn.specs.Stages.{is_asking}
 
--- It goes on with these items, and its queues grew by what they send. It waits for a reply only where it
+-- It goes on with these items, and its queues grew by what they send; where they ask for another server
+-- connection its queue begins anew. It waits for a reply only where it
 -- stopped at a call. The steps that it counted are paid for, with those that it had counted before.
 pub record GoesOnWith (g : model.Setup) (a : Around) (l : TraceState) (c : ℕ) (old new : Conn)
     (group : List Note) (t : ConnTurn) (steps : ℕ) : Type 0 where
@@ -30,7 +32,8 @@ pub record GoesOnWith (g : model.Setup) (a : Around) (l : TraceState) (c : ℕ) 
   pub items : RunsItems g a.took old.ends.edges l c more at group t (queued_in new.ends)
   pub holds : Holds g a at new
   pub client_queue : new.ends.client.queued ≡ old.ends.client.queued ++ client_output more
-  pub server_queue : new.ends.server.queued ≡ old.ends.server.queued ++ server_output 1 more
+  pub servers : queue_at_server new.ends ≡ queue_along more (queue_at_server old.ends)
+  pub to_none : server_output 0 more ≡ []
   pub asking : is_asking new.stage ≡ asks t
   pub pays : (counted paid : ℕ) → Paid g l old counted paid
       → Paid g at new (counted + steps) (paid + paid_by more)
@@ -41,10 +44,11 @@ pub record StopsWithout (g : model.Setup) (a : Around) (l : TraceState) (c : ℕ
   pub more : List Item
   pub at : TraceState
   pub passes : Passes g a.took l more at
+  pub kept : gives_up more ≡ false
+  pub to_none : server_output 0 more ≡ []
   pub no_call : calls_in more ≡ []
-  pub sent : at.sent.server ≡ l.sent.server + length (server_output 1 more)
-  pub noted : group ≡ out_of_memory c old.ends.edges more
-      (queued_in old.ends + (length (client_output more) + length (server_output 1 more)))
+  pub noted : group ≡ out_of_memory c old.ends.edges l.sent a.took more
+      (queued_in old.ends + (length (client_output more) + length (servers_output more)))
   pub over : t ≡ turn.Over
 
 -- wherever its trace stands, and no call is open

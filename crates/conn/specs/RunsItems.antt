@@ -1,7 +1,7 @@
 -- What a connection gives in one Run, from where its trace stands: the code's promise and the
 -- scheduler's move alike.
 use Rattle.std.specs.Prelude.{◌≡◌, ℕ, List, [], ◌∷◌, ◌++◌, Bool, true, false, Some, None}
-use Rattle.std.specs.Prelude.{if◌then◌else◌, nat_lt}
+use Rattle.std.specs.Prelude.{◌&&◌, if◌then◌else◌, nat_lt}
 use Rattle.px_bytes.specs.declared.addr.Side.TheVariants.{Client, Server}
 use Rattle.core_events.specs.Edges.{edges_noted}
 use Rattle.core_events.specs.declared.edges.Edges.{Edges}
@@ -13,13 +13,15 @@ use Rattle.core_events.specs.declared.note.Note.{Note}
 use Rattle.core_events.specs.declared.note.Note.TheVariants.{Finish}
 use Rattle.conn_trace.specs.Costs.{in_body}
 use Rattle.conn_trace.specs.Gates.{Counts, TakenCounts, Met}
-use Rattle.conn_trace.specs.Item.{Item, CutBy, Finished, calls_in, choices_in, notes_of}
+use Rattle.conn_trace.specs.Item.{Item, CutBy, Finished, calls_in, choices_in}
 use Rattle.conn_trace.specs.Further.{choosing, longer}
 use Rattle.conn_trace.specs.HeardLaws.{cut_in, taken_by_items}
 use Rattle.conn_trace.specs.Queries.{is_reset}
 use Rattle.conn_trace.specs.Setup.{Setup}
-use Rattle.conn_trace.specs.State.{TraceState, ForReply, Waits}
+use Rattle.conn_trace.specs.Places.{is_up}
+use Rattle.conn_trace.specs.State.{TraceState, ForReply, Waits, link_of}
 use Rattle.conn_trace.specs.Trace.{next_item, Unfolds, GivesNoMore}
+use Rattle.conn.specs.Servers.{gives_up, run_notes}
 use Rattle.conn.specs.Settling.{closing, is_drained, resting}
 use Rattle.conn.specs.declared.turn.ConnTurn.{ConnTurn}
 use Rattle.conn.specs.declared.turn.ConnTurn.TheVariants as turn
@@ -34,17 +36,18 @@ is_resting turn.NotYet = true
 is_resting turn.Over = true
 is_resting other = false
 
--- what was told from outside licenses a cut: a side of it was reset
-abbrev pub licenses : CutReason → Counts → TakenCounts → Bool
-licenses ClientReset sent took = is_reset sent took Client
-licenses ServerReset sent took = is_reset sent took Server
-licenses Idle sent took = false
+-- What was told from outside licenses a cut: a side of it was reset. The reset of a server connection
+-- that is given up cuts nothing.
+abbrev pub licenses : CutReason → TraceState → TakenCounts → Bool
+licenses ClientReset at took = is_reset at.sent took Client
+licenses ServerReset at took = is_up (link_of at.server) && is_reset at.sent took Server
+licenses Idle at took = false
 
 -- the cut that is due where it rests, while it hasn't finished
 abbrev pub is_cut : TakenCounts → TraceState → Bool
 is_cut took at =
     if at.finished then false
-    else (if licenses ClientReset at.sent took then true else licenses ServerReset at.sent took)
+    else (if licenses ClientReset at took then true else licenses ServerReset at took)
 
 -- where a Run stops: in the middle, at a call, where no more may be given and no cut is due, or at
 -- the end
@@ -85,7 +88,7 @@ pub record CutAtRest (g : Setup) (took : TakenCounts) (l : TraceState) (more : L
   pub split : more ≡ first ++ Finished (CutBy reason) ∷ behind
   pub passed : Unfolds g (longer (choosing (choices_in first) None) l) first mid
   pub rests : GivesNoMore false mid.sent took (next_item g mid)
-  pub licensed : licenses reason mid.sent took ≡ true
+  pub licensed : licenses reason mid took ≡ true
 
 -- From l these items came, on the choices that they took, and each was let through its gate; then
 -- it stands at `at`. A cut is among them only where it is due.
@@ -102,20 +105,24 @@ abbrev pub told_behind : ConnTurn → Setup → TakenCounts → TraceState → �
 told_behind t g took at c e dropped =
     if is_resting t then resting g took at c e dropped else []
 
--- It gave these items, and stops there; its notes are those of the items, and then what is due where
--- it rests. Before it the outside had been told so much of its ends. The only call among them is the
--- one at which it stops. Where it stops in the middle without an item it stands inside a body.
+-- It gave these items, and stops there; its notes are those of the items, with the closings of server
+-- connections that were given up, and then what is due where it rests. Before it the outside had been told so much of its ends. The only call among them is the
+-- one at which it stops, and no server connection is given up yet. Where it stops in the middle without an item it stands inside a body.
 pub record RunsItems (g : Setup) (took : TakenCounts) (e : Edges) (l : TraceState) (c : ℕ)
     (more : List Item) (at : TraceState) (group : List Note) (t : ConnTurn) (dropped : ℕ)
     : Type 0 where
   pub passes : Passes g took l more at
+  pub kept : gives_up more ≡ false
   pub noted : group
-      ≡ notes_of c more ++ told_behind t g took at c (edges_noted (notes_of c more) e) dropped
+      ≡ run_notes c l.sent took more
+      ++ told_behind t g took at c (edges_noted (run_notes c l.sent took more) e) dropped
   pub stops : StopsAt g took at t
   pub forward : GoesForward t more at
   pub calls : calls_in more ≡ asked_at t
 
 -- it found no memory behind these items, and ends: so many bytes are dropped
-abbrev pub out_of_memory : ℕ → Edges → List Item → (dropped : ℕ) → List Note
-out_of_memory c e more dropped =
-    notes_of c more ++ Finish c Memory ∷ closing c (edges_noted (notes_of c more) e) dropped
+abbrev pub out_of_memory :
+    ℕ → Edges → Counts → TakenCounts → List Item → (dropped : ℕ) → List Note
+out_of_memory c e sent took more dropped =
+    let notes = run_notes c sent took more in
+    notes ++ Finish c Memory ∷ closing c (edges_noted notes e) dropped

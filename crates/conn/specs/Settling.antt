@@ -10,7 +10,7 @@ use Rattle.core_events.specs.Edges.{edge_of, edges_noted}
 use Rattle.conn_trace.specs.Gates.{Counts, TakenCounts, other, taken_of, to_take}
 use Rattle.conn_trace.specs.Queries.{half_close_due}
 use Rattle.conn_trace.specs.Setup as model
-use Rattle.conn_trace.specs.State.{TraceState, Next, Does, Waits, Over}
+use Rattle.conn_trace.specs.State.{Link, Up, GivenUp, link_of, TraceState, Next, Does, Waits, Over}
 use Rattle.conn_trace.specs.Trace.{next_item}
 use Rattle.core_events.specs.declared.edges.Edges.{Edges}
 use Rattle.core_events.specs.declared.edges.EdgeState.{EdgeState}
@@ -19,7 +19,11 @@ use Rattle.core_events.specs.declared.note.Note.{Note}
 use Rattle.core_events.specs.declared.note.Note.TheVariants.{CloseClient, CloseServer, Ended}
 use Rattle.core_events.specs.declared.note.Note.TheVariants.{HalfClose}
 use Rattle.conn.specs.declared.connection.Conn.{Conn}
+use Rattle.conn.specs.declared.ends.Link.{Link as CodeLink}
+use Rattle.conn.specs.declared.stage.Stage.{Stage}
+use Rattle.conn.specs.declared.stage.Stage.TheVariants as stage
 use Rattle.conn.specs.Ends.{end_of, is_done, queued_in}
+use Rattle.conn.specs.Ends as both
 use Rattle.conn.specs.Holds.{Around, Holds}
 use Rattle.conn.specs.Queues.{queue_in}
 use Rattle.conn.specs.Stages.{is_draining, is_in_body, is_relaying}
@@ -47,6 +51,14 @@ close_notes c server client e = server_notes c server e ++ client_notes c client
 abbrev pub closing : ℕ → Edges → (dropped : ℕ) → List Note
 closing c e dropped = close_notes c true true e ++ Ended c dropped ∷ []
 
+-- its server connection is given up
+abbrev pub is_given_up : Link → Bool
+is_given_up GivenUp = true
+is_given_up other = false
+
+abbrev pub given_up_at : TraceState → Bool
+given_up_at at = is_given_up (link_of at.server)
+
 abbrev pub is_over : Next → Bool
 is_over (Does i l) = false
 is_over (Waits kind) = false
@@ -61,15 +73,18 @@ is_drained g took at =
     is_over (next_item g at) && (took_all at took Client && took_all at took Server)
 
 -- What is due of a connection whose trace is over: each end that took all is closed, and where both
--- did it is over.
-abbrev pub settling : Bool → ℕ → Edges → (server client : Bool) → (dropped : ℕ) → List Note
-settling over c e server client dropped =
+-- did it is over. Before that, of a server connection that is given up: that it is closed once it took
+-- all.
+abbrev pub settling :
+    (over given_up : Bool) → ℕ → Edges → (server client : Bool) → (dropped : ℕ) → List Note
+settling over given_up c e server client dropped =
     if over then close_notes c server client e ++ note_if (client && server) (Ended c dropped)
-    else []
+    else server_notes c (given_up && server) e
 
 abbrev pub settling_at : model.Setup → TakenCounts → TraceState → ℕ → Edges → (dropped : ℕ) → List Note
 settling_at g took at c e dropped =
-    settling (is_over (next_item g at)) c e (took_all at took Server) (took_all at took Client) dropped
+    settling (is_over (next_item g at)) (given_up_at at) c e
+    (took_all at took Server) (took_all at took Client) dropped
 
 -- what is sent to a side ends, where that is due and wasn't told
 abbrev pub half_close : TakenCounts → TraceState → ℕ → Edges → Side → List Note
@@ -97,8 +112,17 @@ half_due side c =
 abbrev pub half_notes : ℕ → Side → Conn → List Note
 half_notes number side c = note_if (half_due side c) (HalfClose number side)
 
+-- its server connection is given up, while it found memory
+abbrev pub gave_up_at : Stage → CodeLink → Bool
+gave_up_at stage.OutOfMemory k = false
+gave_up_at (stage.Dropped n) k = false
+gave_up_at other k = both.is_given_up k
+
+abbrev pub gave_up : Conn → Bool
+gave_up c = gave_up_at c.stage c.ends.link
+
 abbrev pub settle_notes : ℕ → Conn → List Note
-settle_notes number c = settling (is_draining c.stage) number c.ends.edges
+settle_notes number c = settling (is_draining c.stage) (gave_up c) number c.ends.edges
     (is_empty (queue_in Server c)) (is_empty (queue_in Client c)) (queued_in c.ends)
 
 abbrev pub rest_notes : ℕ → Conn → List Note
@@ -132,15 +156,24 @@ RestsWith number c =
     → is_in_body c.stage ≡ false
     → rest_notes number c ≡ resting g a.took l number c.ends.edges (queued_in c.ends)
 
--- while it stands for a state what was dropped is what resets left untaken
+-- while it stands for a state what was dropped is what resets left untaken, of its sides and of the
+-- server connections before
 abbrev pub lost_by : Option ℕ → ℕ → ℕ
 lost_by None n = n
 lost_by (Some taken) n = 0
 
-abbrev pub lost_of : Around → Counts → ℕ
-lost_of a sent = lost_by a.took.client (sent.client - a.counted)
-    + lost_by (taken_of a.took.servers sent.number) (sent.server - a.counted_server)
+abbrev pub server_lost : Link → Around → Counts → ℕ
+server_lost Up a sent =
+    lost_by (taken_of a.took.servers sent.number) (sent.server - a.counted_server)
+server_lost GivenUp a sent =
+    lost_by (taken_of a.took.servers sent.number) (sent.server - a.counted_server)
+server_lost other a sent = 0
+
+abbrev pub lost_of : Around → TraceState → ℕ
+lost_of a l = lost_by a.took.client (l.sent.client - a.counted)
+    + server_lost (link_of l.server) a l.sent
 
 abbrev pub DropsReset : Conn → ℕ → Type 0
 DropsReset c dropped =
-    (g : model.Setup) (a : Around) (l : TraceState) → Holds g a l c → dropped ≡ lost_of a l.sent
+    (g : model.Setup) (a : Around) (l : TraceState) → Holds g a l c
+    → dropped ≡ lost_of a l + c.ends.lost

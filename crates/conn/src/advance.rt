@@ -70,6 +70,7 @@ impl Conn {
         match self.stage {
             Stage::Gated { at } => Ok(self.pass_gate(setup, number, at, notes)),
             Stage::Choosing => self.choose(alloc, setup),
+            Stage::Connecting(to) => self.connect(alloc, setup, number, to, notes),
             Stage::Answering(_) => Ok(self.answer(setup, number, notes)),
             Stage::Collecting => self.collect(setup, number, notes),
             Stage::Releasing => self.release(alloc, setup, number, notes),
@@ -80,10 +81,6 @@ impl Conn {
             }
             Stage::Chosen(addr) => {
                 self.take_chosen(alloc, setup, addr)?;
-                Ok(Act::Goes)
-            }
-            Stage::Connecting(to) => {
-                self.connect(number, to, notes);
                 Ok(Act::Goes)
             }
             Stage::Finishing(finish) => {
@@ -143,7 +140,7 @@ impl Conn {
         if self.ends.client.reset {
             return Some(CutReason::ClientReset);
         }
-        if self.ends.server.reset {
+        if self.ends.link.is_up() && self.ends.server.reset {
             return Some(CutReason::ServerReset);
         }
         None

@@ -1,7 +1,7 @@
 // The connection to the server.
 
-ghost use Rattle.std.specs.Prelude.{◌≡◌, ◌+◌, ◌≤◌, length};
-ghost use Rattle.conn.specs.Acts.{Answers, Connects};
+ghost use Rattle.std.specs.Prelude.{◌≡◌, ◌+◌, ◌≤◌, length, IfOk, OnErr};
+ghost use Rattle.conn.specs.Acts.{Answers, ConnectsNext};
 
 use crate::connection::Conn;
 use crate::ends::Link;
@@ -9,23 +9,37 @@ use crate::events::At;
 use crate::setup::Setup;
 use crate::stage::Stage;
 use crate::turn::Act;
-use core_events::{Edge, EdgeState, Note, Notes};
-use px_bytes::Addr;
+use core_events::{Note, Notes};
+use px_bytes::{Addr, M};
+use std::alloc::Global;
 
 impl Conn {
-    /// Asks the server for a connection.
-    pub(crate) fn connect(&mut self, number: u32, to: Addr, notes: &mut Notes)
+    /// Asks the server for a connection, once the one before took all.
+    pub(crate) fn connect(
+        &mut self,
+        alloc: Global,
+        setup: &Setup<'_>,
+        number: u32,
+        to: Addr,
+        notes: &mut Notes,
+    ) -> M<Act>
         requires { 1 ≤ notes.old.spare }
-        ensures connects { Connects number to self.old self.new notes.old.items notes.new.items }
+        ensures ok { IfOk result (λ act. ConnectsNext setup.now number to self.old self.new
+            notes.old.items notes.new.items act) }
+        ensures err { OnErr result (notes.new ≡ notes.old) }
+        ensures kept { OnErr result (self.new.ends.edges ≡ self.old.ends.edges) }
         ensures spare { notes.old.spare ≤ notes.new.spare + 1 }
         ensures grows { length notes.old.items ≤ length notes.new.items }
         ensures room { notes.new.spare + length notes.new.items
             ≡ notes.old.spare + length notes.old.items }
     {
+        if self.ends.server.pending() > 0 {
+            return Ok(self.rest_or_cut(setup, number, notes));
+        }
+        self.ends.ask(alloc)?;
         notes.push_reserved(Note::Connect { conn: number, to });
-        self.ends.link = Link::Asked;
-        self.ends.edges.server = Edge::new(EdgeState::Connecting);
         self.stage = Stage::Answering(to);
+        Ok(Act::Goes)
     }
 
     /// Takes the answer whether it is made, if that came.
@@ -49,7 +63,9 @@ impl Conn {
                 self.enter(setup, At::Failed);
                 Act::Goes
             }
-            Link::Absent | Link::Asked | Link::Up => self.rest_or_cut(setup, number, notes),
+            Link::Absent | Link::Asked | Link::Up | Link::GivenUp => self.rest_or_cut(
+                setup, number, notes,
+            ),
         }
     }
 }

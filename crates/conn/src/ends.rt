@@ -1,13 +1,15 @@
 // The two ends of a connection.
 
-ghost use Rattle.std.specs.Prelude.{◌≡◌, ◌≤◌, ◌<◌, ◌^◌, [], true, false, length, take, drop, IfOk, OnOk, OnErr};
+ghost use Rattle.std.specs.Prelude.{◌≡◌, ◌+◌, ◌≤◌, ◌<◌, ◌^◌, [], true, false, length, take, drop, IfOk, OnOk, OnErr};
+ghost use Rattle.conn.specs.Acts.{asked_ends};
 ghost use Rattle.conn.specs.Calls.{connected_ends, ended_ends, reset_ends, took_ends};
 ghost use Rattle.conn.specs.Ends.{end_of, fresh_end, fresh_ends, has_stream, heard_end, hears_at, is_done};
-ghost use Rattle.conn.specs.Ends.{is_sought, is_up, lost_at, queue_of, queued_in, room_left};
+ghost use Rattle.conn.specs.Ends.{is_given_up, is_sought, is_up, lost_at, queue_of, queued_in, room_left};
 ghost use Rattle.conn.specs.Relaying.{passes_now, read_ends};
 
+use crate::queue::Queue;
 use core_events::{Edge, EdgeState, Edges};
-use px_bytes::{M, Side, Text};
+use px_bytes::{M, Memory, Side, Text};
 use seg_buffer::Held;
 use std::alloc::Global;
 
@@ -25,7 +27,7 @@ pub struct End {
     pub(crate) ended: bool,
     /// Whether it was reset. What is queued to it then is dropped.
     pub(crate) reset: bool,
-    pub(crate) queued: Held,
+    pub(crate) queued: Queue,
 }
 
 impl End {
@@ -36,7 +38,7 @@ impl End {
             unread: Held::new(alloc),
             ended: false,
             reset: false,
-            queued: Held::new(alloc),
+            queued: Queue::new(alloc),
         }
     }
 
@@ -116,7 +118,7 @@ impl End {
     /// How many bytes a reset left untaken.
     pub(crate) fn lost(&self) -> usize
         ensures exact { result ≡ lost_at self.now }
-        ensures small { result < 2 ^ 63 }
+        ensures small { result < 2 ^ 62 }
     {
         if self.reset { self.waiting() } else { 0 }
     }
@@ -124,13 +126,13 @@ impl End {
     // How many bytes were queued to it and weren't taken, also behind a reset.
     fn waiting(&self) -> usize
         ensures exact { result ≡ length self.now.queued }
-        ensures small { result < 2 ^ 63 }
+        ensures small { result < 2 ^ 62 }
     {
-        self.queued.front().len()
+        self.queued.len()
     }
 }
 
-/// Whether there is a server connection. One is made at most.
+/// Where the server connection is. Several are made one after another.
 #[derive(Clone, Copy, PartialEq, Eq)]
 pub enum Link {
     Absent,
@@ -141,6 +143,8 @@ pub enum Link {
     /// It was made, and nothing was done about that yet.
     Made,
     Up,
+    /// It is given up, and may still take what is queued to it.
+    GivenUp,
 }
 
 impl Link {
@@ -150,18 +154,24 @@ impl Link {
         matches!(self, Link::Up)
     }
 
-    /// A server was asked for or is there.
+    pub(crate) fn is_given_up(self) -> bool
+        ensures { result ≡ is_given_up self }
+    {
+        matches!(self, Link::GivenUp)
+    }
+
+    /// A server was asked for or is there, and isn't given up.
     pub fn is_sought(self) -> bool
         ensures { result ≡ is_sought self }
     {
-        !matches!(self, Link::Absent)
+        !matches!(self, Link::Absent | Link::GivenUp)
     }
 
     /// Bytes of a server may come.
     pub fn has_stream(self) -> bool
         ensures { result ≡ has_stream self }
     {
-        matches!(self, Link::Made | Link::Up)
+        matches!(self, Link::Made | Link::Up | Link::GivenUp)
     }
 }
 
@@ -171,6 +181,8 @@ impl Link {
 pub struct Ends {
     pub(crate) client: End,
     pub(crate) server: End,
+    /// How many bytes the server connections before this one never took.
+    pub(crate) lost: u32,
     pub(crate) link: Link,
     pub(crate) edges: Edges,
 }
@@ -183,6 +195,7 @@ impl Ends {
         Ends {
             client: End::new(alloc),
             server: End::new(alloc),
+            lost: 0,
             link: Link::Absent,
             edges: Edges {
                 client: Edge::new(EdgeState::Open),
@@ -290,10 +303,35 @@ impl Ends {
         }
     }
 
-    /// How many bytes were queued to both and weren't taken, also behind a reset.
+    /// Another server is asked for: nothing is queued to it, and what the one before didn't take is
+    /// lost. Memory is refused where that is too much to be counted.
+    pub(crate) fn ask(&mut self, alloc: Global) -> M<()>
+        ensures ok { OnOk result (self.new ≡ asked_ends self.old) }
+        ensures err { OnErr result (self.new ≡ self.old) }
+    {
+        let lost = self.lost as usize + self.server.waiting();
+        let Ok(lost) = u32::try_from(lost) else {
+            return Err(Memory);
+        };
+        self.lost = lost;
+        self.server = End::new(alloc);
+        self.link = Link::Asked;
+        self.edges.server = Edge::new(EdgeState::Connecting);
+        Ok(())
+    }
+
+    /// How many bytes resets left untaken, of server connections before too.
+    pub(crate) fn lost(&self) -> usize
+        ensures { result ≡ lost_at self.now.client + (lost_at self.now.server + self.now.lost) }
+    {
+        self.client.lost() + (self.server.lost() + self.lost as usize)
+    }
+
+    /// How many bytes were queued to both and weren't taken, also behind a reset, and to server
+    /// connections before.
     pub(crate) fn queued(&self) -> usize
         ensures { result ≡ queued_in self.now }
     {
-        self.client.waiting() + self.server.waiting()
+        self.client.waiting() + (self.server.waiting() + self.lost as usize)
     }
 }

@@ -8,14 +8,13 @@ ghost use Rattle.conn.specs.Relaying.{incoming_of, moved, passes_now, plan_of, r
 ghost use Rattle.conn.specs.Relaying.{side_plan, to_pass};
 
 use crate::connection::Conn;
-use crate::ends::{End, Ends};
+use crate::ends::{End, Ends, ROOM};
 use crate::setup::Setup;
 use crate::stage::{Finish, Stage};
 use crate::turn::Act;
 use core_events::{Note, Notes};
 use irule_net::Asks;
 use px_bytes::{M, Side};
-use std::mem;
 
 /// What a relay does next.
 #[derive(Clone, Copy, PartialEq, Eq)]
@@ -159,8 +158,8 @@ fn pass(from: &mut End, to: &mut End, n: usize) -> M<()>
     ensures to { OnOk result (to.new
         ≡ record to.old { queued = to.old.queued ++ take n from.old.unread }) }
 {
-    if to.queued.is_empty() && n == from.unread.len() {
-        mem::swap(&mut from.unread, &mut to.queued);
+    if n == from.unread.len() && n <= ROOM && to.queued.is_empty() {
+        to.queued.swap(&mut from.unread);
         return Ok(());
     }
     to.queued.push(&from.unread.front()[..n])?;

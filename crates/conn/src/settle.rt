@@ -3,16 +3,18 @@
 ghost use Rattle.std.specs.Prelude.{◌≡◌, ◌+◌, ◌≤◌, ◌++◌, length};
 ghost use Rattle.conn.specs.Settling.{Settles, SettlesNotes, half_due, half_notes, noted_in, over_in};
 ghost use Rattle.conn.specs.Settling.{client_notes, close_notes, is_there, rest_notes};
-ghost use Rattle.conn.specs.Settling.{is_spent, server_notes, settle_notes};
+ghost use Rattle.conn.specs.Settling.{gave_up, is_spent, server_notes, settle_notes};
 ghost use Rattle.core_events.specs.Edges.{edges_noted};
 
 use crate::connection::Conn;
+use crate::stage::Stage;
 use core_events::{EdgeState, Edges, Note, Notes};
 use px_bytes::Side;
 
 impl Conn {
     /// Gives the notes that are due where it stands, once it has finished: that its server is closed,
-    /// that its client is, and that it is over where both took all. It says whether it is over.
+    /// that its client is, and that it is over where both took all; before that, that a server
+    /// connection that was given up is closed once it took all. It says whether it is over.
     pub fn settle(&mut self, number: u32, notes: &mut Notes) -> bool
         requires { 3 ≤ notes.old.spare }
         ensures settles { Settles self.old result }
@@ -30,10 +32,12 @@ impl Conn {
         ensures noted { notes.new.items ≡ notes.old.items ++ settle_notes number self.old }
         ensures ends { self.new ≡ noted_in (settle_notes number self.old) self.old }
     {
+        let server = self.ends.server.pending() == 0;
         if !self.stage.is_draining() {
+            let closed = self.gave_up() && server;
+            close_server(&mut self.ends.edges, number, closed, notes);
             return false;
         }
-        let server = self.ends.server.pending() == 0;
         let client = self.ends.client.pending() == 0;
         close(&mut self.ends.edges, number, server, client, notes);
         if !server || !client {
@@ -44,6 +48,16 @@ impl Conn {
             dropped: self.ends.queued(),
         });
         true
+    }
+
+    // Its server connection is given up, while it found memory.
+    fn gave_up(&self) -> bool
+        ensures { result ≡ gave_up self.now }
+    {
+        match self.stage {
+            Stage::OutOfMemory | Stage::Dropped(_) => false,
+            _ => self.ends.link.is_given_up(),
+        }
     }
 
     /// Gives the notes that are due at a rest, and says whether it is over.

@@ -36,7 +36,7 @@ impl Conn {
     {
         match self.stage {
             Stage::Dropped(dropped) => dropped,
-            _ => self.ends.client.lost() + self.ends.server.lost(),
+            _ => self.ends.lost(),
         }
     }
 

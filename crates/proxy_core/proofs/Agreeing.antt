@@ -160,7 +160,7 @@ begun C places c place vs from (Some conn) group all e b =
       continues = inl (record {
         not_failed = refl;
         holds = begins.0;
-        queues = record { client = ap (λ x. x.client.queued) b.2.1; server = ap (λ x. x.server.queued) b.2.1 };
+        queues = record { client = ap (λ x. x.client.queued) b.2.1; server = ap (λ x. x.server.queued) b.2.1; lost = ap (λ x. x.lost) b.2.1 };
         paid = begins.1;
       });
       edges = sym (ap (λ x. x.edges) b.2.1);

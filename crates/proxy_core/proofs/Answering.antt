@@ -20,7 +20,7 @@ use Rattle.core_events.specs.Edges.{edges_noted}
 use Rattle.conn_trace.specs.Heard.{edges_met, taken}
 use Rattle.conn.specs.RunsItems.{told_behind}
 use Rattle.conn_trace.specs.Trace.{next_item}
-use Rattle.conn.specs.Settling.{closing, is_over, settling_at, took_all}
+use Rattle.conn.specs.Settling.{closing, is_over, settling_at, took_all, given_up_at}
 use Rattle.shared_store.specs.Calls.{reply}
 use Rattle.record_model.specs.History.{entries_in, store_of, IsAnswer, AreAnswers, IsHistory}
 use Rattle.proxy_core.specs.Moves.{MovesFailed, MovesLacks, MovesOn, MovesCome, MovesRing, MovesBy, MovesQueue, TurnNotes, RunsOn, RunsOut, RunsFailed, Leads}
@@ -33,6 +33,7 @@ use Rattle.run_config.specs.declared.config.Config.{Config}
 use Rattle.proxy_core.proofs.Besides.{replies_are}
 use Rattle.proxy_core.proofs.GroupNotes.{of_items, entries_items, entries_on, due_entries, closing_due, settling_due}
 use Rattle.proxy_core.proofs.RunOn.{told_due}
+use Rattle.proxy_core.proofs.PlainRuns.{runs_noted, out_told}
 
 -- ---- one history
 
@@ -64,11 +65,11 @@ ring_answers C past (c ∷ rest) group old new m = by_failed (heard c past).fail
         let e = edges_noted (notes_of c k.more) h.edges in
         let d = untaken_all h (old.places c ++ k.more) in
         let behind = told_behind k.turn (setup_of C h) (taken h) k.at c e d in
-        no_entries C past Runs group (notes_of c k.more ++ behind) k.items.noted (run_entries c k.more behind (due_entries c behind (told_due k.turn (setup_of C h) (taken h) k.at c e d)))
+        no_entries C past Runs group (notes_of c k.more ++ behind) (runs_noted k.items) (run_entries c k.more behind (due_entries c behind (told_due k.turn (setup_of C h) (taken h) k.at c e d)))
     by_failed false (inr k) =
         let e = edges_noted (notes_of c k.more) (heard c past).edges in
         let d = untaken_all (heard c past) (old.places c ++ k.more) in
-        no_entries C past Runs group (notes_of c k.more ++ Finish c Memory ∷ closing c e d) k.notes (run_entries c k.more (Finish c Memory ∷ closing c e d) (due_entries c (closing c e d) (closing_due c e d)))
+        no_entries C past Runs group (notes_of c k.more ++ Finish c Memory ∷ closing c e d) (out_told k) (run_entries c k.more (Finish c Memory ∷ closing c e d) (due_entries c (closing c e d) (closing_due c e d)))
 
 input_answers : (C : Config) (past : Past) (c : ℕ) (input : Input) (group : List Note) (old new : State) → MovesCome C input (heard c past) (hears c (heard c past) (Comes c input) group) c group old new → AreAnswers C past (Comes c input) (entries_in group)
 input_answers C past c input group old new m = by_failed (heard c past).failed m
@@ -84,7 +85,7 @@ input_answers C past c input group old new m = by_failed (heard c past).failed m
     by_failed false (inl k) =
         let at = stand_of C now (old.places c) in
         let d = untaken_all now (old.places c) in
-        no_entries C past (Comes c input) group (settling_at (setup_of C now) (taken now) at c e d) k.notes (due_entries c (settling_at (setup_of C now) (taken now) at c e d) (settling_due (is_over (next_item (setup_of C now) at)) c e (took_all at (taken now) Server) (took_all at (taken now) Client) d))
+        no_entries C past (Comes c input) group (settling_at (setup_of C now) (taken now) at c e d) k.notes (due_entries c (settling_at (setup_of C now) (taken now) at c e d) (settling_due (is_over (next_item (setup_of C now) at)) (given_up_at at) c e (took_all at (taken now) Server) (took_all at (taken now) Client) d))
     by_failed false (inr k) = no_entries C past (Comes c input) group (Finish c Memory ∷ []) k.notes refl
 
 one_answer : (C : Config) (past : Past) (a : Asked) (r : Reply) → r ≡ (reply (store_of C past) (shared past).moment a.call).reply → IsAnswer C past (record { conn = a.conn; moment = (shared past).moment; call = a.call; reply = r })

@@ -36,7 +36,7 @@ use Rattle.conn_trace.proofs.Hearing.{event_stands, finished_stands, others_not_
 use Rattle.conn_trace.proofs.PendingFits.{pending_bounded}
 use Rattle.conn_trace.proofs.Lying.{Lies, allowed, start_lies}
 use Rattle.conn.specs.RunsItems.{Passes, told_behind}
-use Rattle.conn.specs.Settling.{closing, is_over, settling_at, took_all}
+use Rattle.conn.specs.Settling.{closing, is_over, settling_at, took_all, given_up_at}
 use Rattle.proxy_core.specs.Bounds.{BytesAreBounded}
 use Rattle.proxy_core.specs.Calls.{asker, calls_of}
 use Rattle.record_model.specs.History.{store_of}
@@ -69,6 +69,7 @@ use Rattle.proxy_core.proofs.ServerLeft.{unserved_at}
 use Rattle.proxy_core.proofs.SoundPast.{front_served, leads_sound, marked_accepted, may_come_at, none_holds, not_accepted, ran_on}
 use Rattle.proxy_core.proofs.Standing.{as_served, is_served, stands_at}
 use Rattle.proxy_core.proofs.Sums.{finish_of_causes}
+use Rattle.proxy_core.proofs.PlainRuns.{runs_noted, out_told}
 
 -- of a connection few bytes lie unread, and no item passed on more
 pub record FewBytes (C : Config) (h : Heard) (place : List Item) : Type 0 where
@@ -224,7 +225,7 @@ module _ (C : Config) (past : Past) (old : State) (c : ℕ) where
           let there = stand_of C now place in
           let e = edges_met input h.edges in
           let d = untaken_all now place in
-          let due = settling_due (is_over (next_item (setup_of C now) there)) c e (took_all there (taken now) Server) (took_all there (taken now) Client) d in
+          let due = settling_due (is_over (next_item (setup_of C now) there)) (given_up_at there) c e (took_all there (taken now) Server) (took_all there (taken now) Client) d in
           told (settling_at (setup_of C now) (taken now) there c e d) j.notes (ap (λ s. s.places c) j.state) (due_quiet c _ due)
       by_failed false (inr j) = told (Finish c Memory ∷ []) j.notes (ap (λ s. s.places c) j.state) (quiet_finish c)
 
@@ -261,13 +262,13 @@ module _ (C : Config) (past : Past) (old : State) (c : ℕ) where
       by_failed false e (inl j) =
           let es = edges_noted (notes_of c j.more) h.edges in
           let d = untaken_all h (place ++ j.more) in
-          gave j.more j.at (told_behind j.turn g (taken h) j.at c es d) group new e k j.items.passes (due_quiet c _ (told_due j.turn g (taken h) j.at c es d)) j.items.noted (ap (λ s. s.places c) j.state ∙ placed j.more) few
+          gave j.more j.at (told_behind j.turn g (taken h) j.at c es d) group new e k j.items.passes (due_quiet c _ (told_due j.turn g (taken h) j.at c es d)) (runs_noted j.items) (ap (λ s. s.places c) j.state ∙ placed j.more) few
       by_failed false e (inr j) =
           let es = edges_noted (notes_of c j.more) h.edges in
           let d = untaken_all h (place ++ j.more) in
           let last = closing c es d in
           let due = closing_due c es d in
-          gave j.more j.at (Finish c Memory ∷ last) group new e k j.passes (quiet_by c (Finish c Memory ∷ last) (refl, due_about c last due) (due_replies c last due) (due_choices c last due) (λ t. due_cut c t last due)) j.notes
+          gave j.more j.at (Finish c Memory ∷ last) group new e k j.passes (quiet_by c (Finish c Memory ∷ last) (refl, due_about c last due) (due_replies c last due) (due_choices c last due) (λ t. due_cut c t last due)) (out_told j)
           (ap (λ s. s.places c) j.state ∙ placed j.more) few
 
   -- ---- a Turn

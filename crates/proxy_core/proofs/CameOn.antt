@@ -1,5 +1,5 @@
 -- A connection of the code on which something came: what it goes on with, for what was heard then.
-use Rattle.std.proofs.Common.{◌≡◌, ◌⊎◌, inl, inr, refl, sym, ap, subst, ◌∙◌, ℕ, ◌+◌, ◌*◌, ◌-◌, List, [], ◌∷◌, length, drop, append-nil, Bool, true, false, ◌||◌, Option, Some, None, if◌then◌else◌, arith}
+use Rattle.std.proofs.Common.{◌≡◌, ◌⊎◌, inl, inr, refl, sym, ap, subst, ◌∙◌, ℕ, ◌+◌, ◌*◌, ◌-◌, List, [], ◌∷◌, length, drop, append-nil, Bool, true, false, ◌||◌, Option, Some, None, if◌then◌else◌, arith, length-append}
 use Rattle.std.specs.Bool.{MatchBool}
 use Rattle.std.proofs.lemmas.List.{length-drop}
 use Rattle.px_bytes.specs.declared.addr.Side.TheVariants.{Client, Server}
@@ -13,7 +13,7 @@ use Rattle.conn_trace.specs.Gates.{no_bytes, sent_from}
 use Rattle.core_events.specs.declared.event_kind.EventKind.TheVariants.{Comes}
 use Rattle.core_events.specs.declared.input.Input.{Input}
 use Rattle.core_events.specs.declared.input.Input.TheVariants.{Bytes, Ends, Resets, Connects, Takes}
-use Rattle.conn_trace.specs.Heard.{SideHeard, servers_taken, Heard, taken, edges_met, hears}
+use Rattle.conn_trace.specs.Heard.{SideHeard, servers_taken, Heard, taken, edges_met, hears, taken_by}
 use Rattle.conn_trace.specs.Heard.{further_of, start_of}
 use Rattle.conn_trace.specs.HeardLaws.{TellsNothing}
 use Rattle.conn_trace.specs.Costs.{paid_by}
@@ -28,7 +28,7 @@ use Rattle.conn.specs.Calls.{unless_finished}
 use Rattle.conn.specs.Ends.{fresh_end, has_stream, queue_of, queued_in, servers_by}
 use Rattle.conn.specs.Holds.{Around, Holds, HoldsEnds}
 use Rattle.conn.specs.Paid.{Paid}
-use Rattle.conn.specs.Settling.{is_over, noted_in, over_in, settle_notes, settling_at, took_all}
+use Rattle.conn.specs.Settling.{is_over, noted_in, over_in, settle_notes, settling_at, took_all, given_up_at, gave_up}
 use Rattle.conn.specs.Stages.{has_finished, is_asking, is_draining}
 use Rattle.conn.specs.declared.connection.Conn.{Conn}
 use Rattle.conn.specs.declared.ends.End.{End}
@@ -53,6 +53,9 @@ use Rattle.proxy_core.proofs.Coming.{ends_edges}
 use Rattle.proxy_core.proofs.GroupNotes.{About, AreDue, due_about, due_asks, due_failure, due_finish, due_quiet, ended_settling, quiet_finish, settling_due, tells_all}
 use Rattle.proxy_core.proofs.Meeting.{AnswersFirst, TakesThere, around_last, around_met, come_further, come_told, last_further, none_made, queues_met}
 use Rattle.proxy_core.proofs.Standing.{sent_at, stands_at}
+use Rattle.proxy_core.proofs.PlainServers.{PlainEnds, none_taken, numbered_at, plain_ends}
+use Rattle.proxy_core.proofs.ServerLeft.{unserved_at}
+use Rattle.proxy_core.proofs.Setups.{plain_setup}
 
 -- what goes on is what was told of it
 pub to_standing : (C : Config) (h : Heard) (g : Setup) (place : List Item) (at : TraceState) (conn : Conn) → setup_of C h ≡ g → Unfolds g (start_of g h) place at → Holds g (around h) at conn → Holds (setup_of C h) (around h) (stand_of C h place) conn
@@ -72,6 +75,12 @@ none_replied : (input : Input) (finished : Bool) → (unless_finished finished (
 none_replied input true = refl
 none_replied input false = refl
 
+standing_unfolds : (C : Config) (h : Heard) (g : Setup) (place : List Item) (at : TraceState) → setup_of C h ≡ g → Unfolds g (start_of g h) place at → Unfolds (setup_of C h) (start_of (setup_of C h) h) place (stand_of C h place)
+standing_unfolds C h g place at e u =
+    let P : TraceState → Type 0 = λ l. Unfolds (setup_of C h) (start_of (setup_of C h) h) place l in
+    let Q : Setup → Type 0 = λ y. Unfolds y (start_of y h) place at in
+    subst P (sym (stands_at C h g place at e u)) (subst Q (sym e) u)
+
 pub ends_standing : (C : Config) (h : Heard) (g : Setup) (place : List Item) (at : TraceState) (e : BothEnds) → setup_of C h ≡ g → Unfolds g (start_of g h) place at → HoldsEnds (around h) at e → HoldsEnds (around h) (stand_of C h place) e
 ends_standing C h g place at e same u k = let P : TraceState → Type 0 = λ l. HoldsEnds (around h) l e in subst P (sym (stands_at C h g place at same u)) k
 
@@ -82,12 +91,13 @@ noted_holds g a l c notes conn due h =
 
 -- ---- its ends
 
-no_stream : (k : Link) (b : Bool) (n : ℕ) → servers_by k b n ≡ [] → has_stream k ≡ false
-no_stream link.Absent b n e = refl
-no_stream link.Asked b n e = refl
-no_stream link.Refused b n e = refl
-no_stream link.Made b n e = cc
-no_stream link.Up b n e = cc
+no_stream : (ts : List (Option ℕ)) (k : Link) (b : Bool) (n : ℕ) → servers_by ts k b n ≡ [] → has_stream k ≡ false
+no_stream ts link.Absent b n e = refl
+no_stream ts link.Asked b n e = refl
+no_stream ts link.Refused b n e = refl
+no_stream ts link.Made b n e = absurd (let l = length-append ts (taken_by b n ∷ []) in let z = ap length e in omega (arith, l, z))
+no_stream ts link.Up b n e = absurd (let l = length-append ts (taken_by b n ∷ []) in let z = ap length e in omega (arith, l, z))
+no_stream ts link.GivenUp b n e = absurd (let l = length-append ts (taken_by b n ∷ []) in let z = ap length e in omega (arith, l, z))
 
 none_queued : (e : End) → e ≡ fresh_end → length (queue_of e) ≡ 0
 none_queued e is = ap (λ x. length (queue_of x)) is
@@ -100,21 +110,16 @@ takes_there (Resets side) h l conn k m = tt
 takes_there (Connects made) h l conn k m = tt
 takes_there (Takes Client n) h l conn k m = tt
 takes_there (Takes Server n) h l conn k m = λ none.
-    let e = no_stream conn.ends.link conn.ends.server.reset (last_took h.connects) (sym k.servers_took ∙ none_made h.connects none) in
+    let e = no_stream k.earlier conn.ends.link conn.ends.server.reset (last_took h.connects) (sym k.servers_took ∙ none_made h.connects none) in
     let z = none_queued conn.ends.server (k.nothing_came e) in omega (arith, m, z)
 
-none_taken : (cs : List (Option SideHeard)) → servers_taken cs ≡ [] → last_took cs ≡ 0
-none_taken [] e = refl
-none_taken (None ∷ more) e = none_taken more e
-none_taken (Some s ∷ more) e = cc
-
 -- an answer comes where no server took anything
-pub answers_first : (i : Input) (h : Heard) (l : TraceState) (conn : Conn) → HoldsEnds (around h) l conn.ends → ConnMay i conn → AnswersFirst i (around h)
-answers_first (Bytes side bytes) h l conn k m = tt
-answers_first (Ends side) h l conn k m = tt
-answers_first (Resets side) h l conn k m = tt
-answers_first (Takes side n) h l conn k m = tt
-answers_first (Connects made) h l conn k m = none_taken h.connects (k.servers_took ∙ ap (λ x. servers_by x conn.ends.server.reset (last_took h.connects)) (k.connecting m))
+pub answers_first : (i : Input) (h : Heard) (l : TraceState) (conn : Conn) → HoldsEnds (around h) l conn.ends → PlainEnds h l conn.ends → ConnMay i conn → AnswersFirst i (around h)
+answers_first (Bytes side bytes) h l conn k p m = tt
+answers_first (Ends side) h l conn k p m = tt
+answers_first (Resets side) h l conn k p m = tt
+answers_first (Takes side n) h l conn k p m = tt
+answers_first (Connects made) h l conn k p m = none_taken h.connects (p.servers_took ∙ ap (λ x. servers_by [] x conn.ends.server.reset (last_took h.connects)) (k.connecting m))
 
 -- the ends of one that has finished
 pub finished_ends : (i : Input) (a : Around) (l : TraceState) (conn : Conn) → ConnMay i conn → HoldsEnds a l conn.ends → HoldsEnds (met_by i true a) l (ends_met i true conn.ends)
@@ -131,11 +136,12 @@ nothing_ends : (a : Around) (l : TraceState) (e : BothEnds) → HoldsEnds a l e 
 nothing_ends a l e h = ends_kept a l (longer nothing_further l) e e h (nothing_stream nothing_comes l.client refl) (nothing_server nothing_comes l.answers.connects l.server refl) (append-nil _ ∙ nothing_on_last nothing_comes l.answers.connects refl) refl refl
 
 -- what is queued to both is what was sent to them and not taken
-pub queued_untaken : (h : Heard) (l : TraceState) (place : List Item) (e : BothEnds) → HoldsEnds (around h) l e → HoldsQueues h place e → l.sent ≡ sent_from no_bytes place → queued_in e ≡ untaken_all h place
+pub queued_untaken : (h : Heard) (l : TraceState) (place : List Item) (e : BothEnds) → PlainEnds h l e → HoldsQueues h place e → l.sent ≡ sent_from no_bytes place → queued_in e ≡ untaken_all h place
 queued_untaken h l place e k q sent =
     let client : length e.client.queued ≡ length (client_output place) - h.client.took = ap length q.client ∙ length-drop h.client.took (client_output place) in
     let server : length e.server.queued + last_took h.connects ≡ (sent_from no_bytes place).server = k.server_untaken ∙ ap (λ x. x.server) sent in
-    omega (arith, client, server)
+    let lost = q.lost in
+    omega (arith, client, server, lost)
 
 -- ---- what came
 
@@ -231,6 +237,8 @@ module _ (C : Config) (past : Past) (s : State) (c : ℕ) (input : Input) (k : S
   lacking_came old new group over z may w =
       let there : w.mid.stage ≡ OutOfMemory = ap (λ x. x.stage) w.hears.is ∙ z.there in
       let silent : settle_notes c w.mid ≡ [] = ap (λ (st : Stage). settle_notes c (record w.mid { stage = st })) there in
+      let un = unserved_at (setup_of C h) (plain_setup C h) h place (stand_of C h place) k.stands in
+      let plain = plain_ends h (stand_of C h place) old.ends z.ends un (numbered_at (setup_of C h) (plain_setup C h) h place (stand_of C h place) k.stands) in
       let none : group ≡ [] = w.notes ∙ silent in
       let going : over ≡ false = w.over_is ∙ ap (λ (st : Stage). over_in (record w.mid { stage = st })) there in
       let new_is : new ≡ w.mid = w.is ∙ ap (λ ns. noted_in ns w.mid) silent in
@@ -254,7 +262,7 @@ module _ (C : Config) (past : Past) (s : State) (c : ℕ) (input : Input) (k : S
           finished = stays_finished group z.finished;
           there = ap (λ x. x.stage) new_is ∙ there;
           ends = ends_standing C (now group) (setup_of C h) place (longer nothing_further (stand_of C h place)) new.ends (same_setup group) (subst F further stands) (subst A (sym told) held);
-          queues = subst Q (sym ends_are) (queues_met h (now group) input true place old.ends told (answers_first input h (stand_of C h place) old z.ends may) z.queues);
+          queues = subst Q (sym ends_are) (queues_met h (now group) input true place old.ends told (answers_first input h (stand_of C h place) old z.ends plain may) z.queues);
         });
         about = (let P : List Note → Type 0 = λ x. About c x in subst P (sym none) tt);
         ended = ap ended_in none ∙ ap (λ (b : Bool). if b then c ∷ [] else []) (sym going);
@@ -269,11 +277,13 @@ module _ (C : Config) (past : Past) (s : State) (c : ℕ) (input : Input) (k : S
       let mid = w.mid in
       let h' = now group in
       let f = further_of c h (Comes c input) group in
-      let due : AreDue c group = (let P : List Note → Type 0 = λ x. AreDue c x in subst P (sym w.notes) (settling_due (is_draining mid.stage) c mid.ends.edges _ _ (queued_in mid.ends))) in
+      let due : AreDue c group = (let P : List Note → Type 0 = λ x. AreDue c x in subst P (sym w.notes) (settling_due (is_draining mid.stage) (gave_up mid) c mid.ends.edges _ _ (queued_in mid.ends))) in
       let quiet = due_quiet c group due in
       let no_end : finish_told (notes_about c group) ≡ false = ap finish_told (tells_all c group (due_about c group due)) ∙ due_finish c group due in
       let no_failure : failure_told (notes_about c group) ≡ false = ap failure_told (tells_all c group (due_about c group due)) ∙ due_failure c group due in
       let finished : l.finished ≡ h.finished = k.finished z.not_failed in
+      let un = unserved_at g (plain_setup C h) h place l k.stands in
+      let plain = plain_ends h l old.ends z.holds.ends un (numbered_at g (plain_setup C h) h place l k.stands) in
       let there = takes_there input h l old z.holds.ends may in
       let told : around h' ≡ met_by input h.finished (around h) = around_met c h input group no_end there in
       let stands = stands_come g c h input group place l (heard_uncut c past) quiet no_end k.stands in
@@ -291,10 +301,12 @@ module _ (C : Config) (past : Past) (s : State) (c : ℕ) (input : Input) (k : S
       let ends_are : mid.ends ≡ ends_met input (has_finished old.stage) old.ends = ap (λ x. x.ends) w.hears.is in
       let same_end : has_finished old.stage ≡ h.finished = sym z.holds.finished ∙ finished in
       let R : BothEnds → Type 0 = λ e. HoldsQueues h' place e in
-      let queues : HoldsQueues h' place mid.ends = subst R (sym (ends_are ∙ ap (λ b. ends_met input b old.ends) same_end)) (queues_met h h' input h.finished place old.ends told (answers_first input h l old z.holds.ends may) z.queues) in
+      let queues : HoldsQueues h' place mid.ends = subst R (sym (ends_are ∙ ap (λ b. ends_met input b old.ends) same_end)) (queues_met h h' input h.finished place old.ends told (answers_first input h l old z.holds.ends plain may) z.queues) in
       let S : Setup → Type 0 = λ y. Unfolds y (start_of y h') place (longer f l) in
       let sent : (stand_of C h' place).sent ≡ sent_from no_bytes place = ap (λ x. x.sent) (stands_at C h' g place (longer f l) (same_setup group) stands) ∙ sent_at g h' place (longer f l) stands in
-      let left : queued_in mid.ends ≡ untaken_all h' place = queued_untaken h' (stand_of C h' place) place mid.ends standing.ends queues sent in
+      let again : Unfolds (setup_of C h') (start_of (setup_of C h') h') place (stand_of C h' place) = standing_unfolds C h' g place (longer f l) (same_setup group) stands in
+      let plain_now = plain_ends h' (stand_of C h' place) mid.ends standing.ends (unserved_at (setup_of C h') (plain_setup C h') h' place (stand_of C h' place) again) (numbered_at (setup_of C h') (plain_setup C h') h' place (stand_of C h' place) again) in
+      let left : queued_in mid.ends ≡ untaken_all h' place = queued_untaken h' (stand_of C h' place) place mid.ends plain_now queues sent in
       let edges_are : mid.ends.edges ≡ edges_met input h.edges = ap (λ x. x.edges) ends_are ∙ ends_edges input (has_finished old.stage) old.ends ∙ ap (edges_met input) (sym edges) in
       let settled = settling_at (setup_of C h') (taken h') (stand_of C h' place) c in
       let notes : group ≡ settled (edges_met input h.edges) (untaken_all h' place) =
@@ -308,11 +320,11 @@ module _ (C : Config) (past : Past) (s : State) (c : ℕ) (input : Input) (k : S
         on = λ e. inl (subst N (sym new_is) (record {
           not_failed = (come_told c h input group).failed ∙ ap (λ b. b || failure_told (notes_about c group)) z.not_failed ∙ no_failure;
           holds = noted_holds (setup_of C h') (around h') (stand_of C h' place) c group mid due standing;
-          queues = record { client = queues.client; server = queues.server };
+          queues = record { client = queues.client; server = queues.server; lost = queues.lost };
           paid = paid_ends (setup_of C h') (stand_of C h' place) mid (noted_in group mid).ends _ _ paid;
         }));
         about = due_about c group due;
-        ended = ap ended_in notes ∙ ended_settling (is_over _) c (edges_met input h.edges) (took_all (stand_of C h' place) (taken h') Server) (took_all (stand_of C h' place) (taken h') Client) (untaken_all h' place) ∙ ap (λ (b : Bool). if b then c ∷ [] else []) (sym drained);
+        ended = ap ended_in notes ∙ ended_settling (is_over _) (given_up_at (stand_of C h' place)) c (edges_met input h.edges) (took_all (stand_of C h' place) (taken h') Server) (took_all (stand_of C h' place) (taken h') Client) (untaken_all h' place) ∙ ap (λ (b : Bool). if b then c ∷ [] else []) (sym drained);
         stays = λ e. cc;
         asks = record { same = λ e. ap (λ x. is_asking x.stage) new_is ∙ ap (λ x. is_asking x.stage) w.hears.is; gone = λ e. cc };
       }
@@ -355,6 +367,7 @@ module _ (C : Config) (past : Past) (s : State) (c : ℕ) (input : Input) (k : S
           queues = subst Q (sym lacks.ends) (record {
             client = z.queues.client ∙ ap (λ a. drop a.counted (client_output place)) (sym told);
             server = z.queues.server ∙ ap (λ a. drop a.counted_server (server_output 1 place)) (sym told);
+            lost = z.queues.lost;
           });
         });
         about = (refl, tt);

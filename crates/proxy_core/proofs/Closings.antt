@@ -17,7 +17,7 @@ use Rattle.core_events.specs.declared.edges.Edges.{Edges}
 use Rattle.core_events.specs.declared.edges.EdgeState.TheVariants as state
 use Rattle.core_events.specs.declared.note.Note.{Note}
 use Rattle.core_events.specs.declared.note.Note.TheVariants as note
-use Rattle.conn.specs.Settling.{client_notes, close_notes, closing, half_close, is_drained, is_over, is_there, note_if, resting, server_notes, settling, settling_at, took_all}
+use Rattle.conn.specs.Settling.{client_notes, close_notes, closing, half_close, is_drained, is_over, is_there, note_if, resting, server_notes, settling, settling_at, took_all, given_up_at}
 use Rattle.proxy_core.specs.Shown.{closes, ends_it}
 use Rattle.proxy_core.specs.Sound.{is_closed}
 use Rattle.proxy_core.proofs.EdgeNotes.{edges_joined}
@@ -59,11 +59,12 @@ close_edges c server client e x =
     edges_joined (server_notes c server e) (client_notes c client e) x ∙ ap (edges_noted (client_notes c client e)) (server_edges (server && is_there e.server.state) c x)
     ∙ client_edges (client && is_there e.client.state) c (both x.client (shut (server && is_there e.server.state) x.server))
 
-pub settling_edges : (over : Bool) (c : ℕ) (e x : Edges) (server client : Bool) (d : ℕ)
-    → edges_noted (settling over c e server client d) x ≡ both (shut (over && (client && is_there e.client.state)) x.client) (shut (over && (server && is_there e.server.state)) x.server)
-settling_edges true c e x server client d =
+-- while no server connection is given up
+pub settling_edges : (over given : Bool) → given ≡ false → (c : ℕ) (e x : Edges) (server client : Bool) (d : ℕ)
+    → edges_noted (settling over given c e server client d) x ≡ both (shut (over && (client && is_there e.client.state)) x.client) (shut (over && (server && is_there e.server.state)) x.server)
+settling_edges true given p c e x server client d =
     edges_joined (close_notes c server client e) (note_if (client && server) (note.Ended c d)) x ∙ last_edges (client && server) c d (edges_noted (close_notes c server client e) x) ∙ close_edges c server client e x
-settling_edges false c e x server client d = refl
+settling_edges false given p c e x server client d = ap (λ y. edges_noted (server_notes c (y && server) e) x) p
 
 pub closing_edges : (c : ℕ) (e x : Edges) (d : ℕ) → edges_noted (closing c e d) x ≡ both (shut (is_there e.client.state) x.client) (shut (is_there e.server.state) x.server)
 closing_edges c e x d = edges_joined (close_notes c true true e) (note.Ended c d ∷ []) x ∙ close_edges c true true e x
@@ -71,15 +72,15 @@ closing_edges c e x d = edges_joined (close_notes c true true e) (note.Ended c d
 abbrev pub is_due : TakenCounts → TraceState → Edges → Side → Bool
 is_due took at e side = half_close_due at took side && not (edge_of side e).half
 
-pub resting_edges : (g : Setup) (took : TakenCounts) (at : TraceState) (c : ℕ) (e x : Edges) (d : ℕ)
+pub resting_edges : (g : Setup) (took : TakenCounts) (at : TraceState) → given_up_at at ≡ false → (c : ℕ) (e x : Edges) (d : ℕ)
     → edges_noted (resting g took at c e d) x
     ≡ both (shut (is_over (next_item g at) && (took_all at took Client && is_there e.client.state)) (halved (is_due took at e Client) x.client)) (shut (is_over (next_item g at) && (took_all at took Server && is_there e.server.state)) (halved (is_due took at e Server) x.server))
-resting_edges g took at c e x d =
+resting_edges g took at p c e x d =
     let last = settling_at g took at c e d in
     let y = both (halved (is_due took at e Client) x.client) x.server in
     edges_joined (half_close took at c e Client) (half_close took at c e Server ++ last) x ∙ ap (edges_noted (half_close took at c e Server ++ last)) (half_client (is_due took at e Client) c x)
     ∙ edges_joined (half_close took at c e Server) last y ∙ ap (edges_noted last) (half_server (is_due took at e Server) c y)
-    ∙ settling_edges (is_over (next_item g at)) c e (both y.client (halved (is_due took at e Server) y.server)) (took_all at took Server) (took_all at took Client) d
+    ∙ settling_edges (is_over (next_item g at)) (given_up_at at) p c e (both y.client (halved (is_due took at e Server) y.server)) (took_all at took Server) (took_all at took Client) d
 
 -- one that is shut isn't there
 pub shut_gone : (x : Edge) → is_there (shut (is_there x.state) x).state ≡ false
@@ -122,29 +123,29 @@ shut_again true b x n = by_there (is_there x.state) refl
     by_there true e = refl
     by_there false e = ap (λ s. note_if (is_there s) n) (half_state b x) ∙ ap (λ t. note_if t n) e
 
-settled_again : (over server client bc bs : Bool) (c : ℕ) (e : Edges) (d : ℕ) → (over && (client && server)) ≡ false
-    → settling over c (both (shut (over && (client && is_there e.client.state)) (halved bc e.client)) (shut (over && (server && is_there e.server.state)) (halved bs e.server))) server client d ≡ []
-settled_again false server client bc bs c e d n = refl
-settled_again true server client bc bs c e d n =
+settled_again : (over given server client bc bs : Bool) → given ≡ false → (c : ℕ) (e : Edges) (d : ℕ) → (over && (client && server)) ≡ false
+    → settling over given c (both (shut (over && (client && is_there e.client.state)) (halved bc e.client)) (shut (over && (server && is_there e.server.state)) (halved bs e.server))) server client d ≡ []
+settled_again false given server client bc bs p c e d n = ap (λ y. server_notes c (y && server) (both (halved bc e.client) (halved bs e.server))) p
+settled_again true given server client bc bs p c e d n =
     let x = both (shut (client && is_there e.client.state) (halved bc e.client)) (shut (server && is_there e.server.state) (halved bs e.server)) in
     ap (λ ns. ns ++ note_if (client && server) (note.Ended c d))
     (ap (λ ns. ns ++ client_notes c client x) (shut_again server bs e.server (note.CloseServer c)) ∙ shut_again client bc e.client (note.CloseClient c))
     ∙ ap (λ b. note_if b (note.Ended c d)) n
 
-rested : (g : Setup) (took : TakenCounts) (at : TraceState) (c : ℕ) (e : Edges) (d : ℕ) → is_drained g took at ≡ false
+rested : (g : Setup) (took : TakenCounts) (at : TraceState) → given_up_at at ≡ false → (c : ℕ) (e : Edges) (d : ℕ) → is_drained g took at ≡ false
     → resting g took at c
     (both (shut (is_over (next_item g at) && (took_all at took Client && is_there e.client.state)) (halved (is_due took at e Client) e.client)) (shut (is_over (next_item g at) && (took_all at took Server && is_there e.server.state)) (halved (is_due took at e Server) e.server))) d ≡ []
-rested g took at c e d n =
+rested g took at p c e d n =
     let over = is_over (next_item g at) in
     let a = over && (took_all at took Client && is_there e.client.state) in
     let b = over && (took_all at took Server && is_there e.server.state) in
     let x = both (shut a (halved (is_due took at e Client) e.client)) (shut b (halved (is_due took at e Server) e.server)) in
     ap (λ ns. ns ++ (half_close took at c x Server ++ settling_at g took at c x d)) (half_again a (half_close_due at took Client) e.client (note.HalfClose c Client))
     ∙ ap (λ ns. ns ++ settling_at g took at c x d) (half_again b (half_close_due at took Server) e.server (note.HalfClose c Server))
-    ∙ settled_again over (took_all at took Server) (took_all at took Client) (is_due took at e Client) (is_due took at e Server) c e d n
+    ∙ settled_again over (given_up_at at) (took_all at took Server) (took_all at took Client) (is_due took at e Client) (is_due took at e Server) p c e d n
 
-pub resting_again : (g : Setup) (took : TakenCounts) (at : TraceState) (c c' : ℕ) (e : Edges) (d d' : ℕ) → is_drained g took at ≡ false → resting g took at c' (edges_noted (resting g took at c e d) e) d' ≡ []
-resting_again g took at c c' e d d' n = ap (λ x. resting g took at c' x d') (resting_edges g took at c e e d) ∙ rested g took at c' e d' n
+pub resting_again : (g : Setup) (took : TakenCounts) (at : TraceState) → given_up_at at ≡ false → (c c' : ℕ) (e : Edges) (d d' : ℕ) → is_drained g took at ≡ false → resting g took at c' (edges_noted (resting g took at c e d) e) d' ≡ []
+resting_again g took at p c c' e d d' n = ap (λ x. resting g took at c' x d') (resting_edges g took at p c e e d) ∙ rested g took at p c' e d' n
 
 -- ---- which of them say that it is over
 
@@ -196,9 +197,9 @@ no_ends c d group e = record { going = λ n. e; last = λ n. absurd (let x : fal
 pub none_ends : (c d : ℕ) → EndsBy c d false []
 none_ends c d = no_ends c d [] refl
 
-pub settling_ends : (over : Bool) (c : ℕ) (e : Edges) (server client : Bool) (d : ℕ) → EndsBy c d (over && (client && server)) (settling over c e server client d)
-settling_ends false c e server client d = none_ends c d
-settling_ends true c e server client d = by_last (client && server)
+pub settling_ends : (over given : Bool) (c : ℕ) (e : Edges) (server client : Bool) (d : ℕ) → EndsBy c d (over && (client && server)) (settling over given c e server client d)
+settling_ends false given c e server client d = no_ends c d (server_notes c (given && server) e) (any_if ends_it ((given && server) && is_there e.server.state) (note.CloseServer c) refl)
+settling_ends true given c e server client d = by_last (client && server)
   where
     by_last : (b : Bool) → EndsBy c d b (close_notes c server client e ++ note_if b (note.Ended c d))
     by_last true = record {
@@ -208,7 +209,7 @@ settling_ends true c e server client d = by_last (client && server)
     by_last false = no_ends c d (close_notes c server client e ++ []) (none_on ends_it (close_notes c server client e) [] (close_goes_on c server client e))
 
 pub settling_at_ends : (g : Setup) (took : TakenCounts) (at : TraceState) (c : ℕ) (e : Edges) (d : ℕ) → EndsBy c d (is_drained g took at) (settling_at g took at c e d)
-settling_at_ends g took at c e d = settling_ends (is_over (next_item g at)) c e (took_all at took Server) (took_all at took Client) d
+settling_at_ends g took at c e d = settling_ends (is_over (next_item g at)) (given_up_at at) c e (took_all at took Server) (took_all at took Client) d
 
 pub resting_ends : (g : Setup) (took : TakenCounts) (at : TraceState) (c : ℕ) (e : Edges) (d : ℕ) → EndsBy c d (is_drained g took at) (resting g took at c e d)
 resting_ends g took at c e d =
@@ -217,14 +218,14 @@ resting_ends g took at c e d =
     (ends_behind c d (is_drained g took at) (half_close took at c e Server) last (any_if ends_it (is_due took at e Server) (note.HalfClose c Server) refl) (settling_at_ends g took at c e d))
 
 -- while the trace goes on nothing is closed
-pub settling_opens : (over : Bool) (c : ℕ) (e : Edges) (server client : Bool) (d : ℕ) → list_any closes (settling over c e server client d) ≡ true → over ≡ true
-settling_opens true c e server client d k = refl
-settling_opens false c e server client d k = cc
+pub settling_opens : (over given : Bool) → given ≡ false → (c : ℕ) (e : Edges) (server client : Bool) (d : ℕ) → list_any closes (settling over given c e server client d) ≡ true → over ≡ true
+settling_opens true given p c e server client d k = refl
+settling_opens false given p c e server client d k = absurd (let x : false ≡ true = sym (ap (λ y. list_any closes (server_notes c (y && server) e)) p) ∙ k in cc)
 
-pub resting_opens : (g : Setup) (took : TakenCounts) (at : TraceState) (c : ℕ) (e : Edges) (d : ℕ) → list_any closes (resting g took at c e d) ≡ true → is_over (next_item g at) ≡ true
-resting_opens g took at c e d k =
+pub resting_opens : (g : Setup) (took : TakenCounts) (at : TraceState) → given_up_at at ≡ false → (c : ℕ) (e : Edges) (d : ℕ) → list_any closes (resting g took at c e d) ≡ true → is_over (next_item g at) ≡ true
+resting_opens g took at p c e d k =
     let last = settling_at g took at c e d in
-    settling_opens (is_over (next_item g at)) c e (took_all at took Server) (took_all at took Client) d
+    settling_opens (is_over (next_item g at)) (given_up_at at) p c e (took_all at took Server) (took_all at took Client) d
     (sym (none_on closes (half_close took at c e Client) (half_close took at c e Server ++ last) (any_if closes (is_due took at e Client) (note.HalfClose c Client) refl)
     ∙ none_on closes (half_close took at c e Server) last (any_if closes (is_due took at e Server) (note.HalfClose c Server) refl)) ∙ k)
 
@@ -252,12 +253,12 @@ items_open c [] h = refl
 items_open c (n ∷ notes) h = ap (λ b. b || list_any closes notes) h.0.quiet ∙ items_open c notes h.1
 
 -- an end is closed by what is due where the trace is over and the side took all, or it was before
-pub settling_closed : (g : Setup) (took : TakenCounts) (at : TraceState) (c : ℕ) (e x : Edges) (d : ℕ) (side : Side) → is_closed (edge_of side (edges_noted (settling_at g took at c e d) x)).state ≡ true
+pub settling_closed : (g : Setup) (took : TakenCounts) (at : TraceState) → given_up_at at ≡ false → (c : ℕ) (e x : Edges) (d : ℕ) (side : Side) → is_closed (edge_of side (edges_noted (settling_at g took at c e d) x)).state ≡ true
     → ((is_over (next_item g at) ≡ true) × (took_all at took side ≡ true)) ⊎ (is_closed (edge_of side x).state ≡ true)
-settling_closed g took at c e x d side k =
+settling_closed g took at p c e x d side k =
     let over = is_over (next_item g at) in
     let P : Edges → Type 0 = λ y. is_closed (edge_of side y).state ≡ true in
-    by_side side over (took_all at took side) refl (subst P (settling_edges over c e x (took_all at took Server) (took_all at took Client) d) k)
+    by_side side over (took_all at took side) refl (subst P (settling_edges over (given_up_at at) p c e x (took_all at took Server) (took_all at took Client) d) k)
   where
     by_flag : (over tk there : Bool) (y : Edge) → is_closed (shut (over && (tk && there)) y).state ≡ true → ((over ≡ true) × (tk ≡ true)) ⊎ (is_closed y.state ≡ true)
     by_flag true true there y q = inl (refl, refl)
@@ -268,11 +269,11 @@ settling_closed g took at c e x d side k =
     by_side Client over tk q z = let R : Bool → Type 0 = λ b. is_closed (shut (over && (b && is_there e.client.state)) x.client).state ≡ true in by_flag over tk (is_there e.client.state) x.client (subst R q z)
     by_side Server over tk q z = let R : Bool → Type 0 = λ b. is_closed (shut (over && (b && is_there e.server.state)) x.server).state ≡ true in by_flag over tk (is_there e.server.state) x.server (subst R q z)
 
-pub resting_closed : (g : Setup) (took : TakenCounts) (at : TraceState) (c : ℕ) (e x : Edges) (d : ℕ) (side : Side) → is_closed (edge_of side (edges_noted (resting g took at c e d) x)).state ≡ true
+pub resting_closed : (g : Setup) (took : TakenCounts) (at : TraceState) → given_up_at at ≡ false → (c : ℕ) (e x : Edges) (d : ℕ) (side : Side) → is_closed (edge_of side (edges_noted (resting g took at c e d) x)).state ≡ true
     → ((is_over (next_item g at) ≡ true) × (took_all at took side ≡ true)) ⊎ (is_closed (edge_of side x).state ≡ true)
-resting_closed g took at c e x d side k =
+resting_closed g took at p c e x d side k =
     let P : Edges → Type 0 = λ y. is_closed (edge_of side y).state ≡ true in
-    by_side side (subst P (resting_edges g took at c e x d) k)
+    by_side side (subst P (resting_edges g took at p c e x d) k)
   where
     by_flag : (over tk there h : Bool) (y : Edge) → is_closed (shut (over && (tk && there)) (halved h y)).state ≡ true → ((over ≡ true) × (tk ≡ true)) ⊎ (is_closed y.state ≡ true)
     by_flag true true there h y q = inl (refl, refl)
@@ -309,18 +310,18 @@ both_gone true true false bc bs e n = absurd (cc)
 both_gone true false ts bc bs e n = absurd (cc)
 both_gone false tc ts bc bs e n = absurd (cc)
 
-pub settling_gone : (g : Setup) (took : TakenCounts) (at : TraceState) (c : ℕ) (e : Edges) (d : ℕ) → is_drained g took at ≡ true → Gone (edges_noted (settling_at g took at c e d) e)
-settling_gone g took at c e d n =
+pub settling_gone : (g : Setup) (took : TakenCounts) (at : TraceState) → given_up_at at ≡ false → (c : ℕ) (e : Edges) (d : ℕ) → is_drained g took at ≡ true → Gone (edges_noted (settling_at g took at c e d) e)
+settling_gone g took at p c e d n =
     let over = is_over (next_item g at) in
     gone (edges_noted (settling_at g took at c e d) e) (both (shut (over && (took_all at took Client && is_there e.client.state)) e.client) (shut (over && (took_all at took Server && is_there e.server.state)) e.server))
-    (settling_edges over c e e (took_all at took Server) (took_all at took Client) d) (both_gone over (took_all at took Client) (took_all at took Server) false false e n)
+    (settling_edges over (given_up_at at) p c e e (took_all at took Server) (took_all at took Client) d) (both_gone over (took_all at took Client) (took_all at took Server) false false e n)
 
-pub resting_gone : (g : Setup) (took : TakenCounts) (at : TraceState) (c : ℕ) (e : Edges) (d : ℕ) → is_drained g took at ≡ true → Gone (edges_noted (resting g took at c e d) e)
-resting_gone g took at c e d n =
+pub resting_gone : (g : Setup) (took : TakenCounts) (at : TraceState) → given_up_at at ≡ false → (c : ℕ) (e : Edges) (d : ℕ) → is_drained g took at ≡ true → Gone (edges_noted (resting g took at c e d) e)
+resting_gone g took at p c e d n =
     let over = is_over (next_item g at) in
     gone (edges_noted (resting g took at c e d) e)
     (both (shut (over && (took_all at took Client && is_there e.client.state)) (halved (is_due took at e Client) e.client)) (shut (over && (took_all at took Server && is_there e.server.state)) (halved (is_due took at e Server) e.server)))
-    (resting_edges g took at c e e d) (both_gone over (took_all at took Client) (took_all at took Server) (is_due took at e Client) (is_due took at e Server) e n)
+    (resting_edges g took at p c e e d) (both_gone over (took_all at took Client) (took_all at took Server) (is_due took at e Client) (is_due took at e Server) e n)
 
 -- nothing that comes closes an end, nor does a note of an item
 pub met_closed : (input : Input) (x : Edges) (side : Side) → is_closed (edge_of side (edges_met input x)).state ≡ true → is_closed (edge_of side x).state ≡ true

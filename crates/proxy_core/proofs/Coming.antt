@@ -1,5 +1,5 @@
 -- What comes of a connection, as the connection takes it.
-use Rattle.std.proofs.Common.{◌≡◌, refl, sym, subst, ◌∙◌, ℕ, List, [], ◌++◌, Bool, true, false, if◌then◌else◌}
+use Rattle.std.proofs.Common.{◌≡◌, refl, sym, subst, ◌∙◌, ℕ, ◌≤◌, List, [], ◌++◌, length, length-append, Bool, true, false, ◌&&◌, if◌then◌else◌, arith}
 use Rattle.std.specs.Prelude.{OnOk}
 use Rattle.std.specs.declared.result.Result.{Result}
 use Rattle.std.specs.declared.result.Result.TheVariants.{Ok, Err}
@@ -13,7 +13,8 @@ use Rattle.conn_trace.specs.Heard.{edges_met}
 use Rattle.conn_trace.specs.State.{TraceState}
 use Rattle.conn.specs.Calls.{Connects as Answers, Hears, Resets as Reset, Takes as Took, connected_ends, ended_ends, heard_ends, reset_ends, reset_in, took_ends, took_more, unless_finished}
 use Rattle.conn.specs.Holds.{Holds}
-use Rattle.conn.specs.Stages.{has_finished}
+use Rattle.conn.specs.Queues.{queue_in}
+use Rattle.conn.specs.Stages.{has_finished, is_draining}
 use Rattle.conn.specs.declared.connection.Conn.{Conn}
 use Rattle.conn.specs.declared.setup.Setup as given
 use Rattle.conn.specs.declared.stage.Stage.TheVariants.{OutOfMemory}
@@ -21,9 +22,12 @@ use Rattle.conn.specs.declared.turn.ConnTurn.{ConnTurn}
 use Rattle.conn.specs.declared.ends.Ends.{Ends as BothEnds}
 use Rattle.conn.specs.Ends.{has_stream, heard_end, queued_in}
 use Rattle.conn.specs.Runs.{DropsQueued, Runs}
-use Rattle.conn.specs.Settling.{closing}
+use Rattle.conn.specs.Settling.{client_notes, close_notes, closing, gave_up, is_there, note_if, server_notes, settle_notes, settling}
 use Rattle.core_events.specs.Edges.{edges_noted}
+use Rattle.core_events.specs.declared.edges.Edges.{Edges}
 use Rattle.core_events.specs.declared.note.Note.{Note}
+use Rattle.core_events.specs.declared.note.Note.TheVariants.{CloseClient, CloseServer, Ended}
+use Rattle.seg_buffer.specs.Bytes.{is_empty}
 use Rattle.conn.proofs.Joining.{longer_nothing}
 use Rattle.proxy_core.specs.Live.{ConnHears, ConnRuns, ends_met}
 
@@ -86,3 +90,23 @@ ends_edges (Resets Server) f e = refl
 ends_edges (Takes Client n) f e = refl
 ends_edges (Takes Server n) f e = refl
 ends_edges (Connects made) f e = refl
+
+-- what is due is three notes at most
+one_at_most : (b : Bool) (n : Note) → length (note_if b n) ≤ 1
+one_at_most true n = omega arith
+one_at_most false n = omega arith
+
+few_settling : (over given : Bool) (c : ℕ) (e : Edges) (s k : Bool) (d : ℕ) → length (settling over given c e s k d) ≤ 3
+few_settling true given c e s k d =
+    let server : length (server_notes c s e) ≤ 1 = one_at_most (s && is_there e.server.state) (CloseServer c) in
+    let client : length (client_notes c k e) ≤ 1 = one_at_most (k && is_there e.client.state) (CloseClient c) in
+    let last : length (note_if (k && s) (Ended c d)) ≤ 1 = one_at_most (k && s) (Ended c d) in
+    let closes = length-append (server_notes c s e) (client_notes c k e) in
+    let all = length-append (close_notes c s k e) (note_if (k && s) (Ended c d)) in
+    omega (arith, server, client, last, closes, all)
+few_settling false given c e s k d =
+    let server : length (server_notes c (given && s) e) ≤ 1 = one_at_most ((given && s) && is_there e.server.state) (CloseServer c) in
+    omega (arith, server)
+
+pub few_settled : (c : ℕ) (conn : Conn) → length (settle_notes c conn) ≤ 3
+few_settled c conn = few_settling (is_draining conn.stage) (gave_up conn) c conn.ends.edges (is_empty (queue_in Server conn)) (is_empty (queue_in Client conn)) (queued_in conn.ends)

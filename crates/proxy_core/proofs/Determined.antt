@@ -27,8 +27,8 @@ use Rattle.conn_trace.specs.Tellings.{choices_told, cut_told, failure_told, fini
 use Rattle.conn_trace.specs.Trace.{GivesNoMore, next_item, Unfolds}
 use Rattle.conn_trace.proofs.Querying.{given_is_due}
 use Rattle.conn_trace.proofs.Telling.{run_tells}
-use Rattle.conn.specs.RunsItems.{Passes, StopsAt, slices_in, is_resting, out_of_memory, told_behind}
-use Rattle.conn.specs.Settling.{closing, is_drained, is_over, resting, settling_at, took_all}
+use Rattle.conn.specs.RunsItems.{Passes, StopsAt, slices_in, is_resting, told_behind}
+use Rattle.conn.specs.Settling.{closing, is_drained, is_over, resting, settling_at, took_all, given_up_at}
 use Rattle.conn.specs.declared.turn.ConnTurn.{ConnTurn}
 use Rattle.conn.specs.declared.turn.ConnTurn.TheVariants as turn
 use Rattle.proxy_core.specs.Calls.{queue_behind}
@@ -45,6 +45,7 @@ use Rattle.run_config.specs.declared.config.Config.{Config}
 use Rattle.shared_store.specs.Calls.{reply}
 use Rattle.proxy_core.proofs.GroupNotes.{About, AreDue, closing_due, due_about, due_finish, due_quiet, resting_due, settling_due, tells_all}
 use Rattle.proxy_core.proofs.Members.{in_pushed_self}
+use Rattle.proxy_core.proofs.PlainRuns.{runs_noted, out_notes, out_told}
 
 -- ---- one Run
 
@@ -187,7 +188,7 @@ settles_due : (C : Config) (c : ℕ) (e : Edges) (place : List Item) (now : Hear
 unfolding settles
 settles_due C c e place now =
     let at = stand_of C now place in
-    settling_due (is_over (next_item (setup_of C now) at)) c e (took_all at (taken now) Server) (took_all at (taken now) Client) (untaken_all now place)
+    settling_due (is_over (next_item (setup_of C now) at)) (given_up_at at) c e (took_all at (taken now) Server) (took_all at (taken now) Client) (untaken_all now place)
 
 -- ---- one event
 
@@ -303,7 +304,7 @@ module _ (C : Config) (past : Past) (old : State) (one other : List Note) (s t :
       on group new f (inr k) =
           let ends = edges_noted (notes_of c k.more) h.edges in
           let behind = closing c ends (untaken_all h (old.places c ++ k.more)) in
-          absurd (lacks group (out_of_memory c h.edges k.more (untaken_all h (old.places c ++ k.more))) c f k.notes
+          absurd (lacks group (out_notes c h.edges k.more (untaken_all h (old.places c ++ k.more))) c f (out_told k)
           ((run_tells c k.more (Finish c Memory ∷ behind)).failure ∙ fails_alone c behind (due_about c behind (closing_due c ends _))))
 
       -- what is told where it rests tells nothing
@@ -326,7 +327,7 @@ module _ (C : Config) (past : Past) (old : State) (one other : List Note) (s t :
           let d = untaken_all h (old.places c ++ x.more) in
           let behind = told_behind x.turn g (taken h) x.at c (edges_noted (notes_of c x.more) h.edges) d in
           let quiet = due_quiet c behind (told_due x.turn x.at (edges_noted (notes_of c x.more) h.edges) d) in
-          ap (λ (l : List Note). choices_told (notes_about c l)) x.items.noted ∙ (run_tells c x.more behind).choices
+          ap (λ (l : List Note). choices_told (notes_about c l)) (runs_noted x.items) ∙ (run_tells c x.more behind).choices
           ∙ ap (λ (l : List Choice). choices_in x.more ++ l) quiet.choices ∙ append-nil (choices_in x.more)
 
       told_cut : (group : List Note) (new : State) (x : RunsOn C h c rest group old new) → cut_told (taken h) (notes_about c group) ≡ cut_in (taken h) x.more
@@ -334,7 +335,7 @@ module _ (C : Config) (past : Past) (old : State) (one other : List Note) (s t :
           let d = untaken_all h (old.places c ++ x.more) in
           let behind = told_behind x.turn g (taken h) x.at c (edges_noted (notes_of c x.more) h.edges) d in
           let quiet = due_quiet c behind (told_due x.turn x.at (edges_noted (notes_of c x.more) h.edges) d) in
-          ap (λ (l : List Note). cut_told (taken h) (notes_about c l)) x.items.noted ∙ (run_tells c x.more behind).cut (taken h) (quiet.cut (taken h))
+          ap (λ (l : List Note). cut_told (taken h) (notes_about c l)) (runs_noted x.items) ∙ (run_tells c x.more behind).cut (taken h) (quiet.cut (taken h))
 
       by : (b : Bool) → MatchBool b (RunsFailed h c rest one old s) (RunsOn C h c rest one old s ⊎ RunsOut C h c rest one old s)
           → MatchBool b (RunsFailed h c rest other old t) (RunsOn C h c rest other old t ⊎ RunsOut C h c rest other old t) → Same
@@ -353,7 +354,7 @@ module _ (C : Config) (past : Past) (old : State) (one other : List Note) (s t :
           ap (λ (m : List Item). after_by m y.turn) it.0.items ∙ ap (after_by x.more) it.1 in
           let spent = ap (λ k. ran c (ring_behind x.turn c rest) (queue_behind x.turn c old.queue) x.more k old) (slices_whole x.turn (length one) w) in
           let spent' = ap (λ k. ran c (ring_behind y.turn c rest) (queue_behind y.turn c old.queue) y.more k old) (slices_whole y.turn (length other) w') in
-          (x.items.noted ∙ sym notes ∙ sym y.items.noted, (x.state ∙ spent) ∙ sym after ∙ sym (y.state ∙ spent'))
+          (runs_noted x.items ∙ sym notes ∙ sym (runs_noted y.items), (x.state ∙ spent) ∙ sym after ∙ sym (y.state ∙ spent'))
 
   runs_same : (ring : List ℕ) → old.ring ≡ ring → MovesRing C past ring one old s → MovesRing C past ring other old t → RunsWhole Runs old s → RunsWhole Runs old t
       → Same

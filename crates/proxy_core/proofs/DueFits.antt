@@ -24,7 +24,7 @@ use Rattle.conn_trace.specs.State.{TraceState}
 use Rattle.conn_trace.specs.Tellings.{own}
 use Rattle.conn_trace.specs.Trace.{next_item}
 use Rattle.conn.specs.RunsItems.{is_resting, told_behind}
-use Rattle.conn.specs.Settling.{client_notes, close_notes, closing, half_close, is_over, is_there, note_if, resting, server_notes, settling, settling_at, took_all}
+use Rattle.conn.specs.Settling.{client_notes, close_notes, closing, half_close, is_over, is_there, note_if, resting, server_notes, settling, settling_at, took_all, given_up_at}
 use Rattle.conn.specs.declared.turn.ConnTurn.{ConnTurn}
 use Rattle.proxy_core.specs.Fitting.{fits, Fit}
 use Rattle.core_events.specs.Kinds.{kind_of}
@@ -101,11 +101,11 @@ fit_close c server client e x s k =
     (fit_if (server && is_there e.server.state) (note.CloseServer c) x (λ b. ap is_used s ∙ used_there e.server.state (and_parts server (is_there e.server.state) b).1))
     (fit_if (client && is_there e.client.state) (note.CloseClient c) (edges_noted (server_notes c server e) x) (λ b. ap is_used (same ∙ k) ∙ used_there e.client.state (and_parts client (is_there e.client.state) b).1))
 
-pub fit_settling : (over : Bool) (c : ℕ) (e x : Edges) (server client : Bool) (d : ℕ) → x.server.state ≡ e.server.state → x.client.state ≡ e.client.state → Fit (settling over c e server client d) x
-fit_settling true c e x server client d s k =
+pub fit_settling : (over given : Bool) (c : ℕ) (e x : Edges) (server client : Bool) (d : ℕ) → x.server.state ≡ e.server.state → x.client.state ≡ e.client.state → Fit (settling over given c e server client d) x
+fit_settling true given c e x server client d s k =
     fit_joined (close_notes c server client e) (note_if (client && server) (note.Ended c d)) x (fit_close c server client e x s k)
     (fit_if (client && server) (note.Ended c d) (edges_noted (close_notes c server client e) x) (λ b. refl))
-fit_settling false c e x server client d s k = tt
+fit_settling false given c e x server client d s k = fit_if ((given && server) && is_there e.server.state) (note.CloseServer c) x (λ b. ap is_used s ∙ used_there e.server.state (and_parts (given && server) (is_there e.server.state) b).1)
 
 pub fit_closing : (c : ℕ) (e : Edges) (d : ℕ) → Fit (closing c e d) e
 fit_closing c e d = fit_joined (close_notes c true true e) (note.Ended c d ∷ []) e (fit_close c true true e e refl refl) (refl, tt)
@@ -135,7 +135,7 @@ fit_resting g took at c e d k =
     let y_client : (edges_noted two x).client.state ≡ e.client.state = ap (λ z. z.client.state) y_is ∙ x_client in
     fit_joined one (two ++ last) e (fit_if (is_due took at e Client) (note.HalfClose c Client) e (half_fits (half_close_due at took Client) e.client e.client (k Client) refl))
     (fit_joined two last x (fit_if (is_due took at e Server) (note.HalfClose c Server) x (half_fits (half_close_due at took Server) e.server x.server (k Server) x_whole))
-    (fit_settling (is_over (next_item g at)) c e (edges_noted two x) (took_all at took Server) (took_all at took Client) d y_server y_client))
+    (fit_settling (is_over (next_item g at)) (given_up_at at) c e (edges_noted two x) (took_all at took Server) (took_all at took Client) d y_server y_client))
 
 pub fit_behind : (t : ConnTurn) (g : Setup) (took : TakenCounts) (at : TraceState) (c : ℕ) (e : Edges) (d : ℕ) → HalvesThere took at e → Fit (told_behind t g took at c e d) e
 fit_behind t g took at c e d k = by_rest (is_resting t)

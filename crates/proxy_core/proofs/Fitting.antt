@@ -31,7 +31,7 @@ use Rattle.conn_trace.specs.Tellings.{own}
 use Rattle.conn_trace.specs.Trace.{next_item, Unfolds}
 use Rattle.conn_trace.proofs.Stepping.{steps}
 use Rattle.conn.specs.RunsItems.{Passes, told_behind}
-use Rattle.conn.specs.Settling.{closing, is_over, settling_at, took_all}
+use Rattle.conn.specs.Settling.{closing, is_over, settling_at, took_all, given_up_at}
 use Rattle.shared_store.specs.Calls.{reply}
 use Rattle.shared_store.specs.Store.{StoreState}
 use Rattle.proxy_core.specs.Calls.{asker}
@@ -61,6 +61,7 @@ use Rattle.proxy_core.proofs.ServerLeft.{unserved_at}
 use Rattle.proxy_core.proofs.SoundPast.{front_served, leads_sound}
 use Rattle.proxy_core.proofs.ServerGone.{never}
 use Rattle.proxy_core.proofs.DueFits.{Begun, client_begun, fit_settling, fit_closing, HalvesThere, fit_behind, about_behind}
+use Rattle.proxy_core.proofs.PlainRuns.{runs_noted, out_told}
 
 -- ---- a half-close is due on a connection that relays
 
@@ -203,8 +204,8 @@ module _ (C : Config) (past : Past) (old : State) (sound : Sound C past old) whe
           let notes = settling_at (setup_of C now) took there c met d in
           let P : Edges → Type 0 = λ y. Fit notes y in
           let same : e ≡ met = ap (λ b. if b then met else (heard c past).edges) (eq_self c) in
-          fit_told c group notes e k.notes (due_about c notes (settling_due over c met (took_all there took Server) (took_all there took Client) d))
-          (subst P (sym same) (fit_settling over c met met (took_all there took Server) (took_all there took Client) d refl refl))
+          fit_told c group notes e k.notes (due_about c notes (settling_due over (given_up_at there) c met (took_all there took Server) (took_all there took Client) d))
+          (subst P (sym same) (fit_settling over (given_up_at there) c met met (took_all there took Server) (took_all there took Client) d refl refl))
       by_failed false (inr k) = fit_told c group (note.Finish c Memory ∷ []) e k.notes (refl, tt) (refl, tt)
 
   run_fits : (c : ℕ) (rest : List ℕ) (group : List Note) (new : State) → old.ring ≡ c ∷ rest → MovesFront C (heard c past) c rest group old new → Fit (own c group) (heard c past).edges
@@ -226,13 +227,13 @@ module _ (C : Config) (past : Past) (old : State) (sound : Sound C past old) whe
           let d = untaken_all h (old.places c ++ k.more) in
           let e = edges_noted (notes_of c k.more) h.edges in
           let r = front_fits c k.more k.at found v.0 v.1 k.items.passes in
-          behind k.more (told_behind k.turn (setup_of C h) (taken h) k.at c e d) k.items.noted (about_behind k.turn (setup_of C h) (taken h) k.at c e d) r.items (fit_behind k.turn (setup_of C h) (taken h) k.at c e d r.halves)
+          behind k.more (told_behind k.turn (setup_of C h) (taken h) k.at c e d) (runs_noted k.items) (about_behind k.turn (setup_of C h) (taken h) k.at c e d) r.items (fit_behind k.turn (setup_of C h) (taken h) k.at c e d r.halves)
       by_failed false found (inr k) =
           let v = front_served C past c rest old ring (sound.each c) in
           let d = untaken_all h (old.places c ++ k.more) in
           let e = edges_noted (notes_of c k.more) h.edges in
           let r = front_fits c k.more k.at found v.0 v.1 k.passes in
-          behind k.more (note.Finish c Memory ∷ closing c e d) k.notes (refl, due_about c (closing c e d) (closing_due c e d)) r.items (refl, fit_closing c e d)
+          behind k.more (note.Finish c Memory ∷ closing c e d) (out_told k) (refl, due_about c (closing c e d) (closing_due c e d)) r.items (refl, fit_closing c e d)
 
   ring_fits : (ring : List ℕ) (group : List Note) (new : State) → old.ring ≡ ring → MovesRing C past ring group old new → Fit (own (front ring) group) (heard (front ring) past).edges
   ring_fits [] group new e m = none_fits 0 group (heard 0 past).edges m.0

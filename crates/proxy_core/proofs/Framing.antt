@@ -23,8 +23,8 @@ use Rattle.proxy_core.specs.declared.call.Asked.{Asked}
 use Rattle.proxy_core.specs.Others.{about, front}
 use Rattle.record_model.specs.Past.{Past, heard, ended_in, without_all, with_accepted, shared}
 use Rattle.proxy_core.specs.Ready.{is_in, ring_behind, with_ready, without}
-use Rattle.conn.specs.RunsItems.{is_resting, out_of_memory, slices_in, told_behind}
-use Rattle.conn.specs.Settling.{closing, resting, settling_at}
+use Rattle.conn.specs.RunsItems.{is_resting, slices_in, told_behind}
+use Rattle.conn.specs.Settling.{closing, resting, settling_at, given_up_at}
 use Rattle.core_events.specs.Edges.{edges_noted}
 use Rattle.conn_trace.specs.Gates.{TakenCounts}
 use Rattle.conn_trace.specs.Setup.{Setup}
@@ -40,6 +40,7 @@ use Rattle.conn.specs.Settling.{is_over, took_all}
 use Rattle.conn_trace.specs.Trace.{next_item}
 use Rattle.px_bytes.specs.declared.addr.Side.TheVariants.{Client, Server}
 use Rattle.proxy_core.proofs.Members.{eq_same, eq_turned, in_pushed_other, in_without_other}
+use Rattle.proxy_core.proofs.PlainRuns.{runs_noted, out_notes, out_told}
 
 not_concerned : (q : ℕ) (v : EventKind) (s : State) → nat_eq (about v s) q ≡ false → concerns q v ≡ false
 not_concerned q (Accepts c vs from) s e = e
@@ -92,7 +93,7 @@ comes_touch over c group notes old new a e f = touched c group notes old new (ca
 
 -- what is due is about it
 pub about_settling : (g : Setup) (took : TakenCounts) (at : TraceState) (c : ℕ) (e : Edges) (d : ℕ) → About c (settling_at g took at c e d)
-about_settling g took at c e d = due_about c (settling_at g took at c e d) (settling_due (is_over (next_item g at)) c e (took_all at took Server) (took_all at took Client) d)
+about_settling g took at c e d = due_about c (settling_at g took at c e d) (settling_due (is_over (next_item g at)) (given_up_at at) c e (took_all at took Server) (took_all at took Client) d)
 
 pub about_behind : (t : ConnTurn) (g : Setup) (took : TakenCounts) (at : TraceState) (c : ℕ) (e : Edges) (d : ℕ) → About c (told_behind t g took at c e d)
 about_behind t g took at c e d = by_rest (is_resting t)
@@ -125,13 +126,13 @@ by_ring C past (c ∷ rest) group old new e m = by_failed (heard c past).failed 
         let ends = edges_noted (notes_of c k.more) h.edges in
         let d = untaken_all h (old.places c ++ k.more) in
         let behind = told_behind k.turn (setup_of C h) (taken h) k.at c ends d in
-        ran_touch c rest (ring_behind k.turn c rest) (queue_behind k.turn c old.queue) k.more (slices_in k.turn (length group)) group (notes_of c k.more ++ behind) old new e (λ q h. entries_behind k.turn c q rest h) (λ q h. calls_behind k.turn c q old.queue h) k.items.noted
+        ran_touch c rest (ring_behind k.turn c rest) (queue_behind k.turn c old.queue) k.more (slices_in k.turn (length group)) group (notes_of c k.more ++ behind) old new e (λ q h. entries_behind k.turn c q rest h) (λ q h. calls_behind k.turn c q old.queue h) (runs_noted k.items)
         (about_joined c (notes_of c k.more) behind (about_items c (notes_of c k.more) (of_items c k.more)) (about_behind k.turn (setup_of C h) (taken h) k.at c ends d)) k.state
     by_failed false (inr k) =
         let h = heard c past in
         let ends = edges_noted (notes_of c k.more) h.edges in
         let d = untaken_all h (old.places c ++ k.more) in
-        ran_touch c rest rest old.queue k.more 0 group (out_of_memory c h.edges k.more d) old new e (λ q h. refl) (λ q h. refl) k.notes
+        ran_touch c rest rest old.queue k.more 0 group (out_notes c h.edges k.more d) old new e (λ q h. refl) (λ q h. refl) (out_told k)
         (about_joined c (notes_of c k.more) (Finish c Memory ∷ closing c ends d) (about_items c (notes_of c k.more) (of_items c k.more)) (refl, due_about c (closing c ends d) (closing_due c ends d))) k.state
 
 by_input : (C : Config) (past : Past) (c : ℕ) (input : Input) (group : List Note) (old new : State) → MovesCome C input (heard c past) (hears c (heard c past) (Comes c input) group) c group old new → Touches c group old new

@@ -14,7 +14,7 @@ use Rattle.conn_trace.specs.Setup.{Setup}
 use Rattle.conn_trace.specs.State.{TraceState}
 use Rattle.conn_trace.specs.Trace.{next_item}
 use Rattle.core_events.specs.declared.edges.Edges.{Edges}
-use Rattle.conn.specs.Settling.{close_notes, client_notes, closing, half_close, is_drained, is_over, is_there, note_if, resting, server_notes, settling, settling_at, took_all}
+use Rattle.conn.specs.Settling.{close_notes, client_notes, closing, half_close, is_drained, is_over, is_there, note_if, resting, server_notes, settling, settling_at, took_all, given_up_at}
 use Rattle.px_bytes.specs.declared.addr.Side.{Side}
 use Rattle.px_bytes.specs.declared.addr.Side.TheVariants.{Client, Server}
 use Rattle.conn_trace.specs.HeardLaws.{TellsNothing}
@@ -225,9 +225,9 @@ close_due c server client e = due_both c (server_notes c server e) (client_notes
 pub closing_due : (c : ℕ) (e : Edges) (d : ℕ) → AreDue c (closing c e d)
 closing_due c e d = due_both c (close_notes c true true e) (note.Ended c d ∷ []) (close_due c true true e) (ended_is_due c d, tt)
 
-pub settling_due : (over : Bool) (c : ℕ) (e : Edges) (server client : Bool) (d : ℕ) → AreDue c (settling over c e server client d)
-settling_due true c e server client d = due_both c (close_notes c server client e) (note_if (client && server) (note.Ended c d)) (close_due c server client e) (due_if c (client && server) (note.Ended c d) (ended_is_due c d))
-settling_due false c e server client d = tt
+pub settling_due : (over given : Bool) (c : ℕ) (e : Edges) (server client : Bool) (d : ℕ) → AreDue c (settling over given c e server client d)
+settling_due true given c e server client d = due_both c (close_notes c server client e) (note_if (client && server) (note.Ended c d)) (close_due c server client e) (due_if c (client && server) (note.Ended c d) (ended_is_due c d))
+settling_due false given c e server client d = due_if c ((given && server) && is_there e.server.state) (note.CloseServer c) (server_is_due c)
 
 half_due : (took : TakenCounts) (at : TraceState) (c : ℕ) (e : Edges) (side : Side) → AreDue c (half_close took at c e side)
 half_due took at c e side = due_if c (half_close_due at took side && not (edge_of side e).half) (note.HalfClose c side) (half_is_due c side)
@@ -235,7 +235,7 @@ half_due took at c e side = due_if c (half_close_due at took side && not (edge_o
 pub resting_due : (g : Setup) (took : TakenCounts) (at : TraceState) (c : ℕ) (e : Edges) (d : ℕ) → AreDue c (resting g took at c e d)
 resting_due g took at c e d =
     due_both c (half_close took at c e Client) (half_close took at c e Server ++ settling_at g took at c e d) (half_due took at c e Client)
-    (due_both c (half_close took at c e Server) (settling_at g took at c e d) (half_due took at c e Server) (settling_due (is_over (next_item g at)) c e (took_all at took Server) (took_all at took Client) d))
+    (due_both c (half_close took at c e Server) (settling_at g took at c e d) (half_due took at c e Server) (settling_due (is_over (next_item g at)) (given_up_at at) c e (took_all at took Server) (took_all at took Client) d))
 
 -- ---- which of them end it
 
@@ -264,15 +264,15 @@ ended_last : (b : Bool) (c d : ℕ) → ended_in (note_if b (note.Ended c d)) �
 ended_last true c d = refl
 ended_last false c d = refl
 
-pub ended_settling : (over : Bool) (c : ℕ) (e : Edges) (server client : Bool) (d : ℕ) → ended_in (settling over c e server client d) ≡ (if over && (client && server) then c ∷ [] else [])
-ended_settling true c e server client d =
+pub ended_settling : (over given : Bool) (c : ℕ) (e : Edges) (server client : Bool) (d : ℕ) → ended_in (settling over given c e server client d) ≡ (if over && (client && server) then c ∷ [] else [])
+ended_settling true given c e server client d =
     ended_on (close_notes c server client e) (note_if (client && server) (note.Ended c d)) ∙ ap (λ x. x ++ ended_in (note_if (client && server) (note.Ended c d))) (ended_closes c server client e)
     ∙ ended_last (client && server) c d
-ended_settling false c e server client d = refl
+ended_settling false given c e server client d = ended_none ((given && server) && is_there e.server.state) (note.CloseServer c) refl
 
 -- it ends exactly where both sides took all and its trace is over
 pub ended_settling_at : (g : Setup) (took : TakenCounts) (at : TraceState) (c : ℕ) (e : Edges) (d : ℕ) → ended_in (settling_at g took at c e d) ≡ (if is_drained g took at then c ∷ [] else [])
-ended_settling_at g took at c e d = ended_settling (is_over (next_item g at)) c e (took_all at took Server) (took_all at took Client) d
+ended_settling_at g took at c e d = ended_settling (is_over (next_item g at)) (given_up_at at) c e (took_all at took Server) (took_all at took Client) d
 
 pub ended_resting : (g : Setup) (took : TakenCounts) (at : TraceState) (c : ℕ) (e : Edges) (d : ℕ) → ended_in (resting g took at c e d) ≡ (if is_drained g took at then c ∷ [] else [])
 ended_resting g took at c e d =

@@ -32,6 +32,8 @@ pub mod ServerCounts
 pub mod Linking
 pub mod LinkedComes
 pub mod ServerLeft
+pub mod PlainServers
+pub mod PlainRuns
 pub mod Licensing
 pub mod SoundAccepts
 pub mod SoundComes

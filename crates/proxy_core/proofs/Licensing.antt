@@ -18,7 +18,7 @@ use Rattle.conn_trace.specs.Heard.{start_of}
 use Rattle.conn_trace.specs.HeardLaws.{cut_for, cut_in, TellsNothing}
 use Rattle.conn_trace.specs.Item.{Item, Reason, Closed, Tcl, Http, Unselected, Rejected, CutBy, choices_in, notes_of, shown}
 use Rattle.conn_trace.specs.Setup.{Setup}
-use Rattle.conn_trace.specs.State.{Cut, TraceState}
+use Rattle.conn_trace.specs.State.{Cut, TraceState, link_of}
 use Rattle.conn_trace.specs.Tellings.{notes_about, cut_told, finish_told}
 use Rattle.conn_trace.specs.Trace.{Unfolds}
 use Rattle.conn_trace.proofs.Streams.{nothing_on_last}
@@ -36,6 +36,8 @@ use Rattle.proxy_core.proofs.ServerLaws.{made_along, unserved, unserved_longer}
 use Rattle.proxy_core.proofs.ServerLeft.{all_made, unserved_at}
 use Rattle.proxy_core.proofs.ServerGone.{never}
 use Rattle.proxy_core.proofs.ServerSteps.{rest_side}
+use Rattle.std.proofs.lemmas.Bool.{and_parts}
+use Rattle.conn_trace.specs.Places.{is_up}
 
 abbrev pub Licensed : Heard → Type 0
 Licensed h = (cut : Cut) → h.cut ≡ Some cut → licenses h cut.reason ≡ true
@@ -160,7 +162,7 @@ rest_licensed g plain c h place more l e ServerReset u lk k =
     let count : made l.answers.connects + l.sent.number ≡ made k.mid.answers.connects + k.mid.sent.number = ap (λ cs. made cs + l.sent.number) (sym same) ∙ made_along g l' k.mid k.first un k.passed in
     let none : k.mid.answers.connects ≡ [] = by_waits k.mid (awaits k.mid.phase) refl (rest_side g k.mid (taken h) (there.plain.plain refl) there.orderly there.not_up k.rests) (none_waits k.mid.finished k.mid _ linked.linked) in
     let number : made h.connects ≡ k.mid.sent.number = all_made g plain h place l u ∙ count ∙ ap (λ cs. made cs + k.mid.sent.number) none ∙ zero-add k.mid.sent.number in
-    reset_by (last_reset h.connects) (last_took h.connects) (ap is_none (sym (ap (taken_of (servers_taken h.connects)) (sym number) ∙ taken_last h.connects)) ∙ k.licensed)
+    reset_by (last_reset h.connects) (last_took h.connects) (ap is_none (sym (ap (taken_of (servers_taken h.connects)) (sym number) ∙ taken_last h.connects)) ∙ (and_parts (is_up (link_of k.mid.server)) _ k.licensed).1)
   where
     by_waits : (mid : TraceState) (b : Bool) → awaits mid.phase ≡ b → (awaits mid.phase ≡ true → mid.answers.connects ≡ []) → (awaits mid.phase ≡ false → mid.answers.connects ≡ []) → mid.answers.connects ≡ []
     by_waits mid true e there gone = there e

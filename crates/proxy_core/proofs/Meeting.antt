@@ -430,12 +430,36 @@ server_queued (Takes Client n) f e = refl
 server_queued (Takes Server n) f e = refl
 server_queued (Connects made) f e = refl
 
+ends_lost : (i : Input) (finished : Bool) (e : BothEnds) → (ends_met i finished e).lost ≡ e.lost
+ends_lost (Bytes Client bytes) true e = refl
+ends_lost (Bytes Client bytes) false e = refl
+ends_lost (Bytes Server bytes) true e = refl
+ends_lost (Bytes Server bytes) false e = by_stream (has_stream e.link)
+  where
+    by_stream : (b : Bool) → (if b then record e { server = heard_end (record { bytes = bytes; ended = false }) e.server } else e).lost ≡ e.lost
+    by_stream true = refl
+    by_stream false = refl
+ends_lost (Ends Client) true e = refl
+ends_lost (Ends Client) false e = refl
+ends_lost (Ends Server) true e = refl
+ends_lost (Ends Server) false e = by_stream (has_stream e.link)
+  where
+    by_stream : (b : Bool) → (if b then record e { server = heard_end (record { bytes = []; ended = true }) e.server } else e).lost ≡ e.lost
+    by_stream true = refl
+    by_stream false = refl
+ends_lost (Resets Client) f e = refl
+ends_lost (Resets Server) f e = refl
+ends_lost (Takes Client n) f e = refl
+ends_lost (Takes Server n) f e = refl
+ends_lost (Connects made) f e = refl
+
 pub queues_met : (h h' : Heard) (i : Input) (finished : Bool) (place : List Item) (e : BothEnds) → around h' ≡ met_by i finished (around h) → AnswersFirst i (around h) → HoldsQueues h place e → HoldsQueues h' place (ends_met i finished e)
 queues_met h h' i f place e is first q = record {
   client = client_queued i f e ∙ ap (drop (took_client i)) q.client ∙ drop-drop (took_client i) h.client.took (client_output place)
       ∙ ap (λ n. drop n (client_output place)) (sym (ap (λ x. x.counted) is ∙ client_counted i f (around h)));
   server = server_queued i f e ∙ ap (drop (took_server i)) q.server ∙ drop-drop (took_server i) (last_took h.connects) (server_output 1 place)
       ∙ ap (λ n. drop n (server_output 1 place)) (sym (ap (λ x. x.counted_server) is ∙ server_counted i f (around h) first));
+  lost = ends_lost i f e ∙ q.lost;
 }
 
 -- an event that neither brings nor marks anything leaves what was told

@@ -26,7 +26,7 @@ use Rattle.conn_trace.specs.Trace.{next_item, Unfolds}
 use Rattle.conn_trace.proofs.Stepping.{steps}
 use Rattle.conn_trace.proofs.Streams.{nothing_on_last}
 use Rattle.conn.specs.RunsItems.{Passes, is_resting, told_behind}
-use Rattle.conn.specs.Settling.{closing, is_over, resting, settling_at, took_all}
+use Rattle.conn.specs.Settling.{closing, is_over, resting, settling_at, took_all, given_up_at}
 use Rattle.conn.specs.declared.turn.ConnTurn.{ConnTurn}
 use Rattle.shared_store.specs.Calls.{reply}
 use Rattle.shared_store.specs.Store.{StoreState}
@@ -61,6 +61,7 @@ use Rattle.proxy_core.proofs.ServerLeft.{all_made, unserved_at}
 use Rattle.proxy_core.proofs.ServerPhases.{SideBy}
 use Rattle.proxy_core.proofs.ServerSteps.{item_side}
 use Rattle.proxy_core.proofs.SoundPast.{front_served, leads_sound, may_come_at}
+use Rattle.proxy_core.proofs.PlainRuns.{runs_noted, out_told}
 
 -- ---- along items a server is asked for where none was made
 
@@ -182,7 +183,7 @@ module _ (C : Config) (past : Past) (old : State) (sound : Sound C past old) whe
           let there = stand_of C now (old.places c) in
           let d = untaken_all now (old.places c) in
           let notes = settling_at (setup_of C now) (taken now) there c met d in
-          let due = settling_due (is_over (next_item (setup_of C now) there)) c met (took_all there (taken now) Server) (took_all there (taken now) Client) d in
+          let due = settling_due (is_over (next_item (setup_of C now) there)) (given_up_at there) c met (took_all there (taken now) Server) (took_all there (taken now) Client) d in
           come_makes c input group notes k fine j.notes (due_about c notes due) (due_asks c notes due)
       by_failed false (inr j) = come_makes c input group (Finish c Memory ∷ []) k fine j.notes (refl, tt) (λ e x. x)
 
@@ -224,12 +225,12 @@ module _ (C : Config) (past : Past) (old : State) (sound : Sound C past old) whe
           let e = edges_noted (notes_of c k.more) h.edges in
           let d = untaken_all h (old.places c ++ k.more) in
           let due = behind_due k.turn (setup_of C h) (taken h) k.at c e d in
-          behind k.more k.at (told_behind k.turn (setup_of C h) (taken h) k.at c e d) found k.items.passes k.items.noted (due_about c _ due) (due_asks c _ due)
+          behind k.more k.at (told_behind k.turn (setup_of C h) (taken h) k.at c e d) found k.items.passes (runs_noted k.items) (due_about c _ due) (due_asks c _ due)
       by_failed false found (inr k) =
           let e = edges_noted (notes_of c k.more) h.edges in
           let d = untaken_all h (old.places c ++ k.more) in
           let due = closing_due c e d in
-          behind k.more k.at (Finish c Memory ∷ closing c e d) found k.passes k.notes (refl, due_about c (closing c e d) due) (due_asks c (closing c e d) due)
+          behind k.more k.at (Finish c Memory ∷ closing c e d) found k.passes (out_told k) (refl, due_about c (closing c e d) due) (due_asks c (closing c e d) due)
 
   rest_one : (c : ℕ) (v : EventKind) (group : List Note) → group ≡ [] → makes c v ≡ 0 → event_edges c v (heard c past).edges ≡ (heard c past).edges → OneMade (servers_made c past) (heard c past).edges → OneMade (servers_made c past + makes c v) (hears c (heard c past) v group).edges
   rest_one c v group is none same one = after_by c v group [] one is tt none (λ x. one.asked (subst IsSought same x))

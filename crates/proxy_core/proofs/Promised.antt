@@ -224,28 +224,28 @@ client_took_all C c z k e n kept =
 -- ---- at rest no cut is due
 
 -- for this reason none goes on, where it is no licence there
-no_cut_by : (finished licensed takes : Bool) → (finished ≡ false → licensed ≡ false) → licensed ≡ true → (not finished && takes) ≡ false
+no_cut_by : (finished licensed takes : Bool) → (finished ≡ false → licensed ≡ false) → (finished ≡ false → licensed ≡ true) → (not finished && takes) ≡ false
 no_cut_by true licensed takes none e = refl
-no_cut_by false licensed takes none e = let f : true ≡ false = sym e ∙ none refl in cc
+no_cut_by false licensed takes none e = let f : true ≡ false = sym (e refl) ∙ none refl in cc
 
 neither : (finished a b : Bool) → (if finished then false else (if a then true else b)) ≡ false → finished ≡ false → (a ≡ false) × (b ≡ false)
 neither true a b e f = cc
 neither false true b e f = cc
 neither false false b e f = (refl, e)
 
-pub rest_not_cut : (g : Setup) (took : TakenCounts) (l : TraceState) → is_cut took l ≡ false → (reason : CutReason) → licenses reason l.sent took ≡ true
+pub rest_not_cut : (g : Setup) (took : TakenCounts) (l : TraceState) → is_cut took l ≡ false → (reason : CutReason) → (l.finished ≡ false → licenses reason l took ≡ true)
     → cut_is_taken g (record { reason = reason; took = took }) l ≡ false
 rest_not_cut g took l none ClientReset e =
-    no_cut_by l.finished (licenses ClientReset l.sent took) (takes_cut g (record { reason = ClientReset; took = took }) l.sent (next_item g l))
-    (λ f. (neither l.finished (licenses ClientReset l.sent took) (licenses ServerReset l.sent took) none f).0) e
+    no_cut_by l.finished (licenses ClientReset l took) (takes_cut g (record { reason = ClientReset; took = took }) l.sent (next_item g l))
+    (λ f. (neither l.finished (licenses ClientReset l took) (licenses ServerReset l took) none f).0) e
 rest_not_cut g took l none ServerReset e =
-    no_cut_by l.finished (licenses ServerReset l.sent took) (takes_cut g (record { reason = ServerReset; took = took }) l.sent (next_item g l))
-    (λ f. (neither l.finished (licenses ClientReset l.sent took) (licenses ServerReset l.sent took) none f).1) e
-rest_not_cut g took l none Idle e = cc
+    no_cut_by l.finished (licenses ServerReset l took) (takes_cut g (record { reason = ServerReset; took = took }) l.sent (next_item g l))
+    (λ f. (neither l.finished (licenses ClientReset l took) (licenses ServerReset l took) none f).1) e
+rest_not_cut g took l none Idle e = no_cut_by l.finished false (takes_cut g (record { reason = Idle; took = took }) l.sent (next_item g l)) (λ f. refl) e
 
 -- a reset of the client is a licence there
-pub client_license : (h : Heard) (sent : Counts) → h.client.reset ≡ true → licenses ClientReset sent (taken h) ≡ true
-client_license h sent e = ap (λ b. is_none (taken_by b h.client.took)) e
+pub client_license : (h : Heard) (at : TraceState) → h.client.reset ≡ true → licenses ClientReset at (taken h) ≡ true
+client_license h at e = ap (λ b. is_none (taken_by b h.client.took)) e
 
 -- ---- a settled one that has finished has ended
 

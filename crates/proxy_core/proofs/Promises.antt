@@ -29,8 +29,8 @@ abbrev ServerFacts : Config → Heard → List Item → Type 0
 ServerFacts C h place = FactsAt (setup_of C h) h place (stand_of C h place)
 
 none_due : (C : Config) (h : Heard) (place : List Item) → ServerFacts C h place → Rested (setup_of C h) (taken h) (stand_of C h place) h.edges → NoCutIsDue C h place
-none_due C h place f r ClientReset e = rest_not_cut (setup_of C h) (taken h) (stand_of C h place) r.no_cut ClientReset (client_license h (stand_of C h place).sent e)
-none_due C h place f r ServerReset e = rest_not_cut (setup_of C h) (taken h) (stand_of C h place) r.no_cut ServerReset (f.license r.gives_no_more e)
+none_due C h place f r ClientReset e = rest_not_cut (setup_of C h) (taken h) (stand_of C h place) r.no_cut ClientReset (λ going. client_license h (stand_of C h place) e)
+none_due C h place f r ServerReset e = rest_not_cut (setup_of C h) (taken h) (stand_of C h place) r.no_cut ServerReset (λ going. f.license going r.gives_no_more e)
 none_due C h place f r Idle e = cc
 
 -- where nothing is dropped both sides took all

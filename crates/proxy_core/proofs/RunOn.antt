@@ -17,7 +17,7 @@ use Rattle.conn_trace.specs.HeardLaws.{TellsNothing, taken_by_items}
 use Rattle.conn_trace.specs.Costs.{paid_by}
 use Rattle.conn_trace.specs.Item.{Item, to_client, to_server, client_output, server_output, notes_of}
 use Rattle.conn_trace.specs.Setup.{Setup}
-use Rattle.conn_trace.specs.State.{TraceState}
+use Rattle.conn_trace.specs.State.{TraceState, link_of}
 use Rattle.conn_trace.specs.Tellings.{notes_about, failure_told}
 use Rattle.conn_trace.specs.Trace.{Unfolds}
 use Rattle.conn_trace.proofs.Costs.{paid_joins}
@@ -54,6 +54,13 @@ use Rattle.proxy_core.proofs.GroupNotes.{About, AreDue, about_items, about_joine
 use Rattle.proxy_core.proofs.Meeting.{around_quiet}
 use Rattle.proxy_core.proofs.Members.{eq_self}
 use Rattle.proxy_core.proofs.Standing.{sent_at}
+use Rattle.proxy_core.proofs.PlainRuns.{runs_noted, out_notes, out_noted}
+use Rattle.proxy_core.proofs.PlainServers.{Numbered, PlainEnds, none_of_length, numbered, numbered_at, numbered_longer, outputs_same, plain_ends, queue_plain}
+use Rattle.proxy_core.proofs.ServerLaws.{Unserved, none_sent, unserved, unserved_longer, number_along}
+use Rattle.proxy_core.proofs.ServerLeft.{unserved_at}
+use Rattle.proxy_core.proofs.Setups.{plain_setup}
+use Rattle.conn.specs.Servers.{queue_along, queue_at_server, run_notes, servers_output}
+use Rattle.conn_trace.specs.Places as model
 
 -- ---- what is told behind its items
 
@@ -76,14 +83,24 @@ pub sent_joined : (s : Counts) (some more : List Item) → sent_from s (some ++ 
 sent_joined s [] more = refl
 sent_joined s (i ∷ some) more = sent_joined (sent_after i s) some more
 
-up_number : (k : Link) → is_up k ≡ true → number_by k ≡ 1
+up_number : (k : Link) → is_up k ≡ true → number_by k 0 ≡ 1
 up_number link.Up e = refl
 up_number link.Absent e = cc
 up_number link.Asked e = cc
 up_number link.Refused e = cc
 up_number link.Made e = cc
+up_number link.GivenUp e = cc
 
-module _ (g : Setup) (h : Heard) (place : List Item) (l : TraceState) (e : Ends) (k : HoldsEnds (around h) l e) (u : Unfolds g (start_of g h) place l) where
+module _ (g : Setup) (plain : g.http ≡ false) (h : Heard) (place : List Item) (l : TraceState) (e : Ends) (k : HoldsEnds (around h) l e) (u : Unfolds g (start_of g h) place l) where
+  un : Unserved l
+  un = unserved_at g plain h place l u
+
+  first : Numbered l
+  first = numbered_at g plain h place l u
+
+  one_server : PlainEnds h l e
+  one_server = plain_ends h l e k un first
+
   client_within : h.client.took ≤ length (client_output place)
   client_within =
       let sent = ap (λ x. x.client) (sent_at g h place l u) in
@@ -95,29 +112,101 @@ module _ (g : Setup) (h : Heard) (place : List Item) (l : TraceState) (e : Ends)
     where
       by_link : (b : Bool) → is_up e.link ≡ b → last_took h.connects ≤ length (server_output 1 place)
       by_link true up =
-          let number : l.sent.number ≡ 1 = k.number ∙ up_number e.link up in
+          let number : l.sent.number ≡ 1 = one_server.number ∙ up_number e.link up in
           let sent : l.sent.server ≡ length (server_output 1 place) = sent_to_server g _ _ l place u ∙ ap (λ n. length (server_output n place)) number in
-          omega (arith, k.server_untaken, sent)
-      by_link false down = let none = k.unsent down in omega (arith, k.server_untaken, none)
+          omega (arith, one_server.server_untaken, sent)
+      by_link false down = let none = one_server.unsent down in omega (arith, one_server.server_untaken, none)
 
-  pub queues_joined : (more : List Item) (new : Ends) → HoldsQueues h place e → new.client.queued ≡ e.client.queued ++ client_output more → new.server.queued ≡ e.server.queued ++ server_output 1 more → HoldsQueues h (place ++ more) new
-  queues_joined more new q client server = record {
-    client = client ∙ ap (λ x. x ++ client_output more) q.client ∙ sym (drop-append-le h.client.took (client_output place) (client_output more) client_within) ∙ ap (drop h.client.took) (sym (flat_map-append to_client place more));
-    server = server ∙ ap (λ x. x ++ server_output 1 more) q.server ∙ sym (drop-append-le (last_took h.connects) (server_output 1 place) (server_output 1 more) server_within)
-        ∙ ap (drop (last_took h.connects)) (sym (flat_map-append (to_server 1) place more));
-  }
+  -- nothing is queued to a server before the first
+  none_queued : l.sent.number ≡ 0 → e.server.queued ≡ []
+  none_queued z = by_link (is_up e.link) refl
+    where
+      by_link : (b : Bool) → is_up e.link ≡ b → e.server.queued ≡ []
+      by_link true up = absurd (let number : l.sent.number ≡ 1 = one_server.number ∙ up_number e.link up in omega (arith, z, number))
+      by_link false down = none_of_length e.server.queued (let none = one_server.unsent down in omega (arith, one_server.server_untaken, none))
 
-  pub sent_behind : (more : List Item) (at : TraceState) → Unfolds g (longer (taken_by_items (taken h) more) l) more at → at.sent ≡ sent_from no_bytes (place ++ more)
-  sent_behind more at on = sent_counted g (longer (taken_by_items (taken h) more) l) at more on ∙ ap (λ s. sent_from s more) (sent_at g h place l u) ∙ sym (sent_joined no_bytes place more)
+  -- on the choices that items took
+  abbrev on_choices : List Item → TraceState
+  on_choices more = longer (taken_by_items (taken h) more) l
+
+  pub queues_joined : (more : List Item) (at : TraceState) (new : Ends) → HoldsQueues h place e → new.client.queued ≡ e.client.queued ++ client_output more → queue_at_server new ≡ queue_along more (queue_at_server e) → server_output 0 more ≡ [] → Unfolds g (on_choices more) more at → HoldsQueues h (place ++ more) new
+  queues_joined more at new q client servers to_none on =
+      let all : queue_at_server new ≡ record { queued = e.server.queued ++ server_output 1 more; lost = 0 } =
+      servers ∙ ap (λ n. queue_along more (record { queued = e.server.queued; lost = n })) q.lost
+      ∙ queue_plain g (on_choices more) at more e.server.queued (unserved_longer (taken_by_items (taken h) more) l un) (numbered_longer (taken_by_items (taken h) more) l first) on to_none none_queued in
+      record {
+        client = client ∙ ap (λ x. x ++ client_output more) q.client ∙ sym (drop-append-le h.client.took (client_output place) (client_output more) client_within) ∙ ap (drop h.client.took) (sym (flat_map-append to_client place more));
+        server = ap (λ x. x.queued) all ∙ ap (λ x. x ++ server_output 1 more) q.server ∙ sym (drop-append-le (last_took h.connects) (server_output 1 place) (server_output 1 more) server_within)
+            ∙ ap (drop (last_took h.connects)) (sym (flat_map-append (to_server 1) place more));
+        lost = ap (λ x. x.lost) all;
+      }
+
+  pub sent_behind : (more : List Item) (at : TraceState) → Unfolds g (on_choices more) more at → at.sent ≡ sent_from no_bytes (place ++ more)
+  sent_behind more at on = sent_counted g (on_choices more) at more on ∙ ap (λ s. sent_from s more) (sent_at g h place l u) ∙ sym (sent_joined no_bytes place more)
+
+  took_none : l.sent.number ≡ 0 → last_took h.connects ≡ 0
+  took_none z = by_link (is_up e.link) refl
+    where
+      by_link : (b : Bool) → is_up e.link ≡ b → last_took h.connects ≡ 0
+      by_link true up = absurd (let number : l.sent.number ≡ 1 = one_server.number ∙ up_number e.link up in omega (arith, z, number))
+      by_link false down = let none = one_server.unsent down in omega (arith, one_server.server_untaken, none)
+
+  -- so much more was sent to the first server connection
+  sent_more : (now : Heard) (more : List Item) (at : TraceState) → Unfolds g (start_of g now) (place ++ more) at → Unfolds g (on_choices more) more at → server_output 0 more ≡ [] → at.sent.server ≡ l.sent.server + length (server_output 1 more)
+  sent_more now more at all on to_none = by_number (which (model.is_up (link_of at.server)) refl)
+    where
+      last : Numbered at
+      last = numbered g (on_choices more) at more (unserved_longer (taken_by_items (taken h) more) l un) (numbered_longer (taken_by_items (taken h) more) l first) on
+
+      which : (b : Bool) → model.is_up (link_of at.server) ≡ b → (at.sent.number ≡ 0) ⊎ (at.sent.number ≡ 1)
+      which true up = inr (last.up up)
+      which false down = inl (last.down down)
+
+      joined : (n : ℕ) → length (server_output n (place ++ more)) ≡ length (server_output n place) + length (server_output n more)
+      joined n = ap length (flat_map-append (to_server n) place more) ∙ length-append (server_output n place) (server_output n more)
+
+      sent_then : at.sent.server ≡ length (server_output at.sent.number (place ++ more))
+      sent_then = sent_to_server g _ _ at (place ++ more) all
+
+      sent_here : l.sent.server ≡ length (server_output l.sent.number place)
+      sent_here = sent_to_server g _ _ l place u
+
+      grows : l.sent.number ≤ at.sent.number
+      grows = number_along g (on_choices more) at more on
+
+      before : (l.sent.number ≡ 0) ⊎ (l.sent.number ≡ 1) → l.sent.server ≡ length (server_output 1 place)
+      before (inl z) =
+          let none = ap length (none_sent g (start_of g h) l place 1 u (omega (arith, z))) in
+          let q = ap length (none_queued z) in
+          let t = took_none z in omega (arith, one_server.server_untaken, q, t, none)
+      before (inr o) = sent_here ∙ ap (λ n. length (server_output n place)) o
+
+      was : (b : Bool) → model.is_up (link_of l.server) ≡ b → (l.sent.number ≡ 0) ⊎ (l.sent.number ≡ 1)
+      was true up = inr (first.up up)
+      was false down = inl (first.down down)
+
+      by_number : (at.sent.number ≡ 0) ⊎ (at.sent.number ≡ 1) → at.sent.server ≡ l.sent.server + length (server_output 1 more)
+      by_number (inl z) =
+          let here : l.sent.number ≡ 0 = omega (arith, grows, z) in
+          let a = sent_then ∙ ap (λ n. length (server_output n (place ++ more))) z ∙ joined 0 in
+          let b = sent_here ∙ ap (λ n. length (server_output n place)) here in
+          let c = ap length to_none in
+          let d = ap length (none_sent g (on_choices more) at more 1 on (omega (arith, z))) in omega (arith, a, b, c, d)
+      by_number (inr o) =
+          let a = sent_then ∙ ap (λ n. length (server_output n (place ++ more))) o ∙ joined 1 in
+          let b = before (was (model.is_up (link_of l.server)) refl) in omega (arith, a, b)
 
   -- what is queued and what was given beside
-  pub out_untaken : (more : List Item) (at : TraceState) → HoldsQueues h place e → Unfolds g (longer (taken_by_items (taken h) more) l) more at → at.sent.server ≡ l.sent.server + length (server_output 1 more)
-      → queued_in e + (length (client_output more) + length (server_output 1 more)) ≡ untaken_all h (place ++ more)
-  out_untaken more at q on sent =
+  pub out_untaken : (now : Heard) (more : List Item) (at : TraceState) → HoldsQueues h place e → Unfolds g (start_of g now) (place ++ more) at → Unfolds g (on_choices more) more at → server_output 0 more ≡ []
+      → queued_in e + (length (client_output more) + length (servers_output more)) ≡ untaken_all h (place ++ more)
+  out_untaken later more at q stands on to_none =
       let client : length e.client.queued ≡ length (client_output place) - h.client.took = ap length q.client ∙ length-drop h.client.took (client_output place) in
       let all : length (client_output (place ++ more)) ≡ length (client_output place) + length (client_output more) = ap length (flat_map-append to_client place more) ∙ length-append (client_output place) (client_output more) in
       let now = ap (λ x. x.server) (sent_behind more at on) in
-      omega (arith, client, all, client_within, k.server_untaken, sent, now)
+      let sent = sent_more later more at stands on to_none in
+      let same = outputs_same g (on_choices more) at more (unserved_longer (taken_by_items (taken h) more) l un) (numbered_longer (taken_by_items (taken h) more) l first) on to_none in
+      let lost = q.lost in
+      omega (arith, client, all, client_within, one_server.server_untaken, sent, now, same, lost)
 
 -- ---- slices
 
@@ -202,13 +291,19 @@ module _ (C : Config) (past : Past) (s : State) (c : ℕ) (rest : List ℕ) wher
         let slices = slices_in t (length group) in
         let next = ran c (ring_behind t c rest) (queue_behind t c s.queue) w.more slices s in
         let paid = slices_paid g w.at new t steps (length group) (s.spent c) place w.more whole (w.pays (1991 * s.spent c) (paid_by place) z.paid) in
-        let queues = queues_joined g h place l old.ends z.holds.ends k.stands w.more new.ends z.queues w.client_queue w.server_queue in
-        let sent = sent_behind g h place l old.ends z.holds.ends k.stands w.more w.at w.items.passes.passed in
-        let left : queued_in new.ends ≡ untaken_all h all = queued_untaken h w.at all new.ends w.holds.ends queues sent in
+        let queues = queues_joined g (plain_setup C h) h place l old.ends z.holds.ends k.stands w.more w.at new.ends z.queues w.client_queue w.servers w.to_none w.items.passes.passed in
+        let sent = sent_behind g (plain_setup C h) h place l old.ends z.holds.ends k.stands w.more w.at w.items.passes.passed in
+        let f = taken_by_items (taken h) w.more in
+        let un = unserved_longer f l (unserved_at g (plain_setup C h) h place l k.stands) in
+        let first = numbered_longer f l (numbered_at g (plain_setup C h) h place l k.stands) in
+        let plain = plain_ends h w.at new.ends w.holds.ends (unserved g (longer f l) w.at w.more un w.items.passes.passed) (numbered g (longer f l) w.at w.more un first w.items.passes.passed) in
+        let left : queued_in new.ends ≡ untaken_all h all = queued_untaken h w.at all new.ends plain queues sent in
         let items = notes_of c w.more in
         let told : Edges → ℕ → List Note = λ e d. told_behind t g (taken h) w.at c (edges_noted items e) d in
         let behind = told h.edges (untaken_all h all) in
-        let noted : group ≡ items ++ behind = w.items.noted ∙ ap (λ e. items ++ told e (queued_in new.ends)) (sym edges) ∙ ap (λ d. items ++ told h.edges d) left in
+        let noted : group ≡ items ++ behind = (runs_noted w.items) ∙ ap (λ e. items ++ told e (queued_in new.ends)) (sym edges) ∙ ap (λ d. items ++ told h.edges d) left in
+        let run_told = w.items.noted ∙ ap (λ e. run_notes c l.sent (taken h) w.more ++ told_behind t g (taken h) w.at c (edges_noted (run_notes c l.sent (taken h) w.more) e) (queued_in new.ends)) (sym edges)
+        ∙ ap (λ d. run_notes c l.sent (taken h) w.more ++ told_behind t g (taken h) w.at c (edges_noted (run_notes c l.sent (taken h) w.more) h.edges) d) left in
         let due : AreDue c behind = told_due t g (taken h) w.at c (edges_noted items h.edges) (untaken_all h all) in
         let ofs = of_items c w.more in
         let about_all : About c (items ++ behind) = about_joined c items behind (about_items c items ofs) (due_about c behind due) in
@@ -227,7 +322,7 @@ module _ (C : Config) (past : Past) (s : State) (c : ℕ) (rest : List ℕ) wher
           ring = refl;
           queue = refl;
           asking = λ x. w.asking ∙ asks_behind t ∙ ap is_any (sym (calls_behind_self t c s.queue none));
-          moves = subst M (sym z.not_failed) (inl (record { more = w.more; at = w.at; turn = t; items = record { passes = w.items.passes; noted = noted; stops = w.items.stops; forward = w.items.forward; calls = w.items.calls }; paid = affords g (around h) w.at new (1991 * (s.spent c + slices)) (paid_by all) w.holds paid; state = refl }));
+          moves = subst M (sym z.not_failed) (inl (record { more = w.more; at = w.at; turn = t; items = record { passes = w.items.passes; kept = w.items.kept; noted = run_told; stops = w.items.stops; forward = w.items.forward; calls = w.items.calls }; paid = affords g (around h) w.at new (1991 * (s.spent c + slices)) (paid_by all) w.holds paid; state = refl }));
           about = subst A (sym noted) about_all;
           ended = ap ended_in noted ∙ ended_behind c items behind ofs ∙ told_ends t g (taken h) w.at c (edges_noted items h.edges) (untaken_all h all) w.items.stops;
           setup = λ x. refl;
@@ -237,6 +332,7 @@ module _ (C : Config) (past : Past) (s : State) (c : ℕ) (rest : List ℕ) wher
             queues = record {
               client = queues.client ∙ ap (λ a. drop a.counted (client_output all)) (sym around_same);
               server = queues.server ∙ ap (λ a. drop a.counted_server (server_output 1 all)) (sym around_same);
+              lost = queues.lost;
             };
             paid = paid_standing C h' g all w.at new (1991 * (s.spent c + slices)) (paid_by all) refl stands paid;
           }))));
@@ -250,10 +346,11 @@ module _ (C : Config) (past : Past) (s : State) (c : ℕ) (rest : List ℕ) wher
         let all = place ++ w.more in
         let next = ran c rest s.queue w.more 0 s in
         let items = notes_of c w.more in
-        let given = queued_in old.ends + (length (client_output w.more) + length (server_output 1 w.more)) in
-        let left : given ≡ untaken_all h all = out_untaken g h place l old.ends z.holds.ends k.stands w.more w.at z.queues w.passes.passed w.sent in
-        let out : Edges → ℕ → List Note = λ e d. out_of_memory c e w.more d in
-        let noted : group ≡ out h.edges (untaken_all h all) = w.noted ∙ ap (λ e. out e given) (sym edges) ∙ ap (out h.edges) left in
+        let given = queued_in old.ends + (length (client_output w.more) + length (servers_output w.more)) in
+        let left : given ≡ untaken_all h all = out_untaken g (plain_setup C h) h place l old.ends z.holds.ends k.stands (hears c h Runs (items ++ [])) w.more w.at z.queues (ran_on z.not_failed w.more w.at [] (due_quiet c [] tt) w.passes) w.passes.passed w.to_none in
+        let out : Edges → ℕ → List Note = λ e d. out_of_memory c e l.sent (taken h) w.more d in
+        let run_told : group ≡ out h.edges (untaken_all h all) = w.noted ∙ ap (λ e. out e given) (sym edges) ∙ ap (out h.edges) left in
+        let noted : group ≡ out_notes c h.edges w.more (untaken_all h all) = out_noted c h.edges l.sent (taken h) w.more (untaken_all h all) w.kept run_told in
         let last = closing c (edges_noted items h.edges) (untaken_all h all) in
         let due = closing_due c (edges_noted items h.edges) (untaken_all h all) in
         let ofs = of_items c w.more in
@@ -264,7 +361,7 @@ module _ (C : Config) (past : Past) (s : State) (c : ℕ) (rest : List ℕ) wher
           ring = ap (λ x. ring_behind x c rest) (sym w.over);
           queue = ap (λ x. queue_behind x c s.queue) (sym w.over);
           asking = λ x. absurd (over_stays t w.over x);
-          moves = subst M (sym z.not_failed) (inr (record { more = w.more; at = w.at; passes = w.passes; no_call = w.no_call; notes = noted; state = refl }));
+          moves = subst M (sym z.not_failed) (inr (record { more = w.more; at = w.at; passes = w.passes; no_call = w.no_call; kept = w.kept; notes = run_told; state = refl }));
           about = subst A (sym noted) (about_joined c items (Finish c Memory ∷ last) (about_items c items ofs) (refl, due_about c last due));
           ended = ap ended_in noted ∙ ended_behind c items (Finish c Memory ∷ last) ofs ∙ ended_closing c (edges_noted items h.edges) (untaken_all h all) ∙ ap (λ x. if ends x then c ∷ [] else []) (sym w.over);
           setup = λ x. absurd (over_stays t w.over x);
@@ -278,7 +375,7 @@ module _ (C : Config) (past : Past) (s : State) (c : ℕ) (rest : List ℕ) wher
     front_runs group t steps S edges (Some old) None z e none asks serves r whole = absurd r
     front_runs group t steps S edges (Some old) (Some new) (inr z) e none asks serves r whole =
         let x = r.failed z.there in
-        front_failed group t (Some new) (queued_in old.ends) z.failed (queued_untaken h (stand_of C h place) place old.ends z.ends z.queues (sent_at (setup_of C h) h place (stand_of C h place) k.stands)) (x.0 ∙ ap (λ y. closing c y (queued_in old.ends)) (sym e)) x.1
+        front_failed group t (Some new) (queued_in old.ends) z.failed (queued_untaken h (stand_of C h place) place old.ends (plain_ends h (stand_of C h place) old.ends z.ends (unserved_at (setup_of C h) (plain_setup C h) h place (stand_of C h place) k.stands) (numbered_at (setup_of C h) (plain_setup C h) h place (stand_of C h place) k.stands)) z.queues (sent_at (setup_of C h) h place (stand_of C h place) k.stands)) (x.0 ∙ ap (λ y. closing c y (queued_in old.ends)) (sym e)) x.1
     front_runs group t steps S edges (Some old) (Some new) (inl z) e none asks serves r whole = by_end (r.runs (setup_of C h) (around h) (stand_of C h place) serves z.holds (asks ∙ ap is_any none))
       where
         by_end : GoesOnWith (setup_of C h) (around h) (stand_of C h place) c old new group t steps ⊎ StopsWithout (setup_of C h) (around h) (stand_of C h place) c old group t → RanConn C past s c rest group t (Some new)

@@ -48,7 +48,7 @@ part_number (Some s) sent = by_peer s.peer
     by_peer ToClient = refl
     by_peer (ToServer k) = refl
 
-same_number : (i : Item) (sent : Counts) → (shown i).renews ≡ false → (sent_after i sent).number ≡ sent.number
+pub same_number : (i : Item) (sent : Counts) → (shown i).renews ≡ false → (sent_after i sent).number ≡ sent.number
 same_number i sent e = part_number (shown i).sends (renewed (shown i).renews sent) ∙ ap (λ b. (renewed b sent).number) e
 
 -- whether it had finished
@@ -178,7 +178,7 @@ counted_sends number sent (Does i m) is = is
 counted_sends number sent (Waits k) is = tt
 counted_sends number sent Over is = tt
 
-item_sends : (g : Setup) (l m : TraceState) (i : Item) → next_item g l ≡ Does i m → SendsTo l.sent.number (shown i).sends
+pub item_sends : (g : Setup) (l m : TraceState) (i : Item) → next_item g l ≡ Does i m → SendsTo l.sent.number (shown i).sends
 unfolding next_item
 item_sends g l m i is =
     let o = phase_next g l.phase l in
@@ -188,7 +188,7 @@ peer_apart : (number k : ℕ) (peer : Peer) (bytes : List ℕ) → number < k �
 peer_apart number k ToClient bytes below is = refl
 peer_apart number k (ToServer j) bytes below is = ap (λ b. if b then bytes else []) (ne_eqb j k (λ e. absurd (omega (arith, below, is, e))))
 
-part_apart : (number k : ℕ) (s : Option Sending) → number < k → SendsTo number s → server_part k s ≡ []
+pub part_apart : (number k : ℕ) (s : Option Sending) → number < k → SendsTo number s → server_part k s ≡ []
 part_apart number k None below is = refl
 part_apart number k (Some s) below is = peer_apart number k s.peer s.bytes below is
 
@@ -197,14 +197,14 @@ renewed_number : (b : Bool) (sent : Counts) → sent.number ≤ (renewed b sent)
 renewed_number true sent = omega arith
 renewed_number false sent = omega arith
 
-number_grows : (g : Setup) (l m : TraceState) (i : Item) → next_item g l ≡ Does i m → l.sent.number ≤ m.sent.number
+pub number_grows : (g : Setup) (l m : TraceState) (i : Item) → next_item g l ≡ Does i m → l.sent.number ≤ m.sent.number
 number_grows g l m i is =
     let sent = ap (λ c. c.number) (sent_step g l m i is) in
     let part = part_number (shown i).sends (renewed (shown i).renews l.sent) in
     let grows = renewed_number (shown i).renews l.sent in
     omega (arith, sent, part, grows)
 
-number_along : (g : Setup) (l m : TraceState) (items : List Item) → Unfolds g l items m → l.sent.number ≤ m.sent.number
+pub number_along : (g : Setup) (l m : TraceState) (items : List Item) → Unfolds g l items m → l.sent.number ≤ m.sent.number
 number_along g l m [] is = let e = ap (λ x. x.sent.number) is in omega (arith, e)
 number_along g l m (i ∷ items) (mid, step, rest) = let a = number_grows g l mid i step in let b = number_along g mid m items rest in omega (arith, a, b)
 

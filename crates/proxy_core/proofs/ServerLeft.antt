@@ -1,9 +1,9 @@
 -- What was told of a server connection agrees with what was sent to it: what it took, what is pending, and its reset.
-use Rattle.std.proofs.Common.{◌≡◌, refl, sym, ap, subst, ◌∙◌, ℕ, zero, suc, ◌+◌, ◌-◌, ◌≤◌, ◌<◌, List, [], ◌∷◌, length, map, Bool, true, false, Option, is_none, arith, zero-add}
+use Rattle.std.proofs.Common.{◌≡◌, refl, sym, ap, subst, ◌∙◌, ℕ, zero, suc, ◌+◌, ◌-◌, ◌≤◌, ◌<◌, List, [], ◌∷◌, length, map, Bool, true, false, Option, is_none, arith, zero-add, ◌&&◌, Some, None}
 use Rattle.px_bytes.specs.declared.addr.Side.TheVariants.{Server}
 use Rattle.core_events.specs.declared.note.CutReason.TheVariants.{ServerReset}
 use Rattle.conn_trace.specs.Gates.{no_bytes, sent_from, to_take, taken_of, untaken}
-use Rattle.conn_trace.specs.Heard.{Heard, taken, taken_by, servers_taken, as_answer, start_of}
+use Rattle.conn_trace.specs.Heard.{Heard, taken, taken_by, servers_taken, as_answer, start_of, SideHeard}
 use Rattle.conn_trace.specs.Item.{Item, server_output}
 use Rattle.conn_trace.specs.Phases.{OrderlyIn}
 use Rattle.conn_trace.specs.Setup.{Setup}
@@ -20,6 +20,8 @@ use Rattle.proxy_core.proofs.ServerLaws.{Unserved, start_unserved, unserved, mad
 use Rattle.proxy_core.proofs.ServerGone.{never, unlinked}
 use Rattle.proxy_core.proofs.ServerSteps.{rest_side}
 use Rattle.proxy_core.proofs.Standing.{sent_at}
+use Rattle.conn_trace.specs.Places.{is_up}
+use Rattle.conn_trace.specs.Queries.{is_reset}
 
 pub unserved_at : (g : Setup) → g.http ≡ false → (h : Heard) (place : List Item) (at : TraceState) → Unfolds g (start_of g h) place at → Unserved at
 unserved_at g plain h place at u = let s = start_of g h in unserved g s at place (start_unserved g plain s.client s.answers) u
@@ -49,7 +51,13 @@ pub record FactsAt (g : Setup) (h : Heard) (place : List Item) (at : TraceState)
   pub kept : last_reset h.connects ≡ false → last_took h.connects + untaken_of h place Server ≡ (sent_from no_bytes place).server
   pub gone : last_reset h.connects ≡ true → untaken_of h place Server ≡ 0
   pub within : last_took h.connects ≤ (sent_from no_bytes place).server
-  pub license : GivesNoMore false at.sent (taken h) (next_item g at) → last_reset h.connects ≡ true → licensed_at ServerReset at.sent (taken h) ≡ true
+  pub license : at.finished ≡ false → GivesNoMore false at.sent (taken h) (next_item g at) → last_reset h.connects ≡ true → licensed_at ServerReset at (taken h) ≡ true
+
+-- none that was made was reset where none was made
+unmade_reset : (cs : List (Option SideHeard)) → made cs ≡ 0 → last_reset cs ≡ false
+unmade_reset [] e = refl
+unmade_reset (None ∷ more) e = unmade_reset more e
+unmade_reset (Some s ∷ more) e = absurd (omega (arith, e))
 
 module _ (g : Setup) (plain : g.http ≡ false) (c : ℕ) (z : Seen) (at : TraceState) (k : ServedAt g c z at) where
   sent : at.sent ≡ sent_from no_bytes z.place
@@ -101,8 +109,16 @@ module _ (g : Setup) (plain : g.http ≡ false) (c : ℕ) (z : Seen) (at : Trace
         kept = λ r. (let b : untaken_of z.heard z.place Server ≡ at.sent.server - last_took cs = by ∙ ap (λ x. untaken at.sent.server (taken_by x (last_took cs))) r in omega (arith, b, fits, server));
         gone = λ r. by ∙ ap (λ x. untaken at.sent.server (taken_by x (last_took cs))) r;
         within = omega (arith, fits, server);
-        license = λ rests r. ap is_none is ∙ ap (λ x. is_none (taken_by x (last_took cs))) r;
+        license = λ going rests r. by_up going r (is_up (link_of at.server)) refl (ap is_none is ∙ ap (λ x. is_none (taken_by x (last_took cs))) r);
       }
+    where
+      -- where none is up none was made
+      by_up : at.finished ≡ false → last_reset z.heard.connects ≡ true → (b : Bool) → is_up (link_of at.server) ≡ b → is_reset at.sent (taken z.heard) Server ≡ true → (is_up (link_of at.server) && is_reset at.sent (taken z.heard) Server) ≡ true
+      by_up going r true up reset = ap (λ b. b && is_reset at.sent (taken z.heard) Server) up ∙ reset
+      by_up going r false down reset =
+          let none = (unserved_at g plain z.heard z.place at k.stands).first going down in
+          let count = last_is_present g plain z.heard z.place at k.stands e in
+          never (sym (unmade_reset z.heard.connects (count ∙ none)) ∙ r)
 
   -- while an answer waits there was no server before, and the new one took nothing
   waiting_facts : awaits at.phase ≡ true → (at.answers.connects ≡ [] → ⊥) → FactsAt g z.heard z.place at
@@ -118,7 +134,7 @@ module _ (g : Setup) (plain : g.http ≡ false) (c : ℕ) (z : Seen) (at : Trace
         kept = λ r. omega (arith, left, none, empty, nothing, server);
         gone = λ r. left ∙ none;
         within = omega (arith, nothing);
-        license = λ rests r. absurd (some (rest_side g at (taken z.heard) (un.plain.plain refl) un.orderly un.not_up rests waits));
+        license = λ going rests r. absurd (some (rest_side g at (taken z.heard) (un.plain.plain refl) un.orderly un.not_up rests waits));
       }
     where
       took_none : at.sent.number ≡ 0 → (i : ℕ) → took_of z.heard.connects i ≡ 0

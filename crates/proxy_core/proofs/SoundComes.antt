@@ -27,7 +27,7 @@ use Rattle.conn_trace.proofs.Longer.{next_same}
 use Rattle.conn_trace.proofs.Stepping.{finishes_once}
 use Rattle.conn_trace.proofs.Taking.{met_more}
 use Rattle.conn.specs.Calls.{unless_finished}
-use Rattle.conn.specs.Settling.{is_drained, is_over, is_there, settling, settling_at, took_all}
+use Rattle.conn.specs.Settling.{is_drained, is_over, is_there, settling, settling_at, took_all, given_up_at, server_notes}
 use Rattle.proxy_core.specs.Calls.{calls_of, is_any}
 use Rattle.record_model.specs.History.{called_in, entries_in}
 use Rattle.proxy_core.specs.Live.{further_in}
@@ -56,6 +56,10 @@ use Rattle.proxy_core.proofs.Overs.{over_at, over_stays}
 use Rattle.proxy_core.proofs.Standing.{longer_pays, sent_at, served_at}
 use Rattle.proxy_core.proofs.Sums.{causes_due, shown_due}
 use Rattle.proxy_core.proofs.SoundAccepts.{or_false}
+use Rattle.proxy_core.proofs.PlainServers.{plain_given}
+use Rattle.proxy_core.proofs.ServerLaws.{unserved_longer}
+use Rattle.proxy_core.proofs.ServerLeft.{unserved_at}
+use Rattle.proxy_core.proofs.Setups.{plain_setup}
 
 -- Comes
 pub ring_came : (over : Bool) (c : ℕ) (old : State) → entries c (came c over old).ring ≡ (if over then rest_of (entries c old.ring) else woken_of (is_any (calls_of c old.queue)) c (entries c old.ring))
@@ -247,7 +251,8 @@ come_served C past c input group over old distinct m found is drained =
     let took = taken h' in
     let d = untaken_all h' z.place in
     let e = edges_met input h.edges in
-    let due : AreDue c group = (let D : List Note → Type 0 = λ ns. AreDue c ns in subst D (sym is) (settling_due (is_over (next_item g at)) c e (took_all at took Server) (took_all at took Client) d)) in
+    let p = plain_given at (unserved_longer f l (unserved_at g (plain_setup C h) h z.place l k.stands)) in
+    let due : AreDue c group = (let D : List Note → Type 0 = λ ns. AreDue c ns in subst D (sym is) (settling_due (is_over (next_item g at)) (given_up_at at) c e (took_all at took Server) (took_all at took Client) d)) in
     let about = due_about c group due in
     let t = come_told c h input group about in
     let quiet = due_quiet c group due in
@@ -272,12 +277,12 @@ come_served C past c input group over old distinct m found is drained =
     let sent = sent_at g h' z.place at stands in
     let opens = over_then C c z h' f k same uncut (quiet.cut _) stands in
     let now : (side : Side) → is_closed (edge_of side h'.edges).state ≡ true → ClosedNow g at h' z.place side = λ side q. either
-    (settling_closed g took at c e e d side (let Q : Edges → Type 0 = λ x. is_closed (edge_of side x).state ≡ true in subst Q edges q))
+    (settling_closed g took at p c e e d side (let Q : Edges → Type 0 = λ x. is_closed (edge_of side x).state ≡ true in subst Q edges q))
     (λ o p. record { next = over_at (next_item g at) o; finished = same ∙ opens (over_at (next_item g at) o); none = ap (λ s. to_take s took side) (sym sent) ∙ eqb-true (to_take at.sent took side) 0 p })
     (λ w. (let b = met_closed input h.edges side w in let o = k.closed_over found side b in record { next = over_stays g l f o.1 o.0; finished = o.1; none = side_less (sent_from no_bytes z.place) (taken h) took side more (took_each c z k.ends found side b) })) in
     let finished : h'.finished ≡ h.finished = t.finished ∙ ap (λ b. h.finished || b) (due_finish c group due) ∙ or_false h.finished in
     let goes : h.finished ≡ false → is_over (next_item g at) ≡ false = λ x. unless (is_over (next_item g at)) (λ o. (let y = sym (opens (over_at (next_item g at) o)) ∙ x in cc)) in
-    let state : h.finished ≡ false → h'.edges.server.state ≡ e.server.state = λ x. ap (λ y. y.server.state) edges ∙ ap (λ b. (edges_noted (settling b c e (took_all at took Server) (took_all at took Client) d) e).server.state) (goes x) in
+    let state : h.finished ≡ false → h'.edges.server.state ≡ e.server.state = λ x. ap (λ y. y.server.state) edges ∙ ap (λ b. (edges_noted (settling b (given_up_at at) c e (took_all at took Server) (took_all at took Client) d) e).server.state) (goes x) ∙ ap (λ y. (edges_noted (server_notes c (y && took_all at took Server) e) e).server.state) p in
     let by : EndsBy c d over group = (let E : Bool → Type 0 = λ b. EndsBy c d b group in let N : List Note → Type 0 = λ ns. EndsBy c d (is_drained g took at) ns in subst E (sym drained) (subst N (sym is) (settling_at_ends g took at c e d))) in
     served_at C c z' g at (ap (setup_in C) t.accepted) (record {
       stands = stands;
@@ -287,9 +292,9 @@ come_served C past c input group over old distinct m found is drained =
       shown = ap (filter shows) t.notes ∙ shown_due c h.notes group (notes_of c z.place) due k.shown;
       causes = ap causes_told t.notes ∙ causes_due c h.notes group (map cause_of (reasons_in z.place) ++ causes_behind h.failed) due k.causes ∙ ap (λ b. map cause_of (reasons_in z.place) ++ causes_behind b) (sym failed);
       ends = ends_told c z z' group over k.ends m.live t.notes live by
-          (λ o. (let x = settling_gone g took at c e d (sym drained ∙ o) in (ap (λ y. is_there y.client.state) edges ∙ x.client, ap (λ y. is_there y.server.state) edges ∙ x.server)))
+          (λ o. (let x = settling_gone g took at p c e d (sym drained ∙ o) in (ap (λ y. is_there y.client.state) edges ∙ x.client, ap (λ y. is_there y.server.state) edges ∙ x.server)))
           (λ o. t.finished ∙ or_first h.finished (finish_told (map tells group)) o)
-          (λ o. t.finished ∙ or_first h.finished (finish_told (map tells group)) (opens (over_at (next_item g at) (settling_opens (is_over (next_item g at)) c e (took_all at took Server) (took_all at took Client) d (ap (list_any closes) (sym is) ∙ o)))))
+          (λ o. t.finished ∙ or_first h.finished (finish_told (map tells group)) (opens (over_at (next_item g at) (settling_opens (is_over (next_item g at)) (given_up_at at) p c e (took_all at took Server) (took_all at took Client) d (ap (list_any closes) (sym is) ∙ o)))))
           (λ x side q. (now side q).none);
       closed_over = λ x side q. ((now side q).next, (now side q).finished);
       linked = come_linked h.finished h'.finished input f l h.edges h'.edges (come_further c h input group quiet going) finished m.asked state k.linked;

@@ -43,8 +43,8 @@ use Rattle.proxy_core.specs.Ready.{is_in, ring_behind, without}
 use Rattle.record_model.specs.Refusal.{Row, answers_nothing, by_edges, takes_too_much, refusal_rows, first_of}
 use Rattle.proxy_core.specs.Refusal.{wants_at, standing_by, known, refused}
 use Rattle.proxy_core.specs.Servers.{took_of}
-use Rattle.conn.specs.RunsItems.{asked_at, ends, Passes, StopsAt, out_of_memory, slices_in, told_behind}
-use Rattle.conn.specs.Settling.{closing, is_drained, is_over, resting, settling_at, took_all}
+use Rattle.conn.specs.RunsItems.{asked_at, ends, Passes, StopsAt, slices_in, told_behind}
+use Rattle.conn.specs.Settling.{closing, is_drained, is_over, resting, settling_at, took_all, given_up_at}
 use Rattle.conn_trace.specs.Item.{calls_in}
 use Rattle.conn.specs.declared.turn.ConnTurn.{ConnTurn}
 use Rattle.conn.specs.declared.turn.ConnTurn.TheVariants as turn
@@ -73,8 +73,11 @@ use Rattle.proxy_core.proofs.SoundTurns.{Answers, turned_to, turn_served}
 use Rattle.proxy_core.proofs.SoundRuns.{Behind, ran_at, run_about, run_served, failed_served}
 use Rattle.proxy_core.proofs.LinkedComes.{closing_closes, due_state}
 use Rattle.proxy_core.proofs.ServerCounts.{TookBy, more_of, come_took}
-use Rattle.proxy_core.proofs.ServerLeft.{server_left}
+use Rattle.proxy_core.proofs.ServerLeft.{server_left, unserved_at}
 use Rattle.proxy_core.proofs.Standing.{drained_at, from_served, is_served, is_unseen, more_pays, stands_at}
+use Rattle.proxy_core.proofs.PlainRuns.{runs_noted, out_notes, out_told}
+use Rattle.proxy_core.proofs.PlainServers.{plain_given}
+use Rattle.proxy_core.proofs.ServerLaws.{unserved, unserved_longer}
 
 -- no row holds
 abbrev pub NoneHolds : List Row → Type 0
@@ -198,7 +201,7 @@ own_come C past c input group old new distinct m found j =
     let d = untaken_all now place in
     let there = stand_of C now place in
     let D : List Note → Type 0 = λ ns. AreDue c ns in
-    let due : AreDue c group = subst D (sym j.notes) (settling_due (is_over (next_item (setup_of C now) there)) c e (took_all there (taken now) Server) (took_all there (taken now) Client) d) in
+    let due : AreDue c group = subst D (sym j.notes) (settling_due (is_over (next_item (setup_of C now) there)) (given_up_at there) c e (took_all there (taken now) Server) (took_all there (taken now) Client) d) in
     let about = due_about c group due in
     let t = come_told c h input group about in
     let setup : setup_of C now ≡ g = ap (setup_in C) t.accepted in
@@ -236,18 +239,18 @@ front_served C past c rest old e s =
     is_served C c z (λ u. let n = sym ready ∙ ap (λ y. y.ready) u in cc) s
 
 -- where the front is put
-spot_ran : (t : ConnTurn) (c d : ℕ) (g : Setup) (took : TakenCounts) (at : TraceState) (e : Edges) → StopsAt g took at t → Spot false (not (ends t)) (ready_behind t c) (asked_behind t) g took at (edges_noted (told_behind t g took at c e d) e)
-spot_ran turn.More c d g took at e k = tt
-spot_ran (turn.Asks call) c d g took at e k = k
-spot_ran turn.NotYet c d g took at e k = record { gives_no_more = k.0; no_cut = k.1.1; not_over = k.1.0; told = λ q n. resting_again g took at c q e d n k.1.0 }
-spot_ran turn.Over c d g took at e k = k
+spot_ran : (t : ConnTurn) (c d : ℕ) (g : Setup) (took : TakenCounts) (at : TraceState) (e : Edges) → given_up_at at ≡ false → StopsAt g took at t → Spot false (not (ends t)) (ready_behind t c) (asked_behind t) g took at (edges_noted (told_behind t g took at c e d) e)
+spot_ran turn.More c d g took at e p k = tt
+spot_ran (turn.Asks call) c d g took at e p k = k
+spot_ran turn.NotYet c d g took at e p k = record { gives_no_more = k.0; no_cut = k.1.1; not_over = k.1.0; told = λ q n. resting_again g took at p c q e d n k.1.0 }
+spot_ran turn.Over c d g took at e p k = k
 
 -- what is told behind the items
 none_behind : (g : Setup) (took : TakenCounts) (at : TraceState) (c d : ℕ) (e : Edges) → Behind g took at c d e [] false false
 none_behind g took at c d e = record { about = tt; quiet = due_quiet c [] tt; failure = refl; ended = refl; hidden = refl; causes = refl; entries = refl; by = none_ends c d; gone = λ o. absurd (let x : false ≡ true = o in cc); opens = λ o. absurd (let x : false ≡ true = o in cc); kept = λ o. refl; closed = λ f side q. inr q }
 
-rest_behind : (g : Setup) (took : TakenCounts) (at : TraceState) (c d : ℕ) (e : Edges) (over : Bool) → is_drained g took at ≡ over → Behind g took at c d e (resting g took at c e d) false over
-rest_behind g took at c d e over is =
+rest_behind : (g : Setup) (took : TakenCounts) (at : TraceState) → given_up_at at ≡ false → (c d : ℕ) (e : Edges) (over : Bool) → is_drained g took at ≡ over → Behind g took at c d e (resting g took at c e d) false over
+rest_behind g took at p c d e over is =
     let group = resting g took at c e d in
     let due = resting_due g took at c e d in
     let E : Bool → Type 0 = λ b. EndsBy c d b group in
@@ -260,17 +263,17 @@ rest_behind g took at c d e over is =
       causes = due_causes c group due;
       entries = due_entries c group due;
       by = subst E is (resting_ends g took at c e d);
-      gone = λ o. (let x = resting_gone g took at c e d (is ∙ o) in (x.client, x.server));
-      opens = λ o. inr (resting_opens g took at c e d o);
+      gone = λ o. (let x = resting_gone g took at p c e d (is ∙ o) in (x.client, x.server));
+      opens = λ o. inr (resting_opens g took at p c e d o);
       kept = λ o. due_state c group due o e;
-      closed = λ f side q. resting_closed g took at c e e d side q;
+      closed = λ f side q. resting_closed g took at p c e e d side q;
     }
 
-stop_behind : (t : ConnTurn) (g : Setup) (took : TakenCounts) (at : TraceState) (c d : ℕ) (e : Edges) → StopsAt g took at t → Behind g took at c d e (told_behind t g took at c e d) false (ends t)
-stop_behind turn.More g took at c d e k = none_behind g took at c d e
-stop_behind (turn.Asks call) g took at c d e k = none_behind g took at c d e
-stop_behind turn.NotYet g took at c d e k = rest_behind g took at c d e false k.1.0
-stop_behind turn.Over g took at c d e k = rest_behind g took at c d e true k
+stop_behind : (t : ConnTurn) (g : Setup) (took : TakenCounts) (at : TraceState) (c d : ℕ) (e : Edges) → given_up_at at ≡ false → StopsAt g took at t → Behind g took at c d e (told_behind t g took at c e d) false (ends t)
+stop_behind turn.More g took at c d e p k = none_behind g took at c d e
+stop_behind (turn.Asks call) g took at c d e p k = none_behind g took at c d e
+stop_behind turn.NotYet g took at c d e p k = rest_behind g took at p c d e false k.1.0
+stop_behind turn.Over g took at c d e p k = rest_behind g took at p c d e true k
 
 memory_behind : (g : Setup) (took : TakenCounts) (at : TraceState) (c d : ℕ) (e : Edges) → Behind g took at c d e (Finish c Memory ∷ closing c e d) true true
 memory_behind g took at c d e =
@@ -350,16 +353,20 @@ own_run C past c rest group old new d e s m = by_failed (heard c past).failed re
         let left = untaken_all h (old.places c ++ k.more) in
         let e' = edges_noted (notes_of c k.more) h.edges in
         let behind = told_behind k.turn (setup_of C h) (taken h) k.at c e' left in
-        moved (notes_of c k.more ++ behind) (ran c (ring_behind k.turn c rest) (queue_behind k.turn c old.queue) k.more (slices_in k.turn (length group)) old) k.items.noted k.state
+        let g = setup_of C h in
+        let l = stand_of C h (old.places c) in
+        let f' = taken_by_items (taken h) k.more in
+        let kept = plain_given k.at (unserved g (longer f' l) k.at k.more (unserved_longer f' l (unserved_at g (plain_setup C h) h (old.places c) l v.1.stands)) k.items.passes.passed) in
+        moved (notes_of c k.more ++ behind) (ran c (ring_behind k.turn c rest) (queue_behind k.turn c old.queue) k.more (slices_in k.turn (length group)) old) (runs_noted k.items) k.state
         (run_sound C past c rest (ring_behind k.turn c rest) (ready_behind k.turn c) (queue_behind k.turn c old.queue) (asked_at k.turn) (asked_behind k.turn) old k.more (slices_in k.turn (length group)) k.at behind false (ends k.turn) d e f v.0 v.1 k.items.passes
-        (stop_behind k.turn (setup_of C h) (taken h) k.at c left e' k.items.stops) (entries_behind_self k.turn c rest) (calls_behind_self k.turn c old.queue) k.items.calls (few_asked k.turn) (λ x. asks_alike k.turn) (spot_ran k.turn c left (setup_of C h) (taken h) k.at e' k.items.stops) k.paid)
+        (stop_behind k.turn (setup_of C h) (taken h) k.at c left e' kept k.items.stops) (entries_behind_self k.turn c rest) (calls_behind_self k.turn c old.queue) k.items.calls (few_asked k.turn) (λ x. asks_alike k.turn) (spot_ran k.turn c left (setup_of C h) (taken h) k.at e' kept k.items.stops) k.paid)
     by_failed false f (inr k) =
         let v = front_served C past c rest old e s in
         let left = untaken_all h (old.places c ++ k.more) in
         let e' = edges_noted (notes_of c k.more) h.edges in
         let kept = more_pays (setup_of C h) (old.places c) k.more (stand_of C h (old.places c)) k.at (taken_by_items (taken h) k.more) (old.spent c) v.1.paid k.passes.passed in
         let unspent : SlicesPaid (setup_of C h) (old.places c ++ k.more) k.at (old.spent c + 0) = omega (arith, kept) in
-        moved (out_of_memory c h.edges k.more left) (ran c rest old.queue k.more 0 old) k.notes k.state
+        moved (out_notes c h.edges k.more left) (ran c rest old.queue k.more 0 old) (out_told k) k.state
         (run_sound C past c rest rest [] old.queue [] [] old k.more 0 k.at (Finish c Memory ∷ closing c e' left) true true d e f v.0 v.1 k.passes (memory_behind (setup_of C h) (taken h) k.at c left e') (λ x. x) (λ x. x) k.no_call (omega arith) (λ x. refl) tt unspent)
 
 -- where items and what is told behind them lead

@@ -112,6 +112,7 @@ module _ (C : Config) (past : Past) (s : State) (a : Asked) (ring : List ℕ) (q
   queues_same group old new same q = record {
     client = ap (λ e. e.client.queued) same ∙ q.client ∙ ap (λ x. drop x.counted (client_output place)) (sym (around_same group));
     server = ap (λ e. e.server.queued) same ∙ q.server ∙ ap (λ x. drop x.counted_server (server_output 1 place)) (sym (around_same group));
+    lost = ap (λ e. e.lost) same ∙ q.lost;
   }
 
   stands : (moment : ℕ) (r : Reply) (group : List Note) (fails : Bool) → TurnNoted a moment r group fails → Unfolds (setup_of C h) (start_of (setup_of C h) (hears a.conn (heard a.conn past) Turns group)) place (longer (replies_only (replies_told (notes_about a.conn group))) (stand_of C h place))

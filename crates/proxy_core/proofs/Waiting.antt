@@ -11,7 +11,7 @@ use Rattle.conn.specs.Holds.{HoldsEnds}
 use Rattle.conn.specs.declared.connection.Conn.{Conn}
 use Rattle.conn.specs.declared.ends.Link.{Link}
 use Rattle.conn.specs.declared.ends.Link.TheVariants as link
-use Rattle.conn.proofs.Untaken.{waits}
+use Rattle.conn.proofs.Pending.{waits}
 use Rattle.proxy_core.specs.Asked.{left_of, queue_at}
 use Rattle.proxy_core.specs.Live.{pending_in}
 use Rattle.proxy_core.specs.Queries.{pending_on, queue_on}
@@ -21,6 +21,9 @@ use Rattle.record_model.specs.Setup.{setup_of, begins_at, stand_of}
 use Rattle.proxy_core.specs.Sound.{Served}
 use Rattle.run_config.specs.declared.config.Config.{Config}
 use Rattle.proxy_core.proofs.Standing.{sent_at}
+use Rattle.proxy_core.proofs.PlainServers.{numbered_at, plain_ends}
+use Rattle.proxy_core.proofs.ServerLeft.{unserved_at}
+use Rattle.proxy_core.proofs.Setups.{plain_setup}
 
 -- its ends and queues, whether it goes on or found no memory
 ends_of : (C : Config) (z : Seen) (conn : Conn) → ConnectionContinues C z (Some conn) → HoldsEnds (around z.heard) (stand_of C z.heard z.place) conn.ends
@@ -85,9 +88,10 @@ none_by reset n queued sent is none =
     both false = refl
 
 -- so many bytes were sent to the server connection that the link has
-link_left : (k : Link) (reset : Bool) (n sent : ℕ) (queued : List ℕ) (place : List Item) → length queued + n ≡ sent → (is_up k ≡ false → sent ≡ 0) → queued ≡ drop n (server_output 1 place) → sent ≡ length (server_output (number_by k) place)
-    → (if reset then [] else queued) ≡ left_of (taken_of (servers_by k reset n) (number_by k)) (server_output (number_by k) place)
+link_left : (k : Link) (reset : Bool) (n sent : ℕ) (queued : List ℕ) (place : List Item) → length queued + n ≡ sent → (is_up k ≡ false → sent ≡ 0) → queued ≡ drop n (server_output 1 place) → sent ≡ length (server_output (number_by k 0) place)
+    → (if reset then [] else queued) ≡ left_of (taken_of (servers_by [] k reset n) (number_by k 0)) (server_output (number_by k 0) place)
 link_left link.Up reset n sent queued place is none e all = left_by reset n queued (server_output 1 place) e
+link_left link.GivenUp reset n sent queued place is none e all = left_by reset n queued (server_output 1 place) e
 link_left link.Absent reset n sent queued place is none e all = none_by reset n queued (server_output 0 place) (is ∙ all) (sym all ∙ none refl)
 link_left link.Asked reset n sent queued place is none e all = none_by reset n queued (server_output 0 place) (is ∙ all) (sym all ∙ none refl)
 link_left link.Refused reset n sent queued place is none e all = none_by reset n queued (server_output 0 place) (is ∙ all) (sym all ∙ none refl)
@@ -103,11 +107,12 @@ queue_same C c z Client (Some conn) v k =
 queue_same C c z Server (Some conn) v k =
     let e = conn.ends.server in
     let n = last_took z.heard.connects in
+    let g = setup_of C z.heard in
     let at = stand_of C z.heard z.place in
-    let h = ends_of C z conn k in
-    let number : number_by conn.ends.link ≡ (sent_from no_bytes z.place).number = sym h.number ∙ ap (λ s. s.number) (sent_is C c z v) in
-    let all : at.sent.server ≡ length (server_output (number_by conn.ends.link) z.place) =
+    let h = plain_ends z.heard at conn.ends (ends_of C z conn k) (unserved_at g (plain_setup C z.heard) z.heard z.place at v.stands) (numbered_at g (plain_setup C z.heard) z.heard z.place at v.stands) in
+    let number : number_by conn.ends.link 0 ≡ (sent_from no_bytes z.place).number = sym h.number ∙ ap (λ s. s.number) (sent_is C c z v) in
+    let all : at.sent.server ≡ length (server_output (number_by conn.ends.link 0) z.place) =
     sent_to_server (setup_of C z.heard) (begins_at C z.heard).client (begins_at C z.heard).answers at z.place v.stands ∙ ap (λ m. length (server_output m z.place)) h.number in
     link_left conn.ends.link e.reset n at.sent.server e.queued z.place h.server_untaken h.unsent (queues_of C z conn k).server all
-    ∙ ap (λ s. left_of (taken_of s (number_by conn.ends.link)) (server_output (number_by conn.ends.link) z.place)) (sym h.servers_took)
+    ∙ ap (λ s. left_of (taken_of s (number_by conn.ends.link 0)) (server_output (number_by conn.ends.link 0) z.place)) (sym h.servers_took)
     ∙ ap (λ m. left_of (taken_of (taken z.heard).servers m) (server_output m z.place)) number

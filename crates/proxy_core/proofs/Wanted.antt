@@ -14,6 +14,7 @@ use Rattle.core_events.specs.declared.edges.EdgeState.{EdgeState}
 use Rattle.core_events.specs.declared.edges.EdgeState.TheVariants as state
 use Rattle.conn.specs.Calls.{counted_held, wanted_in}
 use Rattle.conn.specs.Ends.{arrived, connects_by, end_of, fresh_end, has_stream, server_by}
+use Rattle.conn.specs.Settling.{given_up_at, is_given_up}
 use Rattle.conn.specs.Stages.{has_finished}
 use Rattle.conn.specs.declared.connection.Conn.{Conn}
 use Rattle.conn.specs.declared.ends.End.{End}
@@ -30,10 +31,13 @@ use Rattle.record_model.specs.Setup.{setup_of, stand_of}
 use Rattle.proxy_core.specs.Sound.{Served, is_closed}
 use Rattle.run_config.specs.declared.config.Config.{Config}
 use Rattle.proxy_core.proofs.Finished.{stands_orderly, trace_finished}
+use Rattle.proxy_core.proofs.PlainServers.{plain_given}
+use Rattle.proxy_core.proofs.ServerLeft.{unserved_at}
+use Rattle.proxy_core.proofs.Setups.{plain_setup}
 
 -- where the server's end says that none is there, bytes of one can't come
-no_stream : (l : TraceState) (e : Ends) (edge : EdgeState) → edge ≡ state.Absent → l.server ≡ server_by e.link e.server → l.answers.connects ≡ connects_by e.link e.server → Linked false l edge → has_stream e.link ≡ false
-no_stream l e edge absent server connects k = by_link e.link (awaits l.phase) server connects k.waits (k.edge refl)
+no_stream : (l : TraceState) (e : Ends) (edge : EdgeState) → given_up_at l ≡ false → edge ≡ state.Absent → l.server ≡ server_by e.link e.server → l.answers.connects ≡ connects_by e.link e.server → Linked false l edge → has_stream e.link ≡ false
+no_stream l e edge kept absent server connects k = by_link e.link (awaits l.phase) server connects k.waits (k.edge refl)
   where
     by_link : (m : Link) (b : Bool) → l.server ≡ server_by m e.server → l.answers.connects ≡ connects_by m e.server
         → MatchBool b (length l.answers.connects ≤ 1) (l.answers.connects ≡ []) → MatchBool b (AskedAt l.answers.connects edge) (LinkedAt (is_up (link_of l.server)) edge) → has_stream m ≡ false
@@ -42,6 +46,7 @@ no_stream l e edge absent server connects k = by_link e.link (awaits l.phase) se
     by_link link.Refused b s c w h = refl
     by_link link.Made true s c w h = let P : List (Option Stream) → Type 0 = λ x. AskedAt x edge in let t : edge ≡ state.Open = subst P c h in cc
     by_link link.Made false s c w h = let t : (Some (arrived e.server) ∷ []) ≡ [] = sym c ∙ w in cc
+    by_link link.GivenUp b s c w h = let given : given_up_at l ≡ true = ap (λ v. is_given_up (link_of v)) s in sym given ∙ kept
     by_link link.Up true s c w h = let P : List (Option Stream) → Type 0 = λ x. AskedAt x edge in let t : edge ≡ state.Connecting = subst P c h in cc
     by_link link.Up false s c w h = let P : ServerSide → Type 0 = λ x. LinkedAt (is_up (link_of x)) edge in let t : edge ≡ state.Open = subst P s h in cc
 
@@ -65,7 +70,7 @@ module _ (C : Config) (c : ℕ) (z : Seen) (v : Served C c z) (told : z.heard.fi
   closed_wants conn state.Absent is e same going k =
       let P : Bool → Type 0 = λ b. Linked b at z.heard.edges.server.state in
       let h = k.holds.ends in
-      fresh_wants (has_finished conn.stage) conn.ends.server (counted_held Server conn) (h.nothing_came (no_stream at conn.ends z.heard.edges.server.state is h.server h.connects (subst P going v.linked)))
+      fresh_wants (has_finished conn.stage) conn.ends.server (counted_held Server conn) (h.nothing_came (no_stream at conn.ends z.heard.edges.server.state (plain_given at (unserved_at (setup_of C z.heard) (plain_setup C z.heard) z.heard z.place at v.stands)) is h.server h.connects (subst P going v.linked)))
   closed_wants conn state.Connecting is e same going k =
       let asked : conn.ends.link ≡ link.Asked = k.holds.ends.connecting (ap (λ x. is_connecting x.server.state) (sym same) ∙ ap is_connecting is) in
       fresh_wants (has_finished conn.stage) conn.ends.server (counted_held Server conn) (k.holds.ends.nothing_came (ap has_stream asked))

@@ -32,10 +32,12 @@ around h = record {
   counted_server = last_took h.connects;
 }
 
--- what waits for its sides is what was sent to them and not taken
+-- what waits for its sides is what was sent to them and not taken; no server connection was made
+-- before, so none lost anything
 pub record HoldsQueues (h : Heard) (place : List Item) (e : Ends) : Type 0 where
   pub client : e.client.queued ≡ drop h.client.took (client_output place)
   pub server : e.server.queued ≡ drop (last_took h.connects) (server_output 1 place)
+  pub lost : e.lost ≡ 0
 
 -- the connection goes on with its trace from where it stands, and the slices that it spent are paid
 -- for, each with 1,991 steps

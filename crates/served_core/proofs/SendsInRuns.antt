@@ -24,7 +24,7 @@ use Rattle.core_events.specs.Edges.{edge_of, may_take, no_edges}
 use Rattle.core_events.specs.Face.{took_event, reset_event}
 use Rattle.core_events.specs.Kinds.{kind_of}
 use Rattle.conn_trace.specs.Gates.{no_bytes, sent_from}
-use Rattle.conn.specs.Settling.{is_over, settling_at, took_all}
+use Rattle.conn.specs.Settling.{given_up_at, is_over, settling_at, took_all}
 use Rattle.conn_trace.specs.Heard.{Heard, edges_met, event_edges, hears, taken}
 use Rattle.conn_trace.specs.Item.{client_output, server_output}
 use Rattle.conn_trace.specs.Tellings.{conn_of, own}
@@ -379,7 +379,7 @@ module _ (x : Happened) (a b : Core) (C : Config) (past : Past) (s next : State)
           let e = edges_met i (heard d past).edges in
           let left = untaken_all now (s.places d) in
           let notes = settling_at (setup_of C now) (taken now) at d e left in
-          none_in notes k.notes (due_none d notes (settling_due (is_over (next_item (setup_of C now) at)) d e (took_all at (taken now) Server) (took_all at (taken now) Client) left)) c is
+          none_in notes k.notes (due_none d notes (settling_due (is_over (next_item (setup_of C now) at)) (given_up_at at) d e (took_all at (taken now) Server) (took_all at (taken now) Client) left)) c is
       by false (inr k) = none_in (note.Finish d Memory ∷ []) k.notes refl c is
 
   turn_asks : (queue : List Asked) → MovesQueue (store_of C past) (shared past).moment queue x.group s next → (c : ℕ)
