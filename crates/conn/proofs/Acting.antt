@@ -13,6 +13,7 @@ use Rattle.conn_trace.specs.Places.{Place, at as put, closed}
 use Rattle.conn_trace.specs.Queries.{is_reset}
 use Rattle.conn_trace.specs.Setup.{Setup}
 use Rattle.conn_trace.specs.State.{ForReply, TraceState, Does, Over, Waits}
+use Rattle.conn_trace.specs.Laws.{ends_rests}
 use Rattle.conn_trace.specs.Places.{finish}
 use Rattle.conn_trace.specs.Places as model
 use Rattle.conn_trace.specs.Trace.{next_item, Unfolds, GivesNoMore}
@@ -94,6 +95,7 @@ cause_is finish.Closed = refl
 cause_is finish.Rejected = refl
 cause_is finish.Unselected = refl
 cause_is (finish.Fault kind) = refl
+cause_is (finish.Http fault) = refl
 cause_is (finish.Cut reason) = refl
 
 plain_finish : (f : Finish) → IsPlain f → Plain (Finished (reason_for f)) []
@@ -101,6 +103,7 @@ plain_finish finish.Closed p = record { calls = refl; client = refl; kept = refl
 plain_finish finish.Rejected p = record { calls = refl; client = refl; kept = refl; to_none = refl; opens = λ c s t. refl; takes = (refl, λ t. refl) }
 plain_finish finish.Unselected p = record { calls = refl; client = refl; kept = refl; to_none = refl; opens = λ c s t. refl; takes = (refl, λ t. refl) }
 plain_finish (finish.Fault kind) p = record { calls = refl; client = refl; kept = refl; to_none = refl; opens = λ c s t. refl; takes = (refl, λ t. refl) }
+plain_finish (finish.Http fault) p = record { calls = refl; client = refl; kept = refl; to_none = refl; opens = λ c s t. refl; takes = (refl, λ t. refl) }
 plain_finish (finish.Cut reason) p = absurd p
 
 -- the notes at a rest
@@ -161,11 +164,11 @@ module _ (s : code_setup.Setup) (g : Setup) (serves : Serves s g) (a : Around) (
       record { at = closed_at; gave = subst (λ x. Gave g a l closed_at c old new (note.Finish c x ∷ []) []) (cause_is f) gave; stops = gone.awake }
 
   -- a cut at a rest finishes it
-  cut_gave : (reason : CutReason) → Closes s old new → l.finished ≡ false → GivesNoMore false l.sent a.took (next_item g l) → (next_item g l ≡ Over → ⊥) → licenses reason l a.took ≡ true → ActGave g a l c old new (note.Finish c (cause_for (finish.Cut reason)) ∷ []) done.Goes
-  cut_gave reason k going rest not_over licensed =
+  cut_gave : (reason : CutReason) → ends_rests g.http reason ≡ true → Closes s old new → l.finished ≡ false → GivesNoMore false l.sent a.took (next_item g l) → (next_item g l ≡ Over → ⊥) → licenses reason l a.took ≡ true → ActGave g a l c old new (note.Finish c (cause_for (finish.Cut reason)) ∷ []) done.Goes
+  cut_gave reason ends k going rest not_over licensed =
       let gone = closing k in
       let i = Finished (CutBy reason) in
-      let step : next_item g (longer (choosing [] (Some (cut_by reason a.took))) l) ≡ Does i closed_at = rest_cut g l reason a.took serves.http h.no_cut going rest not_over ∙ finish_at (CutBy reason) in
+      let step : next_item g (longer (choosing [] (Some (cut_by reason a.took))) l) ≡ Does i closed_at = rest_cut g l reason a.took ends h.no_cut going rest not_over ∙ finish_at (CutBy reason) in
       record {
         at = closed_at;
         gave = record {
@@ -226,6 +229,20 @@ module _ (s : code_setup.Setup) (g : Setup) (serves : Serves s g) (a : Around) (
   licensed_by ServerReset r = server_licenses ∙ r
   licensed_by Idle r = absurd r
 
+  -- with HTTP there is no server connection that might be reset
+  cut_ends : (reason : CutReason) → WasReset reason old.ends.client.reset (is_up old.ends.link && old.ends.server.reset) → ends_rests g.http reason ≡ true
+  cut_ends ClientReset r = client_ends g.http
+    where
+      client_ends : (b : Bool) → ends_rests b ClientReset ≡ true
+      client_ends true = refl
+      client_ends false = refl
+  cut_ends ServerReset r = by_flag g.http refl
+    where
+      by_flag : (b : Bool) → g.http ≡ b → ends_rests b ServerReset ≡ true
+      by_flag true e = absurd (true≢false (sym r ∙ ap (λ k. is_up k && old.ends.server.reset) (h.told.alone e)))
+      by_flag false e = refl
+  cut_ends Idle r = absurd r
+
   -- where nothing may be given a reset that was told cuts it, or it rests
   pub rests_gave : (before after : List Note) (did : code.Act) → is_in_body old.stage ≡ false → GivesNoMore false l.sent a.took (next_item g l) → (next_item g l ≡ Over → ⊥) → Rests s c old new before after did → ActGave g a l c old new (rest_group c (cut_of old)) did
   rests_gave before after did quiet rest not_over k = by_cut (cut_of old) refl k
@@ -234,14 +251,14 @@ module _ (s : code_setup.Setup) (g : Setup) (serves : Serves s g) (a : Around) (
       by_cut None is (rests, same, none) = stays g a l c old new did h quiet rests same rest (resets_are ∙ none_due (has_finished old.stage) old.ends.client.reset (is_up old.ends.link && old.ends.server.reset) is)
       by_cut (Some reason) is (goes, k) =
           let due = some_due (has_finished old.stage) old.ends.client.reset (is_up old.ends.link && old.ends.server.reset) reason is in
-          subst (λ d. ActGave g a l c old new (rest_group c (Some reason)) d) (sym goes) (cut_gave reason k.0 (h.finished ∙ due.0) rest not_over (licensed_by reason due.1))
+          subst (λ d. ActGave g a l c old new (rest_group c (Some reason)) d) (sym goes) (cut_gave reason (cut_ends reason due.1) k.0 (h.finished ∙ due.0) rest not_over (licensed_by reason due.1))
 
 -- what the acts of a body made was done, and these are the calls among them
 pub record DoesActs (g : Setup) (up : Bool) (xs : List Act) (old new : Conn) (called : List (List (List ℕ))) : Type 0 where
   pub calls : calls_made xs ≡ called
   pub first : SendsWhere up (effects_in xs)
   pub ends : new.ends ≡ queue_both (client_bytes (effects_in xs)) (server_bytes (effects_in xs)) old.ends
-  pub told : Told g new.ends.link new.host.net
+  pub told : Told g new.ends.link new.host
 
 -- logged lines tell nothing of the ends
 pub logs_keep : (c : ℕ) (es : List Effect) (e : Edges) → edges_noted (logs_of c es) e ≡ e

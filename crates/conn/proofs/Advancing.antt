@@ -18,7 +18,7 @@ use Rattle.conn.specs.Choosing.{ChoosesBy, TakesChosen, plan_of}
 use Rattle.conn.specs.Ends.{is_sought}
 use Rattle.conn.specs.Events.{event_of, is_closed}
 use Rattle.conn.specs.Holds.{Around, Holds, RunsFirst, Stands}
-use Rattle.conn.specs.Hosts.{client_bytes, server_bytes}
+use Rattle.conn.specs.Hosts.{client_bytes, made_in, server_bytes}
 use Rattle.conn.specs.Relaying.{Releases, moved, read_ends, relay_plan, round_begun}
 use Rattle.conn.specs.Setups.{body_at, places_at, Serves}
 use Rattle.conn.specs.Stages.{cause_for, is_asking}
@@ -77,6 +77,7 @@ leaves_ends s event.ClientData old new k = k.ends
 leaves_ends s event.Selected old new k = k.ends
 leaves_ends s event.Failed old new k = k.ends
 leaves_ends s event.Connected old new k = k.ends
+leaves_ends s event.Request old new k = k.ends
 leaves_ends s event.ServerData old new k = k.ends
 leaves_ends s event.ServerClosed old new k = client_ends s old new k
 leaves_ends s event.Closed old new k = k.ends
@@ -170,7 +171,7 @@ went_on s at n (said.Fails kind line) mid new did k = k.1.ends
 
 pub steps_tell : (s : code_setup.Setup) (h : Handler) (c : ℕ) (at : At) (n : ℕ) (old new : Conn) (before after : List Note) (did : step_act.Act) (ticks : ℕ) (k : BodySteps s h c at n old new before after did ticks) → Tells (step_notes k) old new
 steps_tell s h c at n old new before after did ticks k =
-    let es = one_of k.stepped.host.made in
+    let es = one_of (made_in k.stepped.host) in
     ap (λ e. e.edges) (went_on s at n (said_of h at k.turned) k.mid new did k.goes_on ∙ k.does.ends ∙ ap (queue_both (client_bytes es) (server_bytes es)) k.ends)
     ∙ sym (logs_keep c es old.ends.edges)
 
@@ -259,6 +260,10 @@ acted_well s c old new before after did ticks k = by_stage old.stage refl k
       tells = collect_tells s c (meets old.host.net.client.asks old.ends.client.unread) old new before after did k;
       along = λ g a l serves h awake. collects s g serves a l c old new h is (here stage.Collecting is g a l h) before after did k;
     }
+    by_stage stage.AtHead is k = absurd k
+    by_stage stage.Continuing is k = absurd k
+    by_stage (stage.Gathering wanted reader) is k = absurd k
+    by_stage (stage.Dropping reader) is k = absurd k
     by_stage stage.Releasing is k = record {
       group = gate_group (server_room old) c (cut_of old);
       notes = release_noted s c old new before after did k;
@@ -354,6 +359,10 @@ rests_quiet s c old new before after ticks k = by_stage old.stage k
     by_stage (stage.Connecting to) k = connect_quiet s c to old new before after k
     by_stage (stage.Answering to) k = answer_quiet s c old.ends.link old new before after k
     by_stage stage.Collecting k = collect_quiet s c (meets old.host.net.client.asks old.ends.client.unread) old new before after k
+    by_stage stage.AtHead k = absurd k
+    by_stage stage.Continuing k = absurd k
+    by_stage (stage.Gathering wanted reader) k = absurd k
+    by_stage (stage.Dropping reader) k = absurd k
     by_stage stage.Releasing k = release_quiet s c old new before after k
     by_stage (stage.Relaying first) k = relay_quiet s c (relay_plan first old.host.net old.ends) old new before after k
     by_stage (stage.Finishing f) k = absurd (let e = k.0 in cc)
@@ -433,6 +442,10 @@ rests_asking s c old new before after ticks k = by_stage old.stage refl k
     by_stage (stage.Connecting to) is k = as_before (connect_same s c to old new before after k)
     by_stage (stage.Answering to) is k = as_before (answer_same s c old.ends.link old new before after k)
     by_stage stage.Collecting is k = as_before (collect_same s c (meets old.host.net.client.asks old.ends.client.unread) old new before after k)
+    by_stage stage.AtHead is k = absurd k
+    by_stage stage.Continuing is k = absurd k
+    by_stage (stage.Gathering wanted reader) is k = absurd k
+    by_stage (stage.Dropping reader) is k = absurd k
     by_stage stage.Releasing is k = as_before (release_same s c old new before after k)
     by_stage (stage.Relaying first) is k = ap (λ x. is_asking x.stage) (relay_same s c (relay_plan first old.host.net old.ends) old new before after k) ∙ sym (ap is_asking is)
     by_stage (stage.Finishing f) is k = absurd (let e = k.0 in cc)
@@ -513,6 +526,10 @@ asks_there s c old new before after call ticks k = by_stage old.stage k
     by_stage (stage.Connecting to) k = absurd (connect_asks_not s c to old new before after call k)
     by_stage (stage.Answering to) k = absurd (answer_asks_not s c old.ends.link old new before after call k)
     by_stage stage.Collecting k = absurd (collect_asks_not s c (meets old.host.net.client.asks old.ends.client.unread) old new before after call k)
+    by_stage stage.AtHead k = absurd k
+    by_stage stage.Continuing k = absurd k
+    by_stage (stage.Gathering wanted reader) k = absurd k
+    by_stage (stage.Dropping reader) k = absurd k
     by_stage stage.Releasing k = absurd (release_asks_not s c old new before after call k)
     by_stage (stage.Relaying first) k = absurd (relay_asks_not s c (relay_plan first old.host.net old.ends) old new before after call k)
     by_stage (stage.Finishing f) k = absurd (let e = k.0 in cc)

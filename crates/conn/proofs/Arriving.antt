@@ -53,6 +53,10 @@ stands g (stage.Chosen addr) l s v k c x r = (r.0, record { vars = r.1.vars; hos
 stands g (stage.Connecting to) l s v k c x r = (r.0, between l s v k c x r.1)
 stands g (stage.Answering to) l s v k c x r = (r.0, between l s v k c x r.1)
 stands g stage.Collecting l s v k c x r = (r.0, between l s v k c x r.1)
+stands g stage.AtHead l s v k c x r = (r.0, between l s v k c x r.1)
+stands g stage.Continuing l s v k c x r = (r.0, between l s v k c x r.1)
+stands g (stage.Gathering wanted reader) l s v k c x r = (r.0, between l s v k c x r.1)
+stands g (stage.Dropping reader) l s v k c x r = (r.0, between l s v k c x r.1)
 stands g stage.Releasing l s v k c x r = (r.0, between l s v k c x r.1)
 stands g (stage.Relaying first) l s v k c x r = (r.0, between l s v k c x r.1)
 stands g (stage.Finishing f) l s v k c x r = (r.0, between l s v k c x r.1)
@@ -60,13 +64,13 @@ stands g stage.Draining l s v k c x r = (r.0, between l s v k c x r.1)
 stands g stage.OutOfMemory l s v k c x r = r
 stands g (stage.Dropped n) l s v k c x r = r
 
-pub holds : (g : Setup) (a b : Around) (l : TraceState) (s : Stream) (v : ServerSide) (k : List (Option Stream)) (c : Conn) (x : Ends) → Holds g a l c → HoldsEnds b (changed s v k l) x → fits c.stage x.link ≡ true → (is_up c.ends.link ≡ true → is_up x.link ≡ true) → Holds g b (changed s v k l) (with_ends x c)
-holds g a b l s v k c x h e f up = record {
+pub holds : (g : Setup) (a b : Around) (l : TraceState) (s : Stream) (v : ServerSide) (k : List (Option Stream)) (c : Conn) (x : Ends) → Holds g a l c → HoldsEnds b (changed s v k l) x → fits c.stage x.link ≡ true → (is_up c.ends.link ≡ true → is_up x.link ≡ true) → (c.ends.link ≡ link.Absent → x.link ≡ link.Absent) → Holds g b (changed s v k l) (with_ends x c)
+holds g a b l s v k c x h e f up lone = record {
   stage = stands g c.stage l s v k c x h.stage;
   finished = h.finished;
   fits = f;
   event = h.event;
-  told = record { from = h.told.from; relays = λ r. up (h.told.relays r) };
+  told = record { from = h.told.from; relays = λ r. up (h.told.relays r); spoken = h.told.spoken; alone = λ e. lone (h.told.alone e) };
   ends = e;
   no_choice = h.no_choice;
   no_cut = h.no_cut;
@@ -254,7 +258,7 @@ hears_with side c old f same g a l h order = by_finish (has_finished old.stage) 
         let P : Bool → Type 0 = λ y. Holds g a (longer (unless_finished y (coming_of side c)) l) (with_ends x old) in
         let Q : TraceState → Type 0 = λ y. Holds g a y (with_ends x old) in
         let R : TraceState → Type 0 = λ y. HoldsEnds a y x in
-        subst P (sym e) (subst Q (sym (is_changed b)) (holds g a a l m.client m.server m.answers.connects old x h (subst R (is_changed b) (told m (heard_ends b side c old.ends) (grown b) (same_edges b side c old.ends))) (ap (fits old.stage) (same_link b side c old.ends) ∙ h.fits) (λ u. ap is_up (same_link b side c old.ends) ∙ u)))
+        subst P (sym e) (subst Q (sym (is_changed b)) (holds g a a l m.client m.server m.answers.connects old x h (subst R (is_changed b) (told m (heard_ends b side c old.ends) (grown b) (same_edges b side c old.ends))) (ap (fits old.stage) (same_link b side c old.ends) ∙ h.fits) (λ u. ap is_up (same_link b side c old.ends) ∙ u) (λ e. same_link b side c old.ends ∙ e)))
 
 pub hears : (side : Side) (c : Coming) (old : Conn) → Hears side c old (with_ends (heard_ends (has_finished old.stage) side c old.ends) old)
 hears side c old =
@@ -344,4 +348,4 @@ reset_link Client e = refl
 reset_link Server e = refl
 
 pub resets : (side : Side) (old : Conn) → Resets side old (with_ends (reset_ends side old.ends) old)
-resets side old g a l h = holds g a (reset_in side a) l l.client l.server l.answers.connects old (reset_ends side old.ends) h (resets_ends a l side old.ends h.ends) (ap (fits old.stage) (reset_link side old.ends) ∙ h.fits) (λ u. ap is_up (reset_link side old.ends) ∙ u)
+resets side old g a l h = holds g a (reset_in side a) l l.client l.server l.answers.connects old (reset_ends side old.ends) h (resets_ends a l side old.ends h.ends) (ap (fits old.stage) (reset_link side old.ends) ∙ h.fits) (λ u. ap is_up (reset_link side old.ends) ∙ u) (λ e. reset_link side old.ends ∙ e)

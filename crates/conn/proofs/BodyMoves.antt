@@ -39,7 +39,7 @@ use Rattle.conn.specs.Bodies.{SaidIs}
 use Rattle.conn.specs.Events.{event_of, is_closed}
 use Rattle.conn.specs.Holds.{Around, BodyGoesOn, RunsFirst, Stands, Holds}
 use Rattle.conn.specs.Paid.{BodyPaid, FirstPaid, Paid, PaidAt}
-use Rattle.conn.specs.Hosts.{KeepsCollects, Made, cleared_host, logs_of, seen_host}
+use Rattle.conn.specs.Hosts.{KeepsCollects, Made, cleared_host, logs_of, made_in, seen_host}
 use Rattle.conn.specs.Setups.{body_at, Serves}
 use Rattle.conn.specs.Stages.{InEvent as HostIn, at_fits, fits, has_finished, is_asking, is_running}
 use Rattle.conn.specs.declared.connection.Conn.{Conn}
@@ -68,6 +68,7 @@ up_by event.Accepted k fit to = absurd (cc)
 up_by event.ClientData k fit to = absurd (cc)
 up_by event.Selected k fit to = absurd (cc)
 up_by event.Failed k fit to = absurd (cc)
+up_by event.Request k fit to = absurd (cc)
 up_by event.Connected k fit to = fit
 up_by event.ServerData k fit to = fit
 up_by event.ServerClosed k fit to = absurd (cc)
@@ -264,7 +265,7 @@ module _ (s : code_setup.Setup) (g : Setup) (serves : Serves s g) (a : Around) (
 
 -- the notes of a body's step
 abbrev pub step_notes : {s : code_setup.Setup} {h : Handler} {c : ℕ} {at : At} {number : ℕ} {old new : Conn} {before after : List Note} {did : step_act.Act} {ticks : ℕ} → BodySteps s h c at number old new before after did ticks → List Note
-step_notes {c = c} k = logs_of c (one_of k.stepped.host.made)
+step_notes {c = c} k = logs_of c (one_of (made_in k.stepped.host))
 
 pub body_gives : (s : code_setup.Setup) (g : Setup) → Serves s g → (a : Around) (l : TraceState) (c : ℕ) (old new : Conn) (at : At) (number : ℕ) (h : Handler) (before after : List Note) (did : step_act.Act) (ticks : ℕ) → body_at s at number ≡ Some h
     → (k : BodySteps s h c at number old new before after did ticks) → old.stage ≡ stage.Running at number → Holds g a l old → ActPaid g a l c old new (step_notes k) did ticks

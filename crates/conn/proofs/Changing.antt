@@ -30,6 +30,7 @@ module _ (s : Setup) (from : Stage) (old new : Conn) where
   leaves event.Selected k = goes _ k
   leaves event.Failed k = goes _ k
   leaves event.Connected k = goes _ k
+  leaves event.Request k = goes _ k
   leaves event.ServerData k = goes _ k
   leaves event.ServerClosed k = record { mid = k.mid; begins = record { vars = k.begins.vars; host = k.begins.host; ends = k.begins.ends }; goes = k.goes }
   leaves event.Closed k = goes _ k

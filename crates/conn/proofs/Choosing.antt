@@ -1,5 +1,6 @@
 -- A server is selected.
 use Rattle.std.proofs.Common.{◌≡◌, refl, sym, ap, subst, ◌∙◌, ℕ, List, [], ◌∷◌, true, false, not, Option, Some, None, codes}
+use Rattle.std.specs.Option.{is_some}
 use Rattle.px_bytes.specs.Address.{ip_text}
 use Rattle.px_bytes.specs.declared.addr.Addr.{Addr}
 use Rattle.irule_net.specs.declared.state.Target.{Target}
@@ -30,16 +31,16 @@ use Rattle.conn.specs.declared.turn.Act.TheVariants as done
 use Rattle.conn.proofs.Acting.{ActGave, SameBeside, gone_holds}
 use Rattle.conn.proofs.Gating.{stands_in}
 use Rattle.conn.proofs.Giving.{ends_kept, gave_one, same_queue}
-use Rattle.conn.proofs.Places.{enters_gone, link_is}
+use Rattle.conn.proofs.Places.{enters_gone, link_is, Known, known, known_same, told_of}
 use Rattle.conn.proofs.SelectItems.{asking, choosing_item, node, picked, selected_by, selecting_item, default_leads, target_leads, unreplied}
 
 module _ (s : code_setup.Setup) (g : Setup) (serves : Serves s g) (a : Around) (l : TraceState) (c : ℕ) (old new : Conn) (h : Holds g a l old) where
   -- an event is entered behind a reply or a choice, while there is no server connection
-  entered : (at : At) (host : RuleHost) (l' : TraceState) → Enters s at host old.ends old new → l'.vars ≡ old.vars → l'.answers.replies ≡ [] → host.net.from ≡ g.from → at_fits at old.ends.link ≡ true → is_closed at ≡ false → (at ≡ event.ServerClosed → ⊥)
+  entered : (at : At) (host : RuleHost) (l' : TraceState) → Enters s at host old.ends old new → l'.vars ≡ old.vars → l'.answers.replies ≡ [] → Known g old.ends.link host → at_fits at old.ends.link ≡ true → is_closed at ≡ false → (at ≡ event.ServerClosed → ⊥)
       → SameBeside l l' → l'.sent ≡ l.sent → l.finished ≡ false → next_item g l ≡ Does Resumed (put (enter g (event_of at) (link_by old.ends.link) (seen_host host)) l') → ActGave g a l c old new [] done.Goes
-  entered at host l' k vars replies from fit open_yet plain same sent going step =
+  entered at host l' k vars replies known fit open_yet plain same sent going step =
       let p = enter g (event_of at) (link_by old.ends.link) (seen_host host) in
-      let gone = enters_gone g l' s serves at host old.ends old new k vars replies from fit open_yet plain in
+      let gone = enters_gone g l' s serves at host old.ends old new k vars replies known fit open_yet plain in
       record {
         at = put p l';
         gave = gave_one g a l (put p l') c old new Resumed h.no_cut (record { calls = refl; client = refl; kept = refl; to_none = refl; opens = λ c s t. refl; takes = (refl, λ t. refl) }) step refl
@@ -72,7 +73,7 @@ module _ (s : code_setup.Setup) (g : Setup) (serves : Serves s g) (a : Around) (
               finished = going ∙ ap has_finished (sym k.there);
               fits = ap (λ x. fits x new.ends.link) k.there ∙ ap (λ e. not (is_sought e.link)) k.ends ∙ fit;
               event = subst (λ x. HostIn x new.host.event) (sym k.there) tt;
-              told = record { from = ap (λ x. x.net.from) k.host ∙ h.told.from; relays = λ r. ap (λ e. is_up e.link) k.ends ∙ h.told.relays (ap (λ x. x.net.relays) (sym k.host) ∙ r) };
+              told = told_of g new.ends.link new.host (known_same g old.ends.link new.ends.link old.host new.host (ap (λ x. x.net.from) k.host) (ap (λ x. is_some x.http) k.host) (ap (λ e. e.link) k.ends) (known g old.ends.link old.host h.told)) (λ r. ap (λ e. is_up e.link) k.ends ∙ h.told.relays (ap (λ x. x.net.relays) (sym k.host) ∙ r));
               ends = ends_kept a l at old.ends new.ends h.ends refl refl refl refl k.ends;
               no_choice = h.no_choice;
               no_cut = h.no_cut;
@@ -106,7 +107,7 @@ module _ (s : code_setup.Setup) (g : Setup) (serves : Serves s g) (a : Around) (
       by_pool : (pool : List ℕ) → old.host.net.pool ≡ pool → old.host.net.target ≡ Default → ChoosesBy (default_plan pool) s old new did → ActGave g a l c old new [] did
       by_pool [] p e (goes, k) =
           subst (λ d. ActGave g a l c old new [] d) (sym goes)
-          (entered event.Failed (selected_host None old.host) l k b.vars b.replies h.told.from fit refl (λ x. cc) same refl going (leads Default e ∙ ap (default_leads g (link_by old.ends.link) l (seen_host old.host)) p))
+          (entered event.Failed (selected_host None old.host) l k b.vars b.replies (record { from = h.told.from; spoken = h.told.spoken; alone = h.told.alone }) fit refl (λ x. cc) same refl going (leads Default e ∙ ap (default_leads g (link_by old.ends.link) l (seen_host old.host)) p))
       by_pool (x ∷ xs) p e k =
           asks (x ∷ xs) None did b going fit k (ap (call_by g old.host.net.pool) e ∙ ap (λ y. select_call g y any_member) p) (leads Default e ∙ ap (default_leads g (link_by old.ends.link) l (seen_host old.host)) p)
 
@@ -116,7 +117,7 @@ module _ (s : code_setup.Setup) (g : Setup) (serves : Serves s g) (a : Around) (
       by_target (MemberOf name addr) e k = asks name (Some addr) did b going fit k (ap (call_by g old.host.net.pool) e) (leads (MemberOf name addr) e)
       by_target (NodeAt addr) e (goes, k) =
           subst (λ d. ActGave g a l c old new [] d) (sym goes)
-          (entered event.Selected (selected_host (Some (node addr)) old.host) l k b.vars b.replies h.told.from fit refl (λ x. cc) same refl going (leads (NodeAt addr) e))
+          (entered event.Selected (selected_host (Some (node addr)) old.host) l k b.vars b.replies (record { from = h.told.from; spoken = h.told.spoken; alone = h.told.alone }) fit refl (λ x. cc) same refl going (leads (NodeAt addr) e))
 
   -- by the reply that came
   pub chosen : (addr : Option Addr) → old.stage ≡ stage.Chosen addr → Stands g (stage.Chosen addr) l old → TakesChosen s addr old new → ActGave g a l c old new [] done.Goes
@@ -140,7 +141,7 @@ module _ (s : code_setup.Setup) (g : Setup) (serves : Serves s g) (a : Around) (
       leads x e = step ∙ ap (λ y. Does Resumed (put (picked g (link_by old.ends.link) (seen_host old.host) (selected_by (seen_host old.host) y)) (with_replies [] l))) e
 
       by_addr : (x : Option Addr) → addr ≡ x → TakesChosen s x old new → ActGave g a l c old new [] done.Goes
-      by_addr None e k = entered event.Failed old.host (with_replies [] l) k r.vars refl h.told.from fit refl (λ x. cc) same refl going (leads None e)
+      by_addr None e k = entered event.Failed old.host (with_replies [] l) k r.vars refl (record { from = h.told.from; spoken = h.told.spoken; alone = h.told.alone }) fit refl (λ x. cc) same refl going (leads None e)
       by_addr (Some x) e k =
           let o = selected_by (seen_host old.host) (Some x) in
-          entered event.Selected (selected_host o old.host) (with_replies [] l) k r.vars refl h.told.from fit refl (λ y. cc) same refl going (leads (Some x) e)
+          entered event.Selected (selected_host o old.host) (with_replies [] l) k r.vars refl (record { from = h.told.from; spoken = h.told.spoken; alone = h.told.alone }) fit refl (λ y. cc) same refl going (leads (Some x) e)

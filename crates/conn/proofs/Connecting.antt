@@ -95,6 +95,7 @@ at_answer at.ClientData k s f = absurd (let t : false ≡ true = f in cc)
 at_answer at.Selected k s f = absurd (let t : false ≡ true = f in cc)
 at_answer at.Failed k s f = absurd (let t : false ≡ true = f in cc)
 at_answer at.Connected k s f = absurd (let t : false ≡ true = f in cc)
+at_answer at.Request k s f = absurd (let t : false ≡ true = f in cc)
 at_answer at.ServerData k s f = absurd (let t : false ≡ true = f in cc)
 at_answer at.ServerClosed k s f = refl
 at_answer at.Closed k s f = refl
@@ -106,6 +107,7 @@ gate_answer at.ClientData k s f = absurd (let t : false ≡ true = f in cc)
 gate_answer at.Selected k s f = absurd (let t : false ≡ true = f in cc)
 gate_answer at.Failed k s f = absurd (let t : false ≡ true = f in cc)
 gate_answer at.Connected k s f = absurd (let t : false ≡ true = f in cc)
+gate_answer at.Request k s f = absurd (let t : false ≡ true = f in cc)
 gate_answer at.ServerData k s f = absurd (let t : false ≡ true = f in cc)
 gate_answer at.ServerClosed k s f = f
 gate_answer at.Closed k s f = f
@@ -121,12 +123,17 @@ answer_fits (stage.Chosen addr) k s u f = absurd (let t : false ≡ true = f in 
 answer_fits (stage.Connecting to) k s u f = absurd (let t : false ≡ true = f in cc)
 answer_fits (stage.Answering to) k s u f = ap (λ x. x && not (is_up k)) s ∙ ap not u
 answer_fits stage.Collecting k s u f = absurd (let t : false ≡ true = f in cc)
+answer_fits stage.AtHead k s u f = absurd (let t : false ≡ true = f in cc)
+answer_fits stage.Continuing k s u f = absurd (let t : false ≡ true = f in cc)
+answer_fits (stage.Gathering wanted reader) k s u f = absurd (let t : false ≡ true = f in cc)
+answer_fits (stage.Dropping reader) k s u f = absurd (let t : false ≡ true = f in cc)
 answer_fits stage.Releasing k s u f = absurd (let t : false ≡ true = f in cc)
 answer_fits (stage.Relaying first) k s u f = absurd (let t : false ≡ true = f in cc)
 answer_fits (stage.Finishing finish.Closed) k s u f = refl
 answer_fits (stage.Finishing finish.Rejected) k s u f = refl
 answer_fits (stage.Finishing finish.Unselected) k s u f = refl
 answer_fits (stage.Finishing (finish.Fault kind)) k s u f = refl
+answer_fits (stage.Finishing (finish.Http fault)) k s u f = refl
 answer_fits (stage.Finishing (finish.Cut reason)) k s u f = f
 answer_fits stage.Draining k s u f = refl
 answer_fits stage.OutOfMemory k s u f = refl
@@ -148,11 +155,11 @@ connects made old connecting g a l h order = by_finish (has_finished old.stage) 
         let P : Bool → Type 0 = λ y. Holds g (answered_in y made a) (longer (unless_finished y (answer_of made)) l) (with_ends x old) in
         let Q : TraceState → Type 0 = λ y. Holds g a y (with_ends x old) in
         let told = with_edges a l old.ends h.ends x.edges (λ c. absurd (let t = sym (not_connecting made) ∙ c in cc)) in
-        subst P (sym e) (subst Q (sym (longer_nothing l h.no_cut)) (holds g a a l l.client l.server l.answers.connects old x h told h.fits (λ u. u)))
+        subst P (sym e) (subst Q (sym (longer_nothing l h.no_cut)) (holds g a a l l.client l.server l.answers.connects old x h told h.fits (λ u. u) (λ e. e)))
     by_finish false e is =
         let x = connected_ends false made old.ends in
         let P : Bool → Type 0 = λ y. Holds g (answered_in y made a) (longer (unless_finished y (answer_of made)) l) (with_ends x old) in
         let Q : TraceState → Type 0 = λ y. Holds g (answered_by made a) y (with_ends x old) in
         let F : Link → Type 0 = λ k. fits old.stage (link_answered false made k) ≡ true in
         let fit = subst F (sym asked) (answered_fits old.stage made (subst (λ k. fits old.stage k ≡ true) asked h.fits)) in
-        subst P (sym e) (subst Q (sym (answer_is a l old.ends h.ends asked h.no_cut made)) (holds g a (answered_by made a) l l.client l.server (connect_answer made ∷ []) old x h (answers_ends a l old.ends h.ends asked h.no_cut made) fit (λ u. absurd (true≢false (sym u ∙ ap is_up asked)))))
+        subst P (sym e) (subst Q (sym (answer_is a l old.ends h.ends asked h.no_cut made)) (holds g a (answered_by made a) l l.client l.server (connect_answer made ∷ []) old x h (answers_ends a l old.ends h.ends asked h.no_cut made) fit (λ u. absurd (true≢false (sym u ∙ ap is_up asked))) (λ e. absurd (let x = sym asked ∙ e in cc))))

@@ -50,6 +50,7 @@ closing_is event.ClientData = refl
 closing_is event.Selected = refl
 closing_is event.Failed = refl
 closing_is event.Connected = refl
+closing_is event.Request = refl
 closing_is event.ServerData = refl
 closing_is event.ServerClosed = refl
 closing_is event.Closed = refl
@@ -88,6 +89,7 @@ fit_plain finish.Closed k fit = tt
 fit_plain finish.Rejected k fit = tt
 fit_plain finish.Unselected k fit = tt
 fit_plain (finish.Fault kind) k fit = tt
+fit_plain (finish.Http fault) k fit = tt
 fit_plain (finish.Cut reason) k fit = absurd (true≢false (sym fit))
 
 module _ (s : code_setup.Setup) (g : Setup) (serves : Serves s g) (a : Around) (l : TraceState) (c : ℕ) (old new : Conn) (h : Holds g a l old) where

@@ -9,7 +9,7 @@ use Rattle.core_events.specs.declared.note.CutReason.{CutReason}
 use Rattle.core_events.specs.declared.note.Note.{Note}
 use Rattle.conn_trace.specs.Relay.{meets}
 use Rattle.conn_trace.specs.Setup.{Handler, uncaught_line}
-use Rattle.irule_net.specs.declared.state.NetState.{NetState}
+use Rattle.irule_http.specs.declared.state.Http.{Http}
 use Rattle.irule_net.specs.declared.state.Selected.{Selected}
 use Rattle.conn.specs.Acts.{Acted, ActedAt, AnswersBy, BehindFault, CollectsBy, RelaysBy, Rests, RestsBy, cut_of, has_room, Connects}
 use Rattle.conn.specs.Bodies.{Fresh}
@@ -20,7 +20,7 @@ use Rattle.conn.specs.Events.{event_of, is_closed}
 use Rattle.conn.specs.Hosts.{begun_host}
 use Rattle.conn.specs.Relaying.{Releases, relay_plan, round_begun}
 use Rattle.conn.specs.Setups.{places_at}
-use Rattle.conn.specs.Stages.{connected_stage, connecting_stage, entered_by, has_body, is_running}
+use Rattle.conn.specs.Stages.{connected_stage, connecting_stage, entered_by, failed_stage, has_body, http_in, is_running}
 use Rattle.conn.specs.Steps.{GoesOn, ended_of}
 use Rattle.conn.specs.declared.connection.Conn.{Conn}
 use Rattle.conn.specs.declared.ends.Ends.{Ends}
@@ -68,14 +68,15 @@ closes_client s old new k = by_test (nat_lt 0 (length (places_at s event.Closed)
     by_test false c = goes_to s stage.Draining k.mid new refl c
 
 leaves : (s : code.Setup) (at : At) (old new : Conn) → Leaves s at old new → Starts s new
-leaves s event.Accepted old new k = goes_to s (left_stage event.Accepted old) old new (after_no_body event.Accepted old.ends.link old.host.net) k
-leaves s event.ClientData old new k = goes_to s (left_stage event.ClientData old) old new (after_no_body event.ClientData old.ends.link old.host.net) k
-leaves s event.Selected old new k = goes_to s (left_stage event.Selected old) old new (after_no_body event.Selected old.ends.link old.host.net) k
-leaves s event.Failed old new k = goes_to s (left_stage event.Failed old) old new (after_no_body event.Failed old.ends.link old.host.net) k
-leaves s event.Connected old new k = goes_to s (left_stage event.Connected old) old new (after_no_body event.Connected old.ends.link old.host.net) k
-leaves s event.ServerData old new k = goes_to s (left_stage event.ServerData old) old new (after_no_body event.ServerData old.ends.link old.host.net) k
+leaves s event.Accepted old new k = goes_to s (left_stage event.Accepted old) old new (after_no_body event.Accepted old.ends.link old.host) k
+leaves s event.ClientData old new k = goes_to s (left_stage event.ClientData old) old new (after_no_body event.ClientData old.ends.link old.host) k
+leaves s event.Selected old new k = goes_to s (left_stage event.Selected old) old new (after_no_body event.Selected old.ends.link old.host) k
+leaves s event.Failed old new k = goes_to s (left_stage event.Failed old) old new (after_no_body event.Failed old.ends.link old.host) k
+leaves s event.Connected old new k = goes_to s (left_stage event.Connected old) old new (after_no_body event.Connected old.ends.link old.host) k
+leaves s event.Request old new k = goes_to s (left_stage event.Request old) old new (after_no_body event.Request old.ends.link old.host) k
+leaves s event.ServerData old new k = goes_to s (left_stage event.ServerData old) old new (after_no_body event.ServerData old.ends.link old.host) k
 leaves s event.ServerClosed old new k = closes_client s old new k
-leaves s event.Closed old new k = goes_to s (left_stage event.Closed old) old new (after_no_body event.Closed old.ends.link old.host.net) k
+leaves s event.Closed old new k = goes_to s (left_stage event.Closed old) old new (after_no_body event.Closed old.ends.link old.host) k
 
 next : (s : code.Setup) (at : At) (n : ℕ) (old new : Conn) → NextBody s at n old new → Starts s new
 next s at n old new k = by_test (nat_lt n (length (places_at s at))) k
@@ -99,7 +100,7 @@ behind_fault s at n kind old new k = by_test (is_closed at) k
     by_test false c = goes_to s (stage.Finishing (finish.Fault kind)) old new refl c
 
 enters : (s : code.Setup) (at : At) (h : RuleHost) (e : Ends) (old new : Conn) → Enters s at h e old new → Starts s new
-enters s at h e old new k = inl (ap has_body k.there ∙ entered_no_body at e.link new.host.net (places_at s at))
+enters s at h e old new k = inl (ap has_body k.there ∙ entered_no_body at e.link new.host (places_at s at))
 
 -- behind a body that ended
 pub ended_starts : (s : code.Setup) (h : Handler) (at : At) (n : ℕ) (mid new : Conn) (f : Option TclFault) (did : Act) → GoesOn s at n (ended_of h at f) mid new did → Starts s new
@@ -125,7 +126,7 @@ rank_few other = omega arith
 
 -- an event is entered at which no body has run yet
 record EntersLow (at : At) : Type 0 where
-  low : (k : Link) (host : RuleHost) (up : Bool) (net : NetState) (ps : List Place) → net ≡ (begun_host at up host).net → rank (entered_by at k net ps) ≤ 1
+  low : (k : Link) (host : RuleHost) (up : Bool) (new : RuleHost) (ps : List Place) → new ≡ begun_host at up host → rank (entered_by at k new ps) ≤ 1
 
 connecting_low : (o : Option Selected) → rank (connecting_stage o) ≤ 1
 connecting_low None = omega arith
@@ -135,27 +136,31 @@ connected_low : (loose : List ℕ) → rank (connected_stage loose) ≤ 1
 connected_low [] = omega arith
 connected_low (b ∷ bs) = omega arith
 
-low_by : (at : At) (k : Link) (host : RuleHost) (up : Bool) (net : NetState) (ps : List Place) → net ≡ (begun_host at up host).net → rank (entered_by at k (begun_host at up host).net ps) ≤ 1 → rank (entered_by at k net ps) ≤ 1
-low_by at k host up net ps is low = subst (λ n. rank (entered_by at k n ps) ≤ 1) (sym is) low
+low_by : (at : At) (k : Link) (host : RuleHost) (up : Bool) (new : RuleHost) (ps : List Place) → new ≡ begun_host at up host → rank (entered_by at k (begun_host at up host) ps) ≤ 1 → rank (entered_by at k new ps) ≤ 1
+low_by at k host up new ps is low = subst (λ n. rank (entered_by at k n ps) ≤ 1) (sym is) low
+
+failed_rank : (answer : Option Bool) (http : Http) → rank (failed_stage answer false http) ≤ 1
+failed_rank None http = omega arith
+failed_rank (Some closing) http = omega arith
 
 failed_low : EntersLow event.Failed
-failed_low = record { low = λ k host up net ps is. low_by event.Failed k host up net ps is (by_places k host up ps) }
+failed_low = record { low = λ k host up new ps is. low_by event.Failed k host up new ps is (by_places k host up ps) }
   where
-    by_places : (k : Link) (host : RuleHost) (up : Bool) (ps : List Place) → rank (entered_by event.Failed k (begun_host event.Failed up host).net ps) ≤ 1
-    by_places k host up [] = omega arith
+    by_places : (k : Link) (host : RuleHost) (up : Bool) (ps : List Place) → rank (entered_by event.Failed k (begun_host event.Failed up host) ps) ≤ 1
+    by_places k host up [] = failed_rank (http_in (begun_host event.Failed up host)).answer (http_in (begun_host event.Failed up host))
     by_places k host up (p ∷ ps) = omega arith
 
 selected_low : EntersLow event.Selected
-selected_low = record { low = λ k host up net ps is. low_by event.Selected k host up net ps is (by_places k host up ps) }
+selected_low = record { low = λ k host up new ps is. low_by event.Selected k host up new ps is (by_places k host up ps) }
   where
-    by_places : (k : Link) (host : RuleHost) (up : Bool) (ps : List Place) → rank (entered_by event.Selected k (begun_host event.Selected up host).net ps) ≤ 1
+    by_places : (k : Link) (host : RuleHost) (up : Bool) (ps : List Place) → rank (entered_by event.Selected k (begun_host event.Selected up host) ps) ≤ 1
     by_places k host up [] = connecting_low host.net.selected
     by_places k host up (p ∷ ps) = omega arith
 
 connects_low : EntersLow event.Connected
-connects_low = record { low = λ k host up net ps is. low_by event.Connected k host up net ps is (by_places k host up ps) }
+connects_low = record { low = λ k host up new ps is. low_by event.Connected k host up new ps is (by_places k host up ps) }
   where
-    by_places : (k : Link) (host : RuleHost) (up : Bool) (ps : List Place) → rank (entered_by event.Connected k (begun_host event.Connected up host).net ps) ≤ 1
+    by_places : (k : Link) (host : RuleHost) (up : Bool) (ps : List Place) → rank (entered_by event.Connected k (begun_host event.Connected up host) ps) ≤ 1
     by_places k host up [] = connected_low host.net.loose
     by_places k host up (p ∷ ps) = omega arith
 
@@ -183,7 +188,7 @@ module _ (s : code.Setup) (c : ℕ) (old new : Conn) (before after : List Note) 
 
   entered : (at : At) (h : RuleHost) (e : Ends) → EntersLow at → rank old.stage ≡ 2 → after ≡ before → Enters s at h e old new → Leads
   entered at h e low is quiet k =
-      let r : rank new.stage ≤ 1 = subst (λ st. rank st ≤ 1) (sym k.there) (low.low e.link h (is_up e.link) new.host.net (places_at s at) (ap (λ x. x.net) k.host)) in
+      let r : rank new.stage ≤ 1 = subst (λ st. rank st ≤ 1) (sym k.there) (low.low e.link h (is_up e.link) new.host (places_at s at) k.host) in
       lower 2 is (omega (arith, r)) quiet (enters s at h e old new k)
 
   by_gate : (at : At) → rank old.stage ≡ 1 → has_body old.stage ≡ false → (b : Bool) → MatchBool b ((did ≡ done.Goes) × StartsBody s at 0 old new × (after ≡ before)) (Rests s c old new before after did) → Leads
@@ -242,6 +247,10 @@ module _ (s : code.Setup) (c : ℕ) (old new : Conn) (before after : List Note) 
       by_stage (stage.Connecting to) is k = by_connect calm to (is_empty (queue_in Server old)) k
       by_stage (stage.Answering to) is k = by_answer (ap rank is) calm old.ends.link k
       by_stage stage.Collecting is k = by_collect calm (meets old.host.net.client.asks old.ends.client.unread) k
+      by_stage stage.AtHead is k = absurd k
+      by_stage stage.Continuing is k = absurd k
+      by_stage (stage.Gathering wanted reader) is k = absurd k
+      by_stage (stage.Dropping reader) is k = absurd k
       by_stage stage.Releasing is k = by_release (ap rank is) calm (server_room old) k
       by_stage (stage.Relaying first) is k = by_relay (relay_plan first old.host.net old.ends) k
       by_stage (stage.Finishing f) is k = noted _ (closes s old new k.1.0) k.1.1

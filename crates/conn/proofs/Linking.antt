@@ -1,6 +1,7 @@
 -- A server is asked for a connection, and answers.
 use Rattle.std.proofs.Common.{◌≡◌, refl, sym, ap, subst, ◌∙◌, ℕ, ◌+◌, List, [], ◌∷◌, ◌++◌, append-nil, length, length-append, Bool, true, false, true≢false, not, Option, arith}
 use Rattle.std.specs.Bool.{MatchBool}
+use Rattle.std.specs.Option.{is_some}
 use Rattle.std.proofs.lemmas.Bool.{and_parts}
 use Rattle.px_bytes.specs.declared.addr.Addr.{Addr}
 use Rattle.px_bytes.specs.declared.addr.Side.TheVariants.{Server}
@@ -38,7 +39,7 @@ use Rattle.conn.proofs.Acting.{ActGave, gone_holds, rest_group, rest_noted, rest
 use Rattle.conn.proofs.Gating.{stands_in}
 use Rattle.conn.proofs.Giving.{gave_one, same_queue}
 use Rattle.conn.proofs.Pending.{connect_is, server_waits}
-use Rattle.conn.proofs.Places.{enters_gone}
+use Rattle.conn.proofs.Places.{enters_gone, Known, is_plain, known as known_of}
 use Rattle.conn.proofs.SelectItems.{StandsIn, connecting_item, made_item, refused_item, unanswered}
 
 -- no server was asked for, or it is given up
@@ -166,7 +167,12 @@ module _ (s : code_setup.Setup) (g : Setup) (serves : Serves s g) (a : Around) (
               finished = h.finished ∙ ap has_finished is ∙ ap has_finished (sym k.there);
               fits = ap (λ x. fits x new.ends.link) k.there ∙ ap (λ e. fits (stage.Answering to) e.link) k.ends;
               event = subst (λ x. HostIn x new.host.event) (sym k.there) tt;
-              told = record { from = ap (λ x. x.net.from) k.host ∙ h.told.from; relays = λ r. absurd (true≢false (sym (h.told.relays (ap (λ x. x.net.relays) (sym k.host) ∙ r)) ∙ free_down old.ends.link free)) };
+              told = record {
+                from = ap (λ x. x.net.from) k.host ∙ h.told.from;
+                relays = λ r. absurd (true≢false (sym (h.told.relays (ap (λ x. x.net.relays) (sym k.host) ∙ r)) ∙ free_down old.ends.link free));
+                spoken = ap (λ x. is_some x.http) k.host ∙ h.told.spoken;
+                alone = λ e. absurd (true≢false (sym e ∙ sym h.told.spoken ∙ ap is_some k.plain));
+              };
               ends = subst (λ e. HoldsEnds a at e) (sym k.ends) (asked_holds a l to old.ends h.ends free none);
               no_choice = h.no_choice;
               no_cut = h.no_cut;
@@ -207,8 +213,10 @@ module _ (s : code_setup.Setup) (g : Setup) (serves : Serves s g) (a : Around) (
           let l' : TraceState = with_connects [] (record l { server = There (arrived old.ends.server); sent = sent_after (Answered true) l.sent }) in
           let ends = with_link link.Up old.ends in
           let p = enter g (event_of event.Connected) (link_by link.Up) (seen_host old.host) in
-          let gone = enters_gone g l' s serves event.Connected old.host ends old new enters b.vars b.replies h.told.from refl refl (λ x. cc) in
-          let step = made_item g (link_by old.ends.link) (seen_host old.host) l to (arrived old.ends.server) here (h.ends.connects ∙ ap (λ x. connects_by x old.ends.server) e) in
+          let known : Known g link.Up old.host = record { from = h.told.from; spoken = h.told.spoken; alone = λ hp. absurd (let x = sym e ∙ h.told.alone hp in cc) } in
+          let gone = enters_gone g l' s serves event.Connected old.host ends old new enters b.vars b.replies known refl refl (λ x. cc) in
+          let plain = is_plain g old.ends.link old.host (known_of g old.ends.link old.host h.told) (λ x. (let y = sym e ∙ x in cc)) in
+          let step = made_item g (link_by old.ends.link) (seen_host old.host) l to (arrived old.ends.server) plain here (h.ends.connects ∙ ap (λ x. connects_by x old.ends.server) e) in
           subst (λ d. ActGave g a l c old new [] d) (sym goes) (record {
             at = put p l';
             gave = gave_one g a l (put p l') c old new (Answered true) h.no_cut (record { calls = refl; client = refl; kept = refl; to_none = refl; opens = λ c s t. refl; takes = (refl, λ t. refl) }) step refl
@@ -220,7 +228,7 @@ module _ (s : code_setup.Setup) (g : Setup) (serves : Serves s g) (a : Around) (
           let l' : TraceState = with_connects [] (record l { server = NoServer }) in
           let ends = with_link link.Absent old.ends in
           let p = enter g (event_of event.Failed) (link_by link.Absent) (seen_host old.host) in
-          let gone = enters_gone g l' s serves event.Failed old.host ends old new enters b.vars b.replies h.told.from refl refl (λ x. cc) in
+          let gone = enters_gone g l' s serves event.Failed old.host ends old new enters b.vars b.replies (record { from = h.told.from; spoken = h.told.spoken; alone = λ hp. refl }) refl refl (λ x. cc) in
           let step = refused_item g (link_by old.ends.link) (seen_host old.host) l to here (h.ends.connects ∙ ap (λ x. connects_by x old.ends.server) e) in
           subst (λ d. ActGave g a l c old new [] d) (sym goes) (record {
             at = put p l';

@@ -1,5 +1,6 @@
 -- A relay passes bytes on, finishes or rests.
-use Rattle.std.proofs.Common.{◌≡◌, refl, sym, ap, subst, ◌∙◌, ℕ, ◌≤◌, ◌<◌, List, [], ◌∷◌, ◌++◌, append-nil, length, length-append, take, Bool, true, false, true≢false, ◌&&◌, ◌||◌, not, nat_le, nat_lt, Option, None, arith, length-take-le, if◌then◌else◌}
+use Rattle.std.proofs.Common.{◌≡◌, refl, sym, ap, subst, ◌∙◌, ℕ, ◌≤◌, ◌<◌, List, [], ◌∷◌, ◌++◌, append-nil, length, length-append, take, Bool, true, false, true≢false, ◌&&◌, ◌||◌, not, nat_le, nat_lt, Option, None, arith, length-take-le, if◌then◌else◌, eq-eqb}
+use Rattle.std.specs.Option.{is_some}
 use Rattle.std.proofs.lemmas.Bool.Decides.{nat_tests}
 use Rattle.px_bytes.specs.declared.addr.Side.{Side}
 use Rattle.px_bytes.specs.declared.addr.Side.TheVariants.{Client, Server}
@@ -43,6 +44,7 @@ use Rattle.conn.proofs.Pending.{client_waits, here_untaken, server_waits, up_unt
 use Rattle.conn.proofs.RelayItems.{InRelay, none_passes, passes_within, relay_ends, relay_fires, relay_rests, relay_waits, some_passes, unmet_waits}
 use Rattle.conn.specs.Servers.{closed_behind, queue_at_server, queue_behind, gives_up}
 use Rattle.conn.proofs.Giving.{quiet_queue}
+use Rattle.conn.proofs.Places.{known, known_same, told_of}
 
 taken_is : (n : ℕ) (bytes : List ℕ) → n ≤ length bytes → length (take n bytes) ≡ n
 taken_is n bytes within = length-take-le n bytes within
@@ -186,7 +188,7 @@ module _ (s : code_setup.Setup) (g : Setup) (serves : Serves s g) (a : Around) (
     finished = finished ∙ going ∙ ap has_finished (sym k.there);
     fits = ap (λ x. fits x new.ends.link) k.there ∙ ap (λ e. is_up e.link) k.ends ∙ ap is_up (same ∙ up);
     event = subst (λ x. HostIn x new.host.event) (sym k.there) tt;
-    told = record { from = ap (λ x. x.net.from) k.host ∙ h.told.from; relays = λ r. ap (λ e. is_up e.link) k.ends ∙ ap is_up (same ∙ up) };
+    told = told_of g new.ends.link new.host (known_same g old.ends.link new.ends.link old.host new.host (ap (λ x. x.net.from) k.host) (ap (λ x. is_some x.http) k.host) (ap (λ e. e.link) k.ends ∙ same) (known g old.ends.link old.host h.told)) (λ r. ap (λ e. is_up e.link) k.ends ∙ ap is_up (same ∙ up));
     ends = subst (λ e. HoldsEnds a at e) (sym k.ends) ends;
     no_choice = no_choice;
     no_cut = no_cut;

@@ -1,13 +1,16 @@
 -- Where a connection goes stands for where its trace goes.
-use Rattle.std.proofs.Common.{◌≡◌, refl, sym, ap, subst, ◌∙◌, ℕ, zero, suc, ◌+◌, ◌<◌, List, [], ◌∷◌, ◌++◌, drop, length, Bool, true, false, not, ◌&&◌, nat_lt, arith, ◌≤◌, Option, Some, None, if◌then◌else◌}
+use Rattle.std.proofs.Common.{◌≡◌, refl, sym, ap, subst, ◌∙◌, ℕ, zero, suc, ◌+◌, ◌<◌, List, [], ◌∷◌, ◌++◌, drop, length, Bool, true, false, not, ◌&&◌, ◌||◌, nat_lt, arith, ◌≤◌, Option, Some, None, true≢false, if◌then◌else◌}
+use Rattle.std.specs.Option.{is_some}
 use Rattle.std.specs.Bool.{MatchBool}
-use Rattle.std.specs.Prelude.{option_and_then, slice_get}
+use Rattle.std.specs.Prelude.{option_and_then, option_map, slice_get}
 use Rattle.std.proofs.lemmas.Bool.Decides.{nat_tests}
 use Rattle.px_bytes.specs.declared.addr.Side.TheVariants.{Client}
 use Rattle.px_bytes.specs.declared.fault.Reply.{Reply}
 use Rattle.tcl_trees.specs.Tree.{Tree}
 use Rattle.tcl_vars.specs.Scopes.{Scopes}
 use Rattle.event_order.specs.declared.event.EventName.{EventName}
+use Rattle.event_order.specs.declared.event.EventName.TheVariants.{ClientClosed, ServerClosed}
+use Rattle.irule_http.specs.State as messages
 use Rattle.rule_model.specs.Evaluator.{evaluate}
 use Rattle.rule_model.specs.Outcome.{Outcome, state}
 use Rattle.rule_model.specs.Setting as given
@@ -17,13 +20,17 @@ use Rattle.irule_net.specs.declared.state.Asks.TheVariants.{NotAsked, Stated}
 use Rattle.irule_net.specs.declared.state.Ending.{Ending}
 use Rattle.irule_net.specs.declared.state.Ending.TheVariants.{Rejects, Closes}
 use Rattle.irule_net.specs.declared.state.Selected.{Selected}
-use Rattle.conn_trace.specs.Host.{body_setting}
+use Rattle.irule_http.specs.State.{expects_by}
+use Rattle.irule_http.specs.declared.state.Http.{Http}
+use Rattle.conn_trace.specs.Host.{HostState, body_setting, http_of}
+use Rattle.conn_trace.specs.Http.{wanted_more}
 use Rattle.conn_trace.specs.Item.{Unselected}
 use Rattle.conn_trace.specs.Places as model
-use Rattle.conn_trace.specs.Routing.{behind_accepted, behind_connected}
-use Rattle.conn_trace.specs.Places.{Place, place, at as put, after_event, begun, behind_data, bodies_left, closed, closed_client, closed_server, connecting, enter, entered, next_body}
+use Rattle.conn_trace.specs.Routing.{behind_accept, behind_accepted, behind_answer, behind_connect, behind_connected, behind_failed, behind_request, behind_told, gathering, routed}
+use Rattle.conn_trace.specs.Places.{Place, place, at as put, after_event, begun, behind_data, bodies_left, closed, closed_client, closed_server, connecting, enter, entered, http_begun, next_body}
 use Rattle.conn_trace.specs.Setup.{Handler, Setup}
-use Rattle.conn_trace.specs.State.{Choosing, Collecting, Finishing, Gated, Relaying, Running, InEvent, Phase, Stream, TraceState, link_of}
+use Rattle.conn_trace.specs.State.{Absent, Choosing, Collecting, Finishing, Gated, Relaying, Running, InEvent, Phase, Stream, TraceState, link_of}
+use Rattle.conn_trace.specs.State.{Link as ModelLink}
 use Rattle.conn_trace.specs.State as state
 use Rattle.frames.specs.Frames.{full_room, meaning, comes_to}
 use Rattle.frames.specs.declared.frame.Frame.{Frame}
@@ -36,7 +43,7 @@ use Rattle.conn.specs.Events.{event_of, is_closed}
 use Rattle.conn.specs.Holds.{Around, Between, BodyGoesOn, GatedBefore, HoldsEnds, RunsFirst, Stands}
 use Rattle.conn.specs.Hosts.{Told, begun_host, seen_host}
 use Rattle.conn.specs.Setups.{body_at, body_in, places_at, Serves}
-use Rattle.conn.specs.Stages.{InEvent as HostIn, accepted_stage, after_stage, at_fits, connected_stage, connecting_stage, data_stage, entered_by, fits, has_finished, is_asking, unless_ended}
+use Rattle.conn.specs.Stages.{InEvent as HostIn, accepted_stage, after_stage, at_fits, collect_stage, connected_stage, connecting_stage, data_stage, entered_by, failed_stage, fits, gathering_stage, has_finished, is_asking, request_stage, unless_ended}
 use Rattle.conn.specs.declared.connection.Conn.{Conn}
 use Rattle.conn.specs.declared.ends.End.{End}
 use Rattle.conn.specs.declared.ends.Ends.{Ends}
@@ -105,28 +112,61 @@ begins_same {H = H} g tree budget vars host more m frames begins units =
 pub record From (g : Setup) (l : TraceState) (mid : Conn) : Type 0 where
   pub vars : l.vars ≡ mid.vars
   pub replies : l.answers.replies ≡ []
-  pub told : Told g mid.ends.link mid.host.net
+  pub told : Told g mid.ends.link mid.host
 
 -- It went to a place of its trace, with these ends, and no call is open.
 pub record GoneTo (g : Setup) (fin : Bool) (p : Place) (l : TraceState) (e : Ends) (new : Conn) : Type 0 where
   pub stands : Stands g new.stage (put p l) new
   pub finished : fin ≡ has_finished new.stage
   pub fits : fits new.stage new.ends.link ≡ true
-  pub told : Told g new.ends.link new.host.net
+  pub told : Told g new.ends.link new.host
   pub ends : new.ends ≡ e
   pub awake : is_asking new.stage ≡ false
   pub event : HostIn new.stage new.host.event
 
 -- the same is told of the same host, with the same ends
-pub same_told : (g : Setup) (old new : Conn) → new.host ≡ old.host → new.ends ≡ old.ends → Told g old.ends.link old.host.net → Told g new.ends.link new.host.net
-same_told g old new host ends k = subst (λ e. Told g e.link new.host.net) (sym ends) (subst (λ h. Told g old.ends.link h.net) (sym host) k)
+pub same_told : (g : Setup) (old new : Conn) → new.host ≡ old.host → new.ends ≡ old.ends → Told g old.ends.link old.host → Told g new.ends.link new.host
+same_told g old new host ends k = subst (λ e. Told g e.link new.host) (sym ends) (subst (λ h. Told g old.ends.link h) (sym host) k)
+
+-- what they are told that no event changes
+pub record Known (g : Setup) (k : Link) (h : RuleHost) : Type 0 where
+  pub from : h.net.from ≡ g.from
+  pub spoken : is_some h.http ≡ g.http
+  pub alone : g.http ≡ true → k ≡ link.Absent
+
+pub known : (g : Setup) (k : Link) (h : RuleHost) → Told g k h → Known g k h
+known g k h t = record { from = t.from; spoken = t.spoken; alone = t.alone }
+
+pub told_of : (g : Setup) (k : Link) (h : RuleHost) → Known g k h → (h.net.relays ≡ true → is_up k ≡ true) → Told g k h
+told_of g k h t relays = record { from = t.from; relays = relays; spoken = t.spoken; alone = t.alone }
+
+-- of a host with the same client, that knows as much of a request, and the same link
+pub known_same : (g : Setup) (k m : Link) (h i : RuleHost) → i.net.from ≡ h.net.from → is_some i.http ≡ is_some h.http → m ≡ k → Known g k h → Known g m i
+known_same g k m h i from http link t = record { from = from ∙ t.from; spoken = http ∙ t.spoken; alone = λ e. link ∙ t.alone e }
+
+-- with a server connection no HTTP is spoken
+pub is_plain : (g : Setup) (k : Link) (h : RuleHost) → Known g k h → (k ≡ link.Absent → ⊥) → h.http ≡ None
+is_plain g k h t there = by_http h.http (t.spoken ∙ by_flag g.http refl)
+  where
+    by_flag : (b : Bool) → g.http ≡ b → g.http ≡ false
+    by_flag true e = absurd (there (t.alone e))
+    by_flag false e = e
+
+    by_http : (o : Option Http) → is_some o ≡ false → o ≡ None
+    by_http None e = refl
+    by_http (Some http) e = absurd (true≢false e)
 
 -- where an event begins they are told whether there is a server connection
-pub begun_told : (g : Setup) (at : At) (k : Link) (old new : RuleHost) → new ≡ begun_host at (is_up k) old → old.net.from ≡ g.from → Told g k new.net
-begun_told g at k old new is from = subst (λ h. Told g k h.net) (sym is) (record { from = from; relays = λ e. e })
+still_some : {A : Type 0} (f : A → A) (o : Option A) → is_some (option_map f o) ≡ is_some o
+still_some f None = refl
+still_some f (Some a) = refl
 
-begins_told : (g : Setup) (at : At) (old mid : Conn) → Begins at old mid → Told g old.ends.link old.host.net → Told g mid.ends.link mid.host.net
-begins_told g at old mid k told = subst (λ e. Told g e.link mid.host.net) (sym k.ends) (begun_told g at old.ends.link old.host mid.host k.host told.from)
+pub begun_told : (g : Setup) (at : At) (k : Link) (old new : RuleHost) → new ≡ begun_host at (is_up k) old → Known g k old → Told g k new
+begun_told g at k old new is t =
+    subst (λ h. Told g k h) (sym is) (record { from = t.from; relays = λ e. e; spoken = still_some (http_begun old.net) old.http ∙ t.spoken; alone = t.alone })
+
+begins_told : (g : Setup) (at : At) (old mid : Conn) → Begins at old mid → Told g old.ends.link old.host → Told g mid.ends.link mid.host
+begins_told g at old mid k told = subst (λ e. Told g e.link mid.host) (sym k.ends) (begun_told g at old.ends.link old.host mid.host k.host (known g old.ends.link old.host told))
 
 up_is : (k : Link) → model.is_up (link_by k) ≡ is_up k
 up_is link.Absent = refl
@@ -152,10 +192,25 @@ link_is a l e h = ap link_of h.server ∙ link_side e.link e.server
 pub begun_is : (at : At) (k : Link) (old new : RuleHost) → new ≡ begun_host at (is_up k) old → seen_host new ≡ begun (event_of at) (link_by k) (seen_host old)
 begun_is at k old new is = ap seen_host is ∙ ap (λ up. seen_host (begun_host at up old)) (sym (up_is k))
 
+or_false : (b : Bool) → (b || false) ≡ b
+or_false true = refl
+or_false false = refl
+
+-- of two events that begin one after another the second one says all
+begun_again : (e f : EventName) (k : ModelLink) (h : HostState) → begun f k (begun e k h) ≡ begun f k h
+begun_again e f k h = ap (λ o. record (begun f k h) { http = o }) (by_http h.http)
+  where
+    by_http : (o : Option Http) → option_map (http_begun (begun e k h).net) (option_map (http_begun h.net) o) ≡ option_map (http_begun h.net) o
+    by_http None = refl
+    by_http (Some x) = ap (λ d. Some (record (messages.begun x) { detaches = d })) (or_false (x.detaches || h.net.wishes.detaches))
+
+closed_again : (g : Setup) (k : ModelLink) (h : HostState) → next_body g ServerClosed true k (g.handlers ServerClosed) (begun ServerClosed k h) ≡ closed_server g k h
+closed_again g k h = ap (λ x. bodies_left ServerClosed (g.handlers ServerClosed) (begun ServerClosed k h) (bodies_left ClientClosed (g.handlers ClientClosed) x (place state.Draining x))) (begun_again ServerClosed ClientClosed k h)
+
 module _ (g : Setup) (l : TraceState) where
   -- behind an event that is entered again by no other
-  after_stands : (at : At) (fin : Bool) (k : Link) (new : Conn) → (at ≡ event.ServerClosed → ⊥) → From g l new → Stands g (after_stage at k new.host.net) (put (after_event g (event_of at) fin (link_by k) (seen_host new.host)) l) new
-  after_stands at fin k new plain f = by_event at plain
+  after_stands : (at : At) (fin : Bool) (k : Link) (new : Conn) → (at ≡ event.ServerClosed → ⊥) → From g l new → Known g k new.host → at_fits at k ≡ true → Stands g (after_stage at k new.host) (put (after_event g (event_of at) fin (link_by k) (seen_host new.host)) l) new
+  after_stands at fin k new plain f known fit = by_event at plain fit
     where
       here : Phase → TraceState
       here p = record l { phase = p; host = seen_host new.host }
@@ -172,13 +227,46 @@ module _ (g : Setup) (l : TraceState) where
       by_server None = (refl, between _)
       by_server (Some s) = (refl, between _)
 
-      by_test : (b : Bool) → Stands g (if b then stage.Choosing else stage.Finishing finish.Unselected) (here (if b then Choosing else Finishing Unselected)) new
-      by_test true = (refl, between _)
-      by_test false = (refl, between _)
+      by_bool : (b : Bool) → Stands g (if b then stage.Choosing else stage.Finishing finish.Unselected) (here (if b then Choosing else Finishing Unselected)) new
+      by_bool true = (refl, between _)
+      by_bool false = (refl, between _)
 
-      by_asks : (asks : Asks) → Stands g (accepted_stage asks) (here (behind_accepted asks)) new
+      by_failed : (o : Option Bool) → Stands g (failed_stage o (seen_host new.host).net.wishes.reselects (http_of (seen_host new.host))) (here (behind_failed o (seen_host new.host))) new
+      by_failed (Some closing) = (refl, between _)
+      by_failed None = by_bool (seen_host new.host).net.wishes.reselects
+
+      by_asks : (asks : Asks) → Stands g (collect_stage asks) (here (behind_accepted asks)) new
       by_asks NotAsked = (refl, between _)
       by_asks (Stated n) = (refl, between _)
+
+      by_accept : (http : Bool) → Stands g (accepted_stage http (seen_host new.host).net.client.asks) (here (behind_accept http (seen_host new.host))) new
+      by_accept true = (refl, between _)
+      by_accept false = by_asks (seen_host new.host).net.client.asks
+
+      -- where a request goes while no server is there
+      by_wanted : (m : ModelLink) → routed m (seen_host new.host) ≡ Choosing → (n : ℕ) → Stands g (gathering_stage n (http_of (seen_host new.host))) (here (gathering Client n (seen_host new.host) (routed m (seen_host new.host)))) new
+      by_wanted m down zero = (down, between _)
+      by_wanted m down (suc n) = (refl, between _)
+
+      by_expects : (m : ModelLink) → routed m (seen_host new.host) ≡ Choosing → (expects : Bool) → Stands g (request_stage None expects (http_of (seen_host new.host))) (here (behind_told expects m (seen_host new.host))) new
+      by_expects m down true = (refl, between _)
+      by_expects m down false = by_wanted m down (wanted_more (http_of (seen_host new.host)))
+
+      by_answered : (closing expects : Bool) → Stands g (request_stage (Some closing) expects (http_of (seen_host new.host))) (here (behind_answer expects (seen_host new.host))) new
+      by_answered closing true = (refl, between _)
+      by_answered closing false = (refl, between _)
+
+      by_answer : (m : ModelLink) → routed m (seen_host new.host) ≡ Choosing → (o : Option Bool) → Stands g (request_stage o (expects_by (http_of (seen_host new.host)).came) (http_of (seen_host new.host))) (here (behind_request o m (seen_host new.host))) new
+      by_answer m down (Some closing) = by_answered closing (expects_by (http_of (seen_host new.host)).came)
+      by_answer m down None = by_expects m down (expects_by (http_of (seen_host new.host)).came)
+
+      by_request : (x : Link) → not (is_sought x) ≡ true → Stands g (request_stage (http_of (seen_host new.host)).answer (expects_by (http_of (seen_host new.host)).came) (http_of (seen_host new.host))) (here (behind_request (http_of (seen_host new.host)).answer (link_by x) (seen_host new.host))) new
+      by_request link.Absent e = by_answer state.Absent refl (http_of (seen_host new.host)).answer
+      by_request link.GivenUp e = by_answer state.GivenUp refl (http_of (seen_host new.host)).answer
+      by_request link.Asked e = absurd (true≢false (sym e))
+      by_request link.Refused e = absurd (true≢false (sym e))
+      by_request link.Made e = absurd (true≢false (sym e))
+      by_request link.Up e = absurd (true≢false (sym e))
 
       by_release : (b : Bool) → Stands g (data_stage false b) (here (if b then Choosing else Collecting)) new
       by_release true = (refl, between _)
@@ -196,27 +284,35 @@ module _ (g : Setup) (l : TraceState) where
       by_loose [] = (refl, between _)
       by_loose (b ∷ bs) = (refl, between _)
 
-      by_event : (at : At) → (at ≡ event.ServerClosed → ⊥) → Stands g (after_stage at k new.host.net) (put (after_event g (event_of at) fin (link_by k) (seen_host new.host)) l) new
-      by_event event.Accepted p = by_end new.host.net.wishes.ends (accepted_stage new.host.net.client.asks) (behind_accepted new.host.net.client.asks) (by_asks new.host.net.client.asks)
-      by_event event.ClientData p = by_end new.host.net.wishes.ends (data_stage (is_up k) new.host.net.wishes.released) (behind_data (link_by k) new.host.net.wishes.released) (by_link k new.host.net.wishes.released)
-      by_event event.Selected p = by_end new.host.net.wishes.ends (connecting_stage new.host.net.selected) (connecting new.host.net.selected) (by_server new.host.net.selected)
-      by_event event.Failed p = by_end new.host.net.wishes.ends _ _ (by_test new.host.net.wishes.reselects)
-      by_event event.Connected p = by_end new.host.net.wishes.ends (connected_stage new.host.net.loose) (behind_connected new.host.net.loose) (by_loose new.host.net.loose)
-      by_event event.ServerData p = by_end new.host.net.wishes.ends (stage.Relaying Client) Relaying (refl, between _)
-      by_event event.ServerClosed p = absurd (p refl)
-      by_event event.Closed p = (refl, between _)
+      by_connect : (http : Bool) → http ≡ false → Stands g (connected_stage (seen_host new.host).net.loose) (here (behind_connect http (seen_host new.host))) new
+      by_connect true e = absurd (true≢false e)
+      by_connect false e = by_loose (seen_host new.host).net.loose
+
+      plain_up : at_fits event.Connected k ≡ true → is_some new.host.http ≡ false
+      plain_up up = ap is_some (is_plain g k new.host known (λ e. true≢false (sym up ∙ ap is_up e)))
+
+      by_event : (at : At) → (at ≡ event.ServerClosed → ⊥) → at_fits at k ≡ true → Stands g (after_stage at k new.host) (put (after_event g (event_of at) fin (link_by k) (seen_host new.host)) l) new
+      by_event event.Accepted p fit = by_end new.host.net.wishes.ends _ _ (by_accept (is_some new.host.http))
+      by_event event.ClientData p fit = by_end new.host.net.wishes.ends (data_stage (is_up k) new.host.net.wishes.released) (behind_data (link_by k) new.host.net.wishes.released) (by_link k new.host.net.wishes.released)
+      by_event event.Selected p fit = by_end new.host.net.wishes.ends (connecting_stage new.host.net.selected) (connecting new.host.net.selected) (by_server new.host.net.selected)
+      by_event event.Failed p fit = by_end new.host.net.wishes.ends _ _ (by_failed (http_of (seen_host new.host)).answer)
+      by_event event.Connected p fit = by_end new.host.net.wishes.ends _ _ (by_connect (is_some new.host.http) (plain_up fit))
+      by_event event.Request p fit = by_end new.host.net.wishes.ends _ _ (by_request k fit)
+      by_event event.ServerData p fit = by_end new.host.net.wishes.ends (stage.Relaying Client) Relaying (refl, between _)
+      by_event event.ServerClosed p fit = absurd (p refl)
+      by_event event.Closed p fit = (refl, between _)
 
   goes_gone : (at : At) (fin : Bool) (mid new : Conn) → (at ≡ event.ServerClosed → ⊥) → GoesTo (left_stage at mid) mid new → From g l mid → at_fits at mid.ends.link ≡ true → fin ≡ is_closed at
       → GoneTo g fin (after_event g (event_of at) fin (link_by mid.ends.link) (seen_host mid.host)) l mid.ends new
   goes_gone at fin mid new plain c f fit is =
       let k = mid.ends.link in
-      let p = after_plain at k mid.host.net in
+      let p = after_plain at k mid.host in
       let f' : From g l new = record { vars = f.vars ∙ sym c.vars; replies = f.replies; told = same_told g mid new c.host c.ends f.told } in
       let S : Stage → RuleHost → Type 0 = λ st h. Stands g st (put (after_event g (event_of at) fin (link_by k) (seen_host h)) l) new in
       record {
-        stands = subst (λ st. S st mid.host) (sym c.there) (subst (λ h. S (after_stage at k h.net) h) c.host (after_stands at fin k new plain f'));
+        stands = subst (λ st. S st mid.host) (sym c.there) (subst (λ h. S (after_stage at k h) h) c.host (after_stands at fin k new plain f' (subst (λ h. Known g k h) (sym c.host) (known g k mid.host f.told)) fit));
         finished = is ∙ p.finished ∙ ap has_finished (sym c.there);
-        fits = ap (λ st. fits st new.ends.link) c.there ∙ ap (λ e. fits (left_stage at mid) e.link) c.ends ∙ after_fits at mid.host.net k fit;
+        fits = ap (λ st. fits st new.ends.link) c.there ∙ ap (λ e. fits (left_stage at mid) e.link) c.ends ∙ after_fits at mid.host k fit;
         told = f'.told;
         ends = c.ends;
         awake = ap is_asking c.there ∙ p.awake;
@@ -292,6 +388,7 @@ module _ (g : Setup) (l : TraceState) where
     leaves_gone event.Selected fin mid new k f fit is = goes_gone event.Selected fin mid new (λ e. cc) k f fit is
     leaves_gone event.Failed fin mid new k f fit is = goes_gone event.Failed fin mid new (λ e. cc) k f fit is
     leaves_gone event.Connected fin mid new k f fit is = goes_gone event.Connected fin mid new (λ e. cc) k f fit is
+    leaves_gone event.Request fin mid new k f fit is = goes_gone event.Request fin mid new (λ e. cc) k f fit is
     leaves_gone event.ServerData fin mid new k f fit is = goes_gone event.ServerData fin mid new (λ e. cc) k f fit is
     leaves_gone event.ServerClosed fin mid new k f fit is = subst (λ b. GoneTo g b (after_event g (event_of event.ServerClosed) b (link_by mid.ends.link) (seen_host mid.host)) l mid.ends new) (sym is) (client_gone mid new k f)
     leaves_gone event.Closed fin mid new k f fit is = goes_gone event.Closed fin mid new (λ e. cc) k f fit is
@@ -309,7 +406,8 @@ module _ (g : Setup) (l : TraceState) where
         let f' : From g l mid = record { vars = f.vars ∙ sym k.begins.vars; replies = f.replies; told = begins_told g event.ServerClosed old mid k.begins f.told } in
         let gone = next_gone event.ServerClosed 0 true mid new k.goes f' (ap (λ h. event_of h.event) k.begins.host) refl refl in
         let on : GoneTo g true (next_body g (event_of event.ServerClosed) true (link_by old.ends.link) (g.handlers (event_of event.ServerClosed)) (seen_host mid.host)) l old.ends new = subst (λ e. GoneTo g true (next_body g (event_of event.ServerClosed) true (link_by e.link) (g.handlers (event_of event.ServerClosed)) (seen_host mid.host)) l e new) k.begins.ends gone in
-        subst (λ h. GoneTo g true (next_body g (event_of event.ServerClosed) true (link_by old.ends.link) (g.handlers (event_of event.ServerClosed)) h) l old.ends new) (begun_is event.ServerClosed old.ends.link old.host mid.host k.begins.host) on
+        subst (λ p. GoneTo g true p l old.ends new) (closed_again g (link_by old.ends.link) (seen_host old.host))
+        (subst (λ h. GoneTo g true (next_body g (event_of event.ServerClosed) true (link_by old.ends.link) (g.handlers (event_of event.ServerClosed)) h) l old.ends new) (begun_is event.ServerClosed old.ends.link old.host mid.host k.begins.host) on)
 
     -- the closing events come
     pub closes_gone : (old new : Conn) → ClosesAll s old new → From g l old → GoneTo g true (closed g (link_by old.ends.link) (seen_host old.host)) l old.ends new
@@ -324,11 +422,11 @@ module _ (g : Setup) (l : TraceState) where
         by_link link.Up is c = subst (λ x. GoneTo g true (closed_server g (link_by x) (seen_host old.host)) l old.ends new) is (server_gone old new c f)
 
     -- an event is entered
-    pub enters_gone : (at : At) (host : RuleHost) (ends : Ends) (old new : Conn) → Enters s at host ends old new → l.vars ≡ old.vars → l.answers.replies ≡ [] → host.net.from ≡ g.from → at_fits at ends.link ≡ true → is_closed at ≡ false → (at ≡ event.ServerClosed → ⊥)
+    pub enters_gone : (at : At) (host : RuleHost) (ends : Ends) (old new : Conn) → Enters s at host ends old new → l.vars ≡ old.vars → l.answers.replies ≡ [] → Known g ends.link host → at_fits at ends.link ≡ true → is_closed at ≡ false → (at ≡ event.ServerClosed → ⊥)
         → GoneTo g false (enter g (event_of at) (link_by ends.link) (seen_host host)) l ends new
-    enters_gone at host ends old new k vars replies from fit not_closing plain =
+    enters_gone at host ends old new k vars replies known fit not_closing plain =
         let e = event_of at in
-        let f : From g l new = record { vars = vars ∙ sym k.vars; replies = replies; told = subst (λ e. Told g e.link new.host.net) (sym k.ends) (begun_told g at ends.link host new.host k.host from) } in
+        let f : From g l new = record { vars = vars ∙ sym k.vars; replies = replies; told = subst (λ e. Told g e.link new.host) (sym k.ends) (begun_told g at ends.link host new.host k.host known) } in
         subst (λ h. GoneTo g false (entered g e (link_by ends.link) (g.handlers e) h) l ends new) (begun_is at ends.link host new.host k.host) (by_bodies f (g.handlers e) (places_at s at) refl refl (serves.count e))
       where
         here : (f : From g l new) (hs : List Handler) → Type 0
@@ -336,13 +434,13 @@ module _ (g : Setup) (l : TraceState) where
 
         by_bodies : (f : From g l new) (hs : List Handler) (ps : List Body) → g.handlers (event_of at) ≡ hs → places_at s at ≡ ps → length hs ≡ length ps → here f hs
         by_bodies f [] [] e p n =
-            let there : new.stage ≡ left_stage at new = k.there ∙ ap (entered_by at ends.link new.host.net) p ∙ ap (λ x. after_stage at x.link new.host.net) (sym k.ends) in
+            let there : new.stage ≡ left_stage at new = k.there ∙ ap (entered_by at ends.link new.host) p ∙ ap (λ x. after_stage at x.link new.host) (sym k.ends) in
             subst (λ x. GoneTo g false (after_event g (event_of at) false (link_by x.link) (seen_host new.host)) l x new) k.ends
             (goes_gone at false new new plain (record { there = there; vars = refl; host = refl; ends = refl }) f (ap (λ x. at_fits at x.link) k.ends ∙ fit) (sym not_closing))
         by_bodies f [] (p ∷ ps) e q n = absurd (omega (arith, n))
         by_bodies f (h ∷ hs) [] e q n = absurd (omega (arith, n))
         by_bodies f (h ∷ hs) (p ∷ ps) e q n =
-            let there : new.stage ≡ stage.Gated at = k.there ∙ ap (entered_by at ends.link new.host.net) q in
+            let there : new.stage ≡ stage.Gated at = k.there ∙ ap (entered_by at ends.link new.host) q in
             let l' : TraceState = record l { phase = InEvent (event_of at) (Gated h hs); host = seen_host new.host } in
             let gate : GatedBefore (event_of at) (g.handlers (event_of at)) (InEvent (event_of at) (Gated h hs)) = subst (λ ms. GatedBefore (event_of at) ms (InEvent (event_of at) (Gated h hs))) (sym e) refl in
             record {

@@ -1,5 +1,5 @@
 -- What a command of today does: it leaves each collect but that of its own side as it was, and has one effect at most; it sends to the server only where there is one; one that asks a shared call has none.
-use Rattle.std.proofs.Common.{◌≡◌, refl, sym, ap, ◌∙◌, subst, true≢false, ℕ, List, [], ◌∷◌, length, Bool, true, false, Option, Some, None, Result, Ok, Err, ℤ, codes, not, ◌&&◌, ◌+◌, ◌++◌, ◌==◌, nat_lt, if◌then◌else◌}
+use Rattle.std.proofs.Common.{◌≡◌, ◌⊎◌, inl, inr, refl, sym, ap, ◌∙◌, subst, true≢false, ℕ, List, [], ◌∷◌, length, Bool, true, false, Option, Some, None, Result, Ok, Err, ℤ, codes, not, ◌&&◌, ◌+◌, ◌++◌, ◌==◌, nat_lt, if◌then◌else◌}
 use Rattle.std.specs.Option.{is_some}
 use Rattle.std.specs.List.{list_any}
 use Rattle.std.specs.Str.{bytes_eq}
@@ -38,7 +38,11 @@ use Rattle.irule_net.specs.declared.state.Target.{Target}
 use Rattle.irule_net.specs.declared.state.Target.TheVariants.{PoolOf}
 use Rattle.conn.specs.Events.{collects_in}
 use Rattle.conn.specs.Hosts.{KeepsCollects}
-use Rattle.conn_trace.specs.Host.{HostState, commands, commands_by, first_word, host_step, is_there, names_one}
+use Rattle.conn_trace.specs.Host.{HostState, commands, commands_by, first_word, host_step, http_done, is_there, names_one, net_command}
+use Rattle.irule_http.specs.Commands.{http_step}
+use Rattle.irule_http.specs.Laws.{Once, made}
+use Rattle.irule_http.proofs.Once.{http_once}
+use Rattle.irule_http.specs.declared.state.Http.{Http}
 
 -- in an event of this side, where there is a server or none, bytes may be sent to a side
 abbrev pub MaySend : Side → (relays : Bool) → Side → Type 0
@@ -408,21 +412,47 @@ net_quick groups event s (name ∷ words) there = by_http (is_http name)
     by_http true = (keeps_all event s, tt)
     by_http false = named_quick groups event s name words (command_of name) there
 
--- the same of the host's state
+-- the same of the host's state: it knows as much of requests as before
+pub record KeepsHost (h t : HostState) : Type 0 where
+  pub event : t.event ≡ h.event
+  pub keeps : KeepsCollects h.event h.net t.net
+  pub spoken : is_some t.http ≡ is_some h.http
+
 abbrev pub QuickHost : HostState → HostStep HostState → Type 0
-QuickHost h (Gives v t es) = (t.event ≡ h.event) × KeepsCollects h.event h.net t.net × OneTo (side_of h.event) h.net.relays es
-QuickHost h (Faults f t es) = (t.event ≡ h.event) × KeepsCollects h.event h.net t.net × OneTo (side_of h.event) h.net.relays es
-QuickHost h (Asks call t) = (t.event ≡ h.event) × KeepsCollects h.event h.net t.net
+QuickHost h (Gives v t es) = KeepsHost h t × OneTo (side_of h.event) h.net.relays es
+QuickHost h (Faults f t es) = KeepsHost h t × OneTo (side_of h.event) h.net.relays es
+QuickHost h (Asks call t) = KeepsHost h t
 
 step_quick : (h : HostState) (step : Step) → Quick h.event h.net step → QuickHost h (host_step h step)
-step_quick h (Gives v s es) q = (refl, q.0, q.1)
-step_quick h (Faults f s es) q = (refl, q.0, q.1)
-step_quick h (Asks call s) q = (refl, q)
+step_quick h (Gives v s es) q = (record { event = refl; keeps = q.0; spoken = refl }, q.1)
+step_quick h (Faults f s es) q = (record { event = refl; keeps = q.0; spoken = refl }, q.1)
+step_quick h (Asks call s) q = record { event = refl; keeps = q; spoken = refl }
 
-pub commands_quick : (groups : Groups) (h : HostState) (words : List (List ℕ)) → h.http ≡ None → QuickHost h (commands groups h words)
-unfolding commands
-commands_quick groups h words plain = subst (λ o. QuickHost h (commands_by o groups h words)) (sym plain) (by_test (names_one (command_of (first_word words))) refl)
+net_commands_quick : (groups : Groups) (h : HostState) (words : List (List ℕ)) → QuickHost h (net_command groups h words)
+net_commands_quick groups h words = by_test (names_one (command_of (first_word words))) refl
   where
     by_test : (b : Bool) → names_one (command_of (first_word words)) ≡ b → QuickHost h (if b then host_step h (net_step groups h.event h.net words) else Faults (no_command (first_word words)) h [])
     by_test true is = step_quick h (net_step groups h.event h.net words) (net_quick groups h.event h.net words is)
-    by_test false is = (refl, keeps_all h.event h.net, tt)
+    by_test false is = (record { event = refl; keeps = keeps_all h.event h.net; spoken = refl }, tt)
+
+-- an HTTP command changes what is known of the request alone, and answers once
+http_sends : (event : EventName) (relays : Bool) (http : Http) (step : HostStep Http) → Once http step → OneTo (side_of event) relays (made step)
+http_sends event relays http step (inl quiet) = subst (OneTo (side_of event) relays) (sym quiet.sent) tt
+http_sends event relays http step (inr answers) = subst (OneTo (side_of event) relays) (sym answers.sent) (to_client (side_of event) relays)
+
+http_quick : (h : HostState) (http : Http) (step : HostStep Http) → h.http ≡ Some http → OneTo (side_of h.event) h.net.relays (made step) → QuickHost h (http_done h step)
+http_quick h http (Gives v t es) is one = (record { event = refl; keeps = keeps_all h.event h.net; spoken = sym (ap is_some is) }, one)
+http_quick h http (Faults f t es) is one = (record { event = refl; keeps = keeps_all h.event h.net; spoken = sym (ap is_some is) }, one)
+http_quick h http (Asks call t) is one = record { event = refl; keeps = keeps_all h.event h.net; spoken = sym (ap is_some is) }
+
+pub commands_quick : (groups : Groups) (h : HostState) (words : List (List ℕ)) → QuickHost h (commands groups h words)
+unfolding commands
+commands_quick groups h words = by_http h.http refl
+  where
+    by_name : (http : Http) → h.http ≡ Some http → (b : Bool) → QuickHost h (if b then http_done h (http_step h.event http words) else net_command groups h words)
+    by_name http is true = http_quick h http (http_step h.event http words) is (http_sends h.event h.net.relays http (http_step h.event http words) (http_once h.event http words))
+    by_name http is false = net_commands_quick groups h words
+
+    by_http : (o : Option Http) → h.http ≡ o → QuickHost h (commands_by o groups h words)
+    by_http None is = net_commands_quick groups h words
+    by_http (Some http) is = by_name http is (is_http (first_word words))

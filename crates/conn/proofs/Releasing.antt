@@ -1,5 +1,6 @@
 -- The client's bytes that were released before there was a server go to it.
-use Rattle.std.proofs.Common.{◌≡◌, refl, sym, ap, subst, ◌∙◌, ℕ, ◌+◌, List, [], ◌∷◌, ◌++◌, append-nil, length, length-append, Bool, true, false, true≢false, nat_lt, arith, if◌then◌else◌}
+use Rattle.std.proofs.Common.{◌≡◌, refl, sym, ap, subst, ◌∙◌, ℕ, ◌+◌, List, [], ◌∷◌, ◌++◌, append-nil, length, length-append, Bool, true, false, true≢false, nat_lt, arith, if◌then◌else◌, eq-eqb}
+use Rattle.std.specs.Option.{is_some}
 use Rattle.std.specs.Bool.{MatchBool}
 use Rattle.px_bytes.specs.declared.addr.Side.TheVariants.{Client, Server}
 use Rattle.conn_trace.specs.Gates.{room_limit}
@@ -32,6 +33,7 @@ use Rattle.conn.proofs.Passing.{up_is}
 use Rattle.conn.proofs.Pending.{here_untaken, server_waits, up_untaken, up_number}
 use Rattle.conn.proofs.SelectItems.{next_in}
 use Rattle.conn.specs.Servers.{queue_at_server}
+use Rattle.conn.proofs.Places.{known, known_same, told_of}
 
 -- there is room at the server
 abbrev pub server_room : Conn → Bool
@@ -91,7 +93,7 @@ module _ (s : code_setup.Setup) (g : Setup) (serves : Serves s g) (a : Around) (
     finished = going ∙ ap has_finished (sym k.there);
     fits = ap (λ x. fits x new.ends.link) k.there ∙ ap (λ e. is_up e.link) k.ends ∙ ap is_up up;
     event = subst (λ x. HostIn x new.host.event) (sym k.there) tt;
-    told = record { from = ap (λ x. x.net.from) k.host ∙ h.told.from; relays = λ r. ap (λ e. is_up e.link) k.ends ∙ ap is_up up };
+    told = told_of g new.ends.link new.host (known_same g old.ends.link new.ends.link old.host new.host (ap (λ x. x.net.from) k.host) (ap (λ x. is_some x.http) k.host) (ap (λ e. e.link) k.ends) (known g old.ends.link old.host h.told)) (λ r. ap (λ e. is_up e.link) k.ends ∙ ap is_up up);
     ends = subst (λ e. HoldsEnds a at e) (sym k.ends) (released_ends a l (seen_host (released_host old.host)) loose old.ends h.ends up);
     no_choice = h.no_choice;
     no_cut = h.no_cut;

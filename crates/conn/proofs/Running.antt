@@ -224,7 +224,7 @@ rest_asks c conn =
 -- and it holds the same
 told_holds : (g : Setup) (a : Around) (l : TraceState) (c : ℕ) (conn : Conn) → Holds g a l conn → Holds g a l (noted_in (rest_notes c conn) conn)
 told_holds g a l c conn h =
-    holds g a a l l.client l.server l.answers.connects conn (noted_in (rest_notes c conn) conn).ends h (with_edges a l conn.ends h.ends (edges_noted (rest_notes c conn) conn.ends.edges) (rest_asks c conn conn.ends.edges)) h.fits (λ u. u)
+    holds g a a l l.client l.server l.answers.connects conn (noted_in (rest_notes c conn) conn).ends h (with_edges a l conn.ends h.ends (edges_noted (rest_notes c conn) conn.ends.edges) (rest_asks c conn conn.ends.edges)) h.fits (λ u. u) (λ e. e)
 
 pub runs_rests : (s : code.Setup) (c : ℕ) (old mid new last : Conn) (before notes after told : List Note) (t : ConnTurn) (steps ticks : ℕ) → RunsOn s c old mid before notes steps → Acted s c mid new notes after done.Rests ticks → CountsBodies mid ticks → Rested c new last after told t → RunsBy s c old last before told t (steps + ticks)
 runs_rests s c old mid new last before notes after told t steps ticks r acted counts rested = by_turn t rested

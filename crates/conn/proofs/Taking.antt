@@ -103,4 +103,4 @@ took_link Server n e = refl
 
 pub takes : (side : Side) (n : ℕ) (old : Conn) → n ≤ length (queue_of (end_of side old.ends)) → Takes side n old (with_ends (took_ends side n old.ends) old)
 takes side n old within g a l h =
-    holds g a (took_more side n a) l l.client l.server l.answers.connects old (took_ends side n old.ends) h (takes_ends a l side n old.ends within h.ends) (ap (fits old.stage) (took_link side n old.ends) ∙ h.fits) (λ u. ap is_up (took_link side n old.ends) ∙ u)
+    holds g a (took_more side n a) l l.client l.server l.answers.connects old (took_ends side n old.ends) h (takes_ends a l side n old.ends within h.ends) (ap (fits old.stage) (took_link side n old.ends) ∙ h.fits) (λ u. ap is_up (took_link side n old.ends) ∙ u) (λ e. took_link side n old.ends ∙ e)

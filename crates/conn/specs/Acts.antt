@@ -92,6 +92,7 @@ pub record Connects (c : ℕ) (to : Addr) (old new : Conn) (before after : List 
   pub vars : new.vars ≡ old.vars
   pub host : new.host ≡ old.host
   pub ends : new.ends ≡ asked_ends old.ends
+  pub plain : old.host.http ≡ None
   pub noted : after ≡ before ++ note.Connect c to ∷ []
 
 -- once the server connection before took all
@@ -146,7 +147,8 @@ PassesReleased s c old new before after a =
     ((a ≡ act.Goes) × Releases old new × (after ≡ before))
     (Rests s c old new before after a)
 
--- what one action does, by where the connection stands; a body's step alone ticks
+-- What one action does, by where the connection stands; a body's step alone ticks. The stages of HTTP have
+-- none yet.
 abbrev pub ActedAt : Stage → Setup → ℕ → Conn → Conn → List Note → List Note → Act → (ticks : ℕ)
     → Type 0
 ActedAt (stage.Gated at) s c old new before after a ticks =
@@ -168,6 +170,10 @@ ActedAt stage.Releasing s c old new before after a ticks =
     PassesReleased s c old new before after a
 ActedAt (stage.Relaying first) s c old new before after a ticks =
     Relays s c first old new before after a
+ActedAt stage.AtHead s c old new before after a ticks = ⊥
+ActedAt stage.Continuing s c old new before after a ticks = ⊥
+ActedAt (stage.Gathering wanted reader) s c old new before after a ticks = ⊥
+ActedAt (stage.Dropping reader) s c old new before after a ticks = ⊥
 ActedAt (stage.Finishing f) s c old new before after a ticks =
     (a ≡ act.Goes) × Finishes s c f old new before after
 ActedAt other s c old new before after a ticks =

@@ -5,7 +5,8 @@ use Rattle.conn.specs.declared.connection.Conn.{Conn}
 use Rattle.conn.specs.declared.ends.Ends.{Ends}
 use Rattle.conn.specs.declared.events.At.{At}
 use Rattle.conn.specs.declared.events.At.TheVariants.{Accepted, ClientData, Selected, Failed}
-use Rattle.conn.specs.declared.events.At.TheVariants.{Connected, ServerData, ServerClosed, Closed}
+use Rattle.conn.specs.declared.events.At.TheVariants.{Connected, Request, ServerData}
+use Rattle.conn.specs.declared.events.At.TheVariants.{ServerClosed, Closed}
 use Rattle.conn.specs.declared.host.RuleHost.{RuleHost}
 use Rattle.conn.specs.declared.setup.Setup.{Setup}
 use Rattle.conn.specs.declared.stage.Stage.{Stage}
@@ -50,7 +51,7 @@ pub record ClosesClient (s : Setup) (old new : Conn) : Type 0 where
 
 -- all bodies of an event have ended
 abbrev pub left_stage : At → Conn → Stage
-left_stage at c = after_stage at c.ends.link c.host.net
+left_stage at c = after_stage at c.ends.link c.host
 
 abbrev pub Leaves : Setup → At → Conn → Conn → Type 0
 Leaves s ServerClosed old new = ClosesClient s old new
@@ -59,6 +60,7 @@ Leaves s ClientData old new = GoesTo (left_stage ClientData old) old new
 Leaves s Selected old new = GoesTo (left_stage Selected old) old new
 Leaves s Failed old new = GoesTo (left_stage Failed old) old new
 Leaves s Connected old new = GoesTo (left_stage Connected old) old new
+Leaves s Request old new = GoesTo (left_stage Request old) old new
 Leaves s ServerData old new = GoesTo (left_stage ServerData old) old new
 Leaves s Closed old new = GoesTo (left_stage Closed old) old new
 
@@ -81,7 +83,7 @@ Closes s old new =
 -- an event is entered on this host, with these ends
 pub record Enters (s : Setup) (at : At) (h : RuleHost) (e : Ends) (old new : Conn)
     : Type 0 where
-  pub there : new.stage ≡ entered_stage s at e.link new.host.net
+  pub there : new.stage ≡ entered_stage s at e.link new.host
   pub vars : new.vars ≡ old.vars
   pub host : new.host ≡ begun_host at (is_up e.link) h
   pub ends : new.ends ≡ e

@@ -23,6 +23,7 @@ use Rattle.conn_trace.specs.Trace.{trace, start}
 use Rattle.frames.specs.Frames.{comes_to}
 use Rattle.irule_net.specs.declared.state.NetState.{NetState}
 use Rattle.px_bytes.specs.declared.addr.Side.{Side}
+use Rattle.px_bytes.specs.declared.addr.Side.TheVariants.{Client}
 use Rattle.conn.specs.declared.connection.Conn.{Conn}
 use Rattle.conn.specs.declared.ends.Ends.{Ends}
 use Rattle.conn.specs.declared.ends.Link.{Link}
@@ -59,6 +60,10 @@ phase_at g net (stage.Chosen addr) = phase.Selecting (call_of g net)
 phase_at g net (stage.Connecting to) = phase.Connecting to
 phase_at g net (stage.Answering to) = phase.Answering to
 phase_at g net stage.Collecting = phase.Collecting
+phase_at g net stage.AtHead = phase.AtHead
+phase_at g net stage.Continuing = phase.Continuing
+phase_at g net (stage.Gathering wanted reader) = phase.Gathering Client wanted reader
+phase_at g net (stage.Dropping reader) = phase.Dropping reader
 phase_at g net stage.Releasing = phase.Releasing
 phase_at g net (stage.Relaying first) = phase.Relaying
 phase_at g net (stage.Finishing f) = phase.Finishing (reason_for f)

@@ -1,4 +1,4 @@
--- The events of a connection without HTTP, by their names.
+-- The events of a connection, by their names.
 use Rattle.std.specs.Prelude.{Bool, true, false}
 use Rattle.px_bytes.specs.declared.addr.Side.{Side}
 use Rattle.px_bytes.specs.declared.addr.Side.TheVariants.{Client, Server}
@@ -13,6 +13,7 @@ event_of at.ClientData = event.ClientData
 event_of at.Selected = event.LbSelected
 event_of at.Failed = event.LbFailed
 event_of at.Connected = event.ServerConnected
+event_of at.Request = event.HttpRequest
 event_of at.ServerData = event.ServerData
 event_of at.ServerClosed = event.ServerClosed
 event_of at.Closed = event.ClientClosed

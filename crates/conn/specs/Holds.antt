@@ -3,7 +3,7 @@ use Rattle.std.specs.Prelude.{◌≡◌, ℕ, ◌+◌, List, [], ◌∷◌, ◌+
 use Rattle.std.specs.Prelude.{Option, None}
 use Rattle.px_bytes.specs.declared.addr.Addr.{Addr}
 use Rattle.px_bytes.specs.declared.addr.Side.{Side}
-use Rattle.px_bytes.specs.declared.addr.Side.TheVariants.{Server}
+use Rattle.px_bytes.specs.declared.addr.Side.TheVariants.{Server, Client}
 use Rattle.px_bytes.specs.declared.fault.Reply.{Reply}
 use Rattle.event_order.specs.declared.event.EventName.{EventName}
 use Rattle.irule_net.specs.State.{collected}
@@ -110,6 +110,11 @@ Stands g (stage.Chosen addr) l c =
 Stands g (stage.Connecting to) l c = (l.phase ≡ phase.Connecting to) × Between l c
 Stands g (stage.Answering to) l c = (l.phase ≡ phase.Answering to) × Between l c
 Stands g stage.Collecting l c = (l.phase ≡ phase.Collecting) × Between l c
+Stands g stage.AtHead l c = (l.phase ≡ phase.AtHead) × Between l c
+Stands g stage.Continuing l c = (l.phase ≡ phase.Continuing) × Between l c
+Stands g (stage.Gathering wanted reader) l c =
+    (l.phase ≡ phase.Gathering Client wanted reader) × Between l c
+Stands g (stage.Dropping reader) l c = (l.phase ≡ phase.Dropping reader) × Between l c
 Stands g stage.Releasing l c = (l.phase ≡ phase.Releasing) × Between l c
 Stands g (stage.Relaying first) l c = (l.phase ≡ phase.Relaying) × Between l c
 Stands g (stage.Finishing f) l c = (l.phase ≡ phase.Finishing (reason_for f)) × Between l c
@@ -142,7 +147,7 @@ pub record Holds (g : Setup) (a : Around) (l : TraceState) (c : Conn) : Type 0 w
   pub finished : l.finished ≡ has_finished c.stage
   pub fits : fits c.stage c.ends.link ≡ true
   pub event : HostIn c.stage c.host.event
-  pub told : Told g c.ends.link c.host.net
+  pub told : Told g c.ends.link c.host
   pub ends : HoldsEnds a l c.ends
   pub no_choice : l.answers.choices ≡ []
   pub no_cut : l.answers.cut ≡ None

@@ -1,5 +1,6 @@
 -- The host of a connection's rules: what its commands see of it, and what is done of what they made.
-use Rattle.std.specs.Prelude.{◌≡◌, ℕ, List, [], ◌∷◌, ◌++◌, Bool, true, false, Option, None}
+use Rattle.std.specs.Prelude.{◌≡◌, ℕ, List, [], ◌∷◌, ◌++◌, Bool, true, false, Option, Some, None}
+use Rattle.std.specs.Prelude.{is_some, option_map, if◌then◌else◌}
 use Rattle.px_bytes.specs.Host.{Effect, Logged, Sent}
 use Rattle.px_bytes.specs.declared.addr.Side.{Side}
 use Rattle.px_bytes.specs.declared.addr.Side.TheVariants.{Client, Server}
@@ -8,30 +9,51 @@ use Rattle.irule_net.specs.State.{begun, collected, with_collected}
 use Rattle.irule_net.specs.declared.state.Asks.TheVariants.{NotAsked}
 use Rattle.irule_net.specs.declared.state.NetState.{NetState}
 use Rattle.irule_net.specs.declared.state.Selected.{Selected}
+use Rattle.irule_http.specs.State.{no_http}
+use Rattle.irule_http.specs.declared.state.Http.{Http}
 use Rattle.conn_trace.specs.Host.{HostState}
+use Rattle.conn_trace.specs.Places.{http_begun}
 use Rattle.conn_trace.specs.Setup.{Setup}
 use Rattle.core_events.specs.declared.note.Note.{Note}
 use Rattle.core_events.specs.declared.note.Note.TheVariants as note
 use Rattle.conn.specs.declared.ends.Link.{Link}
+use Rattle.conn.specs.declared.ends.Link.TheVariants.{Absent}
 use Rattle.conn.specs.declared.events.At.{At}
 use Rattle.conn.specs.declared.events.At.TheVariants.{Accepted}
 use Rattle.conn.specs.declared.host.RuleHost.{RuleHost}
 use Rattle.conn.specs.Ends.{is_up}
 use Rattle.conn.specs.Events.{collects_in, event_of}
 
+abbrev pub seen_at : EventName → NetState → Option Http → HostState
+seen_at e net http = record { event = e; net = net; http = http }
+
 -- it speaks no HTTP
 abbrev pub seen_net : EventName → NetState → HostState
-seen_net e net = record { event = e; net = net; http = None }
+seen_net e net = seen_at e net None
 
 abbrev pub seen_host : RuleHost → HostState
-seen_host h = seen_net (event_of h.event) h.net
+seen_host h = seen_at (event_of h.event) h.net h.http
 
-abbrev pub fresh_host : NetState → RuleHost
-fresh_host net = record { event = Accepted; net = net; made = [] }
+-- nothing is known yet of a request
+abbrev pub fresh_http : (http : Bool) → Option Http
+fresh_http http = if http then Some no_http else None
+
+abbrev pub fresh_host : NetState → (http : Bool) → RuleHost
+fresh_host net http = record {
+  event = Accepted;
+  net = net;
+  http = fresh_http http;
+  made = [];
+  answer = None;
+}
 
 -- an event begins, where there is a server connection or none
 abbrev pub begun_host : At → (up : Bool) → RuleHost → RuleHost
-begun_host at up h = record h { event = at; net = record (begun h.net) { relays = up } }
+begun_host at up h = record h {
+  event = at;
+  net = record (begun h.net) { relays = up };
+  http = option_map (http_begun h.net) h.http;
+}
 
 abbrev pub selected_host : Option Selected → RuleHost → RuleHost
 selected_host selected h = record h { net = record h.net { selected = selected } }
@@ -49,7 +71,15 @@ released_host h = record h { net = record h.net { loose = [] } }
 
 -- the same with nothing left to be done
 abbrev pub cleared_host : RuleHost → RuleHost
-cleared_host h = record h { made = [] }
+cleared_host h = record h { made = []; answer = None }
+
+-- what was made and isn't done yet: the answer of a rule to its request behind what network commands made
+abbrev pub answer_made : Option (List ℕ) → List Effect
+answer_made None = []
+answer_made (Some bytes) = Sent Client bytes ∷ []
+
+abbrev pub made_in : RuleHost → List Effect
+made_in h = h.made ++ answer_made h.answer
 
 -- the bytes that effects send to the client, and to the server
 abbrev pub client_bytes : List Effect → List ℕ
@@ -85,7 +115,7 @@ OneAtMost (e ∷ (f ∷ es)) = ⊥
 
 -- the effects were made, and aren't done yet
 abbrev pub Made : RuleHost → List Effect → RuleHost → Type 0
-Made a es b = b.made ≡ a.made ++ es
+Made a es b = made_in b ≡ made_in a ++ es
 
 -- What the bodies of an event leave as it was: the client's address, whether there is a server
 -- connection, and each collect but that of the event's own side.
@@ -94,8 +124,11 @@ pub record KeepsCollects (e : EventName) (s t : NetState) : Type 0 where
   pub relays : t.relays ≡ s.relays
   pub kept : (side : Side) → collects_in side e ≡ false → collected side t ≡ collected side s
 
--- What its rules are told of a connection: the client's address, and that there is a server
--- connection only where one is.
-pub record Told (g : Setup) (k : Link) (s : NetState) : Type 0 where
-  pub from : s.from ≡ g.from
-  pub relays : s.relays ≡ true → is_up k ≡ true
+-- What its rules are told of a connection: the client's address, that there is a server connection
+-- only where one is, and of requests where its virtual server speaks HTTP. With HTTP it asks for no
+-- server connection yet.
+pub record Told (g : Setup) (k : Link) (h : RuleHost) : Type 0 where
+  pub from : h.net.from ≡ g.from
+  pub relays : h.net.relays ≡ true → is_up k ≡ true
+  pub spoken : is_some h.http ≡ g.http
+  pub alone : g.http ≡ true → k ≡ Absent

@@ -1,5 +1,5 @@
 -- What a connection of the code runs on, and the setup of a trace.
-use Rattle.std.specs.Prelude.{◌≡◌, ℕ, List, [], length, false, Option, option_map}
+use Rattle.std.specs.Prelude.{◌≡◌, ℕ, List, [], length, Option, option_map}
 use Rattle.std.specs.Prelude.{option_and_then, slice_get, slice_index_or}
 use Rattle.tcl_trees.specs.Procedures.{procs_view}
 use Rattle.tcl_trees.specs.TreeView.{node_view}
@@ -45,13 +45,12 @@ nth_body s e n = option_and_then (body_in s.rules.now e) (slice_get (places_in s
 abbrev pub body_at : given.Setup → At → ℕ → Option Handler
 body_at s at n = nth_body s (event_of at) n
 
--- It is the setup of a trace, of a virtual server without HTTP: the bodies of each event are those at
--- the places, one by one.
+-- It is the setup of a trace: the bodies of each event are those at the places, one by one.
 pub record Serves (s : given.Setup) (g : Setup) : Type 0 where
   pub name : g.name ≡ s.name.now
   pub port : g.port ≡ s.port
   pub pool : g.pool ≡ s.pool.now
-  pub http : g.http ≡ false
+  pub http : g.http ≡ s.http
   pub budget : g.budget ≡ s.budget
   pub statics : g.statics ≡ s.statics.now.statics
   pub groups : g.groups ≡ s.groups.now

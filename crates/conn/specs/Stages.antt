@@ -1,6 +1,6 @@
 -- Where a connection goes.
-use Rattle.std.specs.Prelude.{◌≡◌, ℕ, List, [], ◌∷◌, Bool, true, false, ◌&&◌, ◌||◌, not}
-use Rattle.std.specs.Prelude.{Option, Some, None}
+use Rattle.std.specs.Prelude.{◌≡◌, ℕ, zero, suc, List, [], ◌∷◌, Bool, true, false, ◌&&◌, ◌||◌, not}
+use Rattle.std.specs.Prelude.{Option, Some, None, is_some}
 use Rattle.std.specs.Prelude.{if◌then◌else◌}
 use Rattle.px_bytes.specs.declared.addr.Addr.{Addr}
 use Rattle.px_bytes.specs.declared.addr.Side.{Side}
@@ -11,8 +11,11 @@ use Rattle.irule_net.specs.declared.state.Asks.{Asks}
 use Rattle.irule_net.specs.declared.state.Asks.TheVariants.{NotAsked, Stated}
 use Rattle.irule_net.specs.declared.state.Ending.{Ending}
 use Rattle.irule_net.specs.declared.state.Ending.TheVariants.{Rejects, Closes}
-use Rattle.irule_net.specs.declared.state.NetState.{NetState}
 use Rattle.irule_net.specs.declared.state.Selected.{Selected}
+use Rattle.irule_http.specs.State.{expects_by}
+use Rattle.irule_http.specs.declared.state.Http.{Http}
+use Rattle.conn_trace.specs.Host.{http_known}
+use Rattle.conn_trace.specs.Http.{client_goes_on, wanted_more}
 use Rattle.conn_trace.specs.Item.{Reason}
 use Rattle.conn_trace.specs.Item as reason
 use Rattle.conn_trace.specs.Selected.{addr_of}
@@ -21,6 +24,7 @@ use Rattle.core_events.specs.declared.note.Cause.TheVariants as cause
 use Rattle.conn.specs.declared.ends.Link.{Link}
 use Rattle.conn.specs.declared.events.At.{At}
 use Rattle.conn.specs.declared.events.At.TheVariants as at
+use Rattle.conn.specs.declared.host.RuleHost.{RuleHost}
 use Rattle.conn.specs.declared.stage.Finish.{Finish}
 use Rattle.conn.specs.declared.stage.Finish.TheVariants as finish
 use Rattle.conn.specs.declared.stage.Stage.{Stage}
@@ -36,6 +40,7 @@ reason_for finish.Closed = reason.Closed
 reason_for finish.Rejected = reason.Rejected
 reason_for finish.Unselected = reason.Unselected
 reason_for (finish.Fault kind) = reason.Tcl kind
+reason_for (finish.Http fault) = reason.Http fault
 reason_for (finish.Cut cut) = reason.CutBy cut
 
 abbrev pub cause_for : Finish → Cause
@@ -43,6 +48,7 @@ cause_for finish.Closed = cause.Closed
 cause_for finish.Rejected = cause.Rejected
 cause_for finish.Unselected = cause.Unselected
 cause_for (finish.Fault kind) = cause.Tcl kind
+cause_for (finish.Http fault) = cause.Http fault
 cause_for (finish.Cut cut) = cause.Cut cut
 
 -- the address that a reply selects
@@ -58,10 +64,14 @@ abbrev pub connecting_stage : Option Selected → Stage
 connecting_stage None = stage.Finishing finish.Unselected
 connecting_stage (Some s) = stage.Connecting s.addr
 
--- behind CLIENT_ACCEPTED, by the client's collect
-abbrev pub accepted_stage : Asks → Stage
-accepted_stage NotAsked = stage.Choosing
-accepted_stage (Stated n) = stage.Collecting
+-- behind CLIENT_ACCEPTED, by whether it speaks HTTP, and by the client's collect
+abbrev pub collect_stage : Asks → Stage
+collect_stage NotAsked = stage.Choosing
+collect_stage (Stated n) = stage.Collecting
+
+abbrev pub accepted_stage : (http : Bool) → Asks → Stage
+accepted_stage true asks = stage.AtHead
+accepted_stage false asks = collect_stage asks
 
 -- Behind CLIENT_DATA, by whether there is a server, and whether its bodies released. The sides of a
 -- relay take turns.
@@ -74,35 +84,65 @@ abbrev pub connected_stage : (loose : List ℕ) → Stage
 connected_stage [] = stage.Relaying Client
 connected_stage (b ∷ bs) = stage.Releasing
 
+-- behind LB_FAILED, where a rule may have answered a request
+abbrev pub failed_stage : Option Bool → (reselects : Bool) → Http → Stage
+failed_stage (Some closing) reselects http = stage.Dropping http.reader
+failed_stage None reselects http =
+    if reselects then stage.Choosing else stage.Finishing finish.Unselected
+
+-- a request goes on to its server, or its body is gathered first
+abbrev pub gathering_stage : ℕ → Http → Stage
+gathering_stage zero http = stage.Choosing
+gathering_stage (suc n) http = stage.Gathering (suc n) http.reader
+
+abbrev pub asked_stage : Http → Stage
+asked_stage http = gathering_stage (wanted_more http) http
+
+-- A rule answered, or the client is told first to go on where it waits for that. The body of one that
+-- was answered and waits never comes.
+abbrev pub request_stage : Option Bool → (expects : Bool) → Http → Stage
+request_stage (Some closing) true http = stage.Finishing finish.Closed
+request_stage (Some closing) false http = stage.Dropping http.reader
+request_stage None true http = stage.Continuing
+request_stage None false http = asked_stage http
+
+abbrev pub next_stage : Http → Stage
+next_stage http = if client_goes_on http then stage.AtHead else stage.Finishing finish.Closed
+
+abbrev pub http_in : RuleHost → Http
+http_in h = http_known h.http
+
 -- where it goes behind an event that nothing ended
-abbrev pub goes_on_stage : At → Link → NetState → Stage
-goes_on_stage at.Accepted link net = accepted_stage net.client.asks
-goes_on_stage at.ClientData link net = data_stage (is_up link) net.wishes.released
-goes_on_stage at.Selected link net = connecting_stage net.selected
-goes_on_stage at.Failed link net =
-    if net.wishes.reselects then stage.Choosing else stage.Finishing finish.Unselected
-goes_on_stage at.Connected link net = connected_stage net.loose
-goes_on_stage at.ServerData link net = stage.Relaying Client
-goes_on_stage at.ServerClosed link net = stage.Draining
-goes_on_stage at.Closed link net = stage.Draining
+abbrev pub goes_on_stage : At → Link → RuleHost → Stage
+goes_on_stage at.Accepted link h = accepted_stage (is_some h.http) h.net.client.asks
+goes_on_stage at.ClientData link h = data_stage (is_up link) h.net.wishes.released
+goes_on_stage at.Selected link h = connecting_stage h.net.selected
+goes_on_stage at.Failed link h =
+    failed_stage (http_in h).answer h.net.wishes.reselects (http_in h)
+goes_on_stage at.Connected link h = connected_stage h.net.loose
+goes_on_stage at.Request link h =
+    request_stage (http_in h).answer (expects_by (http_in h).came) (http_in h)
+goes_on_stage at.ServerData link h = stage.Relaying Client
+goes_on_stage at.ServerClosed link h = stage.Draining
+goes_on_stage at.Closed link h = stage.Draining
 
 abbrev pub unless_ended : Option Ending → Stage → Stage
 unless_ended None st = st
 unless_ended (Some ending) st = ended_stage ending
 
 -- where all bodies of an event have ended; behind the one that closes its server another comes
-abbrev pub after_stage : At → Link → NetState → Stage
-after_stage at link net =
+abbrev pub after_stage : At → Link → RuleHost → Stage
+after_stage at link h =
     if is_closed at then stage.Draining
-    else unless_ended net.wishes.ends (goes_on_stage at link net)
+    else unless_ended h.net.wishes.ends (goes_on_stage at link h)
 
 -- where an event is entered
-abbrev pub entered_by : At → Link → NetState → List Place → Stage
-entered_by at link net [] = after_stage at link net
-entered_by at link net (p ∷ ps) = stage.Gated at
+abbrev pub entered_by : At → Link → RuleHost → List Place → Stage
+entered_by at link h [] = after_stage at link h
+entered_by at link h (p ∷ ps) = stage.Gated at
 
-abbrev pub entered_stage : Setup → At → Link → NetState → Stage
-entered_stage s at link net = entered_by at link net (places_at s at)
+abbrev pub entered_stage : Setup → At → Link → RuleHost → Stage
+entered_stage s at link h = entered_by at link h (places_at s at)
 
 -- it waits for the reply to a shared call
 abbrev pub is_asking : Stage → Bool
@@ -194,6 +234,10 @@ fits (stage.Chosen addr) link = not (is_sought link)
 fits (stage.Connecting to) link = not (is_sought link)
 fits (stage.Answering to) link = is_sought link && not (is_up link)
 fits stage.Collecting link = not (is_sought link)
+fits stage.AtHead link = not (is_sought link)
+fits stage.Continuing link = not (is_sought link)
+fits (stage.Gathering wanted reader) link = not (is_sought link)
+fits (stage.Dropping reader) link = not (is_sought link)
 fits stage.Releasing link = is_up link
 fits (stage.Relaying first) link = is_up link
 fits (stage.Finishing (finish.Cut reason)) link = false

@@ -22,7 +22,7 @@ use Rattle.conn.specs.declared.turn.Act.TheVariants as act
 use Rattle.conn.specs.Bodies.{SaidIs}
 use Rattle.conn.specs.Changes.{GoesTo, NextBody}
 use Rattle.conn.specs.Events.{event_of}
-use Rattle.conn.specs.Hosts.{Made, cleared_host, client_bytes, logs_of, seen_host, server_bytes}
+use Rattle.conn.specs.Hosts.{Made, cleared_host, client_bytes, logs_of, made_in, seen_host, server_bytes}
 use Rattle.conn.specs.Relaying.{queue_end}
 use Rattle.conn.specs.Setups.{body_at}
 
@@ -44,9 +44,9 @@ pub record DoesMade (c : ℕ) (old new : Conn) (before after : List Note) : Type
   pub body : new.body ≡ old.body
   pub vars : new.vars ≡ old.vars
   pub host : new.host ≡ old.host
-  pub ends : new.ends ≡ queue_both (client_bytes (one_of old.host.made))
-      (server_bytes (one_of old.host.made)) old.ends
-  pub noted : after ≡ before ++ logs_of c (one_of old.host.made)
+  pub ends : new.ends ≡ queue_both (client_bytes (one_of (made_in old.host)))
+      (server_bytes (one_of (made_in old.host))) old.ends
+  pub noted : after ≡ before ++ logs_of c (one_of (made_in old.host))
 
 -- what a step said, with the line of a fault that it left uncaught
 abbrev pub ended_of : Handler → At → Option TclFault → Said

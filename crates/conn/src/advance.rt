@@ -13,7 +13,7 @@ use crate::stage::{Finish, Stage};
 use crate::turn::Act;
 use core_events::{CutReason, Note, Notes};
 use frames::Moves;
-use px_bytes::{FaultKind, M, Steps};
+use px_bytes::{FaultKind, M, Memory, Steps};
 use std::alloc::Global;
 use std::mem;
 use std::sync::ledger::Ledger;
@@ -87,6 +87,8 @@ impl Conn {
                 self.finish(setup, number, finish, notes);
                 Ok(Act::Goes)
             }
+            Stage::AtHead | Stage::Continuing => Err(Memory),
+            Stage::Gathering { .. } | Stage::Dropping(_) => Err(Memory),
             Stage::Running { .. } | Stage::Asking { .. } | Stage::Selecting => Ok(Act::Rests),
             Stage::Draining | Stage::OutOfMemory | Stage::Dropped(_) => Ok(Act::Rests),
         }

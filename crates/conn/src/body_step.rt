@@ -17,18 +17,17 @@ use crate::uncaught::uncaught;
 use conn_trace::uncaught_line;
 use core_events::Notes;
 use frames::{Moves, Turn};
-use irule_net::NetState;
 use px_bytes::{FaultKind, M, Steps, Text, Texts};
 use std::alloc::Global;
 use std::sync::ledger::Ledger;
 
 impl Setup<'_> {
     /// Where a connection stands that enters an event.
-    pub(crate) fn enter(&self, at: At, link: Link, net: &NetState) -> Stage
-        ensures { result ≡ entered_stage self.now at link net.now }
+    pub(crate) fn enter(&self, at: At, link: Link, host: &RuleHost) -> Stage
+        ensures { result ≡ entered_stage self.now at link host.now }
     {
         if self.places(at).is_empty() {
-            return Stage::after(at, link, net);
+            return Stage::after(at, link, host);
         }
         Stage::Gated { at }
     }
@@ -87,7 +86,7 @@ impl Conn {
             *spent += 1;
             return Ok(Act::Rests);
         };
-        self.host.made.clear();
+        self.host.clear();
         let turn = self.body.step::<S, RuleHost, L>(
             alloc,
             &handler,

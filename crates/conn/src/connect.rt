@@ -10,11 +10,12 @@ use crate::setup::Setup;
 use crate::stage::Stage;
 use crate::turn::Act;
 use core_events::{Note, Notes};
-use px_bytes::{Addr, M};
+use px_bytes::{Addr, M, Memory};
 use std::alloc::Global;
 
 impl Conn {
-    /// Asks the server for a connection, once the one before took all.
+    /// Asks the server for a connection, once the one before took all. With HTTP none is asked for yet: it
+    /// ends as where memory is refused.
     pub(crate) fn connect(
         &mut self,
         alloc: Global,
@@ -33,6 +34,9 @@ impl Conn {
         ensures room { notes.new.spare + length notes.new.items
             ≡ notes.old.spare + length notes.old.items }
     {
+        if self.host.http.is_some() {
+            return Err(Memory);
+        }
         if self.ends.server.pending() > 0 {
             return Ok(self.rest_or_cut(setup, number, notes));
         }

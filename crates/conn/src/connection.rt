@@ -42,12 +42,13 @@ impl Conn {
         ensures awake { IfOk result (λ new. is_asking new.stage ≡ false) }
     {
         let pool = Text::new(alloc, setup.pool)?;
-        let net = NetState::new(alloc, from, setup.port, pool, false);
+        let net = NetState::new(alloc, from, setup.port, pool, setup.http);
+        let host = RuleHost::new(alloc, net, setup.http);
         Ok(Conn {
-            stage: setup.enter(At::Accepted, Link::Absent, &net),
+            stage: setup.enter(At::Accepted, Link::Absent, &host),
             body: Body::new(alloc),
             vars: Vars::new(alloc),
-            host: RuleHost::new(alloc, net),
+            host,
             ends: Ends::new(alloc),
         })
     }

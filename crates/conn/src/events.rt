@@ -1,4 +1,4 @@
-// The events that a connection without HTTP comes to.
+// The events that a connection comes to.
 
 ghost use Rattle.std.specs.Prelude.{◌≡◌};
 ghost use Rattle.conn.specs.Events.{data_at, event_of, is_closed, is_data, is_event_of};
@@ -19,6 +19,8 @@ pub enum At {
     Failed,
     /// The server took the connection.
     Connected,
+    /// A request's head was read.
+    Request,
     /// A collect of its server's bytes was met.
     ServerData,
     /// It is closed to its server.
@@ -38,6 +40,7 @@ impl At {
             At::Selected => EventName::LbSelected,
             At::Failed => EventName::LbFailed,
             At::Connected => EventName::ServerConnected,
+            At::Request => EventName::HttpRequest,
             At::ServerData => EventName::ServerData,
             At::ServerClosed => EventName::ServerClosed,
             At::Closed => EventName::ClientClosed,

@@ -79,7 +79,7 @@ impl Conn {
     {
         match at {
             At::ServerClosed => self.close_client(setup),
-            _ => self.stage = Stage::after(at, self.ends.link, &self.host.net),
+            _ => self.stage = Stage::after(at, self.ends.link, &self.host),
         }
     }
 }

@@ -1,16 +1,24 @@
 // The host of a connection's rules.
 
-ghost use Rattle.std.specs.Prelude.{◌≡◌, ◌++◌, [], MatchResult, OnErr, OnOk};
+ghost use Rattle.std.specs.Prelude.{◌≡◌, ◌++◌, ◌&&◌, [], MatchResult, OnErr, OnOk, Option};
+ghost use Rattle.std.specs.Prelude.{is_some, option_map};
+ghost use Rattle.irule_http.specs.Commands.{http_step};
+ghost use Rattle.irule_http.specs.declared.state.Http.{Http};
+ghost use Rattle.irule_net.specs.Commands.{is_http};
 ghost use Rattle.irule_net.specs.State.{collected};
 ghost use Rattle.px_bytes.specs.Answered.{DidStep};
 ghost use Rattle.conn_trace.specs.Host.{commands, first_word};
-ghost use Rattle.conn.specs.Hosts.{begun_host, fired_host, fresh_host, released_host, seen_net};
-ghost use Rattle.conn.specs.Hosts.{selected_host};
+ghost use Rattle.conn_trace.specs.Host as model;
+ghost use Rattle.conn_trace.specs.Places.{http_begun};
+ghost use Rattle.conn.specs.Hosts.{answer_made, begun_host, cleared_host, fired_host, fresh_host};
+ghost use Rattle.conn.specs.Hosts.{fresh_http, released_host};
+ghost use Rattle.conn.specs.Hosts.{seen_at, seen_net, selected_host};
 
 use crate::events::At;
 use conn_trace::is_there;
 use event_order::EventName;
 use frames::Host;
+use irule_http::{Http, http_command};
 use irule_net::{Asks, Collected, Effects, Groups, NetState, Selected, net_command};
 use px_bytes::{HostAnswer, M, Side, TclFault, Text, Texts};
 use std::alloc::Global;
@@ -22,19 +30,33 @@ pub struct RuleHost {
     pub event: At,
     /// What network commands leave.
     pub net: NetState,
-    /// What commands did outside the script, and wasn't done yet.
+    /// What is known of the request at hand, where the virtual server speaks HTTP.
+    pub http: Option<Http>,
+    /// What network commands did outside the script, and wasn't done yet.
     pub made: Effects,
+    /// The answer of a rule to the request, that wasn't sent yet.
+    pub answer: Option<Text>,
 }
 
 impl RuleHost {
-    pub fn new(alloc: Global, net: NetState) -> RuleHost
-        ensures { result ≡ fresh_host net }
+    pub fn new(alloc: Global, net: NetState, http: bool) -> RuleHost
+        ensures { result ≡ fresh_host net http }
     {
         RuleHost {
             event: At::Accepted,
             net,
+            http: fresh_http(alloc, http),
             made: Effects::new(alloc),
+            answer: None,
         }
+    }
+
+    /// Nothing is left to be done.
+    pub fn clear(&mut self)
+        ensures { self.new ≡ cleared_host self.old }
+    {
+        self.made.clear();
+        self.answer = None;
     }
 
     /// An event begins, where there is a server connection or none.
@@ -42,6 +64,7 @@ impl RuleHost {
         ensures { self.new ≡ begun_host event up self.old }
     {
         self.event = event;
+        begin_http(&mut self.http, &self.net);
         self.net.begin();
         self.net.relays = up;
     }
@@ -68,6 +91,13 @@ impl RuleHost {
         }
     }
 
+    // A command of HTTP is called, where that is spoken.
+    fn asks_http(&self, words: &Texts) -> bool
+        ensures { result ≡ (is_some self.now.http && is_http (first_word words.now)) }
+    {
+        self.http.is_some() && is_http(first_word(words))
+    }
+
     /// No released bytes wait for the server any more.
     pub fn released(&mut self, alloc: Global)
         ensures { self.new ≡ released_host self.old }
@@ -80,6 +110,25 @@ impl RuleHost {
         ensures { self.new ≡ selected_host selected self.old }
     {
         self.net.selected = selected;
+    }
+}
+
+fn fresh_http(alloc: Global, http: bool) -> Option<Http>
+    ensures { result ≡ fresh_http http }
+{
+    if http {
+        return Some(Http::new(alloc));
+    }
+    None
+}
+
+// That an event before gave the server connection up isn't forgotten.
+fn begin_http(http: &mut Option<Http>, net: &NetState)
+    ensures { http.new ≡ option_map (http_begun net.now) http.old }
+{
+    if let Some(http) = http {
+        http.begin();
+        http.detaches = http.detaches || net.wishes.detaches;
     }
 }
 
@@ -110,7 +159,16 @@ impl Host for RuleHost {
 
     fn call(&mut self, alloc: Global, groups: &Groups, words: &Texts) -> HostAnswer {
         let event = self.event.name();
-        host_command(alloc, groups, event, &mut self.net, words, &mut self.made)
+        if self.asks_http(words) {
+            return match &mut self.http {
+                Some(http) => request_command(alloc, event, http, words, &mut self.answer),
+                None => HostAnswer::Memory,
+            };
+        }
+        if self.answer.is_some() {
+            return HostAnswer::Memory;
+        }
+        rule_command(alloc, groups, event, &mut self.net, words, &mut self.made)
     }
 
     ghost made_none = { made_none };
@@ -132,11 +190,61 @@ pub fn host_command(
         let new = seen_net event net.new in
         DidStep (commands groups.now old words.now) result new (λ es. made.new ≡ made.old ++ es) }
 {
+    rule_command(alloc, groups, event, net, words, made)
+}
+
+// Where HTTP is spoken or not.
+fn rule_command(
+    alloc: Global,
+    groups: &Groups,
+    event: EventName,
+    net: &mut NetState,
+    words: &Texts,
+    made: &mut Effects,
+) -> HostAnswer
+    ensures { (http : Option Http)
+        → DidStep (model.net_command groups.now (seen_at event net.old http) words.now) result
+        (seen_at event net.new http) (λ es. made.new ≡ made.old ++ es) }
+{
     let name = first_word(words);
     if !is_there(name) {
         return raised(TclFault::no_command(alloc, name));
     }
     net_command(alloc, net, groups, event, words, made)
+}
+
+// A command of the request at hand. A rule answers it once, and no second answer is held.
+fn request_command(
+    alloc: Global,
+    event: EventName,
+    http: &mut Http,
+    words: &Texts,
+    answer: &mut Option<Text>,
+) -> HostAnswer
+    ensures { DidStep (http_step event http.old words.now) result http.new
+        (λ es. answer_made answer.new ≡ answer_made answer.old ++ es) }
+{
+    let answered = http.answer.is_some();
+    let mut sent = Text::empty(alloc);
+    let said = http_command(alloc, http, event, words, &mut sent);
+    if answered {
+        return said;
+    }
+    if http.answer.is_none() {
+        return said;
+    }
+    if answer.is_some() {
+        return HostAnswer::Memory;
+    }
+    *answer = Some(sent);
+    said
+}
+
+// A command that HTTP alone has.
+fn is_http(name: &[u8]) -> bool
+    ensures { result ≡ is_http name.now }
+{
+    name.starts_with(b"HTTP::")
 }
 
 fn first_word(words: &Texts) -> &[u8]

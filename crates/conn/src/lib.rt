@@ -15,6 +15,7 @@ mod laws;
 mod made;
 mod queue;
 mod relay;
+mod request;
 mod run;
 mod select;
 mod settle;

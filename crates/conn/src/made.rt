@@ -21,6 +21,12 @@ impl Conn {
         ensures room { notes.new.spare + length notes.new.items
             ≡ notes.old.spare + length notes.old.items }
     {
+        if let Some(answer) = &self.host.answer {
+            if self.host.made.as_slice().is_empty() {
+                self.ends.client.queued.push(answer.as_bytes())?;
+            }
+            return Ok(());
+        }
         match self.host.made.as_slice() {
             [Made::Logged(text)] => {
                 let text = text.copy()?;

@@ -80,7 +80,7 @@ impl Conn {
         ensures { Enters setup.now at self.old.host self.old.ends self.old self.new }
     {
         self.host.begin(at, self.ends.link.is_up());
-        self.stage = setup.enter(at, self.ends.link, &self.host.net);
+        self.stage = setup.enter(at, self.ends.link, &self.host);
     }
 }
 

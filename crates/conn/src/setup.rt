@@ -34,7 +34,7 @@ pub struct Handler<'a> {
 }
 
 /// What a connection only reads: the name of its virtual server, its port and its default pool, whose
-/// name is empty where it has none, how many units each body may spend,
+/// name is empty where it has none, whether it speaks HTTP, how many units each body may spend,
 /// the static variables that RULE_INIT left, the data groups and pools that rules name, all rules, and
 /// where the bodies of its virtual server stand in them, with a list for each event in the order of
 /// `EventName::ALL`.
@@ -43,6 +43,7 @@ pub struct Setup<'a> {
     pub name: &'a [u8],
     pub port: u16,
     pub pool: &'a [u8],
+    pub http: bool,
     pub budget: u32,
     pub statics: &'a Vars,
     pub groups: &'a Groups,

@@ -8,9 +8,12 @@ ghost use Rattle.conn.specs.Stages.{is_draining, is_relaying};
 
 use crate::ends::Link;
 use crate::events::At;
+use crate::host::RuleHost;
+use crate::request::{behind_failed, behind_request};
 use core_events::{Cause, CutReason};
-use irule_net::{Asks, Ending, NetState, Selected};
-use px_bytes::{Addr, FaultKind, Side, Text};
+use http_frames::BodyState;
+use irule_net::{Asks, Ending, Selected};
+use px_bytes::{Addr, FaultKind, HttpFault, Side, Text};
 
 /// Why a connection finishes.
 #[derive(Clone, Copy, PartialEq, Eq)]
@@ -23,6 +26,8 @@ pub enum Finish {
     Unselected,
     /// A fault that no body caught.
     Fault(FaultKind),
+    /// A request or its body that can't be read.
+    Http(HttpFault),
     /// A reset.
     Cut(CutReason),
 }
@@ -36,6 +41,7 @@ impl Finish {
             Finish::Rejected => Cause::Rejected,
             Finish::Unselected => Cause::Unselected,
             Finish::Fault(kind) => Cause::Tcl(kind),
+            Finish::Http(fault) => Cause::Http(fault),
             Finish::Cut(reason) => Cause::Cut(reason),
         }
     }
@@ -78,6 +84,17 @@ pub enum Stage {
     Answering(Addr),
     /// The client's bytes are collected, and there is no server yet.
     Collecting,
+    /// The client's next request is to be read.
+    AtHead,
+    /// The client is to be told to go on with its request.
+    Continuing,
+    /// So many bytes more of a request's body are to be gathered, whose reader stands here.
+    Gathering {
+        wanted: usize,
+        reader: BodyState,
+    },
+    /// What is left of the body of an answered request is to be dropped.
+    Dropping(BodyState),
     /// The client's bytes that were released before there was a server are to go to it.
     Releasing,
     /// Bytes are passed on both ways, or collected. The sides take turns, and it is the turn of
@@ -96,15 +113,15 @@ pub enum Stage {
 impl Stage {
     /// Where a connection stands whose bodies of an event have ended. Behind the one that closes its
     /// server the next event comes.
-    pub fn after(at: At, link: Link, net: &NetState) -> Stage
-        ensures { result ≡ after_stage at link net.now }
+    pub fn after(at: At, link: Link, host: &RuleHost) -> Stage
+        ensures { result ≡ after_stage at link host.now }
     {
         if at.is_closed() {
             return Stage::Draining;
         }
-        match net.wishes.ends {
+        match host.net.wishes.ends {
             Some(ending) => Stage::ended(ending),
-            None => Stage::going_on(at, link, net),
+            None => Stage::going_on(at, link, host),
         }
     }
 
@@ -118,25 +135,27 @@ impl Stage {
     }
 
     // Nothing ended the connection.
-    fn going_on(at: At, link: Link, net: &NetState) -> Stage
-        ensures { result ≡ goes_on_stage at link net.now }
+    fn going_on(at: At, link: Link, host: &RuleHost) -> Stage
+        ensures { result ≡ goes_on_stage at link host.now }
     {
+        let net = &host.net;
         match at {
-            At::Accepted => Stage::behind_accepted(net.client.asks),
+            At::Accepted => Stage::behind_accepted(host.http.is_some(), net.client.asks),
             At::ClientData => Stage::behind_data(link.is_up(), net.wishes.released),
             At::Selected => Stage::connecting(&net.selected),
-            At::Failed if net.wishes.reselects => Stage::Choosing,
-            At::Failed => Stage::Finishing(Finish::Unselected),
+            At::Failed => behind_failed(&host.http, net.wishes.reselects),
             At::Connected => Stage::behind_connected(net.loose.as_bytes()),
+            At::Request => behind_request(&host.http),
             At::ServerData => Stage::Relaying(Side::Client),
             At::ServerClosed | At::Closed => Stage::Draining,
         }
     }
 
-    fn behind_accepted(asks: Asks) -> Stage
-        ensures { result ≡ accepted_stage asks }
+    fn behind_accepted(http: bool, asks: Asks) -> Stage
+        ensures { result ≡ accepted_stage http asks }
     {
         match asks {
+            _ if http => Stage::AtHead,
             Asks::NotAsked => Stage::Choosing,
             Asks::Stated(_) => Stage::Collecting,
         }

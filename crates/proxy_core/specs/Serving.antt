@@ -26,6 +26,7 @@ pub record IsSetup (C : Config) (level : Level) (all : List (List (List Place)))
   pub name : s.name.now ≡ name_at C vs
   pub port : s.port ≡ port_of C vs
   pub pool : s.pool.now ≡ pool_at C vs
+  pub http : s.http ≡ false
   pub budget : s.budget ≡ C.budget
   pub statics : s.statics.now.statics ≡ level
   pub groups : s.groups.now ≡ C.groups

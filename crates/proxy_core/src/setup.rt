@@ -24,6 +24,7 @@ pub fn setup_at<'a>(
         name: name_at(config, place),
         port: port_at(config, place),
         pool: pool_at(config, place),
+        http: false,
         budget: config.budget,
         statics,
         groups: &config.groups,
