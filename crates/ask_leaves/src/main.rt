@@ -51,6 +51,7 @@ fn answer(question: &mut Question<'_>) {
         "pool" => pool_calls::answer(question),
         "store" => store::answer(question),
         "table" => table_calls::answer(question),
+        "dump" => table_calls::dump_answer(question),
         "check_words" => table_calls::check_answer(question),
         "records" => record_calls::answer(question),
         "cost" => costs::answer(question),

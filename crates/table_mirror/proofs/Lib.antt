@@ -1,0 +1,7 @@
+pub mod Orders
+pub mod Once
+pub mod Going
+pub mod Arriving
+pub mod Offering
+pub mod Telling
+mod Rows

@@ -1,0 +1,11 @@
+pub mod Pushed
+pub mod Entries
+pub mod Mirrored
+pub mod Sides
+pub mod Plans
+pub mod Network
+pub mod Worlds
+pub mod Told
+pub mod Outcomes
+pub mod Runs
+pub mod Laws
