@@ -87,7 +87,7 @@ ends_standing C h g place at e same u k = let P : TraceState → Type 0 = λ l. 
 -- the outside was told of it what was due
 pub noted_holds : (g : Setup) (a : Around) (l : TraceState) (c : ℕ) (notes : List Note) (conn : Conn) → AreDue c notes → Holds g a l conn → Holds g a l (noted_in notes conn)
 noted_holds g a l c notes conn due h =
-    holds g a a l l.client l.server l.answers.connects conn (noted_in notes conn).ends h (with_edges a l conn.ends h.ends (edges_noted notes conn.ends.edges) (due_asks c notes due conn.ends.edges)) h.fits (λ u. u)
+    holds g a a l l.client l.server l.answers.connects conn (noted_in notes conn).ends h (with_edges a l conn.ends h.ends (edges_noted notes conn.ends.edges) (due_asks c notes due conn.ends.edges)) h.fits (λ u. u) (λ e. e)
 
 -- ---- its ends
 
