@@ -1,13 +1,21 @@
 // Where a request goes.
 
-ghost use Rattle.std.specs.Prelude.{◌≡◌};
+ghost use Rattle.std.specs.Prelude.{◌≡◌, ◌+◌, ◌≤◌, length, IfOk, OnErr};
+ghost use Rattle.conn.specs.Acts.{TellsToGoOn};
 ghost use Rattle.conn_trace.specs.Host.{http_known};
 ghost use Rattle.conn_trace.specs.Http.{wanted_more};
 ghost use Rattle.irule_http.specs.State.{expects_by};
 ghost use Rattle.conn.specs.Stages.{asked_stage, failed_stage, request_stage};
 
+use crate::connection::Conn;
+use crate::ends::ROOM;
+use crate::setup::Setup;
 use crate::stage::{Finish, Stage};
+use crate::turn::Act;
+use core_events::Notes;
+use http_answers::continue_text;
 use irule_http::Http;
+use px_bytes::M;
 
 /// The most bytes that are gathered of a body.
 const PAYLOAD_LIMIT: usize = 1_048_576;
@@ -31,6 +39,43 @@ pub(crate) fn behind_request(http: &Option<Http>) -> Stage
 {
     match http {
         Some(http) => by_answer(http),
+        None => Stage::Choosing,
+    }
+}
+
+impl Conn {
+    /// Tells the client to go on with its request, where there is room.
+    pub(crate) fn tell_to_go_on(
+        &mut self,
+        setup: &Setup<'_>,
+        number: u32,
+        notes: &mut Notes,
+    ) -> M<Act>
+        requires { 1 ≤ notes.old.spare }
+        ensures ok { IfOk result (λ act. TellsToGoOn setup.now number self.old self.new
+            notes.old.items notes.new.items act) }
+        ensures err { OnErr result (notes.new ≡ notes.old) }
+        ensures kept { OnErr result (self.new.ends.edges ≡ self.old.ends.edges) }
+        ensures spare { notes.old.spare ≤ notes.new.spare + 1 }
+        ensures grows { length notes.old.items ≤ length notes.new.items }
+        ensures room { notes.new.spare + length notes.new.items
+            ≡ notes.old.spare + length notes.old.items }
+    {
+        if self.ends.client.pending() >= ROOM {
+            return Ok(self.rest_or_cut(setup, number, notes));
+        }
+        self.ends.client.queued.push(continue_text())?;
+        self.stage = behind_told(&self.host.http);
+        Ok(Act::Goes)
+    }
+}
+
+// It goes on to its server, or its body is gathered first.
+fn behind_told(http: &Option<Http>) -> Stage
+    ensures { result ≡ asked_stage (http_known http.now) }
+{
+    match http {
+        Some(http) => asked(http),
         None => Stage::Choosing,
     }
 }
