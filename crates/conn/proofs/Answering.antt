@@ -5,11 +5,11 @@ use Rattle.core_events.specs.declared.note.CutReason.{CutReason}
 use Rattle.core_events.specs.declared.note.Note.{Note}
 use Rattle.px_bytes.specs.declared.addr.Side.TheVariants.{Client, Server}
 use Rattle.http_answers.specs.Refusals.{continue_text}
-use Rattle.conn_trace.specs.Gates.{has_room, may_give, room_limit, sent_after}
+use Rattle.conn_trace.specs.Gates.{Counts, TakenCounts, has_room, may_give, room_limit, sent_after}
 use Rattle.irule_http.specs.declared.state.Http.{Http}
 use Rattle.conn_trace.specs.Host.{HostState, http_of}
 use Rattle.conn_trace.specs.Http.{wanted_more}
-use Rattle.conn_trace.specs.Item.{Item, Moved, ToClient, Sent, calls_in, note_of, to_client, to_server}
+use Rattle.conn_trace.specs.Item.{Item, Moved, ToClient, Sent, calls_in, note_of, server_output, to_client, to_server}
 use Rattle.conn_trace.specs.Routing.{behind_asked, gathering}
 use Rattle.conn_trace.specs.Setup.{Setup}
 use Rattle.conn_trace.specs.State.{Absent, Choosing, Continuing, TraceState, Does}
@@ -33,7 +33,8 @@ use Rattle.conn.specs.declared.turn.Act as step_act
 use Rattle.conn.specs.declared.turn.Act.TheVariants as done
 use Rattle.conn.proofs.Acting.{ActGave, rest_noted, rests_gave}
 use Rattle.conn.proofs.Gating.{gate_group, stands_in}
-use Rattle.conn.proofs.Giving.{Gave}
+use Rattle.conn.proofs.Giving.{Gave, quiet_queue}
+use Rattle.conn.specs.Servers.{ServerQueue, closed_behind, gives_up, queue_along, queue_at_server}
 use Rattle.conn.proofs.Joining.{TakesNone, passes_one}
 use Rattle.conn.proofs.Linking.{absent_is}
 use Rattle.conn.proofs.Pending.{waits}
@@ -62,7 +63,10 @@ pub record SendsOnly (c : ℕ) (i : Item) (bytes : List ℕ) : Type 0 where
   pub calls : calls_in (i ∷ []) ≡ []
   pub note : note_of c i ≡ []
   pub client : to_client i ≡ bytes
-  pub server : to_server 1 i ≡ []
+  pub kept : gives_up (i ∷ []) ≡ false
+  pub to_none : server_output 0 (i ∷ []) ≡ []
+  pub opens : (n : ℕ) (sent : Counts) (took : TakenCounts) → closed_behind n sent took i ≡ []
+  pub along : (q : ServerQueue) → queue_along (i ∷ []) q ≡ q
   pub takes : TakesNone (i ∷ [])
 
 pub gave_bytes : (g : Setup) (a : Around) (l at : TraceState) (c : ℕ) (old new : Conn) (i : Item) (bytes : List ℕ) → l.answers.cut ≡ None → SendsOnly c i bytes → next_item g l ≡ Does i at → may_give i l.sent a.took ≡ true → Holds g a at new
@@ -72,9 +76,11 @@ gave_bytes g a l at c old new i bytes none only step may holds ends stays = reco
   passes = passes_one g a.took l at i none only.takes (unfolds_one g l at i step) (may, tt);
   holds = holds;
   client_queue = ap (λ e. e.client.queued) ends ∙ ap (λ x. old.ends.client.queued ++ x) (sym (ap (λ x. x ++ []) only.client ∙ append-nil bytes));
-  server_queue = ap (λ e. e.server.queued) ends ∙ sym (ap (λ x. old.ends.server.queued ++ x) (ap (λ x. x ++ []) only.server) ∙ append-nil old.ends.server.queued);
+  servers = ap queue_at_server ends ∙ sym (only.along (queue_at_server old.ends));
+  kept = only.kept;
+  to_none = only.to_none;
   edges = ap (λ e. e.edges) ends;
-  noted = sym (ap (λ x. x ++ []) only.note);
+  noted = sym (ap (λ x. x ++ (closed_behind c (sent_after i l.sent) a.took i ++ [])) only.note ∙ ap (λ x. x ++ []) (only.opens c (sent_after i l.sent) a.took));
   calls = only.calls;
   still = λ e. only.takes;
   uncut = λ e. only.takes.1;
@@ -140,7 +146,7 @@ module _ (s : code_setup.Setup) (g : Setup) (serves : Serves s g) (a : Around) (
   goes_on : client_room old ≡ true → SendsClient continue_text (asked_stage (http_in old.host)) old new → ActGave g a l c old new [] done.Goes
   goes_on room k = record {
     at = at;
-    gave = gave_bytes g a l at c old new i continue_text h.no_cut (record { calls = refl; note = refl; client = refl; server = refl; takes = (refl, λ t. refl) }) step (client_shut g a l old h ∙ room) (holds k) k.ends (λ f. f);
+    gave = gave_bytes g a l at c old new i continue_text h.no_cut (record { calls = refl; note = refl; client = refl; kept = refl; to_none = refl; opens = λ c s t. refl; along = quiet_queue; takes = (refl, λ t. refl) }) step (client_shut g a l old h ∙ room) (holds k) k.ends (λ f. f);
     stops = ap is_asking k.there ∙ (asked_calm wanted (http_in old.host)).awake;
   }
 
@@ -151,7 +157,7 @@ module _ (s : code_setup.Setup) (g : Setup) (serves : Serves s g) (a : Around) (
       by_test true room (goes, k, none) = subst (λ d. ActGave g a l c old new [] d) (sym goes) (goes_on room k)
       by_test false room k =
           let shut : GivesNoMore false l.sent a.took (next_item g l) = subst (λ o. GivesNoMore false l.sent a.took o) (sym step) (client_shut g a l old h ∙ room) in
-          rests_gave s g serves a l c old new h b before after did (ap is_in_body is) (λ m. let x = sym absent ∙ m in cc) shut (λ o. let e = sym step ∙ o in cc) k
+          rests_gave s g serves a l c old new h b before after did (ap is_in_body is) shut (λ o. let e = sym step ∙ o in cc) k
 
 -- the notes of it
 pub tells_noted : (s : code_setup.Setup) (c : ℕ) (old new : Conn) (before after : List Note) (did : step_act.Act) → TellsToGoOn s c old new before after did → after ≡ before ++ gate_group (client_room old) c (cut_of old)

@@ -36,7 +36,8 @@ use Rattle.conn.specs.declared.stage.Stage.TheVariants as stage
 use Rattle.conn.specs.declared.turn.Act as step_act
 use Rattle.conn.specs.declared.turn.Act.TheVariants as done
 use Rattle.conn.proofs.Acting.{ActGave, rest_group, rest_noted, rests_gave}
-use Rattle.conn.proofs.Giving.{Gave, gave_more, gave_one}
+use Rattle.conn.proofs.Giving.{Gave, gave_more, gave_one, quiet_queue}
+use Rattle.conn.specs.Servers.{queue_at_server}
 use Rattle.conn.proofs.Joining.{TakesNone, TakesNoCut, none_needed}
 use Rattle.conn.proofs.Linking.{absent_is}
 use Rattle.conn.proofs.Places.{told_kept}
@@ -162,7 +163,7 @@ module _ (s : code_setup.Setup) (g : Setup) (serves : Serves s g) (a : Around) (
       let here : Between at new = record { vars = b.vars ∙ sym k.vars; host = b.host ∙ ap seen_host (sym k.host); replies = b.replies } in
       record {
         at = at;
-        gave = gave_one g a l at c mid new (Read Client n) h.no_cut (record { calls = refl; client = refl; server = refl; takes = (refl, λ t. refl) }) (step ∙ ap (λ p. counted l.sent (dropping_next g l reader p)) there) refl
+        gave = gave_one g a l at c mid new (Read Client n) h.no_cut (record { calls = refl; client = refl; kept = refl; to_none = refl; opens = λ c s t. refl; takes = (refl, λ t. refl) }) (step ∙ ap (λ p. counted l.sent (dropping_next g l reader p)) there) refl
             (record {
               stage = subst (λ x. Stands g x at new) (sym k.there) (next_stands g at new closes (seen_host mid.host) refl phase here);
               finished = going ∙ sym (ap has_finished k.there ∙ calm.finished);
@@ -173,7 +174,7 @@ module _ (s : code_setup.Setup) (g : Setup) (serves : Serves s g) (a : Around) (
               no_choice = h.no_choice;
               no_cut = h.no_cut;
             })
-            (ap (λ e. e.client.queued) k.ends) (ap (λ e. e.server.queued) k.ends) (ap (λ e. e.edges) k.ends) (λ f. f);
+            (ap (λ e. e.client.queued) k.ends) (ap queue_at_server k.ends ∙ sym (quiet_queue (queue_at_server mid.ends))) (ap (λ e. e.edges) k.ends) (λ f. f);
         stops = ap is_asking k.there ∙ calm.awake;
       }
 
@@ -187,7 +188,7 @@ module _ (s : code_setup.Setup) (g : Setup) (serves : Serves s g) (a : Around) (
       by_part (Bad f) there k = refuses s g serves a l c mid new h b spoken going f (step ∙ ap (λ p. counted l.sent (dropping_next g l reader p)) there) before after did k
       by_part Pending there k =
           let waits : next_item g l ≡ Waits (ForBytes Client) = step ∙ ap (λ p. counted l.sent (dropping_next g l reader p)) there in
-          rests_gave s g serves a l c mid new h b before after did (ap is_in_body is) (λ m. let x = sym absent ∙ m in cc) (subst (λ o. GivesNoMore false l.sent a.took o) (sym waits) refl) (λ o. let e = sym waits ∙ o in cc) k
+          rests_gave s g serves a l c mid new h b before after did (ap is_in_body is) (subst (λ o. GivesNoMore false l.sent a.took o) (sym waits) refl) (λ o. let e = sym waits ∙ o in cc) k
 
 -- what stands in front of what is left
 abbrev pub left_front : (reader : BodyState) (s : code_setup.Setup) (c : ℕ) (old new : Conn) (before after : List Note) (did : step_act.Act) → DropsBody reader s c old new before after did → Part

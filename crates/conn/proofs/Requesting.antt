@@ -120,4 +120,4 @@ module _ (s : code_setup.Setup) (g : Setup) (serves : Serves s g) (a : Around) (
       by_part (Faulty f) there k = refuses s g serves a l c old new h b spoken going f (step ∙ ap (λ p. counted l.sent (head_next g l p)) there) before after did k
       by_part NoHead there k =
           let waits : next_item g l ≡ Waits (ForBytes Client) = step ∙ ap (λ p. counted l.sent (head_next g l p)) there in
-          rests_gave s g serves a l c old new h b before after did (ap is_in_body is) (λ m. let x = sym absent ∙ m in cc) (subst (λ o. GivesNoMore false l.sent a.took o) (sym waits) refl) (λ o. let e = sym waits ∙ o in cc) k
+          rests_gave s g serves a l c old new h b before after did (ap is_in_body is) (subst (λ o. GivesNoMore false l.sent a.took o) (sym waits) refl) (λ o. let e = sym waits ∙ o in cc) k
