@@ -31,6 +31,7 @@ pub mod ServerLaws
 pub mod ServerCounts
 pub mod Linking
 pub mod LinkedComes
+pub mod AllServers
 pub mod ServerLeft
 pub mod PlainServers
 pub mod PlainRuns

@@ -1,5 +1,5 @@
 -- Without HTTP one server connection is made at most, and none is given up: what the ends of a connection say then, and its queue.
-use Rattle.std.proofs.Common.{◌≡◌, ◌⊎◌, inl, inr, refl, sym, ap, subst, ◌∙◌, ℕ, zero, suc, ◌+◌, ◌-◌, List, [], ◌∷◌, ◌++◌, append-nil, append_assoc, length, Bool, true, false, true≢false, nat_eq, Option, Some, None, if◌then◌else◌, arith, eq-eqb}
+use Rattle.std.proofs.Common.{◌≡◌, ◌⊎◌, inl, inr, refl, sym, ap, subst, ◌∙◌, ℕ, zero, suc, ◌+◌, ◌-◌, List, [], ◌∷◌, ◌++◌, append-nil, append_assoc, length, Bool, true, false, true≢false, nat_eq, Option, Some, None, if◌then◌else◌, arith, eq-eqb, ◌≤◌}
 use Rattle.px_bytes.specs.declared.addr.Side.TheVariants.{Server}
 use Rattle.conn_trace.specs.Further.{Further, longer}
 use Rattle.conn_trace.specs.Gates.{sent_after, taken_of, untaken}
@@ -31,6 +31,8 @@ use Rattle.proxy_core.proofs.ServerGone.{never, unlinked}
 use Rattle.proxy_core.proofs.ServerLaws.{Unserved, item_sends, number_grows, part_apart, same_number, start_unserved, unserved_step}
 use Rattle.proxy_core.proofs.ServerPhases.{SideBy}
 use Rattle.proxy_core.proofs.ServerSteps.{item_side}
+use Rattle.proxy_core.proofs.AllServers.{made_taken}
+use Rattle.proxy_core.specs.Servers.{made}
 
 -- ---- the trace
 
@@ -173,6 +175,18 @@ module _ (h : Heard) (l : TraceState) (e : Ends) (k : HoldsEnds (around h) l e) 
     server_untaken = untaken_is;
     unsent = none_sent;
   }
+
+-- one was made at most
+pub few_made : (h : Heard) (l : TraceState) (e : Ends) → PlainEnds h l e → made h.connects ≤ 1
+few_made h l e p = let n = sym (made_taken h.connects) ∙ ap length p.servers_took in let f = few e.link in omega (arith, n, f)
+  where
+    few : (x : CodeLink) → length (servers_by [] x e.server.reset (last_took h.connects)) ≤ 1
+    few link.Absent = omega arith
+    few link.Asked = omega arith
+    few link.Refused = omega arith
+    few link.Made = omega arith
+    few link.Up = omega arith
+    few link.GivenUp = omega arith
 
 -- ---- the queue
 
