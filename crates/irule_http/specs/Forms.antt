@@ -48,15 +48,22 @@ abbrev pub header_form : List (List ℕ) → Option Form
 header_form [] = None
 header_form (word ∷ words) = header_by (header_named word) words
 
-abbrev pub cookie_form : List (List ℕ) → Option Form
-cookie_form [] = None
-cookie_form (word ∷ words) =
+-- the form that the word behind `HTTP::cookie` names: one that edits, or one that reads
+abbrev pub cookie_change : List ℕ → Option Form
+cookie_change word =
+    if bytes_eq word (codes "insert") then Some form.CookieInsert
+    else (if bytes_eq word (codes "remove") then Some form.CookieRemove else None)
+
+abbrev pub cookie_named : List ℕ → Option Form
+cookie_named word =
     if bytes_eq word (codes "value") then Some form.CookieValue
     else (if bytes_eq word (codes "exists") then Some form.CookieExists
     else (if bytes_eq word (codes "names") then Some form.CookieNames
-    else (if bytes_eq word (codes "count") then Some form.CookieCount
-    else (if bytes_eq word (codes "insert") then Some form.CookieInsert
-    else (if bytes_eq word (codes "remove") then Some form.CookieRemove else None)))))
+    else (if bytes_eq word (codes "count") then Some form.CookieCount else cookie_change word)))
+
+abbrev pub cookie_form : List (List ℕ) → Option Form
+cookie_form [] = None
+cookie_form (word ∷ words) = cookie_named word
 
 -- The word behind the command is an option, which has the number of words of one of its forms.
 abbrev pub payload_form : List (List ℕ) → Option Form

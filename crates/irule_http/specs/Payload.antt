@@ -1,6 +1,6 @@
 -- What HTTP commands ask of the message's body, and what they change of what was gathered of it (iRules:
 -- HTTP::collect, HTTP::release, HTTP::payload, HTTP::close).
-use Rattle.std.specs.Prelude.{ℕ, ◌==◌, Bool, true, false, List, [], length, min, nat_le, Result, Ok, Err}
+use Rattle.std.specs.Prelude.{ℕ, ℤ, ◌==◌, Bool, true, false, List, [], length, min, nat_le, Result, Ok, Err}
 use Rattle.std.specs.Prelude.{if◌then◌else◌}
 use Rattle.px_bytes.specs.FaultText.{too_long}
 use Rattle.px_bytes.specs.Gives.{with_value}
@@ -61,12 +61,17 @@ replaces_by name payload h =
     if nat_le (length payload) payload_limit then replaces_there (has_body h.body) name payload h
     else Faults too_long h []
 
+abbrev pub numbers_of : List ℕ → List ℕ → Result (ℤ × ℤ) TclFault
+numbers_of first second =
+    with_value (number_of first) (λ n. with_value (number_of second) (λ m. Ok (n, m)))
+
+abbrev pub counts_in : ℤ → ℤ → Result (ℕ × ℕ) TclFault
+counts_in first second =
+    with_value (count_in first) (λ offset. with_value (count_in second) (λ count. Ok (offset, count)))
+
 -- Both are whole numbers before one is tested for its range.
 abbrev pub part_of : List ℕ → List ℕ → Result (ℕ × ℕ) TclFault
-part_of first second =
-    with_value (number_of first) (λ n. with_value (number_of second)
-    (λ m. with_value (count_in n) (λ offset. with_value (count_in m)
-    (λ count. Ok (offset, count)))))
+part_of first second = with_value (numbers_of first second) (λ both. counts_in both.0 both.1)
 
 abbrev pub replaces_part : List ℕ → Result (ℕ × ℕ) TclFault → List ℕ → Http → Step
 replaces_part name (Err f) text h = Faults f h []

@@ -1,8 +1,8 @@
 // The forms of HTTP commands.
 
 ghost use Rattle.std.specs.Prelude.{◌≡◌};
-ghost use Rattle.irule_http.specs.Forms.{arity_fits, cookie_form, form_of, header_by, header_edit};
-ghost use Rattle.irule_http.specs.Forms.{header_form};
+ghost use Rattle.irule_http.specs.Forms.{arity_fits, cookie_change, cookie_form, cookie_named};
+ghost use Rattle.irule_http.specs.Forms.{form_of, header_by, header_edit, header_form};
 ghost use Rattle.irule_http.specs.Forms.{header_named, is_request, payload_form, read_or_set};
 ghost use Rattle.irule_http.specs.Forms.{runs_in, some_fits};
 ghost use Rattle.irule_http.specs.State.{is_response};
@@ -142,18 +142,40 @@ fn header_edit(word: &[u8]) -> Option<Form>
 fn cookie_form(words: &[Text]) -> Option<Form>
     ensures { result ≡ cookie_form words.now }
 {
-    let [word, ..] = words else {
-        return None;
-    };
-    match word.as_bytes() {
-        b"value" => Some(Form::CookieValue),
-        b"exists" => Some(Form::CookieExists),
-        b"names" => Some(Form::CookieNames),
-        b"count" => Some(Form::CookieCount),
-        b"insert" => Some(Form::CookieInsert),
-        b"remove" => Some(Form::CookieRemove),
-        _ => None,
+    match words {
+        [] => None,
+        [word, ..] => cookie_named(word.as_bytes()),
     }
+}
+
+fn cookie_named(word: &[u8]) -> Option<Form>
+    ensures { result ≡ cookie_named word.now }
+{
+    if word == b"value".as_slice() {
+        return Some(Form::CookieValue);
+    }
+    if word == b"exists".as_slice() {
+        return Some(Form::CookieExists);
+    }
+    if word == b"names".as_slice() {
+        return Some(Form::CookieNames);
+    }
+    if word == b"count".as_slice() {
+        return Some(Form::CookieCount);
+    }
+    cookie_change(word)
+}
+
+fn cookie_change(word: &[u8]) -> Option<Form>
+    ensures { result ≡ cookie_change word.now }
+{
+    if word == b"insert".as_slice() {
+        return Some(Form::CookieInsert);
+    }
+    if word == b"remove".as_slice() {
+        return Some(Form::CookieRemove);
+    }
+    None
 }
 
 // The word behind the command is an option, which has the number of words of one of its forms.

@@ -1,12 +1,12 @@
 // What HTTP commands ask of a message's body, and what they change of what was gathered of it.
 
-ghost use Rattle.std.specs.Prelude.{◌≡◌, IfOk};
+ghost use Rattle.std.specs.Prelude.{◌≡◌, ◌++◌, IfOk, OnOk};
 ghost use Rattle.px_bytes.specs.Gives.{Gives};
 ghost use Rattle.irule_net.specs.Requests.{count_in};
 ghost use Rattle.irule_net.specs.Steps.{replaced};
 ghost use Rattle.irule_http.specs.Commands.{Leaves};
-ghost use Rattle.irule_http.specs.Payload.{collects, collects_word, count_of, has_body};
-ghost use Rattle.irule_http.specs.Payload.{part_of, releases, replaces, replaces_by};
+ghost use Rattle.irule_http.specs.Payload.{collects, collects_word, count_of, counts_in, has_body};
+ghost use Rattle.irule_http.specs.Payload.{numbers_of, part_of, releases, replaces, replaces_by};
 
 use crate::Http;
 use crate::edits::{may_change, no_value};
@@ -82,15 +82,28 @@ fn has_body(body: Body) -> bool
     }
 }
 
+fn numbers_of(alloc: Global, first: &[u8], second: &[u8]) -> Result<(i64, i64), Raise>
+    ensures { Gives result (numbers_of first.now second.now) }
+{
+    let first = number(alloc, first)?;
+    let second = number(alloc, second)?;
+    Ok((first, second))
+}
+
+fn counts_in(alloc: Global, first: i64, second: i64) -> Result<(usize, usize), Raise>
+    ensures { Gives result (counts_in first second) }
+{
+    let offset = count_in(alloc, first)?;
+    let count = count_in(alloc, second)?;
+    Ok((offset, count))
+}
+
 // Both words are whole numbers before one is tested for its range.
 fn part_of(alloc: Global, first: &[u8], second: &[u8]) -> Result<(usize, usize), Raise>
     ensures { Gives result (part_of first.now second.now) }
 {
-    let first = number(alloc, first)?;
-    let second = number(alloc, second)?;
-    let offset = count_in(alloc, first)?;
-    let count = count_in(alloc, second)?;
-    Ok((offset, count))
+    let (first, second) = numbers_of(alloc, first, second)?;
+    counts_in(alloc, first, second)
 }
 
 // So many bytes from a place on replaced, or as many as are there.
@@ -100,9 +113,20 @@ fn replaced(alloc: Global, offset: usize, count: usize, text: &[u8], payload: &[
     let (front, rest) = payload.split_at(offset.min(payload.len()));
     let (_, back) = rest.split_at(count.min(rest.len()));
     let mut changed = Text::new(alloc, front)?;
+    match push_both(&mut changed, text, back) {
+        Ok(()) => Ok(changed),
+        Err(why) => {
+            drop(changed);
+            Err(why)
+        }
+    }
+}
+
+fn push_both(changed: &mut Text, text: &[u8], back: &[u8]) -> M<()>
+    ensures { OnOk result (changed.new ≡ changed.old ++ (text.now ++ back.now)) }
+{
     changed.push(text)?;
-    changed.push(back)?;
-    Ok(changed)
+    changed.push(back)
 }
 
 /// `HTTP::payload replace OFFSET LENGTH TEXT`

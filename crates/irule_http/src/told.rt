@@ -31,7 +31,7 @@ pub(crate) fn told(
     ensures { IfOk result (λ text. text ≡ told event form words.now state.now) }
 {
     match form {
-        Form::RequestNum => Ok(Text::from_vec(format!(in alloc; "{}", state.number)?.into_bytes())),
+        Form::RequestNum => number_text(alloc, state.number),
         Form::Version => version_told(alloc, is_response(event), state),
         Form::Status => response_told(alloc, Form::Status, &state.response),
         Form::Field => fields_told(alloc, form, word_at(words, 0), fields_here(event, state)),
@@ -46,16 +46,15 @@ pub(crate) fn told(
             fields_here(event, state),
         ),
         Form::CookieValue | Form::CookieExists | Form::CookieNames | Form::CookieCount => {
-            let found = cookies_here(alloc, event, state)?;
-            cookies_told(alloc, form, word_at(words, 1), &found)
+            cookies_by(alloc, form, word_at(words, 1), event, state)
         }
         Form::Payload => state.payload.copy(),
-        Form::PayloadLength => number_text(alloc, state.payload.len()),
+        Form::PayloadLength => number_text(alloc, state.payload.len() as u64),
         form => request_told(alloc, form, &state.request),
     }
 }
 
-fn number_text(alloc: Global, number: usize) -> M<Text>
+fn number_text(alloc: Global, number: u64) -> M<Text>
     ensures { IfOk result (λ text. text ≡ decimal number) }
 {
     Ok(Text::from_vec(format!(in alloc; "{number}")?.into_bytes()))
@@ -87,7 +86,7 @@ fn response_told(alloc: Global, form: Form, head: &Option<ResponseHead>) -> M<Te
 {
     match (form, head) {
         (Form::Version, Some(head)) => version_text(alloc, head.version),
-        (Form::Status, Some(head)) => number_text(alloc, usize::from(head.status.code())),
+        (Form::Status, Some(head)) => number_text(alloc, u64::from(head.status.code())),
         _ => Ok(Text::empty(alloc)),
     }
 }
@@ -160,7 +159,7 @@ fn fields_told(alloc: Global, form: Form, name: &[u8], fields: Option<&Fields>) 
     match form {
         Form::Field | Form::FieldValue => text_of(alloc, fields.value(name)),
         Form::FieldValues => join_list(alloc, &fields.values(alloc, name)?),
-        Form::FieldCount => number_text(alloc, fields.count(name)),
+        Form::FieldCount => number_text(alloc, fields.count(name) as u64),
         Form::FieldExists => bit(alloc, 0 < fields.count(name)),
         Form::FieldNames => join_list(alloc, &fields.names(alloc)?),
         _ => Ok(Text::empty(alloc)),
@@ -183,6 +182,15 @@ fn cookies_here(alloc: Global, event: EventName, state: &Http) -> M<Pairs>
     }
 }
 
+// What is told of the cookies of the event's message.
+fn cookies_by(alloc: Global, form: Form, name: &[u8], event: EventName, state: &Http) -> M<Text>
+    ensures { IfOk result (λ text. text
+        ≡ cookies_told form name.now (cookies_here event state.now)) }
+{
+    let found = cookies_here(alloc, event, state)?;
+    cookies_told(alloc, form, name, &found)
+}
+
 fn cookies_told(alloc: Global, form: Form, name: &[u8], found: &Pairs) -> M<Text>
     ensures { IfOk result (λ text. text ≡ cookies_told form name.now found.now) }
 {
@@ -190,7 +198,7 @@ fn cookies_told(alloc: Global, form: Form, name: &[u8], found: &Pairs) -> M<Text
         Form::CookieValue => value_of(alloc, cookie_called(name, found.as_slice())),
         Form::CookieExists => bit(alloc, cookie_called(name, found.as_slice()).is_some()),
         Form::CookieNames => join_list(alloc, &cookie_names(alloc, found.as_slice())?),
-        Form::CookieCount => number_text(alloc, found.len()),
+        Form::CookieCount => number_text(alloc, found.len() as u64),
         _ => Ok(Text::empty(alloc)),
     }
 }
