@@ -9,7 +9,8 @@ use Rattle.http_frames.specs.Parts.{Part, Byte, Chunk, End, Pending, Bad}
 use Rattle.http_frames.specs.declared.state.BodyState.{BodyState}
 use Rattle.irule_http.specs.declared.state.Request.{Request}
 use Rattle.irule_http.specs.declared.state.Response.{Response}
-use Rattle.conn_trace.specs.Fronts.{HeadPart, HeadOf, StreamEnds, Faulty, NoHead}
+use Rattle.http_heads.specs.declared.front.HeadPart.{HeadPart}
+use Rattle.http_heads.specs.declared.front.HeadPart.TheVariants.{HeadOf, StreamEnds, Faulty, NoHead}
 use Rattle.conn_trace.specs.Host.{http_of}
 use Rattle.conn_trace.specs.Item.{Choice, Fires, PassesOn, Reuses}
 use Rattle.conn_trace.specs.SentBodies.{is_answered}

@@ -22,7 +22,7 @@ use Rattle.conn_trace.specs.Bodies.{act_next, bodies_next, ended_next, run_body}
 use Rattle.core_events.specs.Edges.{edge_of}
 use Rattle.conn_trace.specs.Gates.{other, taken_of, to_take}
 use Rattle.conn_trace.specs.Heard.{taken_by}
-use Rattle.conn_trace.specs.Fronts.{head_part}
+use Rattle.http_heads.specs.Fronts.{head_part}
 use Rattle.conn_trace.specs.Host.{HostState, with_selected}
 use Rattle.conn_trace.specs.Queries.{half_close_due, is_reset, relays_at}
 use Rattle.conn_trace.specs.Queries as query

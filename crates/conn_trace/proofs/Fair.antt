@@ -32,7 +32,9 @@ use Rattle.std.proofs.Common.{Result, Ok, Err, nat_eq}
 use Rattle.px_bytes.specs.declared.fault.HttpFault.{HttpFault}
 use Rattle.http_frames.specs.declared.state.BodyState.{BodyState}
 use Rattle.conn_trace.specs.Item.{Choice, PassesOn, Fires, Reuses}
-use Rattle.conn_trace.specs.Fronts.{HeadPart, HeadOf, StreamEnds, Faulty, NoHead, head_part}
+use Rattle.http_heads.specs.Fronts.{head_part}
+use Rattle.http_heads.specs.declared.front.HeadPart.{HeadPart}
+use Rattle.http_heads.specs.declared.front.HeadPart.TheVariants.{HeadOf, StreamEnds, Faulty, NoHead}
 use Rattle.conn_trace.specs.SentBodies.{is_answered}
 use Rattle.http_frames.specs.Parts.{Part, Byte, Chunk, End, Pending, Bad, part_of}
 use Rattle.irule_http.specs.declared.state.Request.{Request}

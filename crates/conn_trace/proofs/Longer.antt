@@ -42,7 +42,10 @@ use Rattle.px_bytes.specs.declared.fault.HttpFault.{HttpFault}
 use Rattle.px_bytes.specs.declared.fault.HttpFault.TheVariants as fault
 use Rattle.http_frames.specs.declared.state.BodyState.{BodyState}
 use Rattle.conn_trace.specs.Item.{Choice, PassesOn, Fires, Reuses, Read, Moved, Sent, ToClient, Retires, Http as HttpReason}
-use Rattle.conn_trace.specs.Fronts.{HeadPart, HeadOf, StreamEnds, Faulty, NoHead, head_part, after_byte}
+use Rattle.http_heads.specs.Fronts.{head_part}
+use Rattle.http_heads.specs.declared.front.HeadPart.{HeadPart}
+use Rattle.http_heads.specs.declared.front.HeadPart.TheVariants.{HeadOf, StreamEnds, Faulty, NoHead}
+use Rattle.conn_trace.specs.Fronts.{after_byte}
 use Rattle.conn_trace.specs.Http.{with_whole}
 use Rattle.conn_trace.specs.SentBodies.{chunk_line, last_line, continue_text, is_answered}
 use Rattle.http_frames.specs.Parts.{Part, Byte, Chunk, End, Pending, Bad, part_of}

@@ -36,7 +36,10 @@ use Rattle.irule_http.specs.declared.state.Request.{Request}
 use Rattle.irule_http.specs.declared.state.Response.{Response}
 use Rattle.conn_trace.specs.Bodies.{act_item, run_body, ended_next, act_next, bodies_next}
 use Rattle.conn_trace.specs.Bounds.{FewOfServer, FewOfMade, HeadsFit, passed_by, read_limit}
-use Rattle.conn_trace.specs.Fronts.{HeadPart, HeadOf, StreamEnds, Faulty, NoHead, head_limit, head_part, after_byte, is_at_end, one_less}
+use Rattle.http_heads.specs.Fronts.{head_limit, head_part}
+use Rattle.http_heads.specs.declared.front.HeadPart.{HeadPart}
+use Rattle.http_heads.specs.declared.front.HeadPart.TheVariants.{HeadOf, StreamEnds, Faulty, NoHead}
+use Rattle.conn_trace.specs.Fronts.{after_byte, is_at_end, one_less}
 use Rattle.conn_trace.specs.Http.{with_gathered, with_whole}
 use Rattle.conn_trace.specs.SentBodies.{chunk_line, is_answered, last_line}
 use Rattle.conn_trace.specs.Gates.{Counts, no_bytes, TakenCounts, none_taken, may_give, to_take}

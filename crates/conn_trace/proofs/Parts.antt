@@ -9,10 +9,13 @@ use Rattle.memchr.proofs.lemmas.ValueLemmas.{FindsNeedle-value}
 use Rattle.seg_buffer.specs.Bytes.{crlf2}
 use Rattle.http_frames.specs.Parts.{Part, Byte, Chunk, End, Pending, Bad, PartStays, part_of}
 use Rattle.http_frames.specs.declared.state.BodyState.{BodyState}
-use Rattle.http_frames.proofs.Needles.{still_found}
-use Rattle.http_frames.proofs.NextUnits.{place_is}
+use Rattle.seg_buffer.proofs.Places.{place_is, still_found}
 use Rattle.http_frames.proofs.PartsStay.{parts_stay}
-use Rattle.conn_trace.specs.Fronts.{blank_length, head_limit, HeadPart, HeadOf, StreamEnds, Faulty, NoHead, is_empty_text, headless, head_by, head_part}
+use Rattle.http_heads.proofs.LookedHeads.{blank_few}
+use Rattle.http_heads.specs.Fronts.{blank_length, head_limit, headless, head_by, head_part}
+use Rattle.http_heads.specs.declared.front.HeadPart.{HeadPart}
+use Rattle.http_heads.specs.declared.front.HeadPart.TheVariants.{HeadOf, StreamEnds, Faulty, NoHead}
+use Rattle.seg_buffer.specs.Bytes.{is_empty}
 use Rattle.conn_trace.specs.State.{Stream}
 use Rattle.conn_trace.proofs.Streams.{Grown, stream}
 
@@ -47,15 +50,6 @@ head_same (HeadOf n) = refl
 head_same StreamEnds = refl
 head_same (Faulty f) = refl
 head_same NoHead = tt
-
-blank_few : (text : List ℕ) → blank_length text ≤ length text
-blank_few [] = omega arith
-blank_few (x ∷ []) = omega arith
-blank_few (x ∷ y ∷ rest) = by_test (x == 13 && y == 10) (blank_few rest)
-  where
-    by_test : (b : Bool) → blank_length rest ≤ length rest → (if b then 2 + blank_length rest else 0) ≤ length (x ∷ y ∷ rest)
-    by_test true few = omega (arith, few)
-    by_test false few = omega arith
 
 blank_stays : (text more : List ℕ) → 2 ≤ length (drop (blank_length text) text) → blank_length (text ++ more) ≡ blank_length text
 blank_stays [] more some = absurd (omega (arith, some))
@@ -101,7 +95,7 @@ abbrev place_in : List ℕ → Option ℕ
 place_in front = first_of (matches (drop (blank_length front) front) crlf2 0)
 
 abbrev head_in : List ℕ → (long ended : Bool) → HeadPart
-head_in front long ended = head_by (blank_length front) (place_in front) long ended (is_empty_text (drop (blank_length front) front))
+head_in front long ended = head_by (blank_length front) (place_in front) long ended (is_empty (drop (blank_length front) front))
 
 head_open : (held more : List ℕ) (ended : Bool) → HeadStays (head_part held false) (head_part (held ++ more) ended)
 head_open held more ended = by_place (place_in (front_of held)) refl
@@ -112,21 +106,21 @@ head_open held more ended = by_place (place_in (front_of held)) refl
     front_is : front_of (held ++ more) ≡ front_of held ++ extra
     front_is = take_joined head_limit held more
 
-    by_long : (long : Bool) → place_in (front_of held) ≡ None → nat_le head_limit (length held) ≡ long → HeadStays (headless long false (is_empty_text (drop (blank_length (front_of held)) (front_of held)))) (head_part (held ++ more) ended)
+    by_long : (long : Bool) → place_in (front_of held) ≡ None → nat_le head_limit (length held) ≡ long → HeadStays (headless long false (is_empty (drop (blank_length (front_of held)) (front_of held)))) (head_part (held ++ more) ended)
     by_long false none is = tt
     by_long true none is =
         let all = leb-true head_limit (length held) is in
         let longer : nat_le head_limit (length (held ++ more)) ≡ true = le-leb head_limit (length (held ++ more)) (let size = length-append held more in omega (arith, all, size)) in
         ap (λ front. head_in front (nat_le head_limit (length (held ++ more))) ended) (take-append-le head_limit held more all)
         ∙ (ap (λ long. head_in (front_of held) long ended) longer
-        ∙ ap (λ p. head_by (blank_length (front_of held)) p true ended (is_empty_text (drop (blank_length (front_of held)) (front_of held)))) none)
+        ∙ ap (λ p. head_by (blank_length (front_of held)) p true ended (is_empty (drop (blank_length (front_of held)) (front_of held)))) none)
 
-    by_place : (p : Option ℕ) → place_in (front_of held) ≡ p → HeadStays (head_by (blank_length (front_of held)) p (nat_le head_limit (length held)) false (is_empty_text (drop (blank_length (front_of held)) (front_of held)))) (head_part (held ++ more) ended)
+    by_place : (p : Option ℕ) → place_in (front_of held) ≡ p → HeadStays (head_by (blank_length (front_of held)) p (nat_le head_limit (length held)) false (is_empty (drop (blank_length (front_of held)) (front_of held)))) (head_part (held ++ more) ended)
     by_place None is = by_long (nat_le head_limit (length held)) is refl
     by_place (Some k) is =
         let long = nat_le head_limit (length (held ++ more)) in
         ap (λ front. head_in front long ended) front_is
-        ∙ (ap (λ p. head_by (blank_length (front_of held ++ extra)) p long ended (is_empty_text (drop (blank_length (front_of held ++ extra)) (front_of held ++ extra)))) (found_longer (front_of held) extra k is)
+        ∙ (ap (λ p. head_by (blank_length (front_of held ++ extra)) p long ended (is_empty (drop (blank_length (front_of held ++ extra)) (front_of held ++ extra)))) (found_longer (front_of held) extra k is)
         ∙ ap (λ n. HeadOf (n + k + 4)) (blank_longer (front_of held) extra k is))
 
 head_by_end : (t t' : Stream) (b : Bool) → t.ended ≡ b → Grown t t' → HeadStays (head_part t.unread t.ended) (head_part t'.unread t'.ended)
@@ -151,8 +145,8 @@ headless_in held false false empty = tt
 pub head_inside : (held : List ℕ) (ended : Bool) → HeadIn held (head_part held ended)
 head_inside held ended = by_place (place_in (front_of held)) refl
   where
-    by_place : (p : Option ℕ) → place_in (front_of held) ≡ p → HeadIn held (head_by (blank_length (front_of held)) p (nat_le head_limit (length held)) ended (is_empty_text (drop (blank_length (front_of held)) (front_of held))))
-    by_place None is = headless_in held (nat_le head_limit (length held)) ended (is_empty_text (drop (blank_length (front_of held)) (front_of held)))
+    by_place : (p : Option ℕ) → place_in (front_of held) ≡ p → HeadIn held (head_by (blank_length (front_of held)) p (nat_le head_limit (length held)) ended (is_empty (drop (blank_length (front_of held)) (front_of held))))
+    by_place None is = headless_in held (nat_le head_limit (length held)) ended (is_empty (drop (blank_length (front_of held)) (front_of held)))
     by_place (Some k) is =
         let text = drop (blank_length (front_of held)) (front_of held) in
         let there : FindsNeedle text crlf2 0 (Some k) = subst (FindsNeedle text crlf2 0) is (place_is text) in
@@ -176,8 +170,8 @@ headless_short false false empty = tt
 pub head_short : (held : List ℕ) (ended : Bool) → ShortHead (head_part held ended)
 head_short held ended = by_place (place_in (front_of held)) refl
   where
-    by_place : (p : Option ℕ) → place_in (front_of held) ≡ p → ShortHead (head_by (blank_length (front_of held)) p (nat_le head_limit (length held)) ended (is_empty_text (drop (blank_length (front_of held)) (front_of held))))
-    by_place None is = headless_short (nat_le head_limit (length held)) ended (is_empty_text (drop (blank_length (front_of held)) (front_of held)))
+    by_place : (p : Option ℕ) → place_in (front_of held) ≡ p → ShortHead (head_by (blank_length (front_of held)) p (nat_le head_limit (length held)) ended (is_empty (drop (blank_length (front_of held)) (front_of held))))
+    by_place None is = headless_short (nat_le head_limit (length held)) ended (is_empty (drop (blank_length (front_of held)) (front_of held)))
     by_place (Some k) is =
         let text = drop (blank_length (front_of held)) (front_of held) in
         let there : FindsNeedle text crlf2 0 (Some k) = subst (FindsNeedle text crlf2 0) is (place_is text) in

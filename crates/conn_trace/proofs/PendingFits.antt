@@ -47,7 +47,10 @@ use Rattle.px_bytes.specs.declared.fault.HttpFault.TheVariants as fault
 use Rattle.http_frames.specs.declared.state.BodyState.{BodyState}
 use Rattle.http_frames.specs.declared.state.BodyState.TheVariants as body
 use Rattle.conn_trace.specs.Item.{Sent, ToClient, Http as HttpReason}
-use Rattle.conn_trace.specs.Fronts.{HeadPart, HeadOf, StreamEnds, Faulty, NoHead, head_part, after_byte, one_less, is_at_end}
+use Rattle.http_heads.specs.Fronts.{head_part}
+use Rattle.http_heads.specs.declared.front.HeadPart.{HeadPart}
+use Rattle.http_heads.specs.declared.front.HeadPart.TheVariants.{HeadOf, StreamEnds, Faulty, NoHead}
+use Rattle.conn_trace.specs.Fronts.{after_byte, one_less, is_at_end}
 use Rattle.conn_trace.specs.Http.{with_gathered, with_whole, Heads, no_heads}
 use Rattle.conn_trace.specs.SentBodies.{is_answered, continue_text, chunk_line, last_line, hex, hex_digits, closing, end_of_line, payload_chunk, rest_line, behind_payload, gathered_part, payload_part, is_chunked}
 use Rattle.http_frames.specs.Parts.{Part, Byte, Chunk, End, Pending, Bad, part_of}
@@ -66,7 +69,7 @@ use Rattle.conn_trace.specs.Bounds.{HeadsFit, refusal_limit, read_limit}
 use Rattle.http_heads.specs.declared.line.Version.{Version}
 use Rattle.http_heads.specs.declared.line.Version.TheVariants.{Http10, Http11}
 use Rattle.irule_http.specs.Laws.{ResponseWithin}
-use Rattle.conn_trace.specs.Fronts.{head_limit}
+use Rattle.http_heads.specs.Fronts.{head_limit}
 use Rattle.conn_trace.proofs.HostFits.{request_fits, response_fits, gather_fits, serving_fits, whole_fits, sent_limit}
 use Rattle.conn_trace.proofs.Parts.{ShortHead, head_short}
 use Rattle.conn_trace.proofs.PlacesFit.{PlaceFits, Idle, outside, next_request_out, message_out, asked_out, giving_up_fits}

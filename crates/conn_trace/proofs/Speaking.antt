@@ -35,7 +35,10 @@ use Rattle.irule_http.specs.declared.state.Http.{Http}
 use Rattle.irule_http.specs.declared.state.Request.{Request}
 use Rattle.irule_http.specs.declared.state.Response.{Response}
 use Rattle.conn_trace.specs.Bodies.{run_body, ended_next, act_next, bodies_next}
-use Rattle.conn_trace.specs.Fronts.{HeadPart, HeadOf, StreamEnds, Faulty, NoHead, head_part, after_byte, is_at_end, one_less}
+use Rattle.http_heads.specs.Fronts.{head_part}
+use Rattle.http_heads.specs.declared.front.HeadPart.{HeadPart}
+use Rattle.http_heads.specs.declared.front.HeadPart.TheVariants.{HeadOf, StreamEnds, Faulty, NoHead}
+use Rattle.conn_trace.specs.Fronts.{after_byte, is_at_end, one_less}
 use Rattle.conn_trace.specs.Gates.{Counts, may_give}
 use Rattle.conn_trace.specs.Host.{HostState, first_host, host_table, http_known, with_loose, with_selected, speaks_http}
 use Rattle.conn_trace.specs.Http.{with_gathered, with_whole}

@@ -47,7 +47,10 @@ use Rattle.http_frames.specs.declared.state.BodyState.{BodyState}
 use Rattle.conn_trace.specs.Item.{PassesOn, Fires, Reuses, Read, Moved, Reused, Retires, Sent, ToClient, Http as HttpReason}
 use Rattle.conn_trace.specs.Gates.{other}
 use Rattle.conn_trace.specs.Bodies.{peer_of}
-use Rattle.conn_trace.specs.Fronts.{HeadPart, HeadOf, StreamEnds, Faulty, NoHead, head_part, after_byte, one_less, is_at_end}
+use Rattle.http_heads.specs.Fronts.{head_part}
+use Rattle.http_heads.specs.declared.front.HeadPart.{HeadPart}
+use Rattle.http_heads.specs.declared.front.HeadPart.TheVariants.{HeadOf, StreamEnds, Faulty, NoHead}
+use Rattle.conn_trace.specs.Fronts.{after_byte, one_less, is_at_end}
 use Rattle.conn_trace.specs.Http.{with_whole}
 use Rattle.conn_trace.specs.SentBodies.{last_line, continue_text, is_answered}
 use Rattle.http_frames.specs.Parts.{Part, Byte, Chunk, End, Pending, Bad, part_of}

@@ -15,7 +15,7 @@ use Rattle.irule_http.specs.Laws.{HeadsWithin, RequestWithin, ResponseWithin}
 use Rattle.irule_http.specs.declared.state.Http.{Http}
 use Rattle.irule_http.specs.declared.state.Request.{Request}
 use Rattle.irule_http.specs.declared.state.Response.{Response}
-use Rattle.conn_trace.specs.Fronts.{head_limit}
+use Rattle.http_heads.specs.Fronts.{head_limit}
 
 -- no more than n bytes of a stream lie unread
 abbrev pub FewUnread : ℕ → Stream → Type 0

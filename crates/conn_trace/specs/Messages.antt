@@ -18,7 +18,9 @@ use Rattle.irule_http.specs.declared.state.Http.{Http}
 use Rattle.irule_http.specs.declared.state.Request.{Request}
 use Rattle.irule_http.specs.declared.state.Response.{Response}
 use Rattle.conn_trace.specs.Bodies.{peer_of}
-use Rattle.conn_trace.specs.Fronts.{HeadPart, HeadOf, StreamEnds, Faulty, NoHead, after_byte}
+use Rattle.http_heads.specs.declared.front.HeadPart.{HeadPart}
+use Rattle.http_heads.specs.declared.front.HeadPart.TheVariants.{HeadOf, StreamEnds, Faulty, NoHead}
+use Rattle.conn_trace.specs.Fronts.{after_byte}
 use Rattle.conn_trace.specs.Fronts.{is_at_end, one_less}
 use Rattle.conn_trace.specs.Gates.{other}
 use Rattle.conn_trace.specs.Host.{HostState, http_of}

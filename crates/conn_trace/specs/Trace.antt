@@ -31,7 +31,7 @@ use Rattle.conn_trace.specs.Selected.{any_member, only_member, select_call, addr
 use Rattle.conn_trace.specs.State.{Phase, InEvent, Choosing}
 use Rattle.conn_trace.specs.State.{AtHead, Continuing, Gathering, AtReuse}
 use Rattle.conn_trace.specs.State.{GivingUp, Retiring, Heading, Forwarding, Dropping, AtResponse}
-use Rattle.conn_trace.specs.Fronts.{head_part}
+use Rattle.http_heads.specs.Fronts.{head_part}
 use Rattle.http_frames.specs.Parts.{part_of}
 use Rattle.irule_http.specs.declared.state.Http.{Http}
 use Rattle.conn_trace.specs.State.{Selecting, Connecting, Answering, Releasing, Relaying}

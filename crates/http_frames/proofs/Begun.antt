@@ -8,7 +8,7 @@ use Rattle.std.proofs.lemmas.Slice.Eq.{bytes_eq-Decides}
 use Rattle.memchr.specs.Find.{FindsNeedle, OccursAt}
 use Rattle.seg_buffer.specs.Bytes.{crlf2}
 use Rattle.http_frames.specs.Units.{begun}
-use Rattle.http_frames.proofs.Needles.{did_occur}
+use Rattle.seg_buffer.proofs.Places.{did_occur}
 
 -- so many bytes at the end begin CR LF CR LF
 pub record AtEnd (text : List ℕ) (n : ℕ) : Type 0 where

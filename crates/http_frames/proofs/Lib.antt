@@ -6,7 +6,6 @@ mod HexDigits
 pub mod Lines
 pub mod Longer
 pub mod LookedOnce
-pub mod Needles
 pub mod NextUnits
 mod Numbers
 pub mod OneLength

@@ -17,7 +17,7 @@ use Rattle.http_frames.specs.declared.unit.Unit.{Unit}
 use Rattle.http_frames.specs.declared.unit.Unit.TheVariants.{Piece, ChunkLine, Finished, NotYet, Fault}
 use Rattle.http_frames.proofs.Begun.{begun_few, begun_more, found_late}
 use Rattle.http_frames.proofs.Lines.{Stays, line_stays, line_within}
-use Rattle.http_frames.proofs.Needles.{a_place, still_found}
+use Rattle.seg_buffer.proofs.Places.{a_place, still_found}
 use Rattle.http_frames.proofs.Pairs.{not_lines, refused, still_refused, unpaired}
 
 -- what a longer text has of a unit

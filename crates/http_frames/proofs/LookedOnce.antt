@@ -1,15 +1,15 @@
 -- What was looked at once isn't looked at again.
-use Rattle.std.proofs.Common.{◌≡◌, ℕ, zero, suc, ◌+◌, ◌-◌, ◌<◌, ◌≤◌, Bool, true, false, ◌&&◌, ◌==◌, cond, List, [], ◌∷◌, ◌++◌, length, take, drop, Option, Some, None, nat_lt, refl, sym, ap, subst, ◌∙◌, arith, true≢false}
+use Rattle.std.proofs.Common.{◌≡◌, ℕ, zero, suc, ◌+◌, ◌-◌, ◌<◌, ◌≤◌, Bool, true, false, ◌&&◌, ◌==◌, List, [], ◌∷◌, ◌++◌, length, take, drop, Option, Some, None, nat_lt, refl, sym, ap, subst, ◌∙◌, arith, true≢false}
 use Rattle.std.specs.Prelude.{slice_index, if◌then◌else◌}
 use Rattle.std.proofs.lemmas.Bool.{and_parts, ltb-false, ltb-true}
-use Rattle.std.proofs.lemmas.List.{drop-append-le, drop-take, get_or-drop, length-append, length-drop, take-append-drop, take-append-le, take_all}
-use Rattle.memchr.specs.Find.{FindsNeedle, Nowhere, OccursAt, first_of, matches}
+use Rattle.std.proofs.lemmas.List.{drop-append-le, drop-take, length-append, length-drop, take-append-drop, take-append-le}
+use Rattle.memchr.specs.Find.{FindsNeedle, first_of, matches}
 use Rattle.px_bytes.specs.declared.fault.HttpFault.TheVariants.{BadChunk}
 use Rattle.seg_buffer.specs.Bytes.{crlf2}
 use Rattle.http_frames.specs.ChunkLines.{IsWithin, line_of}
-use Rattle.http_frames.specs.Looked.{EndLookedAt, IsEndOf, LineLookedAt, LookedAt, NoEnd, cr_before}
+use Rattle.http_frames.specs.Looked.{EndLookedAt, LineLookedAt, LookedAt, NoEnd, cr_before}
 use Rattle.http_frames.specs.NextUnit.{line_unit}
-use Rattle.http_frames.specs.Units.{is_paired, may_follow, of_lines, trailers_by}
+use Rattle.http_frames.specs.Units.{is_paired, may_follow, trailers_by}
 use Rattle.http_frames.specs.declared.chunk_line.Line.{Line}
 use Rattle.http_frames.specs.declared.chunk_line.Line.TheVariants.{Whole, Begins, Never}
 use Rattle.http_frames.specs.declared.state.BodyState.{BodyState}
@@ -17,12 +17,7 @@ use Rattle.http_frames.specs.declared.state.BodyState.TheVariants.{FirstLine, Ne
 use Rattle.http_frames.specs.declared.unit.Unit.{Unit}
 use Rattle.http_frames.specs.declared.unit.Unit.TheVariants.{Piece, ChunkLine, Finished, NotYet, Fault}
 use Rattle.http_frames.proofs.Lines.{Stays, line_stays, line_within}
-use Rattle.http_frames.proofs.Needles.{did_occur}
-use Rattle.http_frames.proofs.NextUnits.{place_is}
-
--- a slice from a place on
-pub rest_is : (from : ℕ) (text : List ℕ) → from ≤ length text → take (length text - from) (drop from text) ≡ drop from text
-rest_is from text inside = take_all (length text - from) (drop from text) (omega (arith, length-drop from text))
+use Rattle.seg_buffer.proofs.Places.{did_occur, place_is}
 
 -- ---- lines that were read up to a place
 
@@ -56,57 +51,6 @@ paired_front b (suc n) [] lines = refl
 paired_front b (suc n) (x ∷ text) lines =
     let both = and_parts (may_follow b x) (is_paired (x == 13) text) lines in
     ap (λ t. t && is_paired (x == 13) (take n text)) both.0 ∙ paired_front (x == 13) n text both.1
-
-pub take_shorter : (n m : ℕ) (text : List ℕ) → n ≤ m → take n (take m text) ≡ take n text
-take_shorter zero m text less = refl
-take_shorter (suc n) zero text less = absurd (omega (arith, less))
-take_shorter (suc n) (suc m) [] less = refl
-take_shorter (suc n) (suc m) (x ∷ text) less = ap (λ t. x ∷ t) (take_shorter n m text (omega (arith, less)))
-
--- ---- places behind it
-
-module _ (text : List ℕ) (from : ℕ) where
-  occurs_on : (k : ℕ) → OccursAt (drop from text) crlf2 k → OccursAt text crlf2 (from + k)
-  occurs_on k here = record {
-    fits = omega (arith, here.fits, length-drop from text);
-    reads = λ j less.
-        let place : from + k + j ≡ from + (k + j) = omega arith in
-        ap (slice_index text) place ∙ sym (get_or-drop from text (k + j) 0) ∙ here.reads j less;
-  }
-
-  occurs_back : (k : ℕ) → from ≤ k → OccursAt text crlf2 k → OccursAt (drop from text) crlf2 (k - from)
-  occurs_back k behind here = record {
-    fits = omega (arith, here.fits, behind, length-drop from text);
-    reads = λ j less.
-        let place : from + (k - from + j) ≡ k + j = omega (arith, behind) in
-        get_or-drop from text (k - from + j) 0 ∙ ap (slice_index text) place ∙ here.reads j less;
-  }
-
-  none_on : (to : ℕ) → Nowhere (OccursAt text crlf2) 0 from → Nowhere (OccursAt (drop from text) crlf2) 0 to
-      → Nowhere (OccursAt text crlf2) 0 (from + to)
-  none_on to first rest k low less here =
-      elim (nat_lt k from) as (λ t. nat_lt k from ≡ t → ⊥) [
-        | true ↦ λ h. first k low (ltb-true k from h) here
-        | false ↦ λ h.
-            let behind : from ≤ k = omega (arith, ltb-false k from h) in
-            rest (k - from) (omega arith) (omega (arith, less, behind)) (occurs_back k behind here)
-      ] refl
-
-  pub found_on : (k : ℕ) → Nowhere (OccursAt text crlf2) 0 from → FindsNeedle (drop from text) crlf2 0 (Some k)
-      → FindsNeedle text crlf2 0 (Some (from + k))
-  found_on k first found = (
-    record {
-      low = omega arith;
-      high = omega (arith, found.0.high, found.1.fits, length-drop from text);
-      before = none_on k first found.0.before;
-    },
-    occurs_on k found.1,
-  )
-
-  pub nowhere_on : from ≤ length text → Nowhere (OccursAt text crlf2) 0 from → FindsNeedle (drop from text) crlf2 0 None
-      → FindsNeedle text crlf2 0 None
-  nowhere_on inside first none k low less =
-      none_on (length (drop from text) + 1) first none k low (omega (arith, less, inside, length-drop from text))
 
 -- ---- what waits for the end of trailers holds none
 

@@ -1,7 +1,6 @@
 -- The next unit is that of the grammar.
-use Rattle.std.proofs.Common.{◌≡◌, ℕ, zero, suc, ◌+◌, ◌-◌, Bool, List, drop, refl, subst}
-use Rattle.memchr.specs.Find.{FindsNeedle, first_of, matches}
-use Rattle.memchr.proofs.lemmas.ValueLemmas.{FindsNeedle-value}
+use Rattle.std.proofs.Common.{◌≡◌, ℕ, zero, suc, ◌+◌, ◌-◌, Bool, List, drop, refl}
+use Rattle.memchr.specs.Find.{first_of, matches}
 use Rattle.seg_buffer.specs.Bytes.{crlf2}
 use Rattle.http_frames.specs.ChunkLines.{Crlf, crlf, line_of}
 use Rattle.http_frames.specs.ChunkLines.Crlf.{There, Due, Other}
@@ -12,12 +11,8 @@ use Rattle.http_frames.specs.declared.chunk_line.Line.TheVariants as line
 use Rattle.http_frames.specs.declared.state.BodyState.{BodyState}
 use Rattle.http_frames.specs.declared.state.BodyState.TheVariants as state
 use Rattle.http_frames.specs.declared.unit.Unit.{Unit}
-use Rattle.http_frames.proofs.Needles.{a_place}
+use Rattle.seg_buffer.proofs.Places.{place_is}
 use Rattle.http_frames.proofs.OneUnit.{one_unit}
-
--- the place of CR LF CR LF, as a value
-pub place_is : (text : List ℕ) → FindsNeedle text crlf2 0 (first_of (matches text crlf2 0))
-place_is text = let there = a_place text in subst (FindsNeedle text crlf2 0) (FindsNeedle-value text crlf2 there.0 there.1) there.1
 
 module _ (held : List ℕ) (ended : Bool) where
   line_is : (before : ℕ) (l : Line) → IsUnitOf before l held ended (line_unit before l held ended)

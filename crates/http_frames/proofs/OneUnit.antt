@@ -8,7 +8,7 @@ use Rattle.http_frames.specs.declared.chunk_line.Line.TheVariants as line
 use Rattle.http_frames.specs.declared.state.BodyState.{BodyState}
 use Rattle.http_frames.specs.declared.state.BodyState.TheVariants as state
 use Rattle.http_frames.specs.declared.unit.Unit.{Unit}
-use Rattle.http_frames.proofs.Needles.{one_place}
+use Rattle.seg_buffer.proofs.Places.{one_place}
 
 module _ (held : List ℕ) (ended : Bool) (u v : Unit) where
   one_end : (at : ℕ) → IsEnd at held ended u → IsEnd at held ended v → u ≡ v

@@ -17,7 +17,8 @@ use Rattle.http_frames.specs.declared.state.BodyState.TheVariants as state
 use Rattle.http_frames.specs.declared.unit.Unit.{Unit}
 use Rattle.http_frames.specs.declared.unit.Unit.TheVariants.{Piece, ChunkLine, Finished, NotYet, Fault}
 use Rattle.http_frames.proofs.Longer.{Stands, stays}
-use Rattle.http_frames.proofs.NextUnits.{place_is, unit_is}
+use Rattle.http_frames.proofs.NextUnits.{unit_is}
+use Rattle.seg_buffer.proofs.Places.{place_is}
 use Rattle.http_frames.proofs.OneUnit.{one_unit}
 use Rattle.http_frames.proofs.Taken.{Inside, inside}
 

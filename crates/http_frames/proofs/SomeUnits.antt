@@ -14,7 +14,7 @@ use Rattle.http_frames.specs.declared.state.BodyState.{BodyState}
 use Rattle.http_frames.specs.declared.state.BodyState.TheVariants as state
 use Rattle.http_frames.specs.declared.unit.Unit.{Unit}
 use Rattle.http_frames.specs.declared.unit.Unit.TheVariants.{Piece, ChunkLine, Finished, NotYet, Fault}
-use Rattle.http_frames.proofs.Needles.{a_place}
+use Rattle.seg_buffer.proofs.Places.{a_place}
 use Rattle.http_frames.proofs.Taken.{Inside, inside}
 
 abbrev Some : (Unit → Type 0) → Type 0

@@ -6,8 +6,8 @@ ghost use Rattle.http_frames.specs.Units.{IsEnd, begun, is_paired, may_follow, o
 ghost use Rattle.http_frames.specs.Units.{open_trailers, waits, whole_trailers};
 
 use crate::unit::Unit;
-use memchr::memmem;
 use px_bytes::HttpFault;
+use seg_buffer::find_crlf2;
 
 /// The most bytes of the trailers with their empty line.
 const MOST_TRAILERS: usize = 60_000;
@@ -126,8 +126,8 @@ fn end_behind(at: usize, text: &[u8], from: usize, ended: bool) -> Unit
     requires looked { NoEnd text.now from }
     ensures { IsEndOf at text.now ended result }
 {
-    match memmem::find(&text[from..], b"\r\n\r\n") {
-        Some(place) => whole_trailers(at, text, from, from + place),
+    match find_crlf2(text, from) {
+        Some(place) => whole_trailers(at, text, from, place),
         None => open_trailers(text, from, ended),
     }
 }

@@ -7,6 +7,7 @@ pub mod HeadsRead
 mod HostFields
 mod LastFields
 mod LineEnds
+pub mod LookedHeads
 mod OneHead
 mod PathsAre
 pub mod ReadBack

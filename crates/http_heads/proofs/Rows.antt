@@ -1,13 +1,16 @@
 -- Rows: heads that are read, and texts that are none.
-use Rattle.std.proofs.Common.{◌≡◌, ℕ, List, [], ◌∷◌, codes, refl, Result, Ok, Err}
+use Rattle.std.proofs.Common.{◌≡◌, ℕ, List, [], ◌∷◌, codes, true, false, refl, Result, Ok, Err}
 use Rattle.std.specs.Str.{chars, is_utf8}
 use Rattle.httparse.specs.Grammar.{is_token_byte, trim_ows}
 use Rattle.px_bytes.specs.declared.fault.HttpFault.{HttpFault}
 use Rattle.px_bytes.specs.declared.fault.HttpFault.TheVariants.{BadHead, Host}
+use Rattle.memchr.specs.Find.{first_of, matches_from}
 use Rattle.http_heads.specs.Fields.{Pair}
+use Rattle.http_heads.specs.Fronts.{head_part}
 use Rattle.http_heads.specs.Passed.{passed_response}
 use Rattle.http_heads.specs.Reading.{read_request, read_response}
 use Rattle.http_heads.specs.Received.{received_request}
+use Rattle.http_heads.specs.declared.front.HeadPart.TheVariants.{HeadOf, NoHead, StreamEnds, Faulty}
 use Rattle.http_heads.specs.declared.line.Version.{Version}
 use Rattle.http_heads.specs.declared.line.Version.TheVariants.{Http10, Http11}
 use Rattle.http_heads.specs.declared.request.RequestHead.{RequestHead}
@@ -142,3 +145,20 @@ not_modified = refl
 
 with_a_body : fields_sent 200 ≡ (told_both 200).fields
 with_a_body = refl
+
+-- RFC 9112, 2.1 and 2.2: an empty line ends a head, and those before it are left out
+an_open_head : head_part (codes "\r\n\r\nA / HTTP/1.0\r\n\r") false ≡ NoHead
+unfolding first_of matches_from
+an_open_head = refl
+
+a_head : head_part (codes "\r\n\r\nA / HTTP/1.0\r\n\r\nB") false ≡ HeadOf 20
+unfolding first_of matches_from
+a_head = refl
+
+a_cut_head : head_part (codes "A / HTTP/1.0\r\n") true ≡ Faulty BadHead
+unfolding first_of matches_from
+a_cut_head = refl
+
+no_more : head_part (codes "\r\n") true ≡ StreamEnds
+unfolding first_of matches_from
+no_more = refl

@@ -1,5 +1,6 @@
 pub mod Fields
 pub mod Forwarded
+pub mod Fronts
 pub mod Heads
 pub mod Hosts
 pub mod Laws

@@ -6,6 +6,7 @@ mod fault;
 mod field;
 mod fields;
 mod forwarded;
+mod front;
 mod host;
 mod laws;
 mod line;
@@ -21,6 +22,7 @@ pub use fault::HeadFault;
 pub use field::{Field, is_field};
 pub use fields::Fields;
 pub use forwarded::{ConnectionOption, forward_request, forward_response};
+pub use front::{HeadPart, Looked};
 pub use laws::{
     forwarded_request_is_short, forwarded_response_is_short, request_comes_back, request_is_one,
     request_is_read, request_is_trimmed, request_stays_short, response_comes_back, response_is_one,

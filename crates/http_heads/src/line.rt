@@ -1,11 +1,11 @@
 // The parts of a first line. Each type holds only what a head may have there.
 
-ghost use Rattle.std.specs.Prelude.{◌≡◌, ◌<◌, ◌≤◌, true, IfSome};
+ghost use Rattle.std.specs.Prelude.{◌≡◌, ◌<◌, ◌≤◌, true, IfOk, IfSome};
 ghost use Rattle.http_heads.specs.Lines.{IsTarget, is_visible_target, minor_of, target_made};
 ghost use Rattle.httparse.specs.Grammar.{is_token, is_value_byte};
 ghost use Rattle.std.specs.List.{list_all};
 
-use px_bytes::Text;
+use px_bytes::{M, Text};
 use std::marker::Model;
 
 /// HTTP/1.0 or HTTP/1.1: RFC 9112, 2.3.
@@ -63,6 +63,13 @@ impl Method {
         Method { text }
     }
 
+    pub(crate) fn copy(&self) -> M<Method>
+        ensures { IfOk result (λ m. m ≡ self.now) }
+    {
+        let text = self.text.copy()?;
+        Ok(Method { text })
+    }
+
     pub fn as_bytes(&self) -> &[u8]
         ensures value { result.now ≡ self.now }
         ensures is_token { is_token result.now ≡ true }
@@ -111,6 +118,13 @@ impl Target {
         ensures { result ≡ text }
     {
         Target { text }
+    }
+
+    pub(crate) fn copy(&self) -> M<Target>
+        ensures { IfOk result (λ t. t ≡ self.now) }
+    {
+        let text = self.text.copy()?;
+        Ok(Target { text })
     }
 
     pub fn as_bytes(&self) -> &[u8]

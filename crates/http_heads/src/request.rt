@@ -27,6 +27,20 @@ pub struct RequestHead {
     pub fields: Fields,
 }
 
+impl RequestHead {
+    /// The same head.
+    pub fn copy(&self, alloc: Global) -> M<RequestHead>
+        ensures { IfOk result (λ head. head ≡ self.now) }
+    {
+        Ok(RequestHead {
+            method: self.method.copy()?,
+            target: self.target.copy()?,
+            version: self.version,
+            fields: self.fields.copy(alloc)?,
+        })
+    }
+}
+
 // The head at the spans.
 fn request_at(
     alloc: Global,

@@ -2,10 +2,8 @@
 
 ghost use Rattle.std.specs.Prelude.{◌≡◌, ◌≤◌, ℕ, List, [], ◌++◌, length, take, drop, IfOk, OnOk};
 ghost use Rattle.std.specs.Prelude.{OnErr, vec_len};
-ghost use Rattle.memchr.specs.Find.{FindsNeedle};
-ghost use Rattle.seg_buffer.specs.Bytes.{crlf2, is_empty};
+ghost use Rattle.seg_buffer.specs.Bytes.{is_empty};
 
-use memchr::memmem;
 use px_bytes::{M, Text};
 use std::alloc::Global;
 use std::marker::Model;
@@ -63,13 +61,6 @@ impl Held {
         ensures { result.now ≡ self.now }
     {
         &self.bytes[self.start..]
-    }
-
-    /// The first place of CR LF CR LF.
-    pub fn find_crlf2(&self) -> Option<usize>
-        ensures { FindsNeedle self.now crlf2 0 result }
-    {
-        memmem::find(self.front(), b"\r\n\r\n")
     }
 
     /// The first `n` bytes.
