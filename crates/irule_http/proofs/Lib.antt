@@ -4,4 +4,5 @@ pub mod Refusals
 mod Rows
 pub mod SentHeads
 pub mod Sending
+pub mod Quieting
 pub mod Once

@@ -8,6 +8,8 @@ use Rattle.event_order.specs.declared.event.EventName.{EventName}
 use Rattle.http_heads.specs.Written.{written_request, written_response}
 use Rattle.http_heads.specs.declared.request.RequestHead.{RequestHead}
 use Rattle.http_heads.specs.declared.response.ResponseHead.{ResponseHead}
+use Rattle.event_order.specs.declared.command.HostCommand.TheVariants.{HttpRespond}
+use Rattle.irule_net.specs.Checks.{allows}
 use Rattle.irule_net.specs.Laws.{sent_to}
 use Rattle.http_answers.specs.Laws.{IsAnswer}
 use Rattle.irule_http.specs.Answers.{answer_limit}
@@ -115,6 +117,11 @@ pub record OnlyCloses (h : Http) (step : Step) : Type 0 where
 abbrev pub AnsweredOnce : Type 0
 AnsweredOnce = (event : EventName) (h : Http) (words : List (List ℕ)) → is_some h.answer ≡ true
     → OnlyCloses h (http_step event h words)
+
+-- In an event in which no rule may answer no command sends.
+abbrev pub Silent : Type 0
+Silent = (event : EventName) (h : Http) (words : List (List ℕ)) → allows HttpRespond event ≡ false
+    → made (http_step event h words) ≡ []
 
 -- all that is sent is an answer to the client
 abbrev pub SendsAnswers : Option RequestHead → List Effect → Type 0

@@ -4,6 +4,7 @@ ghost use Rattle.irule_http.specs.Laws.{AnsweredOnce, AnswersAreBounded, Answers
 ghost use Rattle.irule_http.specs.Laws.{AnswersGoAlone};
 ghost use Rattle.irule_http.specs.Laws.{AnswersReadBack};
 ghost use Rattle.irule_http.specs.Laws.{FaultsChangeNothing, HeadsFit, KeepsMessage, PayloadFits};
+ghost use Rattle.irule_http.specs.Laws.{Silent};
 ghost use Rattle.irule_http.specs.Sent.{InterimHeadsFit, SentHeadsFit, SentRequestIsRead};
 ghost use Rattle.irule_http.specs.Sent.{SentResponseIsRead};
 
@@ -75,4 +76,9 @@ pub fn sent_response_is_read()
 /// The law that a command sends nothing, or the one answer of a rule to the request at hand.
 pub fn answers_go_alone()
     ensures { AnswersGoAlone }
+{}
+
+/// The law that in an event in which no rule may answer no command sends.
+pub fn silent()
+    ensures { Silent }
 {}
