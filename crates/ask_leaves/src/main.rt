@@ -49,6 +49,7 @@ fn answer_line<W: Write>(alloc: Global, line: &str, out: &mut W) -> io::Result<(
 fn answer(question: &mut Question<'_>) {
     match question.word() {
         "pool" => pool_calls::answer(question),
+        "priority_pool" => pool_calls::answer_priorities(question),
         "store" => store::answer(question),
         "table" => table_calls::answer(question),
         "dump" => table_calls::dump_answer(question),

@@ -5,23 +5,46 @@ use questions::Question;
 
 pub fn answer(question: &mut Question<'_>) {
     if let Some(mut pool) = pool(question) {
-        for _ in 0..question.left() {
-            if question.has_more() {
-                operation(question, &mut pool);
-            }
+        operations(question, &mut pool);
+    }
+}
+
+fn operations(question: &mut Question<'_>, pool: &mut Pool) {
+    for _ in 0..question.left() {
+        if question.has_more() {
+            operation(question, pool);
         }
+    }
+}
+
+/// The calls of a pool with groups by priority.
+pub fn answer_priorities(question: &mut Question<'_>) {
+    let method = method(question);
+    let min_active = question.number(1000) as u32;
+    let members = members(question, true);
+    if let Some(mut pool) = made(question, method, members, min_active) {
+        operations(question, &mut pool);
     }
 }
 
 /// A pool by its method, and the address and the ratio of each member, up to `/`.
 pub fn pool(question: &mut Question<'_>) -> Option<Pool> {
     let method = method(question);
-    let members = members(question);
+    let members = members(question, false);
+    made(question, method, members, 0)
+}
+
+fn made(
+    question: &mut Question<'_>,
+    method: Method,
+    members: Members,
+    min_active: u32,
+) -> Option<Pool> {
     if question.word() != "/" || !are_members(&members) {
         question.unknown();
         return None;
     }
-    match Pool::new(question.alloc, method, members) {
+    match Pool::new(question.alloc, method, members, min_active) {
         Ok(pool) => Some(pool),
         Err(_) => {
             question.refuse();
@@ -41,12 +64,23 @@ fn method(question: &mut Question<'_>) -> Method {
     }
 }
 
-fn members(question: &mut Question<'_>) -> Members {
+// Each member by its address, its ratio and, where they have one, its priority.
+fn members(question: &mut Question<'_>, with_priority: bool) -> Members {
     let mut members = Members::new(question.alloc);
-    for _ in 0..question.before("/").div_ceil(2) {
+    let words = if with_priority { 3 } else { 2 };
+    for _ in 0..question.before("/").div_ceil(words) {
         let addr = question.address();
         let ratio = question.number(100) as u8;
-        question.note(members.push(Member { addr, ratio }));
+        let priority = if with_priority {
+            question.number(100) as u8
+        } else {
+            0
+        };
+        question.note(members.push(Member {
+            addr,
+            ratio,
+            priority,
+        }));
     }
     members
 }

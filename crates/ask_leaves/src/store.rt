@@ -31,7 +31,7 @@ fn store(alloc: Global, pool: Pool) -> M<Store> {
     let mut pools = Pools::new(alloc);
     let name = Text::new(alloc, POOL)?;
     pools.push(NamedPool { name, pool })?;
-    Ok(Store::new(alloc, pools, virtuals(alloc)?))
+    Ok(Store::new(alloc, pools, virtuals(alloc)?, 65_536))
 }
 
 fn virtuals(alloc: Global) -> M<VirtualTimes> {

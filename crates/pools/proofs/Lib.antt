@@ -2,4 +2,5 @@ mod Hits
 mod Kept
 mod Marks
 mod Rounds
+mod Serving
 mod Turns

@@ -15,13 +15,13 @@ use Rattle.pools.proofs.Turns.{runs_some, shares}
 
 -- the member that a number of the counter takes
 abbrev taken : PoolState → ℕ → Option ℕ
-taken pool n = by_running_sums (weight pool.method) pool.members (n % total pool)
+taken pool n = by_running_sums (weight pool) pool.members (n % total pool)
 
 turn_of : (pool : PoolState) → 0 < total pool → in_turn pool ≡ taken pool pool.counter
 turn_of pool some = rw (ne_eqb (total pool) 0 (λ e. omega arith)) refl
 
 pub turn_some : (pool : PoolState) → 0 < total pool → is_some (in_turn pool) ≡ true
-turn_some pool some = ap is_some (turn_of pool some) ∙ runs_some (weight pool.method) pool.members (pool.counter % total pool) (mod-lt pool.counter some)
+turn_some pool some = ap is_some (turn_of pool some) ∙ runs_some (weight pool) pool.members (pool.counter % total pool) (mod-lt pool.counter some)
 
 -- the next selection begins at the next number
 next_turn : (pool : PoolState) → 0 < total pool → pool.counter + 1 < 2 ^ 64 → after_selection pool Any ≡ record pool { counter = suc pool.counter }
@@ -48,10 +48,10 @@ zero_or_some (suc n) = inr (omega arith)
 
 pub fair : EachRoundIsFair
 fair pool at marked fits stands =
-    let share = shares (weight pool.method) pool.members at marked stands in
+    let share = shares (weight pool) pool.members at marked stands in
     ⊎_elim
     (λ none. ap (λ n. count_by (is_at at) (in_a_row n pool)) none ∙ sym (hits_none _ 0) ∙ ap (hits _ 0) (sym none) ∙ share)
-    (λ some. in_a_row_is at (total pool) pool some fits ∙ hits_round (λ n. is_at at (by_running_sums (weight pool.method) pool.members n)) (total pool) pool.counter ∙ share)
+    (λ some. in_a_row_is at (total pool) pool some fits ∙ hits_round (λ n. is_at at (by_running_sums (weight pool) pool.members n)) (total pool) pool.counter ∙ share)
     (zero_or_some (total pool))
 
 pub keeps_turn : WishKeepsTurn

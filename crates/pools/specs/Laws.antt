@@ -24,14 +24,15 @@ is_at at (Some taken) = taken == at
 abbrev pub EachRoundIsFair : Type 0
 EachRoundIsFair = (pool : PoolState) (at : ℕ) (marked : Marked)
     → pool.counter + total pool ≤ 2 ^ 64 → slice_get pool.members at ≡ Some marked
-    → count_by (is_at at) (in_a_row (total pool) pool) ≡ weight pool.method marked
+    → count_by (is_at at) (in_a_row (total pool) pool) ≡ weight pool marked
 
 -- the wish for a member that is up leaves the turn to the others
 abbrev pub WishKeepsTurn : Type 0
 WishKeepsTurn = (pool : PoolState) (addr : Addr) (at : ℕ) → of_addr pool addr ≡ Some at
     → (selected pool (Wish addr) ≡ Some at) × (after_selection pool (Wish addr) ≡ pool)
 
--- any member is there exactly where one is up
+-- any member is there exactly where one is up: of those that are up, the ones of the greatest
+-- priority are eligible
 abbrev pub NoneWhereNoneIsUp : Type 0
 NoneWhereNoneIsUp = (pool : PoolState) → AreMembers (map (λ marked. marked.member) pool.members)
     → (selected pool Any ≡ None) ↔ (up_count pool ≡ 0)

@@ -1,7 +1,7 @@
 -- Which member a selection takes (TMOS concepts: load balancing methods, round robin and ratio
--- (member)).
-use Rattle.std.specs.Prelude.{ℕ, suc, ◌+◌, ◌-◌, ◌%◌, ◌^◌, Bool, false, ◌&&◌, ◌==◌, nat_lt}
-use Rattle.std.specs.Prelude.{List, [], ◌∷◌, sum_by, Option, Some, None, is_some, is_none}
+-- (member); priority group activation).
+use Rattle.std.specs.Prelude.{ℕ, suc, ◌+◌, ◌-◌, ◌%◌, ◌^◌, Bool, false, ◌&&◌, ◌||◌, ◌==◌, nat_lt}
+use Rattle.std.specs.Prelude.{List, [], ◌∷◌, count_by, sum_by, Option, Some, None, is_some, is_none}
 use Rattle.std.specs.Prelude.{option_map, position, if◌then◌else◌}
 use Rattle.std.specs.Option.{option_or}
 use Rattle.px_bytes.specs.declared.addr.Addr.{Addr}
@@ -13,18 +13,33 @@ use Rattle.pools.specs.declared.member.Method.TheVariants.{RoundRobin, Ratio}
 use Rattle.pools.specs.declared.member.Wanted.{Wanted}
 use Rattle.pools.specs.declared.member.Wanted.TheVariants.{Any, Wish, Only}
 
--- how often a member that is up is taken in a round
-abbrev pub weight_up : Method → Member → ℕ
-weight_up RoundRobin member = 1
-weight_up Ratio member = member.ratio
+-- whether a member is up, in a group above one of this priority
+abbrev pub is_above : ℕ → Marked → Bool
+is_above priority marked = marked.up && nat_lt priority marked.member.priority
 
--- a member that is down is never taken
-abbrev pub weight : Method → Marked → ℕ
-weight method marked = if marked.up then weight_up method marked.member else 0
+-- A group, which is the members of one priority, serves where fewer members than are wanted are up
+-- in the groups above it.
+abbrev pub group_serves : ℕ → List Marked → ℕ → Bool
+group_serves min_active members priority =
+    min_active == 0 || nat_lt (count_by (is_above priority) members) min_active
+
+-- whether a member may be taken in its turn: it is up, and its group serves
+abbrev pub is_eligible : PoolState → Marked → Bool
+is_eligible pool marked =
+    marked.up && group_serves pool.min_active pool.members marked.member.priority
+
+-- how often an eligible member is taken in a round
+abbrev pub share : Method → Member → ℕ
+share RoundRobin member = 1
+share Ratio member = member.ratio
+
+-- any other is never taken in its turn
+abbrev pub weight : PoolState → Marked → ℕ
+weight pool marked = if is_eligible pool marked then share pool.method marked.member else 0
 
 -- how many selections are a round
 abbrev pub total : PoolState → ℕ
-total pool = sum_by (weight pool.method) pool.members
+total pool = sum_by (weight pool) pool.members
 
 -- the first place at which the running sum of the weights passes a number
 abbrev pub by_running_sums : (Marked → ℕ) → List Marked → ℕ → Option ℕ
@@ -33,13 +48,13 @@ by_running_sums weighs (marked ∷ members) n =
     if nat_lt n (weighs marked) then Some 0
     else option_map suc (by_running_sums weighs members (n - weighs marked))
 
--- the member whose turn it is, where one is up
+-- the member whose turn it is, where one is eligible
 abbrev pub in_turn : PoolState → Option ℕ
 in_turn pool =
     if total pool == 0 then None
-    else by_running_sums (weight pool.method) pool.members (pool.counter % total pool)
+    else by_running_sums (weight pool) pool.members (pool.counter % total pool)
 
--- the member of an address, where it is up
+-- the member of an address, where it is up, whatever its group
 abbrev pub of_addr : PoolState → Addr → Option ℕ
 of_addr pool addr = position (λ marked. has_addr addr marked && marked.up) pool.members
 

@@ -1,6 +1,7 @@
 //! Pools: members that are up or down, and which of them a selection takes.
 #![tactic(auto)]
 
+mod groups;
 mod laws;
 mod limits;
 mod member;

@@ -10,11 +10,13 @@ pub enum Method {
     Ratio,
 }
 
-/// A server, and how often it is taken in a round by its ratio.
+/// A server, how often it is taken in a round by its ratio, and its priority: the members of one
+/// priority are a group.
 #[derive(Clone, Copy, PartialEq, Eq)]
 pub struct Member {
     pub addr: Addr,
     pub ratio: u8,
+    pub priority: u8,
 }
 
 /// Members in the order of the file.

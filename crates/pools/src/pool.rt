@@ -4,43 +4,59 @@ ghost use Rattle.std.specs.Prelude.{◌≡◌, IfOk, map};
 ghost use Rattle.std.specs.List.{list_any};
 ghost use Rattle.pools.specs.Pools.{AreMembers, PoolState, new_pool, has_addr, with_mark, addr_at};
 ghost use Rattle.pools.specs.Pools.{up, up_count};
+ghost use Rattle.pools.specs.Groups.{IsFloor};
 ghost use Rattle.pools.specs.Selection.{after_selection, in_turn, of_addr, selected};
 ghost use Rattle.pools.specs.declared.member.Wanted.TheVariants.{Any};
 
-use crate::turn::{by_running_sums, of_addr, place, total};
+use crate::groups::floor;
+use crate::turn::{Turn, by_running_sums, of_addr, place, total};
 use crate::{Marked, Member, Members, Method, Wanted};
 use px_bytes::{Addr, M};
 use std::alloc::Global;
 use std::marker::Model;
 
-/// Members that are up or down, and the counter by which they are taken in turn.
+/// Members that are up or down, the counter by which they are taken in turn, and from which priority
+/// on, which changes with the marks alone.
 #[derive(Drop)]
 pub struct Pool {
     method: Method,
     members: Vec<Marked>,
     counter: u64,
+    min_active: u32,
+    floor: u8,
 }
 
 impl Model for Pool {
     ghost Value = { PoolState };
 
     ghost view = { λ p.
-        record { method = p.method; members = p.members.items; counter = p.counter } };
+        record {
+          method = p.method;
+          members = p.members.items;
+          counter = p.counter;
+          min_active = p.min_active;
+        } };
 
-    ghost invariant = { λ p. AreMembers (map (λ m. m.member) p.members.items) };
+    ghost invariant = { λ p.
+        AreMembers (map (λ m. m.member) p.members.items)
+        × IsFloor p.min_active p.members.items p.floor };
 }
 
 impl Pool {
-    /// A pool of these members, all up.
-    pub fn new(alloc: Global, method: Method, members: Members) -> M<Pool>
+    /// A pool of these members, all up. A group serves where fewer than `min_active` members are up in
+    /// the groups of a higher priority; with 0 all groups serve.
+    pub fn new(alloc: Global, method: Method, members: Members, min_active: u32) -> M<Pool>
         requires { AreMembers members }
-        ensures { IfOk result (λ pool. pool ≡ new_pool method members) }
+        ensures { IfOk result (λ pool. pool ≡ new_pool method members min_active) }
     {
         let members = all_up(alloc, members.as_slice())?;
+        let floor = floor(min_active, &members);
         Ok(Pool {
             method,
             members,
             counter: 0,
+            min_active,
+            floor,
         })
     }
 
@@ -53,6 +69,8 @@ impl Pool {
             method: self.method,
             members,
             counter: self.counter,
+            min_active: self.min_active,
+            floor: self.floor,
         })
     }
 
@@ -82,7 +100,8 @@ impl Pool {
         }
     }
 
-    /// Marks a member up or down, where there is one of this address.
+    /// Marks a member up or down, where there is one of this address. It goes through the members once
+    /// for each priority up to the least of which a group serves.
     pub fn mark(&mut self, member: Addr, up: bool) -> bool
         ensures there { result ≡ list_any (has_addr member) self.old.members }
         ensures marked { self.new
@@ -91,6 +110,7 @@ impl Pool {
         match place(&self.members, member) {
             Some(at) => {
                 self.members[at].up = up;
+                self.floor = floor(self.min_active, &self.members);
                 true
             }
             None => false,
@@ -123,10 +143,15 @@ impl Pool {
     fn in_turn(&self) -> Option<u32>
         ensures { result ≡ in_turn self.now }
     {
-        match total(self.method, &self.members) {
-            0 => None,
-            total => by_running_sums(self.method, &self.members, self.counter % total),
+        let turn = Turn {
+            method: self.method,
+            floor: self.floor,
+        };
+        let total = total(turn, &self.members);
+        if total == 0 {
+            return None;
         }
+        by_running_sums(turn, &self.members, self.counter % total)
     }
 
     // Takes the member whose turn it is.
