@@ -11,7 +11,7 @@ use Rattle.std.proofs.lemmas.Slice.Eq.{bytes_eq-Decides}
 use Rattle.data_groups.specs.Groups.{Row, bad_key, is_key}
 use Rattle.data_groups.specs.declared.kind.GroupKind.{GroupKind}
 use Rattle.data_groups.specs.declared.kind.GroupKind.TheVariants.{String}
-use Rattle.pools.specs.Pools.{are_apart, ratio_fits, same_addr}
+use Rattle.pools.specs.Pools.{are_apart, priority_fits, ratio_fits, same_addr}
 use Rattle.pools.specs.declared.member.Member.{Member}
 use Rattle.px_bytes.specs.Address.{addr_text}
 use Rattle.px_bytes.specs.declared.addr.Addr.{Addr}
@@ -25,13 +25,15 @@ use Rattle.config.specs.Keys as key
 use Rattle.config.specs.Keys.{TableKey}
 use Rattle.config.specs.Names.{once_faults, twice}
 use Rattle.config.specs.Places.{item_place, key_place, prefix_of}
-use Rattle.config.specs.Pools.{member_at, member_faults, members_from, members_of, pool_faults}
-use Rattle.config.specs.Read.{array_at}
-use Rattle.config.specs.Settings.{addr_at, each, group_of, member_item, member_of, no_addr, one, pool_of, ratio_of, row_item, settings_of, whole_or}
+use Rattle.config.specs.Pools.{member_at, member_faults, members_from, members_of, pool_faults, pool_keys_faults}
+use Rattle.config.specs.Read.{array_at, member_count}
+use Rattle.config.specs.Settings.{addr_at, each, group_of, member_item, member_of, no_addr, one, pool_of, priority_of, ratio_of, row_item, settings_of, whole_at, whole_or}
 use Rattle.config.specs.Tables.{faults_of, flaw_of, key_faults, key_flaw, keys_faults, unknown_faults}
 use Rattle.config.specs.Texts.{first_place, text_at}
 use Rattle.config.specs.Values.{few, fits, items_length, judged}
 use Rattle.config.specs.declared.config.Settings.{Settings}
+use Rattle.config.specs.declared.version.Version.{Version}
+use Rattle.config.specs.declared.version.Version.TheVariants.{One, Two}
 use Rattle.config.specs.declared.fault.ConfigFault.{ConfigFault}
 use Rattle.config.specs.declared.fault.ConfigFaultKind.{ConfigFaultKind}
 use Rattle.config.specs.declared.fault.ConfigFaultKind.TheVariants.{Twice}
@@ -154,6 +156,13 @@ whole_ratio (Some (pos n)) = by_test (int_le (pos 1) (pos n)) refl (int_le (pos 
 ratio_of_member : (ms : Members) → ratio_fits (member_of ms) ≡ true
 ratio_of_member ms = member_ratio (whole_or key.ratio.kind (option_and_then as_integer (get_member key.ratio.name ms))) (whole_ratio (option_and_then as_integer (get_member key.ratio.name ms)))
 
+member_priority : (n : ℕ) → nat_le (priority_of n) 100 ≡ true
+member_priority n = by_test (nat_le n 100) refl
+  where
+    by_test : (b : Bool) → nat_le n 100 ≡ b → nat_le (if b then n else 0) 100 ≡ true
+    by_test true is = is
+    by_test false is = refl
+
 -- each address is that of one text alone
 spelled : (text : List ℕ) (a : Addr) → addr_of text ≡ Some a → text ≡ addr_text a
 spelled text a e = by_test (spells_addr text (written_addr text)) refl e
@@ -188,23 +197,37 @@ first_one own at text e = by_place (own text) e
     by_place None e = absurd (cc)
     by_place (Some n) e = by_test n (n == at) refl e
 
+-- in both versions the keys are looked at
+addr_known : (version : Version) (prefix : List ℕ) (ms : Members) → keys_faults prefix (key.member_keys version) ms ≡ [] → key_faults prefix ms key.addr ≡ []
+addr_known One prefix ms keys = no_front (key_faults prefix ms key.addr) _ keys
+addr_known Two prefix ms keys = no_front (key_faults prefix ms key.addr) _ keys
+
+members_known : (version : Version) (prefix : List ℕ) (most : ℕ) (ms : Members) → keys_faults prefix (key.pool_keys version most) ms ≡ [] → key_faults prefix ms key.members ≡ []
+members_known One prefix most ms keys =
+    let fault : TableKey → List ConfigFault = key_faults prefix ms in
+    no_front (fault key.members) _ (no_back (fault key.method) _ (no_back (fault key.name_key) _ keys))
+members_known Two prefix most ms keys =
+    let fault : TableKey → List ConfigFault = key_faults prefix ms in
+    no_front (fault key.members) _ (no_back (fault key.method) _ (no_back (fault key.name_key) _ keys))
+
 -- the item at a place is a member, whose address stands there first
 record Stands (own : List ℕ → Option ℕ) (at : ℕ) (d : Data) : Type 0 where
   member : Member
   is : one (option_map member_of (as_table d)) ≡ member ∷ []
   ratio : ratio_fits member ≡ true
+  priority : priority_fits member ≡ true
   first : own (addr_text member.addr) ≡ Some at
 
-module _ (own : List ℕ → Option ℕ) (place : List ℕ) (at : ℕ) (d : Data) where
-  stands_with : (ms : Members) → as_table d ≡ Some ms → member_faults own (prefix_of place) at ms ≡ [] → Stands own at d
+module _ (version : Version) (own : List ℕ → Option ℕ) (place : List ℕ) (at : ℕ) (d : Data) where
+  stands_with : (ms : Members) → as_table d ≡ Some ms → member_faults version own (prefix_of place) at ms ≡ [] → Stands own at d
   stands_with ms is none =
       let prefix = prefix_of place in
-      let known = keys_faults prefix key.member_keys ms in
-      let unknown = unknown_faults prefix key.member_keys ms in
+      let known = keys_faults prefix (key.member_keys version) ms in
+      let unknown = unknown_faults prefix (key.member_keys version) ms in
       let once = once_faults own at prefix key.addr ms in
       let fault : TableKey → List ConfigFault = key_faults prefix ms in
       let keys : known ≡ [] = no_front known (unknown ++ once) none in
-      let flaw : key_flaw key.addr ms ≡ None = no_flaw (key_place prefix key.addr.name) (key_flaw key.addr ms) (no_front (fault key.addr) (fault key.ratio ++ []) keys) in
+      let flaw : key_flaw key.addr ms ≡ None = no_flaw (key_place prefix key.addr.name) (key_flaw key.addr ms) (addr_known version prefix ms keys) in
       let t = text_of (get_member key.addr.name ms) flaw in
       let only : once ≡ [] = no_back unknown once (no_back known (unknown ++ once) none) in
       let first : twice own at (text_at key.addr.name ms) ≡ None = no_flaw (key_place prefix key.addr.name) (twice own at (text_at key.addr.name ms)) only in
@@ -215,32 +238,40 @@ module _ (own : List ℕ → Option ℕ) (place : List ℕ) (at : ℕ) (d : Data
         member = member_of ms;
         is = ap (λ o. one (option_map member_of o)) is;
         ratio = ratio_of_member ms;
+        priority = member_priority (whole_at key.priority ms);
         first = ap own (sym text) ∙ one_text;
       }
 
-  stands : member_at own place at (as_table d) ≡ [] → Stands own at d
+  stands : member_at version own place at (as_table d) ≡ [] → Stands own at d
   stands e = by_table (as_table d) refl e
     where
-      by_table : (o : Option Members) → as_table d ≡ o → member_at own place at o ≡ [] → Stands own at d
+      by_table : (o : Option Members) → as_table d ≡ o → member_at version own place at o ≡ [] → Stands own at d
       by_table None is e = absurd (cc)
       by_table (Some ms) is e = stands_with ms is e
 
-module _ (own : List ℕ → Option ℕ) (prefix : List ℕ) where
+module _ (version : Version) (own : List ℕ → Option ℕ) (prefix : List ℕ) where
   abbrev place : ℕ → List ℕ
   place at = item_place prefix key.members.name at
 
-  here : (at : ℕ) (d : Data) (ds : Items) → members_from own prefix at (item d ds) ≡ [] → Stands own at d
-  here at d ds e = stands own (place at) at d (no_front (member_at own (place at) at (as_table d)) (members_from own prefix (at + 1) ds) e)
+  here : (at : ℕ) (d : Data) (ds : Items) → members_from version own prefix at (item d ds) ≡ [] → Stands own at d
+  here at d ds e = stands version own (place at) at d (no_front (member_at version own (place at) at (as_table d)) (members_from version own prefix (at + 1) ds) e)
 
-  rest : (at : ℕ) (d : Data) (ds : Items) → members_from own prefix at (item d ds) ≡ [] → members_from own prefix (at + 1) ds ≡ []
-  rest at d ds e = no_back (member_at own (place at) at (as_table d)) (members_from own prefix (at + 1) ds) e
+  rest : (at : ℕ) (d : Data) (ds : Items) → members_from version own prefix at (item d ds) ≡ [] → members_from version own prefix (at + 1) ds ≡ []
+  rest at d ds e = no_back (member_at version own (place at) at (as_table d)) (members_from version own prefix (at + 1) ds) e
 
-  all_ratios : (at : ℕ) (ds : Items) → members_from own prefix at ds ≡ [] → list_all ratio_fits (each member_item ds) ≡ true
+  all_ratios : (at : ℕ) (ds : Items) → members_from version own prefix at ds ≡ [] → list_all ratio_fits (each member_item ds) ≡ true
   all_ratios at no_items e = refl
   all_ratios at (item d ds) e =
       let s = here at d ds e in
       ap (λ xs. list_all ratio_fits (xs ++ each member_item ds)) s.is
       ∙ both_true (ratio_fits s.member) (list_all ratio_fits (each member_item ds)) s.ratio (all_ratios (at + 1) ds (rest at d ds e))
+
+  all_priorities : (at : ℕ) (ds : Items) → members_from version own prefix at ds ≡ [] → list_all priority_fits (each member_item ds) ≡ true
+  all_priorities at no_items e = refl
+  all_priorities at (item d ds) e =
+      let s = here at d ds e in
+      ap (λ xs. list_all priority_fits (xs ++ each member_item ds)) s.is
+      ∙ both_true (priority_fits s.member) (list_all priority_fits (each member_item ds)) s.priority (all_priorities (at + 1) ds (rest at d ds e))
 
   -- a later member has another address
   other : (a b : Addr) (n at : ℕ) → n < at → own (addr_text a) ≡ Some n → own (addr_text b) ≡ Some at → same_addr a b ≡ false
@@ -258,7 +289,7 @@ module _ (own : List ℕ → Option ℕ) (prefix : List ℕ) where
           addr : ℕ → ℕ → Addr
           addr ip port = record { ip = ip; port = port }
 
-  none_later : (a : Addr) (n at : ℕ) (ds : Items) → n < at → own (addr_text a) ≡ Some n → members_from own prefix at ds ≡ []
+  none_later : (a : Addr) (n at : ℕ) (ds : Items) → n < at → own (addr_text a) ≡ Some n → members_from version own prefix at ds ≡ []
       → list_any (λ m. same_addr a m.addr) (each member_item ds) ≡ false
   none_later a n at no_items before first e = refl
   none_later a n at (item d ds) before first e =
@@ -268,7 +299,7 @@ module _ (own : List ℕ → Option ℕ) (prefix : List ℕ) where
       ∙ ap (λ b. b || list_any (λ m. same_addr a m.addr) (each member_item ds)) (other a s.member.addr n at before first s.first)
       ∙ none_later a n (at + 1) ds later first (rest at d ds e)
 
-  all_apart : (at : ℕ) (ds : Items) → members_from own prefix at ds ≡ [] → are_apart (each member_item ds) ≡ true
+  all_apart : (at : ℕ) (ds : Items) → members_from version own prefix at ds ≡ [] → are_apart (each member_item ds) ≡ true
   all_apart at no_items e = refl
   all_apart at (item d ds) e =
       let s = here at d ds e in
@@ -286,26 +317,25 @@ few_members (item d ds) = by_table (as_table d) (few_members ds)
     by_table None more = omega (arith, more)
     by_table (Some ms) more = omega (arith, more)
 
-members_fit : (prefix : List ℕ) (o : Option Items) → members_of prefix o ≡ [] → nat_le (items_length (or_none o)) 1000 ≡ true → may_be_members (each member_item (or_none o)) ≡ true
-members_fit prefix None e short = refl
-members_fit prefix (Some ds) e short =
+members_fit : (version : Version) (prefix : List ℕ) (o : Option Items) → members_of version prefix o ≡ [] → nat_le (items_length (or_none o)) 1000 ≡ true → may_be_members (each member_item (or_none o)) ≡ true
+members_fit version prefix None e short = refl
+members_fit version prefix (Some ds) e short =
     let own = first_place (Some key.addr.name) ds in
     let count : length (each member_item ds) ≤ items_length ds = few_members ds in
-    both_true (nat_le (length (each member_item ds)) 1000) (list_all ratio_fits (each member_item ds) && are_apart (each member_item ds)) (grind (arith, nat_tests))
-    (both_true (list_all ratio_fits (each member_item ds)) (are_apart (each member_item ds)) (all_ratios own prefix 0 ds e) (all_apart own prefix 0 ds e))
+    let those = each member_item ds in
+    both_true (nat_le (length those) 1000) (list_all ratio_fits those && (list_all priority_fits those && are_apart those)) (grind (arith, nat_tests))
+    (both_true (list_all ratio_fits those) (list_all priority_fits those && are_apart those) (all_ratios version own prefix 0 ds e)
+    (both_true (list_all priority_fits those) (are_apart those) (all_priorities version own prefix 0 ds e) (all_apart version own prefix 0 ds e)))
 
-pool_fits : (n : Names) (prefix : List ℕ) (at : ℕ) (ms : Members) → pool_faults n.pools prefix at ms ≡ [] → may_be_members (pool_of ms).members ≡ true
+pool_fits : (n : Names) (prefix : List ℕ) (at : ℕ) (ms : Members) → pool_faults n.version n.pools prefix at ms ≡ [] → may_be_members (pool_of ms).members ≡ true
 pool_fits n prefix at ms e =
-    let known = keys_faults prefix key.pool_keys ms in
-    let unknown = unknown_faults prefix key.pool_keys ms in
+    let own = pool_keys_faults n.version prefix ms in
     let once = once_faults n.pools at prefix key.name_key ms in
-    let its = members_of prefix (array_at key.members ms) in
-    let fault : TableKey → List ConfigFault = key_faults prefix ms in
-    let keys : known ≡ [] = no_front known (unknown ++ (once ++ its)) e in
-    let last : fault key.members ++ [] ≡ [] = no_back (fault key.method) (fault key.members ++ []) (no_back (fault key.name_key) (fault key.method ++ (fault key.members ++ [])) keys) in
-    let of_members : key_flaw key.members ms ≡ None = no_flaw (key_place prefix key.members.name) (key_flaw key.members ms) (no_front (fault key.members) [] last) in
-    let members : its ≡ [] = no_back once its (no_back unknown (once ++ its) (no_back known (unknown ++ (once ++ its)) e)) in
-    members_fit prefix (array_at key.members ms) members (few_at (get_member key.members.name ms) of_members)
+    let its = members_of n.version prefix (array_at key.members ms) in
+    let keys = no_front (keys_faults prefix (key.pool_keys n.version (member_count ms)) ms) (unknown_faults prefix (key.pool_keys n.version (member_count ms)) ms) (no_front own (once ++ its) e) in
+    let of_members : key_flaw key.members ms ≡ None = no_flaw (key_place prefix key.members.name) (key_flaw key.members ms) (members_known n.version prefix (member_count ms) ms keys) in
+    let members : its ≡ [] = no_back once its (no_back own (once ++ its) e) in
+    members_fit n.version prefix (array_at key.members ms) members (few_at (get_member key.members.name ms) of_members)
 
 -- ---- a section, whose items are tables
 
@@ -331,8 +361,8 @@ unfolding document_fault
 document_fits top e =
     let n = names_in top in
     let none : document_faults top ≡ [] = none_told (document_faults top) e in
-    let known = keys_faults [] key.top_keys top in
-    let unknown = unknown_faults [] key.top_keys top in
+    let known = keys_faults [] (key.top_keys n.version) top in
+    let unknown = unknown_faults [] (key.top_keys n.version) top in
     let virtuals = section_faults n Virtual top in
     let pools = section_faults n Pool top in
     let rules = section_faults n Rule top in

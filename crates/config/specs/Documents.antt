@@ -11,11 +11,13 @@ use Rattle.config.specs.Read.{array_at}
 use Rattle.config.specs.Rules.{rule_faults}
 use Rattle.config.specs.Tables.{keys_faults, unknown_faults}
 use Rattle.config.specs.Texts.{first_place, place_of}
+use Rattle.config.specs.Versions.{version_of}
 use Rattle.config.specs.Virtuals.{server_faults}
 use Rattle.config.specs.declared.fault.ConfigFault.{ConfigFault}
 use Rattle.config.specs.declared.fault.ConfigFaultKind.TheVariants.{WrongKind}
 use Rattle.config.specs.declared.known.Known.{Known}
 use Rattle.config.specs.declared.section.Section.{Section}
+use Rattle.config.specs.declared.version.Version.{Version}
 use Rattle.config.specs.declared.section.Section.TheVariants.{Virtual, Pool, Rule, Group}
 
 -- the items of a section, none where there is no such array
@@ -26,8 +28,9 @@ or_none (Some ds) = ds
 abbrev pub items_at : TableKey → Members → Items
 items_at key ms = or_none (array_at key ms)
 
--- the first places of names, and of the addresses where virtual servers listen
+-- the version, the first places of names, and of the addresses where virtual servers listen
 pub record Names : Type 0 where
+  pub version : Version
   pub servers : List ℕ → Option ℕ
   pub listens : List ℕ → Option ℕ
   pub pools : List ℕ → Option ℕ
@@ -36,6 +39,7 @@ pub record Names : Type 0 where
 
 abbrev pub names_in : Members → Names
 names_in ms = record {
+  version = version_of ms;
   servers = first_place (Some name_key.name) (items_at servers ms);
   listens = first_place (Some listen.name) (items_at servers ms);
   pools = first_place (Some name_key.name) (items_at pools ms);
@@ -46,6 +50,7 @@ names_in ms = record {
 -- those that the code keeps
 abbrev pub names_of : Known → Names
 names_of k = record {
+  version = k.version;
   servers = place_of k.servers;
   listens = place_of k.listens;
   pools = place_of k.pools;
@@ -61,7 +66,7 @@ section_key Group = groups
 
 abbrev pub table_faults : Names → Section → List ℕ → ℕ → Members → List ConfigFault
 table_faults n Virtual prefix at ms = server_faults n.servers n.listens n.pools n.rules prefix at ms
-table_faults n Pool prefix at ms = pool_faults n.pools prefix at ms
+table_faults n Pool prefix at ms = pool_faults n.version n.pools prefix at ms
 table_faults n Rule prefix at ms = rule_faults n.rules prefix at ms
 table_faults n Group prefix at ms = group_faults n.groups prefix at ms
 
@@ -85,8 +90,8 @@ section_faults n s ms = section_of n s (array_at (section_key s) ms)
 
 abbrev pub faults_with : Names → Members → List ConfigFault
 faults_with n ms =
-    keys_faults [] top_keys ms
-    ++ (unknown_faults [] top_keys ms
+    keys_faults [] (top_keys n.version) ms
+    ++ (unknown_faults [] (top_keys n.version) ms
     ++ (section_faults n Virtual ms
     ++ (section_faults n Pool ms
     ++ (section_faults n Rule ms ++ section_faults n Group ms))))

@@ -14,7 +14,7 @@ use Rattle.data_groups.specs.Groups.{bad_key}
 use Rattle.irule_net.specs.declared.groups.Groups.{Groups}
 use Rattle.irule_net.specs.declared.groups.NamedGroup.{NamedGroup}
 use Rattle.irule_net.specs.declared.groups.PoolMembers.{PoolMembers}
-use Rattle.pools.specs.Pools.{are_apart, new_pool, ratio_fits}
+use Rattle.pools.specs.Pools.{are_apart, new_pool, priority_fits, ratio_fits}
 use Rattle.pools.specs.declared.member.Member.{Member}
 use Rattle.shared_store.specs.declared.named.NamedPool as shared
 use Rattle.run_config.specs.declared.config.Config as run
@@ -49,11 +49,13 @@ groups_with s classes = record { classes = classes; pools = map members_of s.poo
 
 -- these may be the members of a pool
 abbrev pub may_be_members : List Member → Bool
-may_be_members ms = nat_le (length ms) 1000 && (list_all ratio_fits ms && are_apart ms)
+may_be_members ms =
+    nat_le (length ms) 1000
+    && (list_all ratio_fits ms && (list_all priority_fits ms && are_apart ms))
 
 -- a pool whose members are all up
 abbrev pub pool_with : PoolSettings → shared.NamedPool
-pool_with p = record { name = p.name; pool = new_pool p.method p.members }
+pool_with p = record { name = p.name; pool = new_pool p.method p.members p.min_active }
 
 abbrev pub made_pool : PoolSettings → Option shared.NamedPool
 made_pool p = if may_be_members p.members then Some (pool_with p) else None
@@ -112,6 +114,7 @@ filled_with C made = record {
   budget = C.settings.budget;
   connections = C.settings.connections;
   idle = C.settings.idle;
+  rows = C.settings.rows;
   groups = made.groups;
   pools = made.pools;
   rules = map (λ r. r.rule) C.rules;

@@ -1,11 +1,13 @@
 -- The keys of each table of a configuration: what stands there, what is meant where nothing does,
--- and the ranges.
+-- and the ranges. Version 2 has all keys of version 1, and means the same by them.
 use Rattle.std.specs.Prelude.{ℕ, Bool, true, false, List, [], ◌∷◌, ◌++◌, codes, map, ◌^◌, ◌-◌}
 use Rattle.config.specs.declared.key.Form.{Form}
 use Rattle.config.specs.declared.key.Form.TheVariants.{Any, Name, Address}
 use Rattle.config.specs.declared.key.Kind.{Kind}
 use Rattle.config.specs.declared.key.Kind.TheVariants as code
 use Rattle.config.specs.declared.key.Key.{Key}
+use Rattle.config.specs.declared.version.Version.{Version}
+use Rattle.config.specs.declared.version.Version.TheVariants.{One, Two}
 
 pub data KeyKind : Type 0 where
   whole : (low high usual : ℕ) → KeyKind
@@ -40,19 +42,27 @@ abbrev pub optional : List ℕ → KeyKind → TableKey
 optional name kind = record { name = name; required = false; kind = kind }
 
 abbrev pub version : TableKey
-version = required (codes "version") (whole 1 1 1)
+version = required (codes "version") (whole 1 2 1)
 
 -- units that each body may spend
 abbrev pub budget : TableKey
 budget = optional (codes "budget") (whole 1 1000000 100000)
 
 -- connections that may be live at once
+abbrev pub connections_in : Version → TableKey
+connections_in One = optional (codes "connections") (whole 1 4096 512)
+connections_in Two = optional (codes "connections") (whole 1 8192 512)
+
 abbrev pub connections : TableKey
-connections = optional (codes "connections") (whole 1 4096 512)
+connections = connections_in Two
 
 -- seconds without bytes after which a connection is cut
 abbrev pub idle : TableKey
 idle = optional (codes "idle") (whole 1 86400 300)
+
+-- rows of the session table that may be live at once
+abbrev pub table_rows : TableKey
+table_rows = optional (codes "rows") (whole 1 131072 65536)
 
 abbrev pub servers : TableKey
 servers = optional (codes "virtual") (array 65536)
@@ -66,8 +76,12 @@ rules = optional (codes "rule") (array 65536)
 abbrev pub groups : TableKey
 groups = optional (codes "group") (array 65536)
 
-abbrev pub top_keys : List TableKey
-top_keys = version ∷ budget ∷ connections ∷ idle ∷ servers ∷ pools ∷ rules ∷ groups ∷ []
+abbrev pub section_keys : List TableKey
+section_keys = servers ∷ pools ∷ rules ∷ groups ∷ []
+
+abbrev pub top_keys : Version → List TableKey
+top_keys One = version ∷ budget ∷ connections_in One ∷ idle ∷ section_keys
+top_keys Two = version ∷ budget ∷ connections_in Two ∷ idle ∷ table_rows ∷ section_keys
 
 -- of a virtual server, a pool, a rule or a group
 abbrev pub name_key : TableKey
@@ -115,8 +129,14 @@ method = optional (codes "method") (one_of (codes "round_robin" ∷ codes "ratio
 abbrev pub members : TableKey
 members = optional (codes "members") (array 1000)
 
-abbrev pub pool_keys : List TableKey
-pool_keys = name_key ∷ method ∷ members ∷ []
+-- members that are up, below which number the group of the next priority serves too; no more than
+-- the pool has
+abbrev pub min_active : ℕ → TableKey
+min_active most = optional (codes "min_active") (whole 0 most 0)
+
+abbrev pub pool_keys : Version → (most : ℕ) → List TableKey
+pool_keys One most = name_key ∷ method ∷ members ∷ []
+pool_keys Two most = name_key ∷ method ∷ members ∷ min_active most ∷ []
 
 abbrev pub addr : TableKey
 addr = required (codes "addr") (text Address)
@@ -124,8 +144,13 @@ addr = required (codes "addr") (text Address)
 abbrev pub ratio : TableKey
 ratio = optional (codes "ratio") (whole 1 100 1)
 
-abbrev pub member_keys : List TableKey
-member_keys = addr ∷ ratio ∷ []
+-- members of one priority are a group; the higher serve first
+abbrev pub priority : TableKey
+priority = optional (codes "priority") (whole 0 100 0)
+
+abbrev pub member_keys : Version → List TableKey
+member_keys One = addr ∷ ratio ∷ []
+member_keys Two = addr ∷ ratio ∷ priority ∷ []
 
 -- ---- of a rule
 

@@ -24,4 +24,5 @@ pub mod Spots
 pub mod Tables
 pub mod Texts
 pub mod Values
+pub mod Versions
 pub mod Virtuals

@@ -1,5 +1,5 @@
 -- What a document without faults configures: what its tables say, and the defaults where they say
--- nothing.
+-- nothing. It is read by the keys of version 2: one of version 1 has none of the others.
 use Rattle.std.specs.Prelude.{ℕ, ℤ, ◌==◌, nat_le, List, [], ◌∷◌, ◌++◌, Option, Some, None}
 use Rattle.std.specs.Prelude.{option_and_then, option_map, unwrap_or, if◌then◌else◌}
 use Rattle.data_groups.specs.Groups.{Row}
@@ -15,7 +15,7 @@ use Rattle.config.specs.Documents.{items_at}
 use Rattle.config.specs.Groups.{group_kind, row_of}
 use Rattle.config.specs.Keys.{TableKey, KeyKind, whole, truth, text, one_of, array}
 use Rattle.config.specs.Keys as key
-use Rattle.config.specs.Read.{chosen, truth_at}
+use Rattle.config.specs.Read.{chosen, member_count, truth_at}
 use Rattle.config.specs.Texts.{text_at}
 use Rattle.config.specs.Values.{in_range}
 use Rattle.config.specs.declared.config.GroupSettings.{GroupSettings}
@@ -90,8 +90,15 @@ method_of (Some n) = if n == 1 then Ratio else RoundRobin
 abbrev pub ratio_of : ℕ → ℕ
 ratio_of n = if nat_le n 100 then n else 1
 
+abbrev pub priority_of : ℕ → ℕ
+priority_of n = if nat_le n 100 then n else 0
+
 abbrev pub member_of : Members → Member
-member_of ms = record { addr = addr_at key.addr ms; ratio = ratio_of (whole_at key.ratio ms) }
+member_of ms = record {
+  addr = addr_at key.addr ms;
+  ratio = ratio_of (whole_at key.ratio ms);
+  priority = priority_of (whole_at key.priority ms);
+}
 
 abbrev pub member_item : Data → List Member
 member_item d = one (option_map member_of (as_table d))
@@ -101,6 +108,7 @@ pool_of ms = record {
   name = given key.name_key ms;
   method = method_of (chosen key.method ms);
   members = each member_item (items_at key.members ms);
+  min_active = whole_at (key.min_active (member_count ms)) ms;
 }
 
 abbrev pub pool_item : Data → List PoolSettings
@@ -128,6 +136,7 @@ settings_of ms = record {
   budget = whole_at key.budget ms;
   connections = whole_at key.connections ms;
   idle = whole_at key.idle ms;
+  rows = whole_at key.table_rows ms;
   virtuals = each server_item (items_at key.servers ms);
   pools = each pool_item (items_at key.pools ms);
   groups = each group_item (items_at key.groups ms);

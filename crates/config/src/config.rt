@@ -26,6 +26,8 @@ pub struct PoolSettings {
     pub name: Text,
     pub method: Method,
     pub members: Members,
+    /// How many members that are up are wanted before a group of a lower priority serves.
+    pub min_active: u32,
 }
 
 /// A data group.
@@ -45,6 +47,8 @@ pub struct Settings {
     pub connections: u32,
     /// Seconds without bytes after which a connection is cut.
     pub idle: u32,
+    /// Rows of the session table that may be live at once.
+    pub rows: u32,
     pub virtuals: Seq<VirtualSettings>,
     pub pools: Seq<PoolSettings>,
     pub groups: Seq<GroupSettings>,

@@ -15,12 +15,13 @@ ghost use Rattle.config.specs.Texts.{first_place, place_of};
 use crate::fault::{ConfigFault, ConfigFaultKind};
 use crate::index::{Index, index_of};
 use crate::key::Key;
-use crate::keys::{GROUP, LISTEN, NAME, POOL, RULE, TOP, VIRTUAL};
+use crate::keys::{GROUP, LISTEN, NAME, POOL, RULE, VIRTUAL, top_keys};
 use crate::known::Known;
 use crate::place::Place;
 use crate::section::Section;
 use crate::table::array_at;
 use crate::told::Told;
+use crate::version::version_of;
 use px_bytes::M;
 use std::alloc::Global;
 use toml::value::Array;
@@ -54,6 +55,7 @@ fn names_in(alloc: Global, top: &Table) -> M<Known>
     ensures { IfOk result (λ known. names_of known ≡ names_in (table_view top.now)) }
 {
     Ok(Known {
+        version: version_of(top),
         servers: index_at(alloc, &VIRTUAL, &NAME, top)?,
         listens: index_at(alloc, &VIRTUAL, &LISTEN, top)?,
         pools: index_at(alloc, &POOL, &NAME, top)?,
@@ -134,8 +136,9 @@ impl Told {
         ensures { OnOk result (self.new ≡ after_faults (faults_with (names_of known.now)
             (table_view top.now)) self.old) }
     {
-        self.keys("", &TOP, top)?;
-        self.unknown("", &TOP, top)?;
+        let keys = top_keys(known.version);
+        self.keys("", keys, top)?;
+        self.unknown("", keys, top)?;
         self.section(known, Section::Virtual, top)?;
         self.section(known, Section::Pool, top)?;
         self.section(known, Section::Rule, top)?;

@@ -37,6 +37,7 @@ fn filled_with(alloc: Global, loaded: LoadedConfig, made: Made) -> M<Config>
         budget: settings.budget,
         connections: settings.connections,
         idle: settings.idle,
+        rows: settings.rows,
         groups,
         pools,
         rules: rules.into_rules(alloc)?,

@@ -1,6 +1,10 @@
 // The keys of each table.
 
+ghost use Rattle.std.specs.Prelude.{◌≡◌, map};
+ghost use Rattle.config.specs.Keys.{key_view, member_keys, min_active, top_keys};
+
 use crate::key::{Form, Key, Kind};
+use crate::version::Version;
 
 const MOST_ITEMS: usize = 65_536;
 
@@ -11,7 +15,7 @@ pub(crate) const VERSION: Key = Key {
     required: true,
     kind: Kind::Whole {
         low: 1,
-        high: 1,
+        high: 2,
         usual: 1,
     },
 };
@@ -26,13 +30,34 @@ pub(crate) const BUDGET: Key = Key {
     },
 };
 
-pub(crate) const CONNECTIONS: Key = Key {
+pub(crate) const CONNECTIONS_ONE: Key = Key {
     name: "connections",
     required: false,
     kind: Kind::Whole {
         low: 1,
         high: 4096,
         usual: 512,
+    },
+};
+
+pub(crate) const CONNECTIONS: Key = Key {
+    name: "connections",
+    required: false,
+    kind: Kind::Whole {
+        low: 1,
+        high: 8192,
+        usual: 512,
+    },
+};
+
+/// Rows of the session table that may be live at once.
+pub(crate) const TABLE_ROWS: Key = Key {
+    name: "rows",
+    required: false,
+    kind: Kind::Whole {
+        low: 1,
+        high: 131_072,
+        usual: 65_536,
     },
 };
 
@@ -147,6 +172,16 @@ pub(crate) const RATIO: Key = Key {
     },
 };
 
+pub(crate) const PRIORITY: Key = Key {
+    name: "priority",
+    required: false,
+    kind: Kind::Whole {
+        low: 0,
+        high: 100,
+        usual: 0,
+    },
+};
+
 pub(crate) const TEXT: Key = Key {
     name: "text",
     required: false,
@@ -171,16 +206,38 @@ pub(crate) const ROWS: Key = Key {
     kind: Kind::Array { most: MOST_ITEMS },
 };
 
-pub(crate) const TOP: [Key; 8] = [
+static TOP_ONE: [Key; 8] = [
     VERSION,
     BUDGET,
-    CONNECTIONS,
+    CONNECTIONS_ONE,
     IDLE,
     VIRTUAL,
     POOL,
     RULE,
     GROUP,
 ];
+
+static TOP_TWO: [Key; 9] = [
+    VERSION,
+    BUDGET,
+    CONNECTIONS,
+    IDLE,
+    TABLE_ROWS,
+    VIRTUAL,
+    POOL,
+    RULE,
+    GROUP,
+];
+
+/// The keys of a document.
+pub(crate) fn top_keys(version: Version) -> &'static [Key]
+    ensures { map key_view result.now ≡ top_keys version }
+{
+    match version {
+        Version::One => &TOP_ONE,
+        Version::Two => &TOP_TWO,
+    }
+}
 
 pub(crate) const VIRTUAL_FRONT: [Key; 5] = [NAME, LISTEN, HTTP, POOL_NAME, PERSIST];
 
@@ -196,9 +253,34 @@ pub(crate) const VIRTUAL_KEYS: [Key; 7] = [
     RULES,
 ];
 
-pub(crate) const POOL_KEYS: [Key; 3] = [NAME, METHOD, MEMBERS];
+/// How many members that are up are wanted before a group of a lower priority serves.
+pub(crate) fn min_active(most: u32) -> Key
+    ensures { key_view result ≡ min_active most }
+{
+    Key {
+        name: "min_active",
+        required: false,
+        kind: Kind::Whole {
+            low: 0,
+            high: most,
+            usual: 0,
+        },
+    }
+}
 
-pub(crate) const MEMBER_KEYS: [Key; 2] = [ADDR, RATIO];
+static MEMBER_ONE: [Key; 2] = [ADDR, RATIO];
+
+static MEMBER_TWO: [Key; 3] = [ADDR, RATIO, PRIORITY];
+
+/// The keys of a member of a pool.
+pub(crate) fn member_keys(version: Version) -> &'static [Key]
+    ensures { map key_view result.now ≡ member_keys version }
+{
+    match version {
+        Version::One => &MEMBER_ONE,
+        Version::Two => &MEMBER_TWO,
+    }
+}
 
 pub(crate) const RULE_KEYS: [Key; 3] = [NAME, TEXT, FILE];
 

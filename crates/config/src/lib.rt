@@ -39,6 +39,7 @@ mod table;
 mod told;
 mod twice;
 mod value;
+mod version;
 mod virtuals;
 mod words;
 

@@ -72,13 +72,14 @@ fn may_be_members(members: &Members) -> bool
 
 fn pool_of(alloc: Global, named: &PoolSettings) -> M<Pool>
     requires { may_be_members named.now.members ≡ true }
-    ensures { IfOk result (λ pool. pool ≡ new_pool named.now.method named.now.members) }
+    ensures { IfOk result (λ pool. pool ≡ new_pool named.now.method named.now.members
+        named.now.min_active) }
 {
     let mut members = Members::new(alloc);
     for member in named.members.as_slice() {
         members.push(*member)?;
     }
-    Pool::new(alloc, named.method, members)
+    Pool::new(alloc, named.method, members, named.min_active)
 }
 
 fn classes_of(alloc: Global, groups: &[GroupSettings]) -> M<Option<Seq<NamedGroup>>>

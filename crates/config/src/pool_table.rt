@@ -5,12 +5,11 @@ ghost use Rattle.toml.specs.View.{array_view, table_view, view};
 ghost use Rattle.config.specs.Documents.{items_at};
 ghost use Rattle.config.specs.Keys as key;
 ghost use Rattle.config.specs.Settings.{each, member_item, member_of, method_of, pool_item};
-ghost use Rattle.config.specs.Settings.{pool_of};
-ghost use Rattle.config.specs.Settings.{ratio_of};
+ghost use Rattle.config.specs.Settings.{pool_of, priority_of, ratio_of};
 
 use crate::config::PoolSettings;
-use crate::keys::{ADDR, MEMBERS, METHOD, NAME, RATIO};
-use crate::read::{addr_at, given, whole_at};
+use crate::keys::{ADDR, MEMBERS, METHOD, NAME, PRIORITY, RATIO, min_active};
+use crate::read::{addr_at, given, member_count, whole_at};
 use crate::table::array_at;
 use crate::words::chosen;
 use pools::{Member, Members, Method};
@@ -34,12 +33,19 @@ fn ratio_of(number: u32) -> u8
     if number <= 100 { number as u8 } else { 1 }
 }
 
+fn priority_of(number: u32) -> u8
+    ensures { result ≡ priority_of number }
+{
+    if number <= 100 { number as u8 } else { 0 }
+}
+
 fn member_of(table: &Table) -> Member
     ensures { result ≡ member_of (table_view table.now) }
 {
     Member {
         addr: addr_at(&ADDR, table),
         ratio: ratio_of(whole_at(&RATIO, table)),
+        priority: priority_of(whole_at(&PRIORITY, table)),
     }
 }
 
@@ -79,6 +85,7 @@ fn pool_of(alloc: Global, table: &Table) -> M<PoolSettings>
         name: given(alloc, &NAME, table)?,
         method: method_of(chosen(&METHOD, table)),
         members: members_at(alloc, table)?,
+        min_active: whole_at(&min_active(member_count(table)), table),
     })
 }
 

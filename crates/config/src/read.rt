@@ -2,19 +2,23 @@
 
 ghost use Rattle.std.specs.Prelude.{◌≡◌, IfOk, option_and_then};
 ghost use Rattle.toml.specs.Data.{as_integer, get_member};
-ghost use Rattle.toml.specs.View.{table_view};
+ghost use Rattle.toml.specs.View.{array_view, table_view};
 ghost use Rattle.config.specs.Keys.{key_view};
+ghost use Rattle.config.specs.Read.{member_count, tables_in};
 ghost use Rattle.config.specs.Settings.{addr_at, given, whole_at};
 
 use crate::key::{Key, Kind};
-use crate::table::{text_at, value_at};
+use crate::keys::MEMBERS;
+use crate::table::{array_at, text_at, value_at};
 use crate::value::in_range;
 use px_bytes::{Addr, M, Text};
 use std::alloc::Global;
 use tcl_encodings::addr_of;
 use toml::Table;
+use toml::value::Array;
 
-fn integer_at(key: &Key, table: &Table) -> Option<i64>
+/// The integer at a key.
+pub(crate) fn integer_at(key: &Key, table: &Table) -> Option<i64>
     ensures { result ≡ option_and_then as_integer
         (get_member (key_view key.now).name (table_view table.now)) }
 {
@@ -57,4 +61,26 @@ pub(crate) fn addr_at(key: &Key, table: &Table) -> Addr
         None => None,
     };
     addr.unwrap_or(Addr { ip: 0, port: 0 })
+}
+
+/// How many members the table of a pool has, faulty ones too.
+pub(crate) fn member_count(table: &Table) -> u32
+    ensures { result ≡ member_count (table_view table.now) }
+{
+    match array_at(table, MEMBERS.name) {
+        Some(values) => tables_in(values).min(u32::MAX as usize) as u32,
+        None => 0,
+    }
+}
+
+fn tables_in(values: &Array) -> usize
+    ensures { result ≡ tables_in (array_view values.now) }
+{
+    let mut count = 0;
+    for value in values {
+        if value.as_table().is_some() {
+            count += 1;
+        }
+    }
+    count
 }

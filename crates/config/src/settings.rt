@@ -8,7 +8,7 @@ ghost use Rattle.config.specs.Settings.{each, group_item, pool_item, server_item
 
 use crate::config::{GroupSettings, PoolSettings, Settings, VirtualSettings};
 use crate::group_table::groups_of;
-use crate::keys::{BUDGET, CONNECTIONS, GROUP, IDLE, POOL, VIRTUAL};
+use crate::keys::{BUDGET, CONNECTIONS, GROUP, IDLE, POOL, TABLE_ROWS, VIRTUAL};
 use crate::pool_table::pools_of;
 use crate::read::whole_at;
 use crate::server_table::servers_of;
@@ -53,6 +53,7 @@ pub(crate) fn settings_of(alloc: Global, top: &Table) -> M<Settings>
         budget: whole_at(&BUDGET, top),
         connections: whole_at(&CONNECTIONS, top),
         idle: whole_at(&IDLE, top),
+        rows: whole_at(&TABLE_ROWS, top),
         virtuals: servers_at(alloc, top)?,
         pools: pools_at(alloc, top)?,
         groups: groups_at(alloc, top)?,

@@ -18,7 +18,7 @@ pub record IsStart (C : Config) (core : Core) : Type 0 where
   pub live : core.live.items ≡ []
   pub ring : core.live.ring ≡ []
   pub queue : core.queue.items ≡ []
-  pub store : core.store ≡ new_store C.pools (times_of C)
+  pub store : core.store ≡ new_store C.pools (times_of C) C.rows
 
 -- what the rules give: where bodies stand, what RULE_INIT left, and the notes of what it logged
 pub record IsStartRules (C : Config) (ruled : StartRules) : Type 0 where
@@ -34,4 +34,4 @@ pub record IsStartRoom (C : Config) (room : StartRoom) : Type 0 where
   pub queue : room.queue.items ≡ []
   pub live_room : C.connections ≤ room.live.room
   pub queue_room : C.connections ≤ room.queue.room
-  pub store : room.store ≡ new_store C.pools (times_of C)
+  pub store : room.store ≡ new_store C.pools (times_of C) C.rows

@@ -109,11 +109,12 @@ impl StartRoom {
 
 // A store with the pools and the times of the virtual servers, and no row yet.
 fn store_of(alloc: Global, config: &Config) -> M<Store>
-    ensures { IfOk result (λ store. store ≡ new_store config.now.pools (times_of config.now)) }
+    ensures { IfOk result (λ store. store
+        ≡ new_store config.now.pools (times_of config.now) config.now.rows) }
 {
     let times = times_of(alloc, config.virtuals.as_slice())?;
     match config.pools.copy(alloc) {
-        Ok(pools) => Ok(Store::new(alloc, pools, times)),
+        Ok(pools) => Ok(Store::new(alloc, pools, times, config.rows)),
         Err(why) => {
             drop(times);
             Err(why)

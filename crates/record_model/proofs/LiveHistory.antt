@@ -29,5 +29,5 @@ module _ (C : Config) (past : Past) (live : StoreIsLive (shared past).moment (st
   lives_on Runs group a = live
 
 pub history_is_live : HistoryIsLive
-history_is_live C [] h = new_is_live 0 C.pools (times_of C)
+history_is_live C [] h = new_is_live 0 C.pools (times_of C) C.rows
 history_is_live C (x ∷ past) h = lives_on C past (history_is_live C past h.0) (kind_of x.event) x.group h.1

@@ -70,7 +70,7 @@ times_of C = map time_of C.virtuals
 -- The store behind a past: its entries were answered, its members marked, and what ran out by its
 -- Ticks was taken away, in this order, from the pools and times of the configuration on.
 abbrev pub store_of : Config → Past → StoreState
-store_of C [] = new_store C.pools (times_of C)
+store_of C [] = new_store C.pools (times_of C) C.rows
 store_of C (x ∷ past) = store_after (kind_of x.event) x.group (store_of C past)
 
 -- ---- one history

@@ -37,6 +37,8 @@ pub struct Config {
     pub connections: u32,
     /// Seconds without bytes after which a connection is cut.
     pub idle: u32,
+    /// How many rows of the session table may be live at once.
+    pub rows: u32,
     /// The data groups and pools that rules name.
     pub groups: Groups,
     /// The pools from which servers are selected, as they are at the start.

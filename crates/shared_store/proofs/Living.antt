@@ -41,8 +41,8 @@ expired_is_live store m = record {
 pub live_is_kept : LiveIsKept
 live_is_kept store m a = ap₂ (λ ys rs. record store { table = record store.table { rows = ys }; records = rs }) (all_kept (rows.is_live m) store.table.rows a.rows) (all_kept (is_live m) store.records a.records)
 
-pub new_is_live : (m : ℕ) (pools : List NamedPool) (virtuals : List VirtualTime) → StoreIsLive m (new_store pools virtuals)
-new_is_live m pools virtuals = record { rows = All-nil (λ row. rows.is_live m row ≡ true); records = All-nil (λ r. is_live m r ≡ true) }
+pub new_is_live : (m : ℕ) (pools : List NamedPool) (virtuals : List VirtualTime) (rows : ℕ) → StoreIsLive m (new_store pools virtuals rows)
+new_is_live m pools virtuals most = record { rows = All-nil (λ row. rows.is_live m row ≡ true); records = All-nil (λ r. is_live m r ≡ true) }
 
 -- ---- sources have a time
 

@@ -19,9 +19,9 @@ pub record StoreState : Type 0 where
   pub virtuals : List VirtualTime
 
 -- the session table has at most 65,536 live rows
-abbrev pub new_store : List NamedPool → List VirtualTime → StoreState
-new_store pools virtuals =
-    record { table = new_table 65536; records = []; pools = pools; virtuals = virtuals }
+abbrev pub new_store : List NamedPool → List VirtualTime → ℕ → StoreState
+new_store pools virtuals rows =
+    record { table = new_table rows; records = []; pools = pools; virtuals = virtuals }
 
 -- rows and records that have run out at a moment are gone for good
 abbrev pub at_moment : ℕ → StoreState → StoreState

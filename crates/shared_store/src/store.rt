@@ -20,9 +20,6 @@ use session_table::SessionTable;
 use std::alloc::Global;
 use std::marker::Model;
 
-// The most live rows of the session table.
-const ROW_LIMIT: u32 = 65_536;
-
 /// The session table, the records of source addresses, pools, and the times of virtual servers.
 #[derive(Drop)]
 pub struct Store {
@@ -44,12 +41,12 @@ impl Model for Store {
 }
 
 impl Store {
-    /// A store without rows and records, which takes no memory.
-    pub fn new(alloc: Global, pools: Pools, virtuals: VirtualTimes) -> Store
-        ensures { result ≡ new_store pools virtuals }
+    /// A store without records, and without rows, of which so many may be live. It takes no memory.
+    pub fn new(alloc: Global, pools: Pools, virtuals: VirtualTimes, rows: u32) -> Store
+        ensures { result ≡ new_store pools virtuals rows }
     {
         Store {
-            table: SessionTable::new(alloc, ROW_LIMIT),
+            table: SessionTable::new(alloc, rows),
             records: Records::new(alloc),
             pools,
             virtuals,

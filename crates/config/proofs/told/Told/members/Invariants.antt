@@ -9,5 +9,5 @@ abbrev pub invariant-loop-value : goal.invariant-loop-value
 invariant-loop-value l =
     let vs = l.values.items in
     (l.at ≡ l.value-index)
-    × (after_faults (members_from (place_of l.own) l.prefix 0 (items_view vs)) l.initial.self
-    ≡ after_faults (members_from (place_of l.own) l.prefix l.at (items_view (drop l.value-index vs))) l.self)
+    × (after_faults (members_from l.own.version (place_of l.own.places) l.prefix 0 (items_view vs)) l.initial.self
+    ≡ after_faults (members_from l.own.version (place_of l.own.places) l.prefix l.at (items_view (drop l.value-index vs))) l.self)
