@@ -159,8 +159,7 @@ no_turn None some none = cc
 no_turn (Some k) some none = cc
 
 pub none_up : NoneWhereNoneIsUp
-none_up pool members =
-    (
-      λ none. ⊎_elim (λ nothing. all_are_down pool members nothing) (λ some. absurd (no_turn (in_turn pool) (turn_some pool some) none)) (zero_or_some (total pool)),
-      λ nothing. rw (eq-eqb (total pool) 0 (all_down pool.method (group_serves pool.min_active pool.members) pool.members nothing)) refl,
-    )
+none_up pool members = (
+  λ none. ⊎_elim (λ nothing. all_are_down pool members nothing) (λ some. absurd (no_turn (in_turn pool) (turn_some pool some) none)) (zero_or_some (total pool)),
+  λ nothing. rw (eq-eqb (total pool) 0 (all_down pool.method (group_serves pool.min_active pool.members) pool.members nothing)) refl,
+)

@@ -37,7 +37,9 @@ fn ratios_fit(members: &[Member]) -> bool
 fn priorities_fit(members: &[Member]) -> bool
     ensures { result ≡ list_all priority_fits members.now }
 {
-    members.iter().all(|member| member.priority <= MOST_PRIORITY)
+    members
+        .iter()
+        .all(|member| member.priority <= MOST_PRIORITY)
 }
 
 fn are_apart(members: &[Member]) -> bool
