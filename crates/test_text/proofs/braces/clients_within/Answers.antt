@@ -1,0 +1,10 @@
+use Rattle.std.proofs.Common.{ap, map, subst, sym, ◌∙◌}
+use Rattle.test_text.specs.Expectations.{clients_read}
+use Rattle.test_text.specs.Faults.{Gives}
+use Rattle.test_text.specs.Line.{command_line}
+use Rattle.test_text.proofs.braces.clients_within.Goals as goal
+
+pub returns : goal.returns
+returns c =
+    let all = c.in_ok-commands.ensures ∙ ap (λ cs. (map command_line cs, c.in_ok-commands.fault)) (sym c.as_slice.ensures.value) in
+    subst (λ r. Gives c.judged.result (clients_read c.args.clients.now r)) (sym all) (c.judged.ensures.alone _ c.clients_of.ensures)

@@ -1,0 +1,6 @@
+// Test files, and what each must be read as.
+
+mod faulty;
+mod files;
+mod manual;
+mod marked;
