@@ -9,7 +9,7 @@ use Rattle.core_events.specs.Edges.{edges_noted, is_connecting}
 use Rattle.conn_trace.specs.Costs.{in_body, paid_by}
 use Rattle.conn_trace.specs.Item.{Item, client_output}
 use Rattle.conn_trace.specs.Setup.{Setup}
-use Rattle.conn_trace.specs.State.{TraceState}
+use Rattle.conn_trace.specs.State.{Absent, TraceState, link_of}
 use Rattle.conn_trace.specs.Trace.{GivesNoMore, next_item}
 use Rattle.conn_trace.proofs.Costs.{paid_joins}
 use Rattle.core_events.specs.declared.edges.Edges.{Edges}
@@ -17,7 +17,7 @@ use Rattle.core_events.specs.declared.note.Note.{Note}
 use Rattle.core_events.specs.declared.note.Note.TheVariants as note
 use Rattle.core_events.specs.declared.note.Cause.TheVariants.{Memory}
 use Rattle.conn.specs.Acts.{Acted}
-use Rattle.conn.specs.Ends.{lost_at, queued_in}
+use Rattle.conn.specs.Ends.{link_by, lost_at, queued_in}
 use Rattle.conn.specs.Holds.{Around, Holds}
 use Rattle.conn.specs.Paid.{Paid}
 use Rattle.conn.specs.Queues.{dropped_at, dropped_by, queue_in}
@@ -36,6 +36,7 @@ use Rattle.conn.specs.declared.turn.ConnTurn.TheVariants as turn
 use Rattle.conn.proofs.Advancing.{Tells, asks_there, rests_asking}
 use Rattle.conn.proofs.Arriving.{holds, with_edges}
 use Rattle.conn.proofs.Giving.{Gave, edges_on, gave_none, gave_more}
+use Rattle.conn.proofs.Places.{link_is}
 use Rattle.conn.proofs.Paying.{paid_ends, paid_within, runs_in}
 use Rattle.conn.proofs.Settling.{rests_with, settles}
 use Rattle.conn.proofs.Spending.{PaidWell, paid_well}
@@ -120,6 +121,10 @@ one_more s c old mid new before notes after steps ticks r acted counts =
           });
     }
 
+-- with HTTP it has no server connection
+alone_at : (g : Setup) (a : Around) (l : TraceState) (c : Conn) → Holds g a l c → g.http ≡ true → link_of l.server ≡ Absent
+alone_at g a l c h speaks = link_is a l c.ends h.ends ∙ ap link_by (h.told.alone speaks)
+
 -- a Run that gave these items, and told this behind them
 gives : (g : Setup) (a : Around) (l at : TraceState) (c : ℕ) (old mid new : Conn) (group last : List Note) (t : ConnTurn) (steps : ℕ) (p : Gave g a l at c old mid group (asked_at t)) → last ≡ told_behind t g a.took at c mid.ends.edges (queued_in new.ends) → StopsAt g a.took at t → GoesForward t p.more at → Holds g a at new
     → new.ends.client.queued ≡ mid.ends.client.queued → queue_at_server new.ends ≡ queue_at_server mid.ends → is_asking new.stage ≡ asks t → ((counted paid : ℕ) → Paid g l old counted paid → Paid g at new (counted + steps) (paid + paid_by p.more)) → GoesOnWith g a l c old new (group ++ last) t steps
@@ -129,6 +134,7 @@ gives g a l at c old mid new group last t steps p is stops forward now client se
   items = record {
     passes = p.passes;
     kept = p.kept;
+    alone = alone_at g a at mid p.holds;
     noted = ap (λ x. x ++ last) p.noted ∙ ap (λ x. run_notes c l.sent a.took p.more ++ x) (is ∙ ap (λ e. told_behind t g a.took at c e (queued_in new.ends)) (p.edges ∙ ap (λ n. edges_noted n old.ends.edges) p.noted));
     stops = stops;
     forward = forward;
@@ -292,6 +298,7 @@ runs_out s c pending old mid lost new before notes after t steps all r waits kep
         at = given.at;
         passes = p.passes;
         kept = p.kept;
+        alone = alone_at g a given.at mid p.holds;
         to_none = p.to_none;
         no_call = p.calls;
         noted = ap (λ x. x ++ note.Finish c Memory ∷ closing c mid.ends.edges pending) p.noted ∙ ap (λ n. run_notes c l.sent a.took p.more ++ note.Finish c Memory ∷ closing c mid.ends.edges n) q

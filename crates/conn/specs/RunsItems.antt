@@ -19,7 +19,7 @@ use Rattle.conn_trace.specs.HeardLaws.{cut_in, taken_by_items}
 use Rattle.conn_trace.specs.Queries.{is_reset}
 use Rattle.conn_trace.specs.Setup.{Setup}
 use Rattle.conn_trace.specs.Places.{is_up}
-use Rattle.conn_trace.specs.State.{TraceState, ForReply, Waits, link_of}
+use Rattle.conn_trace.specs.State.{Absent, TraceState, ForReply, Waits, link_of}
 use Rattle.conn_trace.specs.Trace.{next_item, Unfolds, GivesNoMore}
 use Rattle.conn.specs.Servers.{gives_up, run_notes}
 use Rattle.conn.specs.Settling.{closing, is_drained, resting}
@@ -107,12 +107,14 @@ told_behind t g took at c e dropped =
 
 -- It gave these items, and stops there; its notes are those of the items, with the closings of server
 -- connections that were given up, and then what is due where it rests. Before it the outside had been told so much of its ends. The only call among them is the
--- one at which it stops, and no server connection is given up yet. Where it stops in the middle without an item it stands inside a body.
+-- one at which it stops, and no server connection is given up yet; with HTTP none is asked for yet. Where it stops in the middle
+-- without an item it stands inside a body.
 pub record RunsItems (g : Setup) (took : TakenCounts) (e : Edges) (l : TraceState) (c : ℕ)
     (more : List Item) (at : TraceState) (group : List Note) (t : ConnTurn) (dropped : ℕ)
     : Type 0 where
   pub passes : Passes g took l more at
   pub kept : gives_up more ≡ false
+  pub alone : g.http ≡ true → link_of at.server ≡ Absent
   pub noted : group
       ≡ run_notes c l.sent took more
       ++ told_behind t g took at c (edges_noted (run_notes c l.sent took more) e) dropped
