@@ -1,10 +1,19 @@
 -- An action is the next items of each state that the connection may stand for.
-use Rattle.std.proofs.Common.{◌≡◌, refl, sym, ap, subst, ◌∙◌, ℕ, ◌+◌, List, [], ◌∷◌, ◌++◌, append-nil, drop, length, Bool, true, false, Option, Some, None, nat_lt}
+use Rattle.std.proofs.Common.{◌≡◌, ◌⊎◌, inl, inr, refl, sym, ap, subst, ◌∙◌, ℕ, ◌+◌, List, [], ◌∷◌, ◌++◌, append-nil, drop, take, length, Bool, true, false, Option, Some, None, Result, Ok, Err, nat_lt}
 use Rattle.std.specs.Bool.{MatchBool}
 use Rattle.px_bytes.specs.declared.addr.Addr.{Addr}
 use Rattle.px_bytes.specs.declared.addr.Side.{Side}
 use Rattle.px_bytes.specs.declared.addr.Side.TheVariants.{Client, Server}
 use Rattle.px_bytes.specs.declared.fault.FaultKind.{FaultKind}
+use Rattle.px_bytes.specs.declared.fault.HttpFault.{HttpFault}
+use Rattle.http_answers.specs.Refusals.{continue_text}
+use Rattle.http_frames.specs.Parts.{Part, Byte, Chunk, End, Pending, Bad}
+use Rattle.http_messages.specs.Messages.{request_of}
+use Rattle.irule_http.specs.declared.state.Request.{Request}
+use Rattle.http_heads.specs.declared.front.HeadPart.{HeadPart}
+use Rattle.http_heads.specs.declared.front.HeadPart.TheVariants.{HeadOf, StreamEnds, Faulty, NoHead}
+use Rattle.http_heads.specs.Fronts.{head_part}
+use Rattle.conn_trace.specs.SentBodies.{is_answered}
 use Rattle.core_events.specs.Edges.{edges_noted}
 use Rattle.conn_trace.specs.Setup.{Handler, Setup}
 use Rattle.conn_trace.specs.State.{TraceState}
@@ -13,6 +22,7 @@ use Rattle.core_events.specs.declared.note.Note.{Note}
 use Rattle.core_events.specs.declared.note.Note.TheVariants as note
 use Rattle.conn_trace.specs.Relay.{meets}
 use Rattle.conn.specs.Acts.{ActedAt, Acted, AnswersBy, BehindFault, CollectsBy, PassesGate, PassesReleased, RelaysBy, Rests, RestsBy, cut_of, has_room, Connects, ConnectsNext}
+use Rattle.conn.specs.Acts.{DropsBy, HeadBy, RefusesBy, RequestBy, SendsClient, TellsToGoOn, client_room, dropped}
 use Rattle.conn.specs.Changes.{Closes, ClosesClient, ClosesServer, GoesTo, Leaves, NextBody, StartsBody}
 use Rattle.conn.specs.Choosing.{ChoosesBy, TakesChosen, plan_of}
 use Rattle.conn.specs.Ends.{is_sought}
@@ -21,7 +31,7 @@ use Rattle.conn.specs.Holds.{Around, Holds, RunsFirst, Stands}
 use Rattle.conn.specs.Hosts.{client_bytes, made_in, server_bytes}
 use Rattle.conn.specs.Relaying.{Releases, moved, read_ends, relay_plan, round_begun}
 use Rattle.conn.specs.Setups.{body_at, places_at, Serves}
-use Rattle.conn.specs.Stages.{cause_for, is_asking}
+use Rattle.conn.specs.Stages.{asked_stage, cause_for, http_in, is_asking}
 use Rattle.conn.specs.Steps.{BodyMovedBy, BodySteps, GoesOn, one_of, queue_both, said_of}
 use Rattle.conn.specs.declared.body_step.Said.{Said}
 use Rattle.conn.specs.declared.body_step.Said.TheVariants as said
@@ -45,7 +55,12 @@ use Rattle.conn.specs.declared.stage.Stage.TheVariants as stage
 use Rattle.conn.specs.declared.turn.Act as step_act
 use Rattle.conn.specs.declared.turn.Act.TheVariants as done
 use Rattle.conn.proofs.Acting.{ActGave, logs_keep, rest_group}
+use Rattle.conn.proofs.Answering.{tells, tells_noted}
 use Rattle.conn.proofs.BodyMoves.{body_gives, step_notes}
+use Rattle.conn.proofs.Dropped.{drops, front_group, front_noted, left_front}
+use Rattle.conn.proofs.Refusing.{refused_by}
+use Rattle.conn.proofs.RequestActs.{GoesOrRests, drops_or, head_or, tells_or}
+use Rattle.conn.proofs.Requesting.{head_group, head_noted, heads, request_group}
 use Rattle.conn.proofs.Choosing.{chooses, chosen}
 use Rattle.conn.proofs.Collecting.{collect_group, collect_noted, collects}
 use Rattle.conn.proofs.Releasing.{release_noted, releases, server_room}
@@ -154,6 +169,35 @@ release_tells s c old new before after did k = by_test (server_room old) k
     by_test true k = ap (λ e. e.edges) k.1.ends
     by_test false k = rest_tells s c old new before after did (cut_of old) k
 
+-- requests
+refused_tells : (s : code_setup.Setup) (c : ℕ) (x : Bool) (f : HttpFault) (old new : Conn) (before after : List Note) (did : step_act.Act) → RefusesBy x f s c old new before after did → Tells (refused_by x f c) old new
+refused_tells s c true f old new before after did k = ap (λ e. e.edges) k.1.ends
+refused_tells s c false f old new before after did k = ends_tell old new (closes_ends s old new k.1.0)
+
+told_tells : (s : code_setup.Setup) (c : ℕ) (old new : Conn) (before after : List Note) (did : step_act.Act) → TellsToGoOn s c old new before after did → Tells (gate_group (client_room old) c (cut_of old)) old new
+told_tells s c old new before after did k = by_test (client_room old) k
+  where
+    by_test : (x : Bool) → MatchBool x ((did ≡ done.Goes) × SendsClient continue_text (asked_stage (http_in old.host)) old new × (after ≡ before)) (Rests s c old new before after did) → Tells (gate_group x c (cut_of old)) old new
+    by_test true k = ap (λ e. e.edges) k.1.ends
+    by_test false k = rest_tells s c old new before after did (cut_of old) k
+
+front_tells : (s : code_setup.Setup) (c : ℕ) (mid new : Conn) (before after : List Note) (did : step_act.Act) (p : Part) → DropsBy p s c mid new before after did → Tells (front_group c mid p) mid new
+front_tells s c mid new before after did Byte k = absurd k
+front_tells s c mid new before after did (Chunk line size) k = absurd k
+front_tells s c mid new before after did (End n) k = ap (λ e. e.edges) k.1.ends
+front_tells s c mid new before after did Pending k = rest_tells s c mid new before after did (cut_of mid) k
+front_tells s c mid new before after did (Bad f) k = refused_tells s c (is_answered Client f) f mid new before after did k
+
+request_tells : (s : code_setup.Setup) (c n : ℕ) (old new : Conn) (before after : List Note) (did : step_act.Act) (r : Result Request HttpFault) → RequestBy r n s c old new before after did → Tells (request_group c r) old new
+request_tells s c n old new before after did (Ok r) k = ap (λ e. e.edges) k.1.ends
+request_tells s c n old new before after did (Err f) k = refused_tells s c (is_answered Client f) f old new before after did k
+
+head_tells : (s : code_setup.Setup) (c : ℕ) (old new : Conn) (before after : List Note) (did : step_act.Act) (p : HeadPart) → HeadBy p s c old new before after did → Tells (head_group c old p) old new
+head_tells s c old new before after did (HeadOf n) k = request_tells s c n old new before after did (request_of (take n old.ends.client.unread)) k
+head_tells s c old new before after did StreamEnds k = ends_tell old new (closes_ends s old new k.1.0)
+head_tells s c old new before after did (Faulty f) k = refused_tells s c (is_answered Client f) f old new before after did k
+head_tells s c old new before after did NoHead k = rest_tells s c old new before after did (cut_of old) k
+
 chooses_tells : (s : code_setup.Setup) (p : Plan) (old new : Conn) (did : step_act.Act) → ChoosesBy p s old new did → Tells [] old new
 chooses_tells s plan.Nothing old new did k = ends_tell old new k.1.ends
 chooses_tells s (plan.Node addr) old new did k = ends_tell old new k.1.ends
@@ -260,10 +304,25 @@ acted_well s c old new before after did ticks k = by_stage old.stage refl k
       tells = collect_tells s c (meets old.host.net.client.asks old.ends.client.unread) old new before after did k;
       along = λ g a l serves h awake. collects s g serves a l c old new h is (here stage.Collecting is g a l h) before after did k;
     }
-    by_stage stage.AtHead is k = absurd k
-    by_stage stage.Continuing is k = absurd k
+    by_stage stage.AtHead is (spoken, k) = record {
+      group = head_group c old (head_part old.ends.client.unread old.ends.client.ended);
+      notes = head_noted s c old new before after did (head_part old.ends.client.unread old.ends.client.ended) k;
+      tells = head_tells s c old new before after did (head_part old.ends.client.unread old.ends.client.ended) k;
+      along = λ g a l serves h awake. heads s g serves a l c old new h is (here stage.AtHead is g a l h) spoken before after did k;
+    }
+    by_stage stage.Continuing is (spoken, k) = record {
+      group = gate_group (client_room old) c (cut_of old);
+      notes = tells_noted s c old new before after did k;
+      tells = told_tells s c old new before after did k;
+      along = λ g a l serves h awake. tells s g serves a l c old new h is (here stage.Continuing is g a l h) spoken before after did k;
+    }
     by_stage (stage.Gathering wanted reader) is k = absurd k
-    by_stage (stage.Dropping reader) is k = absurd k
+    by_stage (stage.Dropping reader) is (spoken, k) = record {
+      group = front_group c (dropped k.left k.size old) (left_front reader s c old new before after did k);
+      notes = front_noted s c (dropped k.left k.size old) new before after did (left_front reader s c old new before after did k) k.goes;
+      tells = front_tells s c (dropped k.left k.size old) new before after did (left_front reader s c old new before after did k) k.goes;
+      along = λ g a l serves h awake. drops s g serves a l c old new h reader is (here (stage.Dropping reader) is g a l h) spoken before after did k;
+    }
     by_stage stage.Releasing is k = record {
       group = gate_group (server_room old) c (cut_of old);
       notes = release_noted s c old new before after did k;
@@ -295,6 +354,10 @@ acted_well s c old new before after did ticks k = by_stage old.stage refl k
 rest_quiet : (s : code_setup.Setup) (c : ℕ) (old new : Conn) (before after : List Note) (o : Option CutReason) → RestsBy o s c old new before after done.Rests → after ≡ before
 rest_quiet s c old new before after None k = k.2
 rest_quiet s c old new before after (Some reason) k = absurd (let e = k.0 in cc)
+
+or_quiet : (s : code_setup.Setup) (c : ℕ) (base new : Conn) (before after : List Note) → GoesOrRests s c base new before after done.Rests → after ≡ before
+or_quiet s c base new before after (inl goes) = absurd (let e = goes in cc)
+or_quiet s c base new before after (inr k) = rest_quiet s c base new before after (cut_of base) k
 
 answer_quiet : (s : code_setup.Setup) (c : ℕ) (k : Link) (old new : Conn) (before after : List Note) → AnswersBy k s c old new before after done.Rests → after ≡ before
 answer_quiet s c link.Made old new before after k = k.2
@@ -359,10 +422,10 @@ rests_quiet s c old new before after ticks k = by_stage old.stage k
     by_stage (stage.Connecting to) k = connect_quiet s c to old new before after k
     by_stage (stage.Answering to) k = answer_quiet s c old.ends.link old new before after k
     by_stage stage.Collecting k = collect_quiet s c (meets old.host.net.client.asks old.ends.client.unread) old new before after k
-    by_stage stage.AtHead k = absurd k
-    by_stage stage.Continuing k = absurd k
+    by_stage stage.AtHead (spoken, k) = or_quiet s c old new before after (head_or s c old new before after done.Rests (head_part old.ends.client.unread old.ends.client.ended) k)
+    by_stage stage.Continuing (spoken, k) = or_quiet s c old new before after (tells_or s c old new before after done.Rests k)
     by_stage (stage.Gathering wanted reader) k = absurd k
-    by_stage (stage.Dropping reader) k = absurd k
+    by_stage (stage.Dropping reader) (spoken, k) = or_quiet s c (dropped k.left k.size old) new before after (drops_or s c reader old new before after done.Rests k)
     by_stage stage.Releasing k = release_quiet s c old new before after k
     by_stage (stage.Relaying first) k = relay_quiet s c (relay_plan first old.host.net old.ends) old new before after k
     by_stage (stage.Finishing f) k = absurd (let e = k.0 in cc)
@@ -374,6 +437,10 @@ rests_quiet s c old new before after ticks k = by_stage old.stage k
 rest_same : (s : code_setup.Setup) (c : ℕ) (old new : Conn) (before after : List Note) (o : Option CutReason) → RestsBy o s c old new before after done.Rests → new ≡ old
 rest_same s c old new before after None k = k.1
 rest_same s c old new before after (Some reason) k = absurd (let e = k.0 in cc)
+
+or_same : (s : code_setup.Setup) (c : ℕ) (base new : Conn) (before after : List Note) → GoesOrRests s c base new before after done.Rests → new ≡ base
+or_same s c base new before after (inl goes) = absurd (let e = goes in cc)
+or_same s c base new before after (inr k) = rest_same s c base new before after (cut_of base) k
 
 answer_same : (s : code_setup.Setup) (c : ℕ) (k : Link) (old new : Conn) (before after : List Note) → AnswersBy k s c old new before after done.Rests → new ≡ old
 answer_same s c link.Made old new before after k = absurd (let e = k.0 in cc)
@@ -442,10 +509,11 @@ rests_asking s c old new before after ticks k = by_stage old.stage refl k
     by_stage (stage.Connecting to) is k = as_before (connect_same s c to old new before after k)
     by_stage (stage.Answering to) is k = as_before (answer_same s c old.ends.link old new before after k)
     by_stage stage.Collecting is k = as_before (collect_same s c (meets old.host.net.client.asks old.ends.client.unread) old new before after k)
-    by_stage stage.AtHead is k = absurd k
-    by_stage stage.Continuing is k = absurd k
+    by_stage stage.AtHead is (spoken, k) = as_before (or_same s c old new before after (head_or s c old new before after done.Rests (head_part old.ends.client.unread old.ends.client.ended) k))
+    by_stage stage.Continuing is (spoken, k) = as_before (or_same s c old new before after (tells_or s c old new before after done.Rests k))
     by_stage (stage.Gathering wanted reader) is k = absurd k
-    by_stage (stage.Dropping reader) is k = absurd k
+    by_stage (stage.Dropping reader) is (spoken, k) =
+        ap (λ x. is_asking x.stage) (or_same s c (dropped k.left k.size old) new before after (drops_or s c reader old new before after done.Rests k)) ∙ sym (ap is_asking is)
     by_stage stage.Releasing is k = as_before (release_same s c old new before after k)
     by_stage (stage.Relaying first) is k = ap (λ x. is_asking x.stage) (relay_same s c (relay_plan first old.host.net old.ends) old new before after k) ∙ sym (ap is_asking is)
     by_stage (stage.Finishing f) is k = absurd (let e = k.0 in cc)
@@ -457,6 +525,10 @@ rests_asking s c old new before after ticks k = by_stage old.stage refl k
 rest_asks_not : (s : code_setup.Setup) (c : ℕ) (old new : Conn) (before after : List Note) (call : List (List ℕ)) (o : Option CutReason) → RestsBy o s c old new before after (done.Asks call) → ⊥
 rest_asks_not s c old new before after call None k = let e = k.0 in cc
 rest_asks_not s c old new before after call (Some reason) k = let e = k.0 in cc
+
+or_asks_not : (s : code_setup.Setup) (c : ℕ) (base new : Conn) (before after : List Note) (call : List (List ℕ)) → GoesOrRests s c base new before after (done.Asks call) → ⊥
+or_asks_not s c base new before after call (inl goes) = let e = goes in cc
+or_asks_not s c base new before after call (inr k) = rest_asks_not s c base new before after call (cut_of base) k
 
 answer_asks_not : (s : code_setup.Setup) (c : ℕ) (k : Link) (old new : Conn) (before after : List Note) (call : List (List ℕ)) → AnswersBy k s c old new before after (done.Asks call) → ⊥
 answer_asks_not s c link.Made old new before after call k = let e = k.0 in cc
@@ -526,10 +598,10 @@ asks_there s c old new before after call ticks k = by_stage old.stage k
     by_stage (stage.Connecting to) k = absurd (connect_asks_not s c to old new before after call k)
     by_stage (stage.Answering to) k = absurd (answer_asks_not s c old.ends.link old new before after call k)
     by_stage stage.Collecting k = absurd (collect_asks_not s c (meets old.host.net.client.asks old.ends.client.unread) old new before after call k)
-    by_stage stage.AtHead k = absurd k
-    by_stage stage.Continuing k = absurd k
+    by_stage stage.AtHead (spoken, k) = absurd (or_asks_not s c old new before after call (head_or s c old new before after (done.Asks call) (head_part old.ends.client.unread old.ends.client.ended) k))
+    by_stage stage.Continuing (spoken, k) = absurd (or_asks_not s c old new before after call (tells_or s c old new before after (done.Asks call) k))
     by_stage (stage.Gathering wanted reader) k = absurd k
-    by_stage (stage.Dropping reader) k = absurd k
+    by_stage (stage.Dropping reader) (spoken, k) = absurd (or_asks_not s c (dropped k.left k.size old) new before after call (drops_or s c reader old new before after (done.Asks call) k))
     by_stage stage.Releasing k = absurd (release_asks_not s c old new before after call k)
     by_stage (stage.Relaying first) k = absurd (relay_asks_not s c (relay_plan first old.host.net old.ends) old new before after call k)
     by_stage (stage.Finishing f) k = absurd (let e = k.0 in cc)

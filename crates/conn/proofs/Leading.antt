@@ -1,10 +1,28 @@
--- Where an action outside of bodies leads: a body has just begun there, or none runs; and no more than two
+-- Where an action outside of bodies leads: a body has just begun there, or none runs; and no more than eight
 -- such actions are made one after another without a note.
-use Rattle.std.proofs.Common.{◌≡◌, ◌⊎◌, ◌≤◌, inl, inr, refl, sym, ap, subst, ◌∙◌, ℕ, ◌+◌, ◌*◌, List, [], ◌∷◌, ◌++◌, length, length-append, nat_lt, Bool, true, false, true≢false, Option, Some, None, if◌then◌else◌, arith}
+use Rattle.std.proofs.Common.{◌≡◌, ◌⊎◌, ◌≤◌, inl, inr, refl, sym, ap, subst, ◌∙◌, ℕ, zero, suc, ◌+◌, ◌*◌, List, [], ◌∷◌, ◌++◌, length, length-append, take, drop, nat_lt, Bool, true, false, true≢false, Option, Some, None, Result, Ok, Err, if◌then◌else◌, arith}
+use Rattle.std.specs.Option.{is_some}
+use Rattle.std.specs.Prelude.{option_map}
 use Rattle.std.specs.Bool.{MatchBool}
 use Rattle.px_bytes.specs.declared.addr.Addr.{Addr}
 use Rattle.px_bytes.specs.declared.fault.FaultKind.{FaultKind}
+use Rattle.px_bytes.specs.declared.addr.Side.TheVariants.{Client}
+use Rattle.px_bytes.specs.declared.fault.HttpFault.{HttpFault}
 use Rattle.px_bytes.specs.declared.fault.TclFault.{TclFault}
+use Rattle.http_answers.specs.Refusals.{continue_text, refusal}
+use Rattle.http_frames.specs.Parts.{Part, Byte, Chunk, End, Pending, Bad, part_of}
+use Rattle.http_frames.specs.declared.state.BodyState.{BodyState}
+use Rattle.http_messages.specs.Messages.{request_of}
+use Rattle.irule_http.specs.Sent.{client_closes}
+use Rattle.irule_http.specs.State.{expects_by}
+use Rattle.irule_http.specs.declared.state.Request.{Request}
+use Rattle.http_heads.specs.declared.front.HeadPart.{HeadPart}
+use Rattle.http_heads.specs.declared.front.HeadPart.TheVariants.{HeadOf, StreamEnds, Faulty, NoHead}
+use Rattle.http_heads.specs.Fronts.{head_part}
+use Rattle.conn_trace.specs.Host.{http_known}
+use Rattle.conn_trace.specs.Http.{wanted_more}
+use Rattle.conn_trace.specs.Places.{http_begun}
+use Rattle.conn_trace.specs.SentBodies.{is_answered}
 use Rattle.core_events.specs.declared.note.CutReason.{CutReason}
 use Rattle.core_events.specs.declared.note.Note.{Note}
 use Rattle.conn_trace.specs.Relay.{meets}
@@ -12,15 +30,16 @@ use Rattle.conn_trace.specs.Setup.{Handler, uncaught_line}
 use Rattle.irule_http.specs.declared.state.Http.{Http}
 use Rattle.irule_net.specs.declared.state.Selected.{Selected}
 use Rattle.conn.specs.Acts.{Acted, ActedAt, AnswersBy, BehindFault, CollectsBy, RelaysBy, Rests, RestsBy, cut_of, has_room, Connects}
+use Rattle.conn.specs.Acts.{DropsBy, HeadBy, RefusesBy, RequestBy, SendsClient, client_room, dropped}
 use Rattle.conn.specs.Bodies.{Fresh}
 use Rattle.conn.specs.Changes.{Closes, ClosesClient, ClosesServer, Enters, GoesTo, Leaves, NextBody, StartsBody, left_stage}
 use Rattle.conn.specs.Choosing.{ChoosesBy, TakesChosen, plan_of}
 use Rattle.conn.specs.Ends.{is_sought, is_up}
 use Rattle.conn.specs.Events.{event_of, is_closed}
-use Rattle.conn.specs.Hosts.{begun_host}
+use Rattle.conn.specs.Hosts.{begun_host, requested_host}
 use Rattle.conn.specs.Relaying.{Releases, relay_plan, round_begun}
 use Rattle.conn.specs.Setups.{places_at}
-use Rattle.conn.specs.Stages.{connected_stage, connecting_stage, entered_by, failed_stage, has_body, http_in, is_running}
+use Rattle.conn.specs.Stages.{asked_stage, connected_stage, connecting_stage, entered_by, failed_stage, gathering_stage, has_body, http_in, is_running, next_by, next_stage, request_stage}
 use Rattle.conn.specs.Steps.{GoesOn, ended_of}
 use Rattle.conn.specs.declared.connection.Conn.{Conn}
 use Rattle.conn.specs.declared.ends.Ends.{Ends}
@@ -107,74 +126,141 @@ pub ended_starts : (s : code.Setup) (h : Handler) (at : At) (n : ℕ) (mid new :
 ended_starts s h at n mid new None did k = next s at (n + 1) mid new k.1
 ended_starts s h at n mid new (Some fault) did k = goes_to s (stage.Failing at (n + 1) fault.kind (uncaught_line h.rule (event_of at) fault.text)) mid new refl k.1
 
--- how many actions may come without a note before a body runs, or bytes are passed on
-abbrev pub rank : Stage → ℕ
-rank (stage.Gated at) = 1
-rank stage.Choosing = 2
-rank (stage.Chosen addr) = 2
-rank (stage.Answering to) = 2
-rank stage.Releasing = 1
-rank other = 0
+-- How many actions may come without a note before a body runs, or bytes are passed on. Where a rule has answered the
+-- request at hand LB_FAILED without bodies drops what is left of it; the next request isn't answered yet.
+abbrev pub rank : Stage → (answered : Bool) → ℕ
+rank (stage.Gated at) answered = 1
+rank stage.Choosing answered = if answered then 7 else 2
+rank (stage.Chosen addr) answered = if answered then 7 else 2
+rank (stage.Answering to) answered = if answered then 7 else 2
+rank stage.Continuing answered = if answered then 8 else 3
+rank stage.AtHead answered = 4
+rank (stage.Dropping reader) answered = 5
+rank stage.Releasing answered = 1
+rank other answered = 0
 
-pub rank_few : (st : Stage) → rank st ≤ 2
-rank_few (stage.Gated at) = omega arith
-rank_few stage.Choosing = omega arith
-rank_few (stage.Chosen addr) = omega arith
-rank_few (stage.Answering to) = omega arith
-rank_few stage.Releasing = omega arith
-rank_few other = omega arith
+abbrev pub is_answered_in : RuleHost → Bool
+is_answered_in h = is_some (http_in h).answer
+
+abbrev pub rank_of : Conn → ℕ
+rank_of c = rank c.stage (is_answered_in c.host)
+
+few_by : (b : Bool) (x y : ℕ) → x ≤ 8 → y ≤ 8 → (if b then x else y) ≤ 8
+few_by true x y p q = p
+few_by false x y p q = q
+
+pub rank_few : (st : Stage) (answered : Bool) → rank st answered ≤ 8
+rank_few (stage.Gated at) answered = omega arith
+rank_few stage.Choosing answered = few_by answered 7 2 (omega arith) (omega arith)
+rank_few (stage.Chosen addr) answered = few_by answered 7 2 (omega arith) (omega arith)
+rank_few (stage.Answering to) answered = few_by answered 7 2 (omega arith) (omega arith)
+rank_few stage.Continuing answered = few_by answered 8 3 (omega arith) (omega arith)
+rank_few stage.AtHead answered = omega arith
+rank_few (stage.Dropping reader) answered = omega arith
+rank_few stage.Releasing answered = omega arith
+rank_few other answered = omega arith
+
+-- where a server is selected or asked for
+abbrev high : Bool → ℕ
+high answered = if answered then 7 else 2
+
+below_high : (answered : Bool) (n : ℕ) → n ≤ 1 → n + 1 ≤ high answered
+below_high true n low = omega (arith, low)
+below_high false n low = omega (arith, low)
 
 -- an event is entered at which no body has run yet
 record EntersLow (at : At) : Type 0 where
-  low : (k : Link) (host : RuleHost) (up : Bool) (new : RuleHost) (ps : List Place) → new ≡ begun_host at up host → rank (entered_by at k new ps) ≤ 1
+  low : (k : Link) (host : RuleHost) (up : Bool) (new : RuleHost) (ps : List Place) → new ≡ begun_host at up host → rank (entered_by at k new ps) (is_answered_in new) + 1 ≤ high (is_answered_in new)
 
-connecting_low : (o : Option Selected) → rank (connecting_stage o) ≤ 1
-connecting_low None = omega arith
-connecting_low (Some s) = omega arith
+connecting_low : (o : Option Selected) (answered : Bool) → rank (connecting_stage o) answered ≤ 1
+connecting_low None answered = omega arith
+connecting_low (Some s) answered = omega arith
 
-connected_low : (loose : List ℕ) → rank (connected_stage loose) ≤ 1
-connected_low [] = omega arith
-connected_low (b ∷ bs) = omega arith
+connected_low : (loose : List ℕ) (answered : Bool) → rank (connected_stage loose) answered ≤ 1
+connected_low [] answered = omega arith
+connected_low (b ∷ bs) answered = omega arith
 
-low_by : (at : At) (k : Link) (host : RuleHost) (up : Bool) (new : RuleHost) (ps : List Place) → new ≡ begun_host at up host → rank (entered_by at k (begun_host at up host) ps) ≤ 1 → rank (entered_by at k new ps) ≤ 1
-low_by at k host up new ps is low = subst (λ n. rank (entered_by at k n ps) ≤ 1) (sym is) low
+low_by : (at : At) (k : Link) (host : RuleHost) (up : Bool) (new : RuleHost) (ps : List Place) → new ≡ begun_host at up host → (let h = begun_host at up host in rank (entered_by at k h ps) (is_answered_in h) + 1 ≤ high (is_answered_in h)) → rank (entered_by at k new ps) (is_answered_in new) + 1 ≤ high (is_answered_in new)
+low_by at k host up new ps is low = subst (λ n. rank (entered_by at k n ps) (is_answered_in n) + 1 ≤ high (is_answered_in n)) (sym is) low
 
-failed_rank : (answer : Option Bool) (http : Http) → rank (failed_stage answer false http) ≤ 1
+failed_rank : (answer : Option Bool) (http : Http) → rank (failed_stage answer false http) (is_some answer) + 1 ≤ high (is_some answer)
 failed_rank None http = omega arith
 failed_rank (Some closing) http = omega arith
 
 failed_low : EntersLow event.Failed
 failed_low = record { low = λ k host up new ps is. low_by event.Failed k host up new ps is (by_places k host up ps) }
   where
-    by_places : (k : Link) (host : RuleHost) (up : Bool) (ps : List Place) → rank (entered_by event.Failed k (begun_host event.Failed up host) ps) ≤ 1
+    by_places : (k : Link) (host : RuleHost) (up : Bool) (ps : List Place) → (let h = begun_host event.Failed up host in rank (entered_by event.Failed k h ps) (is_answered_in h) + 1 ≤ high (is_answered_in h))
     by_places k host up [] = failed_rank (http_in (begun_host event.Failed up host)).answer (http_in (begun_host event.Failed up host))
-    by_places k host up (p ∷ ps) = omega arith
+    by_places k host up (p ∷ ps) = below_high (is_answered_in (begun_host event.Failed up host)) 1 (omega arith)
 
 selected_low : EntersLow event.Selected
 selected_low = record { low = λ k host up new ps is. low_by event.Selected k host up new ps is (by_places k host up ps) }
   where
-    by_places : (k : Link) (host : RuleHost) (up : Bool) (ps : List Place) → rank (entered_by event.Selected k (begun_host event.Selected up host) ps) ≤ 1
-    by_places k host up [] = connecting_low host.net.selected
-    by_places k host up (p ∷ ps) = omega arith
+    by_places : (k : Link) (host : RuleHost) (up : Bool) (ps : List Place) → (let h = begun_host event.Selected up host in rank (entered_by event.Selected k h ps) (is_answered_in h) + 1 ≤ high (is_answered_in h))
+    by_places k host up [] = below_high (is_answered_in (begun_host event.Selected up host)) _ (connecting_low host.net.selected (is_answered_in (begun_host event.Selected up host)))
+    by_places k host up (p ∷ ps) = below_high (is_answered_in (begun_host event.Selected up host)) 1 (omega arith)
 
 connects_low : EntersLow event.Connected
 connects_low = record { low = λ k host up new ps is. low_by event.Connected k host up new ps is (by_places k host up ps) }
   where
-    by_places : (k : Link) (host : RuleHost) (up : Bool) (ps : List Place) → rank (entered_by event.Connected k (begun_host event.Connected up host) ps) ≤ 1
-    by_places k host up [] = connected_low host.net.loose
-    by_places k host up (p ∷ ps) = omega arith
+    by_places : (k : Link) (host : RuleHost) (up : Bool) (ps : List Place) → (let h = begun_host event.Connected up host in rank (entered_by event.Connected k h ps) (is_answered_in h) + 1 ≤ high (is_answered_in h))
+    by_places k host up [] = below_high (is_answered_in (begun_host event.Connected up host)) _ (connected_low host.net.loose (is_answered_in (begun_host event.Connected up host)))
+    by_places k host up (p ∷ ps) = below_high (is_answered_in (begun_host event.Connected up host)) 1 (omega arith)
+
+-- an event leaves whether a rule has answered; a request that begins isn't answered
+answered_still : (at : At) (up : Bool) (h : RuleHost) → is_answered_in (begun_host at up h) ≡ is_answered_in h
+answered_still at up h = by_http h.http
+  where
+    by_http : (o : Option Http) → is_some (http_known (option_map (http_begun h.net) o)).answer ≡ is_some (http_known o).answer
+    by_http None = refl
+    by_http (Some http) = refl
+
+-- a request that was read
+gathering_low : (n : ℕ) (http : Http) (answered : Bool) → rank (gathering_stage n http) answered ≤ high answered
+gathering_low zero http true = omega arith
+gathering_low zero http false = omega arith
+gathering_low (suc n) http true = omega arith
+gathering_low (suc n) http false = omega arith
+
+asked_low : (expects : Bool) (http : Http) → rank (request_stage None expects http) false ≤ 3
+asked_low true http = omega arith
+asked_low false http = let k = gathering_low (wanted_more http) http false in omega (arith, k)
+
+request_low : (k : Link) (r : Request) (host : RuleHost) (up : Bool) (new : RuleHost) (ps : List Place) → new ≡ begun_host event.Request up (requested_host r host) → rank (entered_by event.Request k new ps) (is_answered_in new) ≤ 3
+request_low k r host up new ps is = subst (λ n. rank (entered_by event.Request k n ps) (is_answered_in n) ≤ 3) (sym is) (by_places ps)
+  where
+    by_places : (ps : List Place) → rank (entered_by event.Request k (begun_host event.Request up (requested_host r host)) ps) false ≤ 3
+    by_places [] = asked_low (expects_by (http_in (begun_host event.Request up (requested_host r host))).came) (http_in (begun_host event.Request up (requested_host r host)))
+    by_places (p ∷ ps) = omega arith
+
+one_above : (answered : Bool) (n : ℕ) → n ≤ high answered → n + 1 ≤ rank stage.Continuing answered
+one_above true n low = omega (arith, low)
+one_above false n low = omega (arith, low)
+
+gathering_calm : (n : ℕ) (http : Http) → has_body (gathering_stage n http) ≡ false
+gathering_calm zero http = refl
+gathering_calm (suc n) http = refl
+
+next_low : (closes answered : Bool) → rank (next_by closes) answered ≤ 4
+next_low true answered = omega arith
+next_low false answered = omega arith
+
+next_body_none : (closes : Bool) → has_body (next_by closes) ≡ false
+next_body_none true = refl
+next_body_none false = refl
 
 -- where it leads, and that it comes nearer to a body or a note
 pub record Led (s : code.Setup) (old new : Conn) (before after : List Note) (did : Act) : Type 0 where
   pub starts : Starts s new
-  pub moves : did ≡ done.Goes → rank new.stage + 3 * length before + 1 ≤ rank old.stage + 3 * length after
+  pub moves : did ≡ done.Goes → rank_of new + 9 * length before + 1 ≤ rank_of old + 9 * length after
 
 module _ (s : code.Setup) (c : ℕ) (old new : Conn) (before after : List Note) (did : Act) where
   abbrev Leads : Type 0
   Leads = Led s old new before after did
 
   noted : (n : Note) → Starts s new → after ≡ before ++ n ∷ [] → Leads
-  noted n starts is = record { starts = starts; moves = λ goes. (let k = ap length is ∙ length-append before (n ∷ []) in let r = rank_few new.stage in omega (arith, k, r)) }
+  noted n starts is = record { starts = starts; moves = λ goes. (let k = ap length is ∙ length-append before (n ∷ []) in let r = rank_few new.stage (is_answered_in new.host) in omega (arith, k, r)) }
 
   rests : (base : Conn) → has_body base.stage ≡ false → did ≡ done.Rests → new ≡ base → Leads
   rests base calm rest same = record { starts = inl (ap (λ x. has_body x.stage) same ∙ calm); moves = λ goes. absurd (let e = sym rest ∙ goes in cc) }
@@ -183,30 +269,31 @@ module _ (s : code.Setup) (c : ℕ) (old new : Conn) (before after : List Note) 
   by_rest None base calm k = rests base calm k.0 k.1
   by_rest (Some reason) base calm k = noted _ (closes s base new k.1.0) k.1.1
 
-  lower : (r : ℕ) → rank old.stage ≡ r → rank new.stage + 1 ≤ r → after ≡ before → Starts s new → Leads
+  lower : (r : ℕ) → rank_of old ≡ r → rank_of new + 1 ≤ r → after ≡ before → Starts s new → Leads
   lower r is low quiet starts = record { starts = starts; moves = λ goes. (let n = ap length quiet in omega (arith, is, low, n)) }
 
-  entered : (at : At) (h : RuleHost) (e : Ends) → EntersLow at → rank old.stage ≡ 2 → after ≡ before → Enters s at h e old new → Leads
-  entered at h e low is quiet k =
-      let r : rank new.stage ≤ 1 = subst (λ st. rank st ≤ 1) (sym k.there) (low.low e.link h (is_up e.link) new.host (places_at s at) k.host) in
-      lower 2 is (omega (arith, r)) quiet (enters s at h e old new k)
+  entered : (at : At) (h : RuleHost) (e : Ends) → EntersLow at → is_answered_in h ≡ is_answered_in old.host → rank_of old ≡ high (is_answered_in old.host) → after ≡ before → Enters s at h e old new → Leads
+  entered at h e low same is quiet k =
+      let flag : is_answered_in new.host ≡ is_answered_in old.host = ap is_answered_in k.host ∙ answered_still at (is_up e.link) h ∙ same in
+      let r : rank_of new + 1 ≤ high (is_answered_in new.host) = subst (λ st. rank st (is_answered_in new.host) + 1 ≤ high (is_answered_in new.host)) (sym k.there) (low.low e.link h (is_up e.link) new.host (places_at s at) k.host) in
+      lower (high (is_answered_in old.host)) is (subst (λ b. rank_of new + 1 ≤ high b) flag r) quiet (enters s at h e old new k)
 
-  by_gate : (at : At) → rank old.stage ≡ 1 → has_body old.stage ≡ false → (b : Bool) → MatchBool b ((did ≡ done.Goes) × StartsBody s at 0 old new × (after ≡ before)) (Rests s c old new before after did) → Leads
-  by_gate at is calm true k = lower 1 is (let r = ap rank k.1.there in omega (arith, r)) k.2 (starts_body s at 0 old new k.1)
+  by_gate : (at : At) → rank_of old ≡ 1 → has_body old.stage ≡ false → (b : Bool) → MatchBool b ((did ≡ done.Goes) × StartsBody s at 0 old new × (after ≡ before)) (Rests s c old new before after did) → Leads
+  by_gate at is calm true k = lower 1 is (let r = ap (λ st. rank st (is_answered_in new.host)) k.1.there in omega (arith, r)) k.2 (starts_body s at 0 old new k.1)
   by_gate at is calm false k = by_rest (cut_of old) old calm k
 
-  by_plan : rank old.stage ≡ 2 → after ≡ before → (p : Plan) → ChoosesBy p s old new did → Leads
-  by_plan is quiet plan.Nothing k = entered event.Failed _ _ failed_low is quiet k.1
-  by_plan is quiet (plan.Node addr) k = entered event.Selected _ _ selected_low is quiet k.1
+  by_plan : rank_of old ≡ high (is_answered_in old.host) → after ≡ before → (p : Plan) → ChoosesBy p s old new did → Leads
+  by_plan is quiet plan.Nothing k = entered event.Failed _ _ failed_low refl is quiet k.1
+  by_plan is quiet (plan.Node addr) k = entered event.Selected _ _ selected_low refl is quiet k.1
   by_plan is quiet (plan.Member pool only) k = record { starts = inl (ap has_body k.there); moves = λ goes. absurd (let e = sym k.asks ∙ goes in cc) }
 
-  by_reply : rank old.stage ≡ 2 → after ≡ before → (addr : Option Addr) → TakesChosen s addr old new → Leads
-  by_reply is quiet None k = entered event.Failed _ _ failed_low is quiet k
-  by_reply is quiet (Some addr) k = entered event.Selected _ _ selected_low is quiet k
+  by_reply : rank_of old ≡ high (is_answered_in old.host) → after ≡ before → (addr : Option Addr) → TakesChosen s addr old new → Leads
+  by_reply is quiet None k = entered event.Failed _ _ failed_low refl is quiet k
+  by_reply is quiet (Some addr) k = entered event.Selected _ _ selected_low refl is quiet k
 
-  by_answer : rank old.stage ≡ 2 → has_body old.stage ≡ false → (l : Link) → AnswersBy l s c old new before after did → Leads
-  by_answer is calm link.Made k = entered event.Connected _ _ connects_low is k.2 k.1
-  by_answer is calm link.Refused k = entered event.Failed _ _ failed_low is k.2 k.1
+  by_answer : rank_of old ≡ high (is_answered_in old.host) → has_body old.stage ≡ false → (l : Link) → AnswersBy l s c old new before after did → Leads
+  by_answer is calm link.Made k = entered event.Connected _ _ connects_low refl is k.2 k.1
+  by_answer is calm link.Refused k = entered event.Failed _ _ failed_low refl is k.2 k.1
   by_answer is calm link.Absent k = by_rest (cut_of old) old calm k
   by_answer is calm link.Asked k = by_rest (cut_of old) old calm k
   by_answer is calm link.Up k = by_rest (cut_of old) old calm k
@@ -220,8 +307,8 @@ module _ (s : code.Setup) (c : ℕ) (old new : Conn) (before after : List Note) 
   by_collect calm None k = by_rest (cut_of old) old calm k
   by_collect calm (Some n) k = noted _ (enters s _ _ _ old new k.1.enters) k.1.noted
 
-  by_release : rank old.stage ≡ 1 → has_body old.stage ≡ false → (b : Bool) → MatchBool b ((did ≡ done.Goes) × Releases old new × (after ≡ before)) (Rests s c old new before after did) → Leads
-  by_release is calm true k = lower 1 is (let r = ap rank k.1.there in omega (arith, r)) k.2 (inl (ap has_body k.1.there))
+  by_release : rank_of old ≡ 1 → has_body old.stage ≡ false → (b : Bool) → MatchBool b ((did ≡ done.Goes) × Releases old new × (after ≡ before)) (Rests s c old new before after did) → Leads
+  by_release is calm true k = lower 1 is (let r = ap (λ st. rank st (is_answered_in new.host)) k.1.there in omega (arith, r)) k.2 (inl (ap has_body k.1.there))
   by_release is calm false k = by_rest (cut_of old) old calm k
 
   by_relay : (r : Relay) → RelaysBy r s c old new before after did → Leads
@@ -230,28 +317,75 @@ module _ (s : code.Setup) (c : ℕ) (old new : Conn) (before after : List Note) 
   by_relay (relay.Fire side n) k = noted _ (enters s _ _ _ old new k.1.enters) k.1.noted
   by_relay relay.Rest k = by_rest (cut_of (round_begun old)) (round_begun old) refl k
 
+  -- requests
+  sends : (r : ℕ) (bytes : List ℕ) (st : Stage) → rank_of old ≡ r → has_body st ≡ false → rank st (is_answered_in old.host) + 1 ≤ r → after ≡ before → SendsClient bytes st old new → Leads
+  sends r bytes st is calm low quiet k =
+      let same : rank_of new ≡ rank st (is_answered_in old.host) = ap (λ x. rank x (is_answered_in new.host)) k.there ∙ ap (λ h. rank st (is_answered_in h)) k.host in
+      lower r is (omega (arith, same, low)) quiet (inl (ap has_body k.there ∙ calm))
+
+  by_tell : rank_of old ≡ rank stage.Continuing (is_answered_in old.host) → has_body old.stage ≡ false → (b : Bool) → MatchBool b ((did ≡ done.Goes) × SendsClient continue_text (asked_stage (http_in old.host)) old new × (after ≡ before)) (Rests s c old new before after did) → Leads
+  by_tell is calm true k =
+      let low = gathering_low (wanted_more (http_in old.host)) (http_in old.host) (is_answered_in old.host) in
+      sends (rank stage.Continuing (is_answered_in old.host)) continue_text (asked_stage (http_in old.host)) is (gathering_calm (wanted_more (http_in old.host)) (http_in old.host)) (one_above (is_answered_in old.host) _ low) k.2 k.1
+  by_tell is calm false k = by_rest (cut_of old) old calm k
+
+  by_front : (reader : BodyState) (size : ℕ) → rank_of old ≡ 5 → (p : Part) → DropsBy p s c (dropped reader size old) new before after did → Leads
+  by_front reader size is Byte k = absurd k
+  by_front reader size is (Chunk line n) k = absurd k
+  by_front reader size is (End n) k =
+      let same : rank_of new ≡ rank (next_stage (http_in old.host)) (is_answered_in new.host) = ap (λ x. rank x (is_answered_in new.host)) k.1.there in
+      let low = next_low (client_closes (http_in old.host)) (is_answered_in new.host) in
+      lower 5 is (omega (arith, same, low)) k.2 (inl (ap has_body k.1.there ∙ next_body_none (client_closes (http_in old.host))))
+  by_front reader size is Pending k = by_rest (cut_of (dropped reader size old)) (dropped reader size old) refl k
+  by_front reader size is (Bad f) k = by_answered (is_answered Client f) k
+    where
+      by_answered : (x : Bool) → RefusesBy x f s c (dropped reader size old) new before after did → Leads
+      by_answered true k =
+          let same : rank_of new ≡ 0 = ap (λ x. rank x (is_answered_in new.host)) k.1.there in
+          lower 5 is (omega (arith, same)) k.2 (inl (ap has_body k.1.there))
+      by_answered false k = noted _ (closes s (dropped reader size old) new k.1.0) k.1.1
+
+  refuses : (f : HttpFault) → rank_of old ≡ 4 → (x : Bool) → RefusesBy x f s c old new before after did → Leads
+  refuses f is true k = sends 4 (refusal f) (stage.Finishing (finish.Http f)) is refl (omega arith) k.2 k.1
+  refuses f is false k = noted _ (closes s old new k.1.0) k.1.1
+
+  by_request : (n : ℕ) → rank_of old ≡ 4 → (r : Result Request HttpFault) → RequestBy r n s c old new before after did → Leads
+  by_request n is (Ok r) k =
+      let low : rank_of new ≤ 3 = subst (λ st. rank st (is_answered_in new.host) ≤ 3) (sym k.1.there) (request_low old.ends.link r old.host (is_up old.ends.link) new.host (places_at s event.Request) k.1.host) in
+      lower 4 is (omega (arith, low)) k.2 (enters s event.Request _ _ old new k.1)
+  by_request n is (Err f) k = refuses f is (is_answered Client f) k
+
+  by_head : rank_of old ≡ 4 → has_body old.stage ≡ false → (p : HeadPart) → HeadBy p s c old new before after did → Leads
+  by_head is calm (HeadOf n) k = by_request n is (request_of (take n old.ends.client.unread)) k
+  by_head is calm StreamEnds k = noted _ (closes s old new k.1.0) k.1.1
+  by_head is calm (Faulty f) k = refuses f is (is_answered Client f) k
+  by_head is calm NoHead k = by_rest (cut_of old) old calm k
+
   pub outside_led : (ticks : ℕ) → Acted s c old new before after did ticks → has_body old.stage ≡ false → Leads
   outside_led ticks k calm = by_stage old.stage refl k
     where
       in_a_body : (st : Stage) → old.stage ≡ st → has_body st ≡ true → Leads
       in_a_body st is runs = absurd (true≢false (sym runs ∙ sym (ap has_body is) ∙ calm))
 
+      at_rank : {st : Stage} → old.stage ≡ st → rank_of old ≡ rank st (is_answered_in old.host)
+      at_rank is = ap (λ x. rank x (is_answered_in old.host)) is
+
       by_stage : (st : Stage) → old.stage ≡ st → ActedAt st s c old new before after did ticks → Leads
-      by_stage (stage.Gated at) is k = by_gate at (ap rank is) calm (has_room old) k
+      by_stage (stage.Gated at) is k = by_gate at (at_rank is) calm (has_room old) k
       by_stage (stage.Running at n) is k = in_a_body (stage.Running at n) is refl
       by_stage (stage.Asking at n) is k = in_a_body (stage.Asking at n) is refl
       by_stage stage.Selecting is k = rests old calm k.0 k.1
       by_stage (stage.Failing at n kind line) is k = noted _ (behind_fault s at n kind old new k.1) k.2
-      by_stage stage.Choosing is k = by_plan (ap rank is) k.1 (plan_of old.host.net) k.0
-      by_stage (stage.Chosen addr) is k = by_reply (ap rank is) k.2 addr k.1
+      by_stage stage.Choosing is k = by_plan (at_rank is) k.1 (plan_of old.host.net) k.0
+      by_stage (stage.Chosen addr) is k = by_reply (at_rank is) k.2 addr k.1
       by_stage (stage.Connecting to) is k = by_connect calm to (is_empty (queue_in Server old)) k
-      by_stage (stage.Answering to) is k = by_answer (ap rank is) calm old.ends.link k
+      by_stage (stage.Answering to) is k = by_answer (at_rank is) calm old.ends.link k
       by_stage stage.Collecting is k = by_collect calm (meets old.host.net.client.asks old.ends.client.unread) k
-      by_stage stage.AtHead is k = absurd k
-      by_stage stage.Continuing is k = absurd k
+      by_stage stage.AtHead is k = by_head (at_rank is) calm (head_part old.ends.client.unread old.ends.client.ended) k.1
+      by_stage stage.Continuing is (spoken, k) = by_tell (at_rank is) calm (client_room old) k
       by_stage (stage.Gathering wanted reader) is k = absurd k
-      by_stage (stage.Dropping reader) is k = absurd k
-      by_stage stage.Releasing is k = by_release (ap rank is) calm (server_room old) k
+      by_stage (stage.Dropping reader) is (spoken, k) = by_front k.left k.size (at_rank is) (part_of k.left (drop k.size old.ends.client.unread) old.ends.client.ended) k.goes
+      by_stage stage.Releasing is k = by_release (at_rank is) calm (server_room old) k
       by_stage (stage.Relaying first) is k = by_relay (relay_plan first old.host.net old.ends) k
       by_stage (stage.Finishing f) is k = noted _ (closes s old new k.1.0) k.1.1
       by_stage stage.Draining is k = rests old calm k.0 k.1
@@ -260,13 +394,13 @@ module _ (s : code.Setup) (c : ℕ) (old new : Conn) (before after : List Note) 
 
 -- so each action that goes on comes nearer to a note or counts a step
 pub progress : (s : code.Setup) (c : ℕ) (old new : Conn) (before after : List Note) (ticks : ℕ) → Acted s c old new before after done.Goes ticks → (is_running old.stage ≡ true → 1 ≤ ticks) → length before ≤ length after
-    → rank new.stage + 3 * length before + 1 ≤ rank old.stage + 3 * (ticks + length after)
+    → rank_of new + 9 * length before + 1 ≤ rank_of old + 9 * (ticks + length after)
 progress s c old new before after ticks k counts grows = by_stage old.stage refl k
   where
-    outside : (st : Stage) → old.stage ≡ st → has_body st ≡ false → rank new.stage + 3 * length before + 1 ≤ rank old.stage + 3 * (ticks + length after)
+    outside : (st : Stage) → old.stage ≡ st → has_body st ≡ false → rank_of new + 9 * length before + 1 ≤ rank_of old + 9 * (ticks + length after)
     outside st is calm = let m = (outside_led s c old new before after done.Goes ticks k (ap has_body is ∙ calm)).moves refl in omega (arith, m)
 
-    by_stage : (st : Stage) → old.stage ≡ st → ActedAt st s c old new before after done.Goes ticks → rank new.stage + 3 * length before + 1 ≤ rank old.stage + 3 * (ticks + length after)
-    by_stage (stage.Running at n) is k = let t = counts (ap is_running is) in let r = rank_few new.stage in omega (arith, t, r, grows)
+    by_stage : (st : Stage) → old.stage ≡ st → ActedAt st s c old new before after done.Goes ticks → rank_of new + 9 * length before + 1 ≤ rank_of old + 9 * (ticks + length after)
+    by_stage (stage.Running at n) is k = let t = counts (ap is_running is) in let r = rank_few new.stage (is_answered_in new.host) in omega (arith, t, r, grows)
     by_stage (stage.Asking at n) is k = absurd (let e = k.0 in cc)
     by_stage other is k = outside other is refl

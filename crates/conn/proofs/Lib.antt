@@ -13,6 +13,13 @@ pub mod Acting
 pub mod Leading
 pub mod Paying
 pub mod Affording
+pub mod Answering
+pub mod Refusing
+pub mod Dropped
+pub mod Requesting
+pub mod RequestActs
+pub mod Dropping
+pub mod Seen
 pub mod Quick
 pub mod Calling
 pub mod Doing

@@ -144,6 +144,10 @@ told_of g k h t relays = record { from = t.from; relays = relays; spoken = t.spo
 pub known_same : (g : Setup) (k m : Link) (h i : RuleHost) → i.net.from ≡ h.net.from → is_some i.http ≡ is_some h.http → m ≡ k → Known g k h → Known g m i
 known_same g k m h i from http link t = record { from = from ∙ t.from; spoken = http ∙ t.spoken; alone = λ e. link ∙ t.alone e }
 
+-- of the same host and link
+pub told_kept : (g : Setup) (old new : Conn) → new.host ≡ old.host → new.ends.link ≡ old.ends.link → Told g old.ends.link old.host → Told g new.ends.link new.host
+told_kept g old new host link k = subst (λ m. Told g m new.host) (sym link) (subst (λ h. Told g old.ends.link h) (sym host) k)
+
 -- with a server connection no HTTP is spoken
 pub is_plain : (g : Setup) (k : Link) (h : RuleHost) → Known g k h → (k ≡ link.Absent → ⊥) → h.http ≡ None
 is_plain g k h t there = by_http h.http (t.spoken ∙ by_flag g.http refl)

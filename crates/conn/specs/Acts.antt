@@ -1,15 +1,25 @@
 -- What one action changes.
 use Rattle.std.specs.Prelude.{◌≡◌, ℕ, ◌+◌, List, [], ◌∷◌, ◌++◌, length, Bool, ◌&&◌, nat_lt}
-use Rattle.std.specs.Prelude.{Option, Some, None, if◌then◌else◌}
+use Rattle.std.specs.Prelude.{true, false, Option, Some, None, Result, Ok, Err, is_some, take, if◌then◌else◌}
 use Rattle.std.specs.Bool.{MatchBool}
 use Rattle.px_bytes.specs.declared.addr.Addr.{Addr}
 use Rattle.px_bytes.specs.declared.addr.Side.{Side}
 use Rattle.px_bytes.specs.declared.addr.Side.TheVariants.{Client, Server}
 use Rattle.px_bytes.specs.declared.fault.FaultKind.{FaultKind}
+use Rattle.px_bytes.specs.declared.fault.HttpFault.{HttpFault}
+use Rattle.http_answers.specs.Refusals.{continue_text, refusal}
+use Rattle.http_frames.specs.Parts.{Part, Byte, Chunk, End, Pending, Bad, part_of}
+use Rattle.http_frames.specs.declared.state.BodyState.{BodyState}
 use Rattle.core_events.specs.Edges.{edge}
 use Rattle.seg_buffer.specs.Bytes.{is_empty}
+use Rattle.http_messages.specs.Messages.{request_of}
+use Rattle.irule_http.specs.declared.state.Request.{Request}
+use Rattle.http_heads.specs.declared.front.HeadPart.{HeadPart}
+use Rattle.http_heads.specs.declared.front.HeadPart.TheVariants.{HeadOf, StreamEnds, Faulty, NoHead}
+use Rattle.http_heads.specs.Fronts.{head_part}
 use Rattle.conn_trace.specs.Gates.{room_limit}
 use Rattle.conn_trace.specs.Relay.{meets}
+use Rattle.conn_trace.specs.SentBodies.{is_answered}
 use Rattle.core_events.specs.declared.edges.EdgeState.TheVariants as state
 use Rattle.core_events.specs.declared.note.CutReason.{CutReason}
 use Rattle.core_events.specs.declared.note.CutReason.TheVariants.{ClientReset, ServerReset}
@@ -21,6 +31,7 @@ use Rattle.conn.specs.declared.ends.Link.{Link}
 use Rattle.conn.specs.declared.ends.Link.TheVariants as link
 use Rattle.conn.specs.declared.events.At.{At}
 use Rattle.conn.specs.declared.events.At.TheVariants.{Failed, Connected}
+use Rattle.conn.specs.declared.events.At.TheVariants.{Request as HttpRequest}
 use Rattle.conn.specs.declared.relay.Relay.{Relay}
 use Rattle.conn.specs.declared.relay.Relay.TheVariants as relay
 use Rattle.conn.specs.declared.setup.Setup.{Setup}
@@ -34,9 +45,12 @@ use Rattle.conn.specs.Changes.{Closes, Enters, GoesTo, NextBody, StartsBody}
 use Rattle.conn.specs.Choosing.{Chooses, TakesChosen}
 use Rattle.conn.specs.Ends.{fresh_end, is_up}
 use Rattle.conn.specs.Events.{is_closed}
+use Rattle.conn.specs.Hosts.{requested_host}
 use Rattle.conn.specs.Queues.{queue_in}
-use Rattle.conn.specs.Relaying.{Fires, PassesOn, Releases, relay_plan, round_begun}
-use Rattle.conn.specs.Stages.{cause_for, has_finished}
+use Rattle.conn.specs.Dropping.{Drops}
+use Rattle.conn.specs.Relaying.{Fires, PassesOn, Releases, queue_end, read_ends, relay_plan}
+use Rattle.conn.specs.Relaying.{round_begun}
+use Rattle.conn.specs.Stages.{asked_stage, cause_for, has_finished, http_in, next_stage}
 use Rattle.conn.specs.Steps.{BodyMoved}
 
 -- it finishes for this reason
@@ -147,8 +161,90 @@ PassesReleased s c old new before after a =
     ((a ≡ act.Goes) × Releases old new × (after ≡ before))
     (Rests s c old new before after a)
 
--- What one action does, by where the connection stands; a body's step alone ticks. The stages of HTTP have
--- none yet.
+-- there is room for what is sent to the client
+abbrev pub client_room : Conn → Bool
+client_room c = nat_lt (length (queue_in Client c)) room_limit
+
+-- these bytes are queued to the client, and it goes to this stage
+pub record SendsClient (bytes : List ℕ) (st : Stage) (old new : Conn) : Type 0 where
+  pub there : new.stage ≡ st
+  pub vars : new.vars ≡ old.vars
+  pub host : new.host ≡ old.host
+  pub ends : new.ends ≡ record old.ends { client = queue_end bytes old.ends.client }
+
+-- the first n bytes of the client are read, and it goes to this stage
+pub record ReadsTo (n : ℕ) (st : Stage) (old new : Conn) : Type 0 where
+  pub there : new.stage ≡ st
+  pub vars : new.vars ≡ old.vars
+  pub host : new.host ≡ old.host
+  pub ends : new.ends ≡ read_ends Client n old.ends
+
+-- the client is told to go on with its request, where there is room
+abbrev pub TellsToGoOn : Setup → ℕ → Conn → Conn → List Note → List Note → Act → Type 0
+TellsToGoOn s c old new before after a = MatchBool (client_room old)
+    ((a ≡ act.Goes) × SendsClient continue_text (asked_stage (http_in old.host)) old new
+    × (after ≡ before))
+    (Rests s c old new before after a)
+
+-- what can't be read is answered, unless its stream ended
+abbrev pub RefusesBy : (answered : Bool) → HttpFault → Setup → ℕ → Conn → Conn → List Note
+    → List Note → Act → Type 0
+RefusesBy true f s c old new before after a =
+    (a ≡ act.Goes) × SendsClient (refusal f) (stage.Finishing (finish.Http f)) old new
+    × (after ≡ before)
+RefusesBy false f s c old new before after a =
+    (a ≡ act.Goes) × Finishes s c (finish.Http f) old new before after
+
+abbrev pub Refuses : HttpFault → Setup → ℕ → Conn → Conn → List Note → List Note → Act → Type 0
+Refuses f s c old new before after a =
+    RefusesBy (is_answered Client f) f s c old new before after a
+
+-- behind so many bytes of a body its reader stands there
+abbrev pub dropped : BodyState → ℕ → Conn → Conn
+dropped reader n c =
+    record c { stage = stage.Dropping reader; ends = read_ends Client n c.ends }
+
+-- what stands at the front of what is left of a body
+abbrev pub DropsBy : Part → Setup → ℕ → Conn → Conn → List Note → List Note → Act → Type 0
+DropsBy Byte s c old new before after a = ⊥
+DropsBy (Chunk line size) s c old new before after a = ⊥
+DropsBy (End n) s c old new before after a =
+    (a ≡ act.Goes) × ReadsTo n (next_stage (http_in old.host)) old new × (after ≡ before)
+DropsBy Pending s c old new before after a = Rests s c old new before after a
+DropsBy (Bad f) s c old new before after a = Refuses f s c old new before after a
+
+-- all units of the body that came are dropped, up to its end, one that isn't whole, or a fault
+pub record DropsBody (reader : BodyState) (s : Setup) (c : ℕ) (old new : Conn)
+    (before after : List Note) (a : Act) : Type 0 where
+  pub left : BodyState
+  pub size : ℕ
+  pub drops : Drops reader old.ends.client.unread old.ends.client.ended left size
+  pub goes : let mid = dropped left size old in
+      DropsBy (part_of left mid.ends.client.unread mid.ends.client.ended) s c mid new before after a
+
+-- a request is read, and its event is entered
+abbrev pub RequestBy : Result Request HttpFault → ℕ → Setup → ℕ → Conn → Conn → List Note
+    → List Note → Act → Type 0
+RequestBy (Ok r) n s c old new before after a =
+    (a ≡ act.Goes)
+    × Enters s HttpRequest (requested_host r old.host) (read_ends Client n old.ends) old new
+    × (after ≡ before)
+RequestBy (Err f) n s c old new before after a = Refuses f s c old new before after a
+
+abbrev pub HeadBy : HeadPart → Setup → ℕ → Conn → Conn → List Note → List Note → Act → Type 0
+HeadBy (HeadOf n) s c old new before after a =
+    RequestBy (request_of (take n old.ends.client.unread)) n s c old new before after a
+HeadBy StreamEnds s c old new before after a =
+    (a ≡ act.Goes) × Finishes s c finish.Closed old new before after
+HeadBy (Faulty f) s c old new before after a = Refuses f s c old new before after a
+HeadBy NoHead s c old new before after a = Rests s c old new before after a
+
+abbrev pub ReadsHead : Setup → ℕ → Conn → Conn → List Note → List Note → Act → Type 0
+ReadsHead s c old new before after a =
+    HeadBy (head_part old.ends.client.unread old.ends.client.ended) s c old new before after a
+
+-- What one action does, by where the connection stands; a body's step alone ticks. While a body is
+-- gathered nothing is done yet.
 abbrev pub ActedAt : Stage → Setup → ℕ → Conn → Conn → List Note → List Note → Act → (ticks : ℕ)
     → Type 0
 ActedAt (stage.Gated at) s c old new before after a ticks =
@@ -170,10 +266,13 @@ ActedAt stage.Releasing s c old new before after a ticks =
     PassesReleased s c old new before after a
 ActedAt (stage.Relaying first) s c old new before after a ticks =
     Relays s c first old new before after a
-ActedAt stage.AtHead s c old new before after a ticks = ⊥
-ActedAt stage.Continuing s c old new before after a ticks = ⊥
+ActedAt stage.AtHead s c old new before after a ticks =
+    (is_some old.host.http ≡ true) × ReadsHead s c old new before after a
+ActedAt stage.Continuing s c old new before after a ticks =
+    (is_some old.host.http ≡ true) × TellsToGoOn s c old new before after a
 ActedAt (stage.Gathering wanted reader) s c old new before after a ticks = ⊥
-ActedAt (stage.Dropping reader) s c old new before after a ticks = ⊥
+ActedAt (stage.Dropping reader) s c old new before after a ticks =
+    (is_some old.host.http ≡ true) × DropsBody reader s c old new before after a
 ActedAt (stage.Finishing f) s c old new before after a ticks =
     (a ≡ act.Goes) × Finishes s c f old new before after
 ActedAt other s c old new before after a ticks =

@@ -11,7 +11,9 @@ use Rattle.irule_net.specs.declared.state.NetState.{NetState}
 use Rattle.irule_net.specs.declared.state.Selected.{Selected}
 use Rattle.irule_http.specs.State.{no_http}
 use Rattle.irule_http.specs.declared.state.Http.{Http}
-use Rattle.conn_trace.specs.Host.{HostState}
+use Rattle.irule_http.specs.declared.state.Request.{Request}
+use Rattle.conn_trace.specs.Host.{HostState, http_known}
+use Rattle.conn_trace.specs.Http.{request_begun}
 use Rattle.conn_trace.specs.Places.{http_begun}
 use Rattle.conn_trace.specs.Setup.{Setup}
 use Rattle.core_events.specs.declared.note.Note.{Note}
@@ -53,6 +55,14 @@ begun_host at up h = record h {
   event = at;
   net = record (begun h.net) { relays = up };
   http = option_map (http_begun h.net) h.http;
+}
+
+-- A request begins: of the one before only its number and the server connection's choice are left, and
+-- of what rules wished nothing.
+abbrev pub requested_host : Request → RuleHost → RuleHost
+requested_host r h = record h {
+  net = record (begun h.net) { reselects = 0 };
+  http = Some (request_begun r (http_known h.http));
 }
 
 abbrev pub selected_host : Option Selected → RuleHost → RuleHost

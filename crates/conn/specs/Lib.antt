@@ -10,6 +10,8 @@ pub mod Changes
 pub mod Choosing
 pub mod Relaying
 pub mod Steps
+pub mod Dropping
+pub mod Seen
 pub mod Queues
 pub mod Acts
 pub mod Holds

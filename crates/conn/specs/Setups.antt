@@ -1,5 +1,5 @@
 -- What a connection of the code runs on, and the setup of a trace.
-use Rattle.std.specs.Prelude.{◌≡◌, ℕ, List, [], length, Option, option_map}
+use Rattle.std.specs.Prelude.{◌≡◌, ℕ, List, [], length, true, Option, option_map}
 use Rattle.std.specs.Prelude.{option_and_then, slice_get, slice_index_or}
 use Rattle.tcl_trees.specs.Procedures.{procs_view}
 use Rattle.tcl_trees.specs.TreeView.{node_view}
@@ -8,6 +8,7 @@ use Rattle.rule_loader.specs.Events.{event_place}
 use Rattle.rule_loader.specs.Handlers.{handlers_at}
 use Rattle.rule_loader.specs.declared.handler.Handler as loaded
 use Rattle.rule_loader.specs.declared.rule.Rule.{Rule}
+use Rattle.conn_trace.specs.Http.{the_heads}
 use Rattle.conn_trace.specs.Setup.{Handler, Setup}
 use Rattle.conn.specs.Events.{event_of}
 use Rattle.conn.specs.declared.events.At.{At}
@@ -51,6 +52,7 @@ pub record Serves (s : given.Setup) (g : Setup) : Type 0 where
   pub port : g.port ≡ s.port
   pub pool : g.pool ≡ s.pool.now
   pub http : g.http ≡ s.http
+  pub heads : s.http ≡ true → g.heads ≡ the_heads
   pub budget : g.budget ≡ s.budget
   pub statics : g.statics ≡ s.statics.now.statics
   pub groups : g.groups ≡ s.groups.now

@@ -12,10 +12,11 @@ use Rattle.irule_net.specs.declared.state.Asks.TheVariants.{NotAsked, Stated}
 use Rattle.irule_net.specs.declared.state.Ending.{Ending}
 use Rattle.irule_net.specs.declared.state.Ending.TheVariants.{Rejects, Closes}
 use Rattle.irule_net.specs.declared.state.Selected.{Selected}
+use Rattle.irule_http.specs.Sent.{client_closes}
 use Rattle.irule_http.specs.State.{expects_by}
 use Rattle.irule_http.specs.declared.state.Http.{Http}
 use Rattle.conn_trace.specs.Host.{http_known}
-use Rattle.conn_trace.specs.Http.{client_goes_on, wanted_more}
+use Rattle.conn_trace.specs.Http.{wanted_more}
 use Rattle.conn_trace.specs.Item.{Reason}
 use Rattle.conn_trace.specs.Item as reason
 use Rattle.conn_trace.specs.Selected.{addr_of}
@@ -106,8 +107,13 @@ request_stage (Some closing) false http = stage.Dropping http.reader
 request_stage None true http = stage.Continuing
 request_stage None false http = asked_stage http
 
+-- behind a request that was answered the next one is read, or the connection closes
+abbrev pub next_by : (closes : Bool) → Stage
+next_by true = stage.Finishing finish.Closed
+next_by false = stage.AtHead
+
 abbrev pub next_stage : Http → Stage
-next_stage http = if client_goes_on http then stage.AtHead else stage.Finishing finish.Closed
+next_stage http = next_by (client_closes http)
 
 abbrev pub http_in : RuleHost → Http
 http_in h = http_known h.http

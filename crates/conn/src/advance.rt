@@ -87,8 +87,10 @@ impl Conn {
                 self.finish(setup, number, finish, notes);
                 Ok(Act::Goes)
             }
-            Stage::AtHead | Stage::Continuing => Err(Memory),
-            Stage::Gathering { .. } | Stage::Dropping(_) => Err(Memory),
+            Stage::AtHead => self.read_head(alloc, setup, number, notes),
+            Stage::Gathering { .. } => Err(Memory),
+            Stage::Continuing => self.tell_to_go_on(setup, number, notes),
+            Stage::Dropping(reader) => self.drop_body(setup, number, reader, notes),
             Stage::Running { .. } | Stage::Asking { .. } | Stage::Selecting => Ok(Act::Rests),
             Stage::Draining | Stage::OutOfMemory | Stage::Dropped(_) => Ok(Act::Rests),
         }

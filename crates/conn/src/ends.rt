@@ -8,9 +8,9 @@ ghost use Rattle.conn.specs.Ends.{is_given_up, is_sought, is_up, lost_at, queue_
 ghost use Rattle.conn.specs.Relaying.{passes_now, read_ends};
 
 use crate::queue::Queue;
+use crate::unread::Unread;
 use core_events::{Edge, EdgeState, Edges};
 use px_bytes::{M, Memory, Side, Text};
-use seg_buffer::Held;
 use std::alloc::Global;
 
 /// Bytes are moved on to an end while fewer than these wait for it.
@@ -23,7 +23,7 @@ pub(crate) const UNREAD_LIMIT: usize = 65_536;
 /// queued to it.
 #[derive(Drop)]
 pub struct End {
-    pub(crate) unread: Held,
+    pub(crate) unread: Unread,
     pub(crate) ended: bool,
     /// Whether it was reset. What is queued to it then is dropped.
     pub(crate) reset: bool,
@@ -35,7 +35,7 @@ impl End {
         ensures { result ≡ fresh_end }
     {
         End {
-            unread: Held::new(alloc),
+            unread: Unread::new(alloc),
             ended: false,
             reset: false,
             queued: Queue::new(alloc),

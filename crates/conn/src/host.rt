@@ -11,17 +11,22 @@ ghost use Rattle.conn_trace.specs.Host.{commands, first_word};
 ghost use Rattle.conn_trace.specs.Host as model;
 ghost use Rattle.conn_trace.specs.Places.{http_begun};
 ghost use Rattle.conn.specs.Hosts.{answer_made, begun_host, cleared_host, fired_host, fresh_host};
-ghost use Rattle.conn.specs.Hosts.{fresh_http, released_host};
+ghost use Rattle.conn.specs.Hosts.{fresh_http, released_host, requested_host};
 ghost use Rattle.conn.specs.Hosts.{seen_at, seen_net, selected_host};
 
 use crate::events::At;
 use conn_trace::is_there;
 use event_order::EventName;
 use frames::Host;
-use irule_http::{Http, http_command};
+use http_frames::start;
+use http_heads::RequestHead;
+use irule_http::{Http, Request, http_command};
 use irule_net::{Asks, Collected, Effects, Groups, NetState, Selected, net_command};
 use px_bytes::{HostAnswer, M, Side, TclFault, Text, Texts};
 use std::alloc::Global;
+
+/// So many requests are counted.
+const MOST_REQUESTS: u64 = 9_223_372_036_854_775_807;
 
 /// What the commands of a connection's rules read and leave.
 #[derive(Drop)]
@@ -67,6 +72,28 @@ impl RuleHost {
         begin_http(&mut self.http, &self.net);
         self.net.begin();
         self.net.relays = up;
+    }
+
+    /// A request begins, with its head for rules: of the one before only its number is left and the choice
+    /// by which the open server's connection was selected.
+    pub fn begin_request(&mut self, alloc: Global, request: Request, head: RequestHead)
+        requires { head ≡ request.head }
+        ensures { self.new ≡ requested_host request self.old }
+    {
+        let (number, serves) = match &mut self.http {
+            Some(http) => (http.number, http.serves.take()),
+            None => (0, None),
+        };
+        let mut http = Http::new(alloc);
+        http.number = number.min(MOST_REQUESTS - 1) + 1;
+        http.body = request.body;
+        http.reader = start(request.body);
+        http.came = Some(request);
+        http.request = Some(head);
+        http.serves = serves;
+        self.http = Some(http);
+        self.net.begin();
+        self.net.reselects = 0;
     }
 
     /// The collect of a side, and what it holds.

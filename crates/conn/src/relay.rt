@@ -159,7 +159,7 @@ fn pass(from: &mut End, to: &mut End, n: usize) -> M<()>
         ≡ record to.old { queued = to.old.queued ++ take n from.old.unread }) }
 {
     if n == from.unread.len() && n <= ROOM && to.queued.is_empty() {
-        to.queued.swap(&mut from.unread);
+        from.unread.give(&mut to.queued);
         return Ok(());
     }
     to.queued.push(&from.unread.front()[..n])?;

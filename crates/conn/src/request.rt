@@ -1,13 +1,21 @@
 // Where a request goes.
 
-ghost use Rattle.std.specs.Prelude.{◌≡◌};
+ghost use Rattle.std.specs.Prelude.{◌≡◌, ◌+◌, ◌≤◌, is_some, length, true, IfOk, OnErr};
+ghost use Rattle.conn.specs.Acts.{TellsToGoOn};
 ghost use Rattle.conn_trace.specs.Host.{http_known};
 ghost use Rattle.conn_trace.specs.Http.{wanted_more};
 ghost use Rattle.irule_http.specs.State.{expects_by};
 ghost use Rattle.conn.specs.Stages.{asked_stage, failed_stage, request_stage};
 
+use crate::connection::Conn;
+use crate::ends::ROOM;
+use crate::setup::Setup;
 use crate::stage::{Finish, Stage};
+use crate::turn::Act;
+use core_events::Notes;
+use http_answers::continue_text;
 use irule_http::Http;
+use px_bytes::{M, Memory};
 
 /// The most bytes that are gathered of a body.
 const PAYLOAD_LIMIT: usize = 1_048_576;
@@ -32,6 +40,38 @@ pub(crate) fn behind_request(http: &Option<Http>) -> Stage
     match http {
         Some(http) => by_answer(http),
         None => Stage::Choosing,
+    }
+}
+
+impl Conn {
+    /// Tells the client to go on with its request, where there is room.
+    pub(crate) fn tell_to_go_on(
+        &mut self,
+        setup: &Setup<'_>,
+        number: u32,
+        notes: &mut Notes,
+    ) -> M<Act>
+        requires { 1 ≤ notes.old.spare }
+        ensures ok { IfOk result (λ act. (is_some self.old.host.http ≡ true)
+            × TellsToGoOn setup.now number self.old self.new
+            notes.old.items notes.new.items act) }
+        ensures err { OnErr result (notes.new ≡ notes.old) }
+        ensures kept { OnErr result (self.new.ends.edges ≡ self.old.ends.edges) }
+        ensures spare { notes.old.spare ≤ notes.new.spare + 1 }
+        ensures grows { length notes.old.items ≤ length notes.new.items }
+        ensures room { notes.new.spare + length notes.new.items
+            ≡ notes.old.spare + length notes.old.items }
+    {
+        let Some(http) = &self.host.http else {
+            return Err(Memory);
+        };
+        let behind = asked(http);
+        if self.ends.client.pending() >= ROOM {
+            return Ok(self.rest_or_cut(setup, number, notes));
+        }
+        self.ends.client.queued.push(continue_text())?;
+        self.stage = behind;
+        Ok(Act::Goes)
     }
 }
 

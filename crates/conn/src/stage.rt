@@ -4,7 +4,7 @@ ghost use Rattle.std.specs.Prelude.{◌≡◌};
 ghost use Rattle.conn.specs.Stages.{accepted_stage, after_stage, cause_for, connected_stage};
 ghost use Rattle.conn.specs.Stages.{connecting_stage, data_stage, dropped_in, ended_stage, failed};
 ghost use Rattle.conn.specs.Stages.{goes_on_stage, has_finished, in_event_of, is_asking};
-ghost use Rattle.conn.specs.Stages.{is_draining, is_relaying};
+ghost use Rattle.conn.specs.Stages.{is_draining, is_relaying, next_by};
 
 use crate::ends::Link;
 use crate::events::At;
@@ -149,6 +149,16 @@ impl Stage {
             At::ServerData => Stage::Relaying(Side::Client),
             At::ServerClosed | At::Closed => Stage::Draining,
         }
+    }
+
+    /// Where a connection stands behind a request that was answered, by whether that closes it.
+    pub fn next(closes: bool) -> Stage
+        ensures { result ≡ next_by closes }
+    {
+        if closes {
+            return Stage::Finishing(Finish::Closed);
+        }
+        Stage::AtHead
     }
 
     fn behind_accepted(http: bool, asks: Asks) -> Stage

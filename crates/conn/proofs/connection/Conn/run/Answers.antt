@@ -7,7 +7,7 @@ use Rattle.conn.specs.declared.turn.Act.TheVariants as done
 use Rattle.conn.specs.declared.turn.ConnTurn.{ConnTurn}
 use Rattle.conn.specs.declared.turn.ConnTurn.TheVariants as turn
 use Rattle.conn.proofs.Advancing.{rests_quiet}
-use Rattle.conn.proofs.Leading.{progress, rank, rank_few}
+use Rattle.conn.proofs.Leading.{is_answered_in, progress, rank_few, rank_of}
 use Rattle.conn.proofs.Running.{drops_told, RunsBy, RunsOn, at_first, counts_on, one_more, runs_more, runs_asks, runs_rests, runs_out, rested_few, rests_whole, some_counted, whole_at_last}
 use Rattle.conn.proofs.connection.Conn.run.Goals as goal
 
@@ -15,7 +15,7 @@ pub loop-moved-init : goal.loop-moved-init
 loop-moved-init g c =
     let given = c.len-given.ensures in
     let room = c.requires in
-    let low = rank_few c.args.self.now.stage in
+    let low = rank_few c.args.self.now.stage (is_answered_in c.args.self.now.host) in
     (at_first c.args.setup.now c.args.number c.args.self.now c.args.notes.now.items, omega (arith, given), omega (arith, given, room), omega (arith, given, low), omega arith, omega arith, omega (arith, given))
 
 pub loop-moved-preserved : goal.loop-moved-preserved
@@ -82,14 +82,14 @@ returns-clause-ran g c =
     let k = c.loop-moved.invariant in
     let R : ℕ → Type 0 = λ n. RunsBy c.args.setup.now c.args.number c.args.self.now c.loop-moved.self c.args.notes.now.items c.loop-moved.notes.items turn.More n in
     let same : c.loop-moved.spent ≡ c.loop-moved.steps - c.args.steps.now = omega (arith, k.4) in
-    subst R same (runs_more c.args.setup.now c.args.number c.args.self.now c.loop-moved.self c.args.notes.now.items c.loop-moved.notes.items c.loop-moved.spent k.0 (some_counted c.loop-moved._moved (rank c.loop-moved.self.stage) c.len-given.result c.loop-moved.spent (length c.loop-moved.notes.items) (length c.args.notes.now.items) c.len-given.ensures k.3 (omega arith)))
+    subst R same (runs_more c.args.setup.now c.args.number c.args.self.now c.loop-moved.self c.args.notes.now.items c.loop-moved.notes.items c.loop-moved.spent k.0 (some_counted c.loop-moved._moved (rank_of c.loop-moved.self) c.len-given.result c.loop-moved.spent (length c.loop-moved.notes.items) (length c.args.notes.now.items) c.len-given.ensures k.3 (omega arith)))
 
 pub returns-clause-slice : goal.returns-clause-slice
 returns-clause-slice g c =
     let k = c.loop-moved.invariant in
     let given = c.len-given.ensures in
     let same : c.loop-moved.spent ≡ c.loop-moved.steps - c.args.steps.now = omega (arith, k.4) in
-    let whole = whole_at_last c.loop-moved._moved (rank c.loop-moved.self.stage) c.len-given.result c.loop-moved.spent (length c.loop-moved.notes.items) k.3 (omega arith) in
+    let whole = whole_at_last c.loop-moved._moved (rank_of c.loop-moved.self) c.len-given.result c.loop-moved.spent (length c.loop-moved.notes.items) k.3 (omega arith) in
     let N : ℕ → Type 0 = λ x. IsWhole turn.More c.loop-moved.spent (length c.loop-moved.notes.items - x) in
     let S : ℕ → Type 0 = λ x. IsWhole turn.More x (length c.loop-moved.notes.items - length c.args.notes.now.items) in
     subst S same (subst N given whole)
