@@ -1,5 +1,5 @@
 -- What the code's connections run on is the setup of their traces.
-use Rattle.std.proofs.Common.{◌≡◌, refl, sym, ap, ◌∙◌, ℕ, List, [], length, Bool, false, Option, Some, None}
+use Rattle.std.proofs.Common.{◌≡◌, refl, sym, ap, ◌∙◌, ℕ, List, [], length, Bool, true, false, true≢false, Option, Some, None}
 use Rattle.std.specs.Prelude.{option_and_then, slice_get, slice_index_or}
 use Rattle.tcl_vars.specs.Scopes.{Level}
 use Rattle.event_order.specs.declared.event.EventName.{EventName}
@@ -27,6 +27,7 @@ serves_code C level places vs s g all i k =
       port = k.port ∙ sym i.port;
       pool = k.pool ∙ sym i.pool;
       http = k.http ∙ sym i.http;
+      heads = λ speaks. absurd (true≢false (sym speaks ∙ i.http));
       budget = k.budget ∙ sym i.budget;
       statics = k.statics ∙ sym i.statics;
       groups = k.groups ∙ sym i.groups;
