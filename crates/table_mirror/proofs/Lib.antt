@@ -1,5 +1,6 @@
 pub mod Orders
 pub mod Once
+pub mod Holding
 pub mod Going
 pub mod Arriving
 pub mod Offering

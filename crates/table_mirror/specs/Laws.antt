@@ -4,9 +4,10 @@ use Rattle.std.specs.Prelude.{Option, Some, None, Result, Ok, Err}
 use Rattle.std.proofs.Math.ListN.{take}
 use Rattle.table_mirror.specs.Mirrored.{differs, mirrored}
 use Rattle.table_mirror.specs.Network.{World, at_first, stepped}
-use Rattle.table_mirror.specs.Outcomes.{ComesTo}
+use Rattle.table_mirror.specs.Outcomes.{ComesTo, mirrored_text}
 use Rattle.table_mirror.specs.Pushed.{Entry}
 use Rattle.table_mirror.specs.declared.outcome.MirrorOutcome.{MirrorOutcome}
+use Rattle.table_mirror.specs.declared.outcome.MirrorOutcome.TheVariants.{Mirrored, Stopped}
 use Rattle.table_mirror.specs.declared.packet.MirrorStop.TheVariants.{Differs}
 use Rattle.table_mirror.specs.declared.packet.Packet.{Packet}
 use Rattle.table_mirror.specs.declared.packet.Packet.TheVariants.{Pushes, Acknowledges}
@@ -50,3 +51,15 @@ HistoryIsMirrored = (limit : ℕ) (entries : List Entry) (line : PlanLine) (w : 
 abbrev pub OneOutcome : Type 0
 OneOutcome = (limit : ℕ) (entries : List Entry) (plan : List ℕ) (one other : MirrorOutcome)
     → ComesTo limit entries plan one → ComesTo limit entries plan other → one ≡ other
+
+-- what a whole plan comes to: its rows are those behind so many entries, of which no more are acknowledged and no fewer
+-- pushed; and where a reply differs the entries are no history
+abbrev pub Holds : (limit : ℕ) → List Entry → MirrorOutcome → Type 0
+Holds limit entries (Mirrored text) =
+    (w : World) × InOrder entries w × (text ≡ mirrored_text limit entries w)
+Holds limit entries (Stopped line (Differs number)) = ¬ (IsHistory limit entries)
+Holds limit entries other = Unit {0}
+
+abbrev pub PlanHolds : Type 0
+PlanHolds = (limit : ℕ) (entries : List Entry) (plan : List ℕ) (outcome : MirrorOutcome)
+    → ComesTo limit entries plan outcome → Holds limit entries outcome

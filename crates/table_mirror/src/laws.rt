@@ -1,7 +1,7 @@
 // Laws of a mirror.
 
 ghost use Rattle.table_mirror.specs.Laws.{AppliesNext, BeginsInOrder, HistoryIsMirrored};
-ghost use Rattle.table_mirror.specs.Laws.{OneOutcome, StaysInOrder};
+ghost use Rattle.table_mirror.specs.Laws.{OneOutcome, PlanHolds, StaysInOrder};
 
 /// Acknowledged entries were applied, and applied ones were pushed: at first ..
 pub fn begins_in_order()
@@ -26,4 +26,9 @@ pub fn history_is_mirrored()
 /// A plan comes to one outcome.
 pub fn one_outcome()
     ensures { OneOutcome }
+{}
+
+/// A whole plan keeps that order; and a reply that differs shows that the entries are no history.
+pub fn plan_holds()
+    ensures { PlanHolds }
 {}

@@ -15,7 +15,9 @@ mod told;
 
 pub use entry::{PushedEntry, pushed_of};
 pub use follow::follow_plan;
-pub use laws::{applies_next, begins_in_order, history_is_mirrored, one_outcome, stays_in_order};
+pub use laws::{
+    applies_next, begins_in_order, history_is_mirrored, one_outcome, plan_holds, stays_in_order,
+};
 pub use moments::out_of_order;
 pub use network::Network;
 pub use outcome::MirrorOutcome;
