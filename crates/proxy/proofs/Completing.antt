@@ -1,21 +1,27 @@
 -- From what the program promises of its end to when that is the whole text.
-use Rattle.std.proofs.Common.{◌≡◌, ◌⊎◌, inl, inr, refl, subst, ◌∙◌, ℕ, List, Option, true, false}
+use Rattle.std.proofs.Common.{◌≡◌, ◌⊎◌, inl, inr, refl, ap, subst, ◌∙◌, ℕ, List, Option, Some, None, true, false}
 use Rattle.config.specs.declared.reader.LoadedConfig as loaded
 use Rattle.run_config.specs.declared.config.Config as core
 use Rattle.proxy.specs.declared.end.End.{End}
 use Rattle.proxy.specs.declared.end.End.TheVariants.{Done, Usage, Config, Schedule, ReadFault}
-use Rattle.proxy.specs.declared.end.End.TheVariants.{WriteFault, Memory}
+use Rattle.proxy.specs.declared.end.End.TheVariants.{WriteFault, Memory, Differs}
 use Rattle.proxy.specs.Command.{Command, Checks as Checking, Explains as Explaining}
-use Rattle.proxy.specs.Complete.{Completes, IsRefused, MayLoad, MayReplay, MayReport, MayTell}
-use Rattle.proxy.specs.Offline.{ChecksFile, ExplainsFile, IsNotBuilt, IsRefusal, OfCommand, Offline, ReplaysFiles, Runs, TellsFault}
+use Rattle.proxy.specs.Complete.{Completes, IsRefused, MayLoad, MayMirror, MayReplay, MayReport, MayTell}
+use Rattle.proxy.specs.Mirroring.{IsMirror, MirrorsFiles, MirrorsTo, OfMoments, outcome_end, outcome_text}
+use Rattle.proxy.specs.Offline.{ChecksFile, ExplainsFile, IsNotBuilt, IsRefusal, OfCommand, Offline, ReplaysFiles, Runs}
+use Rattle.proxy.specs.Says.{TellsFault}
 use Rattle.proxy.specs.Replayed.{MeetsFault, MeetsRefusal, Replayed}
 use Rattle.proxy.specs.Runnable.{IsBuilt, can_run}
 use Rattle.config.proofs.Filling.{is_filled}
-use Rattle.proxy.specs.Recorded.{FaultsRecord, ReportsFile, TellsContents}
+use Rattle.proxy.specs.Recorded.{FaultsRecord, ReportsFile}
 use Rattle.config.specs.Loading.{IsContents}
-use Rattle.journal_value.specs.Journal.{FirstFault}
+use Rattle.journal_value.specs.Journal.{AllFit, IsJournal}
+use Rattle.journal_value.specs.declared.journal.JournalLine.{JournalLine}
+use Rattle.px_outside.specs.Outside.{told_more}
+use Rattle.table_mirror.specs.Pushed.{out_of_order, pushed}
+use Rattle.table_mirror.proofs.Once.{one_outcome}
 use Rattle.journal_value.proofs.NoJournal.{fault_has_no_journal}
-use Rattle.proxy.proofs.OneRun.{told_is, same_run, not_faulty}
+use Rattle.proxy.proofs.OneRun.{told_is, same_run, same_settings, not_faulty}
 use Rattle.proxy.proofs.WholeReading.{whole_has_no_fault}
 
 module _ (told : List ℕ → Option (List ℕ)) (rb rn : ℕ) (name : List ℕ) (C : loaded.LoadedConfig) (m : MayLoad told name C) where
@@ -33,6 +39,10 @@ module _ (told : List ℕ → Option (List ℕ)) (rb rn : ℕ) (name : List ℕ)
           let cannot : can_run n.K ≡ false = n.not_built in
           cc
 
+-- a record that is a journal has no faulty line
+journal_has_no_fault : (record_text text : List ℕ) (lines : List JournalLine) → IsJournal record_text lines → AllFit lines → FaultsRecord record_text text → ⊥
+journal_has_no_fault record_text text lines journal fit f = f.found_memory (fault_has_no_journal record_text f.fault lines f.first journal fit)
+
 module _ (words : List (List ℕ)) (told : List ℕ → Option (List ℕ)) (old new : Option (List ℕ)) (rb rn b n : ℕ) where
   checks : (end : End) (m : MayTell Checking words told rb rn b n) → ChecksFile m.name told old new rb rn b n end → (end ≡ Done) ⊎ (end ≡ Memory)
   checks Done m k = inl refl
@@ -42,6 +52,7 @@ module _ (words : List (List ℕ)) (told : List ℕ → Option (List ℕ)) (old 
   checks ReadFault m k = absurd (m.no_read_fault k.0)
   checks WriteFault m k = absurd (m.no_write_fault k.0)
   checks Memory m k = inr refl
+  checks Differs m k = absurd k
 
   explains : (end : End) (m : MayTell Explaining words told rb rn b n) → ExplainsFile m.name told old new rb rn b n end → (end ≡ Done) ⊎ (end ≡ Memory)
   explains Done m k = inl refl
@@ -51,12 +62,12 @@ module _ (words : List (List ℕ)) (told : List ℕ → Option (List ℕ)) (old 
   explains ReadFault m k = absurd (m.no_read_fault k.0)
   explains WriteFault m k = absurd (m.no_write_fault k.0)
   explains Memory m k = inr refl
+  explains Differs m k = absurd k
 
-  -- a record that is a journal has no faulty line
   no_fault : (m : MayReport words told rb rn b n) (record_text text : List ℕ) → IsContents told m.name record_text → FaultsRecord record_text text → ⊥
   no_fault m record_text text contents f =
       let same : record_text ≡ m.record_text = told_is (told m.name) record_text m.record_text m.record_is contents in
-      f.found_memory (fault_has_no_journal m.record_text f.fault m.lines (subst (λ t. FirstFault t f.fault) same f.first) m.journal m.fit)
+      journal_has_no_fault m.record_text text m.lines m.journal m.fit (subst (λ t. FaultsRecord t text) same f)
 
   reports : (end : End) (m : MayReport words told rb rn b n) → ReportsFile m.name told old new rb rn b n end → (end ≡ Done) ⊎ (end ≡ Memory)
   reports Done m k = inl refl
@@ -66,6 +77,46 @@ module _ (words : List (List ℕ)) (told : List ℕ → Option (List ℕ)) (old 
   reports ReadFault m k = absurd (m.no_read_fault k.0)
   reports WriteFault m k = absurd (m.no_write_fault k.tells.0)
   reports Memory m k = inr refl
+  reports Differs m k = absurd k.tells
+
+  -- a record that is a journal whose moments are in order comes to what its plan does
+  module _ (m : MayMirror words told rb rn b n) where
+    abbrev Due : List ℕ → End → Type 0
+    Due text end = (end ≡ outcome_end m.outcome) × (text ≡ outcome_text m.outcome)
+
+    moments_due : (place : Option ℕ) (text : List ℕ) (end : End) → place ≡ None → OfMoments place m.C.settings.rows m.record_text m.lines m.plan text end → Due text end
+    moments_due (Some place) text end is c = absurd (let h = is in cc)
+    moments_due None text end is c =
+        let same : c.outcome ≡ m.outcome = one_outcome m.C.settings.rows (pushed m.lines) m.plan c.outcome m.outcome c.comes m.comes in
+        (c.end_is ∙ ap outcome_end same, c.text_is ∙ ap outcome_text same)
+
+    mirror_due : (text : List ℕ) (end : End) → MirrorsTo m.C.settings.rows m.record_text m.plan text end → Due text end
+    mirror_due text end (inl f) = absurd (journal_has_no_fault m.record_text text m.lines m.journal m.fit f.0)
+    mirror_due text end (inr j) =
+        let same : j.told ≡ m.lines = j.is_one.one m.lines m.fit m.journal in
+        moments_due (out_of_order 0 m.lines) text end m.in_order (subst (λ t. OfMoments (out_of_order 0 t) m.C.settings.rows m.record_text t m.plan text end) same j.comes)
+
+    is_due : (text : List ℕ) (end : End) → IsMirror told m.names text end → Due text end
+    is_due text end k =
+        let record_same : k.texts.record_text ≡ m.record_text = told_is (told m.names.record_file) k.texts.record_text m.record_text m.record_is k.are_texts.record_text in
+        let plan_same : k.texts.plan ≡ m.plan = told_is (told m.names.plan) k.texts.plan m.plan m.plan_is k.are_texts.plan in
+        let rows_same : k.texts.rows ≡ m.C.settings.rows = k.are_texts.rows_are ∙ k.has_rows.rows_are ∙ ap (λ s. s.rows) (same_settings told m.names.config m.C m.loads k.has_rows.C k.has_rows.loads) in
+        mirror_due text end (subst (λ p. MirrorsTo m.C.settings.rows m.record_text p text end) plan_same
+        (subst (λ r. MirrorsTo m.C.settings.rows r k.texts.plan text end) record_same (subst (λ n. MirrorsTo n k.texts.record_text k.texts.plan text end) rows_same k.comes)))
+
+    written_due : (text : List ℕ) (end : End) → IsMirror told m.names text end → new ≡ told_more old text → (end ≡ outcome_end m.outcome) × (new ≡ told_more old (outcome_text m.outcome))
+    written_due text end is written = let due = is_due text end is in (due.0, written ∙ ap (told_more old) due.1)
+
+  mirrors : (end : End) (m : MayMirror words told rb rn b n) → MirrorsFiles m.names told old new rb rn b n end
+      → ((end ≡ outcome_end m.outcome) × (new ≡ told_more old (outcome_text m.outcome))) ⊎ (end ≡ Memory)
+  mirrors Done m k = inl (written_due m k.0 Done k.1 k.2)
+  mirrors Usage m k = absurd k
+  mirrors Config m k = absurd (loads_rightly told rb rn m.names.config m.C m.loads k.0 k.1)
+  mirrors Schedule m k = inl (written_due m k.0 Schedule k.1 k.2)
+  mirrors ReadFault m k = absurd (m.no_read_fault k.0)
+  mirrors WriteFault m k = absurd (m.no_write_fault k.0)
+  mirrors Memory m k = inr refl
+  mirrors Differs m k = inl (written_due m k.0 Differs k.1 k.2)
 
   -- a schedule of which each line spells an event has no faulty line
   module _ (m : MayReplay words told rb rn b n) (K : core.Config) (runs : Runs told m.named K m.schedule) where
@@ -83,8 +134,9 @@ module _ (words : List (List ℕ)) (told : List ℕ → Option (List ℕ)) (old 
   replays ReadFault m k = absurd (m.no_read_fault k.0)
   replays WriteFault m k = absurd (m.no_write_fault k.0)
   replays Memory m k = inr (inl refl)
+  replays Differs m k = absurd k
 
   pub completes : (end : End) → Offline words told old new rb rn b n end → Completes words told old new rb rn b n end
   completes end k =
       let P : Option Command → Type 0 = λ o. OfCommand o told old new rb rn b n end in
-      record { check = λ m. checks end m (subst P m.command k); explain = λ m. explains end m (subst P m.command k); report = λ m. reports end m (subst P m.command k); replay = λ m. replays end m (subst P m.command k) }
+      record { check = λ m. checks end m (subst P m.command k); explain = λ m. explains end m (subst P m.command k); report = λ m. reports end m (subst P m.command k); mirror = λ m. mirrors end m (subst P m.command k); replay = λ m. replays end m (subst P m.command k) }

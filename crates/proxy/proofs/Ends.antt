@@ -12,18 +12,18 @@ use Rattle.px_outside.specs.declared.failed.Failed.TheVariants as failed
 use Rattle.run_config.specs.declared.config.Config as core
 use Rattle.proxy.specs.declared.end.End.{End}
 use Rattle.proxy.specs.declared.end.End.TheVariants.{Done, Usage, Config, Schedule, ReadFault}
-use Rattle.proxy.specs.declared.end.End.TheVariants.{WriteFault, Memory}
+use Rattle.proxy.specs.declared.end.End.TheVariants.{WriteFault, Memory, Differs}
 use Rattle.proxy.specs.Command.{Named}
 use Rattle.proxy.specs.End.{end_unless}
-use Rattle.proxy.specs.Loads.{Loads, is_read_fault}
-use Rattle.proxy.specs.Offline.{ChecksFile, Explains, ExplainsFile, IsCheck, IsDue, IsExplanation, IsNotBuilt, LoadsSome, ReplaysFiles, Runs, TellsFault, WritesDue, end_of_read, not_built_text}
+use Rattle.proxy.specs.Loads.{IsUnread, Loads, LoadsSome, is_read_fault}
+use Rattle.proxy.specs.Offline.{ChecksFile, Explains, ExplainsFile, IsCheck, IsDue, IsExplanation, IsNotBuilt, ReplaysFiles, Runs, end_of_read, not_built_text}
 use Rattle.proxy.specs.Replayed.{Replayed}
 use Rattle.proxy.specs.Report.{ok_text}
 use Rattle.proxy.specs.Runnable.{IsRun, run_of}
 use Rattle.proxy.proofs.Building.{not_run}
 use Rattle.proxy.specs.Explain.{explanation, loads_text}
-use Rattle.proxy.specs.Says.{Refuses, Says, Tells, TellsBy, fault_text}
-use Rattle.proxy.specs.Written.{WritesFrontOf}
+use Rattle.proxy.specs.Says.{Refuses, Says, Tells, TellsBy, TellsFault, fault_text}
+use Rattle.proxy.specs.Written.{WritesDue, WritesFrontOf}
 use Rattle.proxy.proofs.ConfigAnswers.{loads, read_rose}
 
 -- an end that says a text, by what was said
@@ -39,14 +39,33 @@ module _ (text : List ℕ) (usual : End) (old new : Option (List ℕ)) (before n
   by_said (Err ReadFault) s = absurd s
   by_said (Err WriteFault) s = cut s.0 s.1
   by_said (Err Memory) s = none s
+  by_said (Err Differs) s = absurd s
 
   pub by_end : (end : End) → Tells text usual old new before now end → P end
   by_end end t = subst P (sym t.ends) (by_said t.said t.says)
 
 -- a prefix of a text that is due, or nothing
-cut_due : (text : List ℕ) (IsDue : List ℕ → Type 0) (old new : Option (List ℕ)) → IsDue text → (new ≡ old) ⊎ WritesFrontOf text old new → (new ≡ old) ⊎ WritesDue IsDue old new
+pub cut_due : (text : List ℕ) (IsDue : List ℕ → Type 0) (old new : Option (List ℕ)) → IsDue text → (new ≡ old) ⊎ WritesFrontOf text old new → (new ≡ old) ⊎ WritesDue IsDue old new
 cut_due text due old new is (inl same) = inl same
 cut_due text due old new is (inr front) = inr (text, is, front)
+
+-- an end of a command whose configuration doesn't load, by what was said
+module _ (told : List ℕ → Option (List ℕ)) (old new : Option (List ℕ)) (rb rn b n : ℕ) (name : List ℕ) (P : End → Type 0)
+    (faulty : (text : List ℕ) → TellsFault told rb rn name text → new ≡ told_more old text → P Config)
+    (cut : (text : List ℕ) → TellsFault told rb rn name text → Rose b n → WritesFrontOf text old new → P WriteFault)
+    (part : (text : List ℕ) → TellsFault told rb rn name text → (new ≡ old) ⊎ WritesFrontOf text old new → P Memory)
+    (unread : Rose rb rn → IsUnread told rb rn name → new ≡ old → P ReadFault) (none : new ≡ old → P Memory) where
+  by_fault : (f : ConfigFault) (is : Bool) → is_read_fault f.kind ≡ is → Answers told rb rn name (Err (refused.Fault f)) → (end : End) → TellsBy is f old new b n end → P end
+  by_fault f true is answers end t =
+      subst P (sym t.0) (unread (read_rose told rb rn name f is answers) (record { fault = f; answers = answers; unread = is }) t.1)
+  by_fault f false is answers end t =
+      let text = fault_text f in
+      let tells : TellsFault told rb rn name text = record { fault = f; faulty = record { answers = answers; was_read = is }; text_is = refl } in
+      by_end text Config old new b n P (faulty text tells) (cut text tells) (part text tells) end t
+
+  pub by_refusal : (why : ConfigError) → Answers told rb rn name (Err why) → (end : End) → Refuses why old new b n end → P end
+  by_refusal (refused.Fault f) answers end t = by_fault f (is_read_fault f.kind) refl answers end t
+  by_refusal refused.Memory answers end t = subst P (sym t.0) (none t.1)
 
 module _ (told : List ℕ → Option (List ℕ)) (old new : Option (List ℕ)) (rb rn b n : ℕ) where
   -- `check`
@@ -58,18 +77,12 @@ module _ (told : List ℕ → Option (List ℕ)) (old new : Option (List ℕ)) (
         (λ written. (some, written)) (λ rose front. (rose, (ok_text, inr (some, refl), front)))
         (λ part. cut_due ok_text (IsCheck told rb rn name) old new (inr (some, refl)) part) end tells
 
-    check_fault : (f : ConfigFault) (is : Bool) → is_read_fault f.kind ≡ is → Answers told rb rn name (Err (refused.Fault f)) → (end : End) → TellsBy is f old new b n end → ChecksFile name told old new rb rn b n end
-    check_fault f true is answers end t =
-        subst (λ e. ChecksFile name told old new rb rn b n e) (sym t.0) (read_rose told rb rn name f is answers, record { fault = f; answers = answers; unread = is }, t.1)
-    check_fault f false is answers end t =
-        let tells : TellsFault told rb rn name (fault_text f) = record { fault = f; faulty = record { answers = answers; was_read = is }; text_is = refl } in
-        by_end (fault_text f) Config old new b n (λ e. ChecksFile name told old new rb rn b n e)
-        (λ written. (fault_text f, tells, written)) (λ rose front. (rose, (fault_text f, inl tells, front)))
-        (λ part. cut_due (fault_text f) (IsCheck told rb rn name) old new (inl tells) part) end t
-
     pub check_refused : (why : ConfigError) → Answers told rb rn name (Err why) → (end : End) → Refuses why old new b n end → ChecksFile name told old new rb rn b n end
-    check_refused (refused.Fault f) answers end t = check_fault f (is_read_fault f.kind) refl answers end t
-    check_refused refused.Memory answers end t = subst (λ e. ChecksFile name told old new rb rn b n e) (sym t.0) (inl t.1)
+    check_refused why answers end t =
+        by_refusal told old new rb rn b n name (λ e. ChecksFile name told old new rb rn b n e)
+        (λ text is written. (text, is, written)) (λ text is rose front. (rose, (text, inl is, front)))
+        (λ text is part. cut_due text (IsCheck told rb rn name) old new (inl is) part)
+        (λ rose unread same. (rose, unread, same)) (λ same. inl same) why answers end t
 
   -- `explain`
   module _ (name : List ℕ) where
@@ -102,18 +115,12 @@ module _ (told : List ℕ → Option (List ℕ)) (old new : Option (List ℕ)) (
 
   -- `replay`
   module _ (named : Named) where
-    replay_fault : (f : ConfigFault) (is : Bool) → is_read_fault f.kind ≡ is → Answers told rb rn named.config (Err (refused.Fault f)) → (end : End) → TellsBy is f old new b n end → ReplaysFiles named told old new rb rn b n end
-    replay_fault f true is answers end t =
-        subst (λ e. ReplaysFiles named told old new rb rn b n e) (sym t.0) (read_rose told rb rn named.config f is answers, inl (record { fault = f; answers = answers; unread = is }), t.1)
-    replay_fault f false is answers end t =
-        let tells : TellsFault told rb rn named.config (fault_text f) = record { fault = f; faulty = record { answers = answers; was_read = is }; text_is = refl } in
-        by_end (fault_text f) Config old new b n (λ e. ReplaysFiles named told old new rb rn b n e)
-        (λ written. (fault_text f, inl tells, written)) (λ rose front. (rose, (fault_text f, inl (inl tells), front)))
-        (λ part. cut_due (fault_text f) (IsDue told rb rn named) old new (inl (inl tells)) part) end t
-
     pub replay_refused : (why : ConfigError) → Answers told rb rn named.config (Err why) → (end : End) → Refuses why old new b n end → ReplaysFiles named told old new rb rn b n end
-    replay_refused (refused.Fault f) answers end t = replay_fault f (is_read_fault f.kind) refl answers end t
-    replay_refused refused.Memory answers end t = subst (λ e. ReplaysFiles named told old new rb rn b n e) (sym t.0) (inl t.1)
+    replay_refused why answers end t =
+        by_refusal told old new rb rn b n named.config (λ e. ReplaysFiles named told old new rb rn b n e)
+        (λ text is written. (text, inl is, written)) (λ text is rose front. (rose, (text, inl (inl is), front)))
+        (λ text is part. cut_due text (IsDue told rb rn named) old new (inl (inl is)) part)
+        (λ rose unread same. (rose, inl unread, same)) (λ same. inl same) why answers end t
 
     pub not_built : (C : loaded.LoadedConfig) → Answers told rb rn named.config (Ok C) → run_of C ≡ None → (end : End) → Tells not_built_text Config old new b n end → ReplaysFiles named told old new rb rn b n end
     not_built C answers none end t =
@@ -137,3 +144,4 @@ module _ (told : List ℕ → Option (List ℕ)) (old new : Option (List ℕ)) (
       replayed WriteFault r = (r.0, (r.1.0, inr (K, schedule, runs, r.1.1), r.1.2))
       replayed Memory (inl same) = inl same
       replayed Memory (inr w) = inr (w.0, inr (K, schedule, runs, w.1), w.2)
+      replayed Differs r = absurd r

@@ -153,12 +153,17 @@ module _ (told : List ℕ → Option (List ℕ)) (name : List ℕ) (C : LoadedCo
   same_document bytes top contents document =
       some_is top m.top (sym document.table ∙ ap parse_document (same_bytes bytes contents) ∙ m.document.table)
 
+  pub same_settings : (D : LoadedConfig) → Loads told name D → D.settings ≡ C.settings
+  same_settings D l =
+      let top : l.top ≡ m.top = same_document l.holds.bytes l.top l.holds.contents l.holds.document in
+      (subst (λ t. Configures told t D) top l.configures).settings ∙ sym m.configures.settings
+
   -- what is filled of another one that loads can be run, or not, alike
   pub same_run : (D : LoadedConfig) → Loads told name D → (K L : core.Config) → filled C ≡ Some K → filled D ≡ Some L → can_run L ≡ can_run K
   same_run D l K L of_C of_D =
       let top : l.top ≡ m.top = same_document l.holds.bytes l.top l.holds.contents l.holds.document in
       let D_is : Configures told m.top D = subst (λ t. Configures told t D) top l.configures in
-      let settings : D.settings ≡ C.settings = D_is.settings ∙ sym m.configures.settings in
+      let settings : D.settings ≡ C.settings = same_settings D l in
       let alike : map built D.rules ≡ map built C.rules = all_same told built (same_rule told) (items_at rules m.top) D.rules C.rules m.texts D_is.loaded m.configures.loaded in
       let all : list_all built D.rules ≡ list_all built C.rules = all_built D.rules ∙ ap (λ bs. list_all (λ b. b) bs) alike ∙ sym (all_built C.rules) in
       can_of D L of_D ∙ ap₂ (λ st b. list_all plain st.virtuals && b) settings all ∙ sym (can_of C K of_C)

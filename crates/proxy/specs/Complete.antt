@@ -6,16 +6,20 @@ use Rattle.config.specs.Loading.{file_name}
 use Rattle.config.specs.Outcomes.{Configures, IsDocument}
 use Rattle.config.specs.Texts.{text_in}
 use Rattle.config.specs.declared.reader.LoadedConfig as loaded
-use Rattle.px_outside.specs.Outside.{Rose}
+use Rattle.px_outside.specs.Outside.{told_more, Rose}
 use Rattle.run_config.specs.declared.config.Config as core
 use Rattle.core_events.specs.declared.event.Event.{Event}
 use Rattle.toml.specs.Data.{Data, Items, no_items, item, Members}
+use Rattle.table_mirror.specs.Outcomes.{ComesTo}
+use Rattle.table_mirror.specs.Pushed.{out_of_order, pushed}
+use Rattle.table_mirror.specs.declared.outcome.MirrorOutcome.{MirrorOutcome}
 use Rattle.proxy.specs.declared.end.End.{End}
 use Rattle.proxy.specs.declared.end.End.TheVariants.{Done, Schedule, Memory}
 use Rattle.journal_value.specs.Journal.{AllFit, IsJournal}
 use Rattle.journal_value.specs.declared.journal.JournalLine.{JournalLine}
-use Rattle.proxy.specs.Command.{Command, Checks, Explains, Replays, Reports, Named, command_of}
+use Rattle.proxy.specs.Command.{Command, Checks, Explains, Mirrors, MirrorNames, Replays, Reports, Named, command_of}
 use Rattle.proxy.specs.Lines.{IsEnd, Reads}
+use Rattle.proxy.specs.Mirroring.{outcome_end, outcome_text}
 use Rattle.proxy.specs.Offline.{Runs}
 use Rattle.proxy.specs.Replayed.{MeetsRefusal}
 use Rattle.proxy.specs.Runnable.{IsBuilt}
@@ -66,6 +70,29 @@ pub record MayReport (words : List (List ℕ)) (told : List ℕ → Option (List
   pub no_read_fault : Rose reads_before reads_now → ⊥
   pub no_write_fault : Rose before now → ⊥
 
+-- ---- `mirror CONFIG RECORD PLAN`
+
+-- the configuration loads, the record is a journal whose moments are in order, the plan comes to this, and no count
+-- rose
+pub record MayMirror (words : List (List ℕ)) (told : List ℕ → Option (List ℕ))
+    (reads_before reads_now before now : ℕ) : Type 0 where
+  pub names : MirrorNames
+  pub command : command_of words ≡ Some (Mirrors names)
+  pub C : loaded.LoadedConfig
+  pub loads : MayLoad told names.config C
+  pub record_text : List ℕ
+  pub record_is : told names.record_file ≡ Some record_text
+  pub lines : List JournalLine
+  pub journal : IsJournal record_text lines
+  pub fit : AllFit lines
+  pub in_order : out_of_order 0 lines ≡ None
+  pub plan : List ℕ
+  pub plan_is : told names.plan ≡ Some plan
+  pub outcome : MirrorOutcome
+  pub comes : ComesTo C.settings.rows (pushed lines) plan outcome
+  pub no_read_fault : Rose reads_before reads_now → ⊥
+  pub no_write_fault : Rose before now → ⊥
+
 -- ---- `replay CONFIG SCHEDULE`
 
 -- the configuration loads and can be run, each line of the schedule spells an event or is skipped,
@@ -95,8 +122,8 @@ abbrev pub IsRefused : (List ℕ → Option (List ℕ)) → Named → List ℕ �
 IsRefused told named schedule old new =
     (K : core.Config) × Runs told named K schedule × MeetsRefusal K schedule old new
 
--- Then a check, an explanation or a report is done, or memory was refused; a replay is done, or an event is refused at its
--- place, or memory was refused.
+-- Then a check, an explanation or a report is done, or memory was refused; a mirror tells what its plan comes to, or memory
+-- was refused; a replay is done, or an event is refused at its place, or memory was refused.
 pub record Completes (words : List (List ℕ)) (told : List ℕ → Option (List ℕ))
     (old new : Option (List ℕ)) (reads_before reads_now before now : ℕ) (end : End)
     : Type 0 where
@@ -106,6 +133,8 @@ pub record Completes (words : List (List ℕ)) (told : List ℕ → Option (List
       → (end ≡ Done) ⊎ (end ≡ Memory)
   pub report : MayReport words told reads_before reads_now before now
       → (end ≡ Done) ⊎ (end ≡ Memory)
+  pub mirror : (m : MayMirror words told reads_before reads_now before now)
+      → ((end ≡ outcome_end m.outcome) × (new ≡ told_more old (outcome_text m.outcome))) ⊎ (end ≡ Memory)
   pub replay : (m : MayReplay words told reads_before reads_now before now)
       → (end ≡ Done) ⊎ (end ≡ Memory)
       ⊎ ((end ≡ Schedule) × IsRefused told m.named m.schedule old new)

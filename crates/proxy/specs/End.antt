@@ -2,7 +2,7 @@
 use Rattle.std.specs.Prelude.{ℕ, Result, Ok, Err}
 use Rattle.proxy.specs.declared.end.End.{End}
 use Rattle.proxy.specs.declared.end.End.TheVariants.{Done, Usage, Config, Schedule, ReadFault}
-use Rattle.proxy.specs.declared.end.End.TheVariants.{WriteFault, Memory}
+use Rattle.proxy.specs.declared.end.End.TheVariants.{WriteFault, Memory, Differs}
 
 abbrev pub status_of : End → ℕ
 status_of Done = 0
@@ -12,6 +12,7 @@ status_of Schedule = 4
 status_of ReadFault = 5
 status_of WriteFault = 6
 status_of Memory = 7
+status_of Differs = 10
 
 -- an end, unless another one came before
 abbrev pub end_unless : End → Result (Unit {0}) End → End

@@ -18,6 +18,10 @@ pub record Loads (told : List ℕ → Option (List ℕ)) (name : List ℕ) (C : 
   pub faultless : document_fault top ≡ None
   pub configures : Configures told top C
 
+-- it holds such a document
+abbrev pub LoadsSome : (List ℕ → Option (List ℕ)) → List ℕ → Type 0
+LoadsSome told name = (C : LoadedConfig) × Loads told name C
+
 abbrev pub is_read_fault : ConfigFaultKind → Bool
 is_read_fault kind = number_of kind == 1
 

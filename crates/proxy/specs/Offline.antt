@@ -13,40 +13,24 @@ use Rattle.px_outside.specs.declared.failed.Failed.TheVariants as failed
 use Rattle.run_config.specs.declared.config.Config as core
 use Rattle.proxy.specs.declared.end.End.{End}
 use Rattle.proxy.specs.declared.end.End.TheVariants.{Done, Usage, Config, Schedule, ReadFault}
-use Rattle.proxy.specs.declared.end.End.TheVariants.{WriteFault, Memory}
+use Rattle.proxy.specs.declared.end.End.TheVariants.{WriteFault, Memory, Differs}
 use Rattle.proxy.specs.Command.{Command, Checks as Checking, Explains as Explaining}
 use Rattle.proxy.specs.Command.{Replays as Replaying, Named}
-use Rattle.proxy.specs.Command.{Reports as Reporting}
+use Rattle.proxy.specs.Command.{Reports as Reporting, Mirrors as Mirroring}
 use Rattle.proxy.specs.Command.{command_of}
 use Rattle.proxy.specs.Explain.{explanation, loads_text}
-use Rattle.proxy.specs.Loads.{Loads, IsFaulty, IsUnread}
+use Rattle.proxy.specs.Loads.{Loads, LoadsSome, IsFaulty, IsUnread}
+use Rattle.proxy.specs.Mirroring.{MirrorsFiles}
 use Rattle.proxy.specs.Recorded.{ReportsFile}
 use Rattle.proxy.specs.Report.{config_fault, ok_text, usage_fault}
 use Rattle.proxy.specs.Runnable.{IsRun, can_run}
-use Rattle.proxy.specs.Says.{Tells, fault_end, fault_text}
-use Rattle.proxy.specs.Written.{IsWritten, WritesFrontOf}
+use Rattle.proxy.specs.Says.{Tells, TellsFault, fault_end}
+use Rattle.proxy.specs.Written.{IsWritten, WritesDue, WritesFrontOf}
 use Rattle.proxy.specs.Replayed.{Replayed}
 
 abbrev pub end_of_read : Failed → End
 end_of_read failed.Failed = ReadFault
 end_of_read failed.Memory = Memory
-
--- a prefix of a text that is due was written
-abbrev pub WritesDue : (List ℕ → Type 0) → Option (List ℕ) → Option (List ℕ) → Type 0
-WritesDue IsDue old new = (text : List ℕ) × IsDue text × WritesFrontOf text old new
-
--- ---- the configuration, which is read first
-
--- it doesn't load, and this text tells why
-pub record TellsFault (told : List ℕ → Option (List ℕ)) (before now : ℕ) (name text : List ℕ)
-    : Type 0 where
-  pub fault : ConfigFault
-  pub faulty : IsFaulty told before now name fault
-  pub text_is : text ≡ fault_text fault
-
--- it loads
-abbrev pub LoadsSome : (List ℕ → Option (List ℕ)) → List ℕ → Type 0
-LoadsSome told name = (C : loaded.LoadedConfig) × Loads told name C
 
 -- it loads, and what is filled of it can't be run today
 pub record IsNotBuilt (told : List ℕ → Option (List ℕ)) (name : List ℕ) : Type 0 where
@@ -83,6 +67,7 @@ ChecksFile name told old new reads_before reads_now before now WriteFault =
     Rose before now × WritesDue (IsCheck told reads_before reads_now name) old new
 ChecksFile name told old new reads_before reads_now before now Memory =
     (new ≡ old) ⊎ WritesDue (IsCheck told reads_before reads_now name) old new
+ChecksFile name told old new reads_before reads_now before now Differs = ⊥
 
 -- ---- `explain CONFIG`
 
@@ -116,6 +101,7 @@ ExplainsFile name told old new reads_before reads_now before now WriteFault =
     Rose before now × WritesDue (IsExplanation told reads_before reads_now name) old new
 ExplainsFile name told old new reads_before reads_now before now Memory =
     (new ≡ old) ⊎ WritesDue (IsExplanation told reads_before reads_now name) old new
+ExplainsFile name told old new reads_before reads_now before now Differs = ⊥
 
 -- ---- `replay CONFIG SCHEDULE`
 
@@ -171,6 +157,7 @@ ReplaysFiles named told old new reads_before reads_now before now WriteFault =
     Rose before now × WritesDue (IsDue told reads_before reads_now named) old new
 ReplaysFiles named told old new reads_before reads_now before now Memory =
     (new ≡ old) ⊎ WritesDue (IsDue told reads_before reads_now named) old new
+ReplaysFiles named told old new reads_before reads_now before now Differs = ⊥
 
 -- ---- words that are no command
 
@@ -194,6 +181,8 @@ OfCommand (Some (Reporting name)) told old new reads_before reads_now before now
     ReportsFile name told old new reads_before reads_now before now end
 OfCommand (Some (Replaying named)) told old new reads_before reads_now before now end =
     ReplaysFiles named told old new reads_before reads_now before now end
+OfCommand (Some (Mirroring names)) told old new reads_before reads_now before now end =
+    MirrorsFiles names told old new reads_before reads_now before now end
 
 -- The program's promise for these words, by its end: `told` is what the files hold, where they tell
 -- it; `old` and `new` are what was written before and after, where the sink tells it; then the

@@ -68,6 +68,16 @@ event_fault line why =
     codes "> fault line " ++ decimal line ++ codes " event " ++ decimal (refusal_number why)
     ++ codes "\n"
 
+-- a mirror can't go on at a line: of its plan, 1: the packet wasn't sent yet; of its record, 2: the moment falls,
+-- or is too large
+abbrev pub plan_fault : (line number : ℕ) → List ℕ
+plan_fault line number =
+    codes "> fault line " ++ decimal line ++ codes " plan " ++ decimal number ++ codes "\n"
+
+-- the standby's reply to the entry of this number, the first being 1, isn't the record's
+abbrev pub mirror_differs : ℕ → List ℕ
+mirror_differs number = codes "> mirror differs " ++ decimal number ++ codes "\n"
+
 -- a configuration doesn't load, with the kind of its fault and its place
 abbrev pub config_fault : ℕ → List ℕ → List ℕ
 config_fault kind place =

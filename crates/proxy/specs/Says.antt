@@ -10,7 +10,7 @@ use Rattle.px_outside.specs.Outside.{told_more, Rose}
 use Rattle.proxy.specs.declared.end.End.{End}
 use Rattle.proxy.specs.declared.end.End.TheVariants.{Config, ReadFault, WriteFault, Memory}
 use Rattle.proxy.specs.End.{end_unless}
-use Rattle.proxy.specs.Loads.{is_read_fault}
+use Rattle.proxy.specs.Loads.{IsFaulty, is_read_fault}
 use Rattle.proxy.specs.Report.{config_fault}
 use Rattle.proxy.specs.Written.{WritesFrontOf}
 
@@ -32,6 +32,13 @@ pub record Tells (text : List ℕ) (usual : End) (old new : Option (List ℕ)) (
 -- the line of a fault
 abbrev pub fault_text : ConfigFault → List ℕ
 fault_text f = config_fault (number_of f.kind) f.place
+
+-- a configuration doesn't load, and this text tells why
+pub record TellsFault (told : List ℕ → Option (List ℕ)) (before now : ℕ) (name text : List ℕ)
+    : Type 0 where
+  pub fault : ConfigFault
+  pub faulty : IsFaulty told before now name fault
+  pub text_is : text ≡ fault_text fault
 
 -- the end of an explanation
 abbrev pub fault_end : ConfigFaultKind → End

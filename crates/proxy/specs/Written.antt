@@ -77,6 +77,10 @@ IsWritten C schedule text = IsNotes C schedule text ⊎ IsReport C schedule text
 abbrev pub WritesFrontOf : List ℕ → Option (List ℕ) → Option (List ℕ) → Type 0
 WritesFrontOf text old new = (n : ℕ) × (new ≡ told_more old (take n text))
 
+-- a prefix of a text that is due was written
+abbrev pub WritesDue : (List ℕ → Type 0) → Option (List ℕ) → Option (List ℕ) → Type 0
+WritesDue IsDue old new = (text : List ℕ) × IsDue text × WritesFrontOf text old new
+
 -- a prefix of the notes of some lines was written
 abbrev pub WritesNotes : Config → List ℕ → Option (List ℕ) → Option (List ℕ) → Type 0
 WritesNotes C schedule old new =

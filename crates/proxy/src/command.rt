@@ -12,6 +12,14 @@ pub struct Replay<'a> {
     pub schedule: &'a [u8],
 }
 
+/// The files that a mirror reads.
+#[derive(Clone, Copy)]
+pub struct MirrorFiles<'a> {
+    pub config: &'a [u8],
+    pub record_file: &'a [u8],
+    pub plan: &'a [u8],
+}
+
 /// What is to be done.
 #[derive(Clone, Copy)]
 pub enum Command<'a> {
@@ -22,10 +30,12 @@ pub enum Command<'a> {
     /// Says what the virtual servers of a record had.
     Report(&'a [u8]),
     Replay(Replay<'a>),
+    /// Feeds a standby of the session table of a record, as a plan says.
+    Mirror(MirrorFiles<'a>),
 }
 
-/// The command that the words are; None exactly where they are none of `check CONFIG`, `explain CONFIG`, `report RECORD` and
-/// `replay CONFIG SCHEDULE`.
+/// The command that the words are; None exactly where they are none of `check CONFIG`, `explain
+/// CONFIG`, `report RECORD`, `replay CONFIG SCHEDULE` and `mirror CONFIG RECORD PLAN`.
 pub fn command_of(words: &Texts) -> Option<Command<'_>>
     ensures { option_map command_view result ≡ command_of words.now }
 {
@@ -47,6 +57,17 @@ pub fn command_of(words: &Texts) -> Option<Command<'_>>
                     schedule: schedule.as_bytes(),
                 }))
             }
+        [command, config, record, plan]
+            if command.as_bytes() == b"mirror".as_slice()
+                && is_name(config)
+                && is_name(record)
+                && is_name(plan) => {
+            Some(Command::Mirror(MirrorFiles {
+                config: config.as_bytes(),
+                record_file: record.as_bytes(),
+                plan: plan.as_bytes(),
+            }))
+        }
         _ => None,
     }
 }

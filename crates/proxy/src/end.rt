@@ -21,6 +21,8 @@ pub enum End {
     WriteFault,
     /// Memory was refused.
     Memory,
+    /// A standby of the session table gave another reply than the record.
+    Differs,
 }
 
 impl End {
@@ -48,6 +50,7 @@ impl End {
             End::ReadFault => 5,
             End::WriteFault => 6,
             End::Memory => 7,
+            End::Differs => 10,
         })
     }
 }

@@ -13,6 +13,7 @@ ghost use Rattle.proxy.specs.declared.end.End.TheVariants.{Config};
 use crate::command::{Command, Replay, command_of};
 use crate::end::{End, Status};
 use crate::explain_command::explain;
+use crate::mirror_command::mirror;
 use crate::report::{config_fault_line, ok_line, usage_fault_line};
 use crate::report_command::report;
 use crate::run_schedule::replay;
@@ -51,6 +52,7 @@ fn run<F: Files, K: Sink>(alloc: Global, words: &Texts, files: &mut F, out: &mut
         Some(Command::Explain(name)) => explain(alloc, name, files, out),
         Some(Command::Report(name)) => report(alloc, name, files, out),
         Some(Command::Replay(named)) => replay_files(alloc, named, files, out),
+        Some(Command::Mirror(named)) => mirror(alloc, named, files, out),
         None => End::Usage.unless(say(out, usage_fault_line())),
     }
 }
@@ -93,8 +95,8 @@ fn replay_files<F: Files, K: Sink>(
     }
 }
 
-// Says why there is no configuration.
-fn refuse<K: Sink>(alloc: Global, why: ConfigError, out: &mut K) -> End
+/// Says why there is no configuration.
+pub fn refuse<K: Sink>(alloc: Global, why: ConfigError, out: &mut K) -> End
     ensures { Refuses why (K.written out.old) (K.written out.new) (K.faults out.old)
         (K.faults out.new) result }
 {

@@ -3,7 +3,8 @@
 ghost use Rattle.std.specs.Prelude.{◌≡◌, IfOk, string_bytes};
 ghost use Rattle.proxy.specs.Report.{kind_number, refusal_number, client_text, server_text};
 ghost use Rattle.proxy.specs.Report.{open_text, end_text};
-ghost use Rattle.proxy.specs.Report.{text_fault, event_fault, config_fault, ok_text, usage_fault};
+ghost use Rattle.proxy.specs.Report.{text_fault, event_fault, plan_fault, mirror_differs};
+ghost use Rattle.proxy.specs.Report.{config_fault, ok_text, usage_fault};
 
 use journal_text::LineKind;
 use proxy_core::BadEvent;
@@ -71,6 +72,21 @@ fn refusal_number(why: BadEvent) -> u8
     ensures { result ≡ refusal_number why }
 {
     why as u8
+}
+
+/// A mirror can't go on: of a line of its plan, 1: the packet wasn't sent yet; of a line of its record, 2: the moment
+/// falls, or is too large.
+pub fn plan_fault_line(alloc: Global, line: u64, number: u8) -> M<Text>
+    ensures { IfOk result (λ text. text ≡ plan_fault line number) }
+{
+    Ok(text_of(format!(in alloc; "> fault line {line} plan {number}\n")?))
+}
+
+/// The standby's reply to the entry of this number, the first being 1, isn't the record's.
+pub fn mirror_differs_line(alloc: Global, number: usize) -> M<Text>
+    ensures { IfOk result (λ text. text ≡ mirror_differs number) }
+{
+    Ok(text_of(format!(in alloc; "> mirror differs {number}\n")?))
 }
 
 /// A configuration doesn't load: the kind of its fault, and the place of it.

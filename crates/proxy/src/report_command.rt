@@ -43,8 +43,8 @@ fn tell_report<K: Sink>(alloc: Global, journal: &JournalLines, out: &mut K) -> E
     }
 }
 
-// Says which line of a record is faulty first.
-fn tell_line_fault<K: Sink>(alloc: Global, fault: LineFault, out: &mut K) -> End
+/// Says which line of a record is faulty first.
+pub fn tell_line_fault<K: Sink>(alloc: Global, fault: LineFault, out: &mut K) -> End
     ensures { TellsLineFault fault (K.written out.old) (K.written out.new) (K.faults out.old)
         (K.faults out.new) result }
 {
