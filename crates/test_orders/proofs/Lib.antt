@@ -4,4 +4,4 @@ mod Growing
 mod Loops
 mod Members
 mod Nexts
-mod WholePieces
+pub mod WholePieces

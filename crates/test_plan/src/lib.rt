@@ -1,0 +1,11 @@
+//! What happens in a run of a test, move by move.
+#![tactic(auto)]
+
+mod choices;
+mod deeds;
+mod laws;
+mod plan;
+
+pub use choices::{groups, lengths};
+pub use laws::texts_are_whole;
+pub use plan::{TestMove, moves};
