@@ -24,7 +24,7 @@ use Rattle.proxy_core.specs.Refusals.{live_at}
 use Rattle.proxy_core.specs.Represents.{ConnectionContinues, AgreesLive, AgreesAt, AgreesBy, Represents}
 use Rattle.proxy_core.specs.Scheduler.{State, Seen, seen_after}
 use Rattle.proxy_core.specs.Serving.{Serves}
-use Rattle.record_model.specs.Setup.{statics_of, setup_of, handlers_in, setup_in, name_at, name_in, pool_in, port_in}
+use Rattle.record_model.specs.Setup.{statics_of, setup_of, handlers_in, setup_in, name_at, name_in, pool_in, http_in, port_in}
 use Rattle.run_config.specs.declared.config.Config.{Config}
 use Rattle.run_config.specs.declared.config.Virtual.{Virtual}
 use Rattle.proxy_core.specs.declared.core_state.Core.{Core}
@@ -135,10 +135,11 @@ serves_named C vs from place e = record {
   name = named_at C vs place e;
   port = ap (λ o. port_in (option_and_then (λ p. slice_get C.virtuals p) o)) e;
   pool = ap (λ o. pool_in (option_and_then (λ p. slice_get C.virtuals p) o)) e;
-  http = refl;
+  http = ap (λ o. http_in (option_and_then (λ p. slice_get C.virtuals p) o)) e;
   budget = refl;
   statics = refl;
   groups = refl;
+  heads = refl;
   handlers = λ x. ap (λ o. handlers_in C (option_and_then (λ p. slice_get C.virtuals p) o) x) e;
 }
 

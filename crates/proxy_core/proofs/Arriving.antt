@@ -20,8 +20,8 @@ use Rattle.conn_trace.specs.Trace.{Unfolds}
 use Rattle.core_events.specs.declared.edges.EdgeState.{EdgeState}
 use Rattle.conn_trace.proofs.Lying.{Before, Lies, allowed, item_lies}
 use Rattle.conn_trace.proofs.Streams.{link_same}
-use Rattle.proxy_core.specs.Servers.{Linked, awaits}
-use Rattle.proxy_core.proofs.ServerLaws.{Unserved, unserved_step}
+use Rattle.proxy_core.specs.Servers.{OwnItems, Linked, awaits}
+use Rattle.proxy_core.proofs.ServerLaws.{own_rest, own_first, Unserved, unserved_step}
 
 few_more : (n : ℕ) (c : Coming) (s : Stream) → FewUnread n s → length s.unread + length c.bytes ≤ n → FewUnread n (longer_stream c s)
 few_more n c s few room = by_end s.ended
@@ -172,22 +172,22 @@ longer_lies l f w waits room = record {
 
 -- ---- along items
 
-before : (l : TraceState) → Unserved l → Before l
-before l u = record {
+before : (http : Bool) (l : TraceState) → Unserved http l → Before l
+before http l u = record {
   orderly = u.orderly;
-  spoken = false;
-  speaks = u.plain;
+  spoken = http;
+  speaks = u.speaks;
 }
 
-pub lies_along : (g : Setup) → HeadsFit g → (l m : TraceState) (items : List Item) → Unserved l → Lies l → Unfolds g l items m → Lies m × PassWithin unread_limit items
-lies_along g fits l m [] u w is = (subst Lies is w, tt)
-lies_along g fits l m (i ∷ items) u w (mid, step, rest) =
-    let one = item_lies g fits l mid i w (before l u) step in
-    let more = lies_along g fits mid m items (unserved_step g l mid i u step) one.0 rest in
+pub lies_along : (g : Setup) → HeadsFit g → (l m : TraceState) (items : List Item) → OwnItems g items → Unserved g.http l → Lies l → Unfolds g l items m → Lies m × PassWithin unread_limit items
+lies_along g fits l m [] own u w is = (subst Lies is w, tt)
+lies_along g fits l m (i ∷ items) own u w (mid, step, rest) =
+    let one = item_lies g fits l mid i w (before g.http l u) step in
+    let more = lies_along g fits mid m items (own_rest g i items own) (unserved_step g l mid i (own_first g i items own) u step) one.0 rest in
     (more.0, (one.1, more.1))
 
 -- an answer waits only where there is no server yet
-pub waiting_at : (l : TraceState) (finished : Bool) (edge : EdgeState) → Unserved l → Lies l → Linked finished l edge → Waiting l
+pub waiting_at : {http : Bool} (l : TraceState) (finished : Bool) (edge : EdgeState) → Unserved http l → Lies l → Linked finished l edge → Waiting l
 waiting_at l finished edge u w k = by_phase l.phase refl k.waits
   where
     calm : (to : Addr) → l.phase ≡ Answering to → allowed Server l ≤ 0

@@ -22,10 +22,10 @@ use Rattle.conn_trace.specs.Heard.{brought_nothing, edges_met, event_brings, fur
 use Rattle.conn_trace.specs.Heard.{marks, nothing_heard, start_of, taken}
 use Rattle.conn_trace.specs.HeardLaws.{TellsNothing, taken_by_items}
 use Rattle.conn_trace.specs.Item.{Item, cause_of, notes_of, reasons_in}
-use Rattle.conn_trace.specs.Queries.{arriving, counted_held, held_under, in_event_of, unread_at, unread_limit}
+use Rattle.conn_trace.specs.Queries.{arriving, counted_held, unread_at, unread_limit}
 use Rattle.conn_trace.specs.Queries as query
 use Rattle.conn_trace.specs.Setup.{Setup}
-use Rattle.conn_trace.specs.State.{TraceState, no_answers, no_stream}
+use Rattle.conn_trace.specs.State.{link_of, Absent, TraceState, no_answers, no_stream}
 use Rattle.conn_trace.specs.Tellings.{choices_told, cut_told, finish_told, notes_about, replies_told, tells}
 use Rattle.conn_trace.specs.Trace.{Unfolds, next_item}
 use Rattle.core_events.specs.declared.note.Cause.{Cause}
@@ -53,7 +53,7 @@ use Rattle.proxy_core.specs.Shown.{causes_behind}
 use Rattle.proxy_core.specs.Sound.{unseen, Served, Sound, SoundAt}
 use Rattle.proxy_core.specs.declared.call.Asked.{Asked}
 use Rattle.run_config.specs.declared.config.Config.{Config}
-use Rattle.proxy_core.proofs.Setups.{heads_fit, plain_setup}
+use Rattle.proxy_core.proofs.Setups.{heads_fit}
 use Rattle.proxy_core.proofs.Arriving.{HeldOf, Room, Waiting, held_of, lies_along, longer_lies, nothing_fits, waiting_at}
 use Rattle.proxy_core.proofs.CameAt.{UncutOr, heard_uncut}
 use Rattle.proxy_core.proofs.Entries.{calls_front}
@@ -70,6 +70,7 @@ use Rattle.proxy_core.proofs.SoundPast.{front_served, leads_sound, marked_accept
 use Rattle.proxy_core.proofs.Standing.{as_served, is_served, stands_at}
 use Rattle.proxy_core.proofs.Sums.{finish_of_causes}
 use Rattle.proxy_core.proofs.PlainRuns.{runs_noted, out_told}
+use Rattle.proxy_core.proofs.OwnItems.{own_more}
 
 -- of a connection few bytes lie unread, and no item passed on more
 pub record FewBytes (C : Config) (h : Heard) (place : List Item) : Type 0 where
@@ -82,7 +83,7 @@ joined n (i ∷ place) more w v = (w.0, joined n place more w.1 v)
 
 -- an answer waits only where nothing of the server is collected
 waits_for : (C : Config) (c : ℕ) (z : Seen) → Served C c z → Lies (stand_of C z.heard z.place) → Waiting (stand_of C z.heard z.place)
-waits_for C c z k w = waiting_at (stand_of C z.heard z.place) z.heard.finished z.heard.edges.server.state (unserved_at (setup_of C z.heard) (plain_setup C z.heard) z.heard z.place (stand_of C z.heard z.place) k.stands) w k.linked
+waits_for C c z k w = waiting_at (stand_of C z.heard z.place) z.heard.finished z.heard.edges.server.state (unserved_at (setup_of C z.heard) z.heard z.place (stand_of C z.heard z.place) k.own k.stands) w k.linked
 
 -- ---- what comes has room
 
@@ -232,12 +233,14 @@ module _ (C : Config) (past : Past) (old : State) (c : ℕ) where
   -- ---- a Run
 
   -- behind the items that it gave
-  gave : (more : List Item) (at : TraceState) (last group : List Note) (new : State) → h.failed ≡ false → Served C c z → Passes g (taken h) l more at → TellsNothing c last → group ≡ notes_of c more ++ last → new.places c ≡ place ++ more → FewBytes C h place
+  gave : (more : List Item) (at : TraceState) (last group : List Note) (new : State) → h.failed ≡ false → Served C c z → Passes g (taken h) l more at → (g.http ≡ true → link_of at.server ≡ Absent) → TellsNothing c last → group ≡ notes_of c more ++ last → new.places c ≡ place ++ more → FewBytes C h place
       → FewBytes C (hears c h Runs group) (new.places c)
-  gave more at last group new found k p quiet is same few =
+  gave more at last group new found k p alone quiet is same few =
       let all = notes_of c more ++ last in
       let f = taken_by_items (taken h) more in
-      let r = lies_along g (heads_fit C h) (longer f l) at more (unserved_longer f l (unserved_at g (plain_setup C h) h place l k.stands)) (longer_lies l f few.lies (waits_for C c z k few.lies) (nothing_fits l few.lies)) p.passed in
+      let un = unserved_at g h place l k.own k.stands in
+      let own = own_more g f l at more h.finished h.edges.server.state refl un k.linked alone p.passed in
+      let r = lies_along g (heads_fit C h) (longer f l) at more own (unserved_longer f l un) (longer_lies l f few.lies (waits_for C c z k few.lies) (nothing_fits l few.lies)) p.passed in
       let stands = ran_on C past old c k found more at last quiet p in
       let there : FewBytes C (hears c h Runs all) (place ++ more) = record {
         lies = subst Lies (sym (stands_at C (hears c h Runs all) g (place ++ more) at refl stands)) r.0;
@@ -262,13 +265,13 @@ module _ (C : Config) (past : Past) (old : State) (c : ℕ) where
       by_failed false e (inl j) =
           let es = edges_noted (notes_of c j.more) h.edges in
           let d = untaken_all h (place ++ j.more) in
-          gave j.more j.at (told_behind j.turn g (taken h) j.at c es d) group new e k j.items.passes (due_quiet c _ (told_due j.turn g (taken h) j.at c es d)) (runs_noted j.items) (ap (λ s. s.places c) j.state ∙ placed j.more) few
+          gave j.more j.at (told_behind j.turn g (taken h) j.at c es d) group new e k j.items.passes j.items.alone (due_quiet c _ (told_due j.turn g (taken h) j.at c es d)) (runs_noted j.items) (ap (λ s. s.places c) j.state ∙ placed j.more) few
       by_failed false e (inr j) =
           let es = edges_noted (notes_of c j.more) h.edges in
           let d = untaken_all h (place ++ j.more) in
           let last = closing c es d in
           let due = closing_due c es d in
-          gave j.more j.at (Finish c Memory ∷ last) group new e k j.passes (quiet_by c (Finish c Memory ∷ last) (refl, due_about c last due) (due_replies c last due) (due_choices c last due) (λ t. due_cut c t last due)) (out_told j)
+          gave j.more j.at (Finish c Memory ∷ last) group new e k j.passes j.alone (quiet_by c (Finish c Memory ∷ last) (refl, due_about c last due) (due_replies c last due) (due_choices c last due) (λ t. due_cut c t last due)) (out_told j)
           (ap (λ s. s.places c) j.state ∙ placed j.more) few
 
   -- ---- a Turn

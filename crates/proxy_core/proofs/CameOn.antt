@@ -13,7 +13,7 @@ use Rattle.conn_trace.specs.Gates.{no_bytes, sent_from}
 use Rattle.core_events.specs.declared.event_kind.EventKind.TheVariants.{Comes}
 use Rattle.core_events.specs.declared.input.Input.{Input}
 use Rattle.core_events.specs.declared.input.Input.TheVariants.{Bytes, Ends, Resets, Connects, Takes}
-use Rattle.conn_trace.specs.Heard.{SideHeard, servers_taken, Heard, taken, edges_met, hears, taken_by}
+use Rattle.conn_trace.specs.Heard.{Heard, taken, edges_met, hears, taken_by}
 use Rattle.conn_trace.specs.Heard.{further_of, start_of}
 use Rattle.conn_trace.specs.HeardLaws.{TellsNothing}
 use Rattle.conn_trace.specs.Costs.{paid_by}
@@ -55,7 +55,7 @@ use Rattle.proxy_core.proofs.Meeting.{AnswersFirst, TakesThere, around_last, aro
 use Rattle.proxy_core.proofs.Standing.{sent_at, stands_at}
 use Rattle.proxy_core.proofs.PlainServers.{PlainEnds, none_taken, numbered_at, plain_ends}
 use Rattle.proxy_core.proofs.ServerLeft.{unserved_at}
-use Rattle.proxy_core.proofs.Setups.{plain_setup}
+use Rattle.proxy_core.specs.Servers.{Linked, OwnItems}
 
 -- what goes on is what was told of it
 pub to_standing : (C : Config) (h : Heard) (g : Setup) (place : List Item) (at : TraceState) (conn : Conn) → setup_of C h ≡ g → Unfolds g (start_of g h) place at → Holds g (around h) at conn → Holds (setup_of C h) (around h) (stand_of C h place) conn
@@ -165,6 +165,8 @@ pub record Stood (C : Config) (h : Heard) (place : List Item) : Type 0 where
   pub stands : Unfolds (setup_of C h) (start_of (setup_of C h) h) place (stand_of C h place)
   pub orderly : Orderly (stand_of C h place)
   pub finished : h.failed ≡ false → (stand_of C h place).finished ≡ h.finished
+  pub own : OwnItems (setup_of C h) place
+  pub linked : Linked h.finished (stand_of C h place) h.edges.server.state
 
 -- of the connection of which this came: whether it is over, and what it goes on with
 pub record CameOn (C : Config) (past : Past) (s : State) (c : ℕ) (input : Input) (group : List Note) (over : Bool) (o o' : Option Conn) : Type 0 where
@@ -237,8 +239,8 @@ module _ (C : Config) (past : Past) (s : State) (c : ℕ) (input : Input) (k : S
   lacking_came old new group over z may w =
       let there : w.mid.stage ≡ OutOfMemory = ap (λ x. x.stage) w.hears.is ∙ z.there in
       let silent : settle_notes c w.mid ≡ [] = ap (λ (st : Stage). settle_notes c (record w.mid { stage = st })) there in
-      let un = unserved_at (setup_of C h) (plain_setup C h) h place (stand_of C h place) k.stands in
-      let plain = plain_ends h (stand_of C h place) old.ends z.ends un (numbered_at (setup_of C h) (plain_setup C h) h place (stand_of C h place) k.stands) in
+      let un = unserved_at (setup_of C h) h place (stand_of C h place) k.own k.stands in
+      let plain = plain_ends h (stand_of C h place) old.ends z.ends un (numbered_at (setup_of C h) h place (stand_of C h place) k.own k.stands) in
       let none : group ≡ [] = w.notes ∙ silent in
       let going : over ≡ false = w.over_is ∙ ap (λ (st : Stage). over_in (record w.mid { stage = st })) there in
       let new_is : new ≡ w.mid = w.is ∙ ap (λ ns. noted_in ns w.mid) silent in
@@ -282,8 +284,8 @@ module _ (C : Config) (past : Past) (s : State) (c : ℕ) (input : Input) (k : S
       let no_end : finish_told (notes_about c group) ≡ false = ap finish_told (tells_all c group (due_about c group due)) ∙ due_finish c group due in
       let no_failure : failure_told (notes_about c group) ≡ false = ap failure_told (tells_all c group (due_about c group due)) ∙ due_failure c group due in
       let finished : l.finished ≡ h.finished = k.finished z.not_failed in
-      let un = unserved_at g (plain_setup C h) h place l k.stands in
-      let plain = plain_ends h l old.ends z.holds.ends un (numbered_at g (plain_setup C h) h place l k.stands) in
+      let un = unserved_at g h place l k.own k.stands in
+      let plain = plain_ends h l old.ends z.holds.ends un (numbered_at g h place l k.own k.stands) in
       let there = takes_there input h l old z.holds.ends may in
       let told : around h' ≡ met_by input h.finished (around h) = around_met c h input group no_end there in
       let stands = stands_come g c h input group place l (heard_uncut c past) quiet no_end k.stands in
@@ -305,7 +307,8 @@ module _ (C : Config) (past : Past) (s : State) (c : ℕ) (input : Input) (k : S
       let S : Setup → Type 0 = λ y. Unfolds y (start_of y h') place (longer f l) in
       let sent : (stand_of C h' place).sent ≡ sent_from no_bytes place = ap (λ x. x.sent) (stands_at C h' g place (longer f l) (same_setup group) stands) ∙ sent_at g h' place (longer f l) stands in
       let again : Unfolds (setup_of C h') (start_of (setup_of C h') h') place (stand_of C h' place) = standing_unfolds C h' g place (longer f l) (same_setup group) stands in
-      let plain_now = plain_ends h' (stand_of C h' place) mid.ends standing.ends (unserved_at (setup_of C h') (plain_setup C h') h' place (stand_of C h' place) again) (numbered_at (setup_of C h') (plain_setup C h') h' place (stand_of C h' place) again) in
+      let own : OwnItems (setup_of C h') place = subst (λ y. OwnItems y place) (sym (same_setup group)) k.own in
+      let plain_now = plain_ends h' (stand_of C h' place) mid.ends standing.ends (unserved_at (setup_of C h') h' place (stand_of C h' place) own again) (numbered_at (setup_of C h') h' place (stand_of C h' place) own again) in
       let left : queued_in mid.ends ≡ untaken_all h' place = queued_untaken h' (stand_of C h' place) place mid.ends plain_now queues sent in
       let edges_are : mid.ends.edges ≡ edges_met input h.edges = ap (λ x. x.edges) ends_are ∙ ends_edges input (has_finished old.stage) old.ends ∙ ap (edges_met input) (sym edges) in
       let settled = settling_at (setup_of C h') (taken h') (stand_of C h' place) c in

@@ -77,6 +77,8 @@ stood_of C past s c v = record {
   stands = v.stands;
   orderly = stands_orderly C c (seen past s c) v;
   finished = λ found. trace_finished C c (seen past s c) v (heard_finish c past) found;
+  own = v.own;
+  linked = v.linked;
 }
 
 may_conn : (i : Input) (l : Live) → MayCome i l → MayConn i l.conn

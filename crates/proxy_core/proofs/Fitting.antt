@@ -48,7 +48,6 @@ use Rattle.record_model.specs.Setup.{setup_of, stand_of}
 use Rattle.proxy_core.specs.Sound.{is_closed, Served, Sound}
 use Rattle.proxy_core.specs.declared.call.Asked.{Asked as Call}
 use Rattle.run_config.specs.declared.config.Config.{Config}
-use Rattle.proxy_core.proofs.Setups.{plain_setup}
 use Rattle.proxy_core.proofs.Drains.{longer_orderly}
 use Rattle.proxy_core.proofs.EdgeNotes.{edges_joined}
 use Rattle.proxy_core.proofs.Finished.{heard_finish, stands_orderly, trace_finished}
@@ -62,6 +61,7 @@ use Rattle.proxy_core.proofs.SoundPast.{front_served, leads_sound}
 use Rattle.proxy_core.proofs.ServerGone.{never}
 use Rattle.proxy_core.proofs.DueFits.{Begun, client_begun, fit_settling, fit_closing, HalvesThere, fit_behind, about_behind}
 use Rattle.proxy_core.proofs.PlainRuns.{runs_noted, out_told}
+use Rattle.proxy_core.proofs.OwnItems.{own_more}
 
 -- ---- a half-close is due on a connection that relays
 
@@ -129,8 +129,8 @@ record RunFits (took : TakenCounts) (at : TraceState) (c : ℕ) (more : List Ite
 
 module _ (C : Config) (past : Past) (old : State) (sound : Sound C past old) where
   front_fits : (c : ℕ) (more : List Item) (at : TraceState) → (heard c past).failed ≡ false → is_some (heard c past).accepted ≡ true → Served C c (seen past old c)
-      → Passes (setup_of C (heard c past)) (taken (heard c past)) (stand_of C (heard c past) (old.places c)) more at → RunFits (taken (heard c past)) at c more (heard c past).edges
-  front_fits c more at found accepted k p =
+      → Passes (setup_of C (heard c past)) (taken (heard c past)) (stand_of C (heard c past) (old.places c)) more at → ((setup_of C (heard c past)).http ≡ true → link_of at.server ≡ Absent) → RunFits (taken (heard c past)) at c more (heard c past).edges
+  front_fits c more at found accepted k p alone =
       record { items = ran.fits; halves = λ side due. by_side side due (relays at (taken h) side due) }
     where
       z : Seen
@@ -157,7 +157,8 @@ module _ (C : Config) (past : Past) (old : State) (sound : Sound C past old) whe
       ran : RunLinked at c more h.edges
       ran =
           let f = taken_by_items (taken h) more in
-          run_linked g (longer f l) at more c h.edges (unserved_longer f l (unserved_at g (plain_setup C h) h z.place l k.stands)) (longer_linked l.finished f l s refl was) p.passed
+          let un = unserved_at g h z.place l k.own k.stands in
+          run_linked g (longer f l) at more c h.edges (own_more g f l at more h.finished s refl un k.linked alone p.passed) (unserved_longer f l un) (longer_linked l.finished f l s refl was) p.passed
 
       ends : Edges
       ends = edges_noted (notes_of c more) h.edges
@@ -226,13 +227,13 @@ module _ (C : Config) (past : Past) (old : State) (sound : Sound C past old) whe
           let v = front_served C past c rest old ring (sound.each c) in
           let d = untaken_all h (old.places c ++ k.more) in
           let e = edges_noted (notes_of c k.more) h.edges in
-          let r = front_fits c k.more k.at found v.0 v.1 k.items.passes in
+          let r = front_fits c k.more k.at found v.0 v.1 k.items.passes k.items.alone in
           behind k.more (told_behind k.turn (setup_of C h) (taken h) k.at c e d) (runs_noted k.items) (about_behind k.turn (setup_of C h) (taken h) k.at c e d) r.items (fit_behind k.turn (setup_of C h) (taken h) k.at c e d r.halves)
       by_failed false found (inr k) =
           let v = front_served C past c rest old ring (sound.each c) in
           let d = untaken_all h (old.places c ++ k.more) in
           let e = edges_noted (notes_of c k.more) h.edges in
-          let r = front_fits c k.more k.at found v.0 v.1 k.passes in
+          let r = front_fits c k.more k.at found v.0 v.1 k.passes k.alone in
           behind k.more (note.Finish c Memory ∷ closing c e d) (out_told k) (refl, due_about c (closing c e d) (closing_due c e d)) r.items (refl, fit_closing c e d)
 
   ring_fits : (ring : List ℕ) (group : List Note) (new : State) → old.ring ≡ ring → MovesRing C past ring group old new → Fit (own (front ring) group) (heard (front ring) past).edges

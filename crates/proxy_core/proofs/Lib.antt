@@ -30,6 +30,7 @@ pub mod ServerSteps
 pub mod ServerLaws
 pub mod ServerCounts
 pub mod Linking
+pub mod OwnItems
 pub mod LinkedComes
 pub mod ServerLeft
 pub mod PlainServers

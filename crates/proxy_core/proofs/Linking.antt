@@ -17,19 +17,18 @@ use Rattle.conn_trace.specs.Trace.{Unfolds}
 use Rattle.conn_trace.proofs.Stepping.{steps}
 use Rattle.conn_trace.proofs.Streams.{link_same}
 use Rattle.proxy_core.specs.Fitting.{Fit}
-use Rattle.proxy_core.specs.Servers.{is_free, awaits, AskedAt, LinkedAt, Linked}
+use Rattle.proxy_core.specs.Servers.{is_free, awaits, AskedAt, LinkedAt, Linked, OwnItems}
 use Rattle.proxy_core.proofs.EdgeNotes.{edges_joined}
-use Rattle.proxy_core.proofs.ServerLaws.{Unserved, unserved_step, went_on}
+use Rattle.proxy_core.proofs.ServerLaws.{Unserved, own_first, own_rest, side_of, unserved_step, went_on}
 use Rattle.proxy_core.proofs.ServerGone.{never, unlinked}
 use Rattle.proxy_core.proofs.ServerPhases.{Quiet, Taking, link_by, SideBy}
-use Rattle.proxy_core.proofs.ServerSteps.{item_side}
 
 -- by a test whose result is known
 as_true : (A B : Type 0) (b : Bool) → b ≡ true → MatchBool b A B → A
 as_true A B true e k = k
 as_true A B false e k = never e
 
-as_false : (A B : Type 0) (b : Bool) → b ≡ false → MatchBool b A B → B
+pub as_false : (A B : Type 0) (b : Bool) → b ≡ false → MatchBool b A B → B
 as_false A B true e k = absurd (true≢false e)
 as_false A B false e k = k
 
@@ -126,7 +125,7 @@ step_linked l m (Connected to) c e s k lk =
 step_linked l m (Answered made) c e s k lk = taking_linked l m e.server.state made (went_on l m (Answered made) s) k lk
 step_linked l m other c e s k lk = quiet_linked l m e.server.state (went_on l m other s) k lk
 
-step_fits : (l m : TraceState) (i : Item) (c : ℕ) (e : Edges) → Unserved l → SideBy i l.phase l m → Linked l.finished l e.server.state → Fit (note_of c i) e
+step_fits : {http : Bool} (l m : TraceState) (i : Item) (c : ℕ) (e : Edges) → Unserved http l → SideBy i l.phase l m → Linked l.finished l e.server.state → Fit (note_of c i) e
 step_fits l m (Connected to) c e h k lk =
     let going : l.finished ≡ false = (subst (λ p. OrderlyIn p l.finished (link_of l.server)) k.was h.orderly).0 in
     (subst (λ b. LinkedAt b e.server.state) (h.not_up going (ap unlinked k.was)) (linked_then l.finished l e.server.state lk (ap awaits k.was) going), tt)
@@ -146,12 +145,12 @@ pub record RunLinked (m : TraceState) (c : ℕ) (items : List Item) (e : Edges) 
   pub linked : Linked m.finished m (edges_noted (notes_of c items) e).server.state
   pub fits : Fit (notes_of c items) e
 
-pub run_linked : (g : Setup) (l m : TraceState) (items : List Item) (c : ℕ) (e : Edges) → Unserved l → Linked l.finished l e.server.state → Unfolds g l items m → RunLinked m c items e
-run_linked g l m [] c e h lk is = record { linked = subst (λ x. Linked x.finished x e.server.state) is lk; fits = tt }
-run_linked g l m (i ∷ items) c e h lk (mid, step, rest) =
-    let side = item_side g l mid i (h.plain.plain refl) h.orderly h.not_up step in
+pub run_linked : (g : Setup) (l m : TraceState) (items : List Item) (c : ℕ) (e : Edges) → OwnItems g items → Unserved g.http l → Linked l.finished l e.server.state → Unfolds g l items m → RunLinked m c items e
+run_linked g l m [] c e own h lk is = record { linked = subst (λ x. Linked x.finished x e.server.state) is lk; fits = tt }
+run_linked g l m (i ∷ items) c e own h lk (mid, step, rest) =
+    let side = side_of g l mid i h step in
     let e' = edges_noted (note_of c i) e in
-    let r = run_linked g mid m items c e' (unserved_step g l mid i h step) (step_linked l mid i c e (steps g l mid i h.orderly step) side lk) rest in
+    let r = run_linked g mid m items c e' (own_rest g i items own) (unserved_step g l mid i (own_first g i items own) h step) (step_linked l mid i c e (steps g l mid i h.orderly step) side lk) rest in
     record {
       linked = subst (λ x. Linked m.finished m x.server.state) (sym (edges_joined (note_of c i) (notes_of c items) e)) r.linked;
       fits = fit_joined (note_of c i) (notes_of c items) e (step_fits l mid i c e h side lk) r.fits;

@@ -20,7 +20,7 @@ use Rattle.conn_trace.specs.HeardLaws.{taken_by_items}
 use Rattle.conn_trace.specs.Item.{Item, Answered, Connected, note_of, notes_of, server_output}
 use Rattle.conn_trace.specs.Phases.{OrderlyIn}
 use Rattle.conn_trace.specs.Setup.{Setup}
-use Rattle.conn_trace.specs.State.{TraceState, link_of}
+use Rattle.conn_trace.specs.State.{Absent, TraceState, link_of}
 use Rattle.conn_trace.specs.Gates.{TakenCounts}
 use Rattle.conn_trace.specs.Trace.{next_item, Unfolds}
 use Rattle.conn_trace.proofs.Stepping.{steps}
@@ -41,12 +41,11 @@ use Rattle.record_model.specs.Refusal.{answers_nothing}
 use Rattle.proxy_core.specs.Refusal.{refused}
 use Rattle.proxy_core.specs.Scheduler.{State, last_took, seen, untaken_all}
 use Rattle.proxy_core.specs.OneServer.{OneServer, OneServerIsMade}
-use Rattle.proxy_core.specs.Servers.{made, makes, servers_made, took_of, awaits, Linked}
+use Rattle.proxy_core.specs.Servers.{OwnItems, made, makes, servers_made, took_of, awaits, Linked}
 use Rattle.record_model.specs.Setup.{setup_of, stand_of}
 use Rattle.proxy_core.specs.Sound.{unseen, Served, Sound}
 use Rattle.proxy_core.specs.declared.call.Asked.{Asked as Call}
 use Rattle.run_config.specs.declared.config.Config.{Config}
-use Rattle.proxy_core.proofs.Setups.{plain_setup}
 use Rattle.proxy_core.proofs.EdgeNotes.{edges_joined, edges_told}
 use Rattle.proxy_core.proofs.Finished.{heard_finish, trace_finished}
 use Rattle.proxy_core.proofs.Framing.{only_changed, touches}
@@ -56,12 +55,12 @@ use Rattle.proxy_core.proofs.Linking.{linked_now, longer_linked, none_waits, run
 use Rattle.proxy_core.proofs.Members.{eq_same, eq_self}
 use Rattle.proxy_core.proofs.ServerCounts.{none_made, took_last}
 use Rattle.proxy_core.proofs.ServerGone.{never, unlinked}
-use Rattle.proxy_core.proofs.ServerLaws.{Unserved, made_along, none_sent, unserved_longer, unserved_step, went_on}
+use Rattle.proxy_core.proofs.ServerLaws.{side_of, own_front, own_rest, own_first, Unserved, made_along, none_sent, unserved_longer, unserved_step, went_on}
 use Rattle.proxy_core.proofs.ServerLeft.{all_made, unserved_at}
 use Rattle.proxy_core.proofs.ServerPhases.{SideBy}
-use Rattle.proxy_core.proofs.ServerSteps.{item_side}
 use Rattle.proxy_core.proofs.SoundPast.{front_served, leads_sound, may_come_at}
 use Rattle.proxy_core.proofs.PlainRuns.{runs_noted, out_told}
+use Rattle.proxy_core.proofs.OwnItems.{own_more}
 
 -- ---- along items a server is asked for where none was made
 
@@ -73,7 +72,7 @@ IsSought e = is_connecting e.server.state ≡ true
 abbrev Makes : TraceState → ℕ → Type 0
 Makes l n = l.finished ≡ false → n ≡ made l.answers.connects + l.sent.number
 
-item_asks : (l m : TraceState) (i : Item) (c n : ℕ) (e : Edges) → Unserved l → Linked l.finished l e.server.state → SideBy i l.phase l m → Makes l n → (IsSought e → n ≡ 0) → IsSought (edges_noted (note_of c i) e) → n ≡ 0
+item_asks : {http : Bool} (l m : TraceState) (i : Item) (c n : ℕ) (e : Edges) → Unserved http l → Linked l.finished l e.server.state → SideBy i l.phase l m → Makes l n → (IsSought e → n ≡ 0) → IsSought (edges_noted (note_of c i) e) → n ≡ 0
 item_asks l m (Connected to) c n e h lk k all before is =
     let going : l.finished ≡ false = (subst (λ p. OrderlyIn p l.finished (link_of l.server)) k.was h.orderly).0 in
     let number = h.first going (h.not_up going (ap unlinked k.was)) in
@@ -81,15 +80,16 @@ item_asks l m (Connected to) c n e h lk k all before is =
 item_asks l m (Answered b) c n e h lk k all before is = before is
 item_asks l m other c n e h lk k all before is = before is
 
-items_ask : (g : Setup) (l m : TraceState) (items : List Item) (c n : ℕ) (e : Edges) → Unserved l → Linked l.finished l e.server.state → Unfolds g l items m → Makes l n → (IsSought e → n ≡ 0) → IsSought (edges_noted (notes_of c items) e) → n ≡ 0
-items_ask g l m [] c n e h lk u all before is = before is
-items_ask g l m (i ∷ items) c n e h lk (mid, step, rest) all before is =
-    let side = item_side g l mid i (h.plain.plain refl) h.orderly h.not_up step in
+items_ask : (g : Setup) (l m : TraceState) (items : List Item) (c n : ℕ) (e : Edges) → OwnItems g items → Unserved g.http l → Linked l.finished l e.server.state → Unfolds g l items m → Makes l n → (IsSought e → n ≡ 0) → IsSought (edges_noted (notes_of c items) e) → n ≡ 0
+items_ask g l m [] c n e own h lk u all before is = before is
+items_ask g l m (i ∷ items) c n e own h lk (mid, step, rest) all before is =
+    let side = side_of g l mid i h step in
+    let here : OwnItems g (i ∷ []) = own_front g (i ∷ []) items own in
     let s = steps g l mid i h.orderly step in
-    let one = run_linked g l mid (i ∷ []) c e h lk (mid, step, refl) in
+    let one = run_linked g l mid (i ∷ []) c e here h lk (mid, step, refl) in
     let alone : notes_of c (i ∷ []) ≡ note_of c i = append-nil (note_of c i) in
     let linked : Linked mid.finished mid (edges_noted (note_of c i) e).server.state = subst (λ ns. Linked mid.finished mid (edges_noted ns e).server.state) alone one.linked in
-    items_ask g mid m items c n (edges_noted (note_of c i) e) (unserved_step g l mid i h step) linked rest (λ x. all (went_on l mid i s x) ∙ made_along g l mid (i ∷ []) h (mid, step, refl))
+    items_ask g mid m items c n (edges_noted (note_of c i) e) (own_rest g i items own) (unserved_step g l mid i (own_first g i items own) h step) linked rest (λ x. all (went_on l mid i s x) ∙ made_along g l mid (i ∷ []) here h (mid, step, refl))
     (item_asks l mid i c n e h lk side all before) (subst IsSought (edges_joined (note_of c i) (notes_of c items) e) is)
 
 -- what is told behind items asks for none
@@ -189,8 +189,8 @@ module _ (C : Config) (past : Past) (old : State) (sound : Sound C past old) whe
 
   -- behind its items
   front_asks : (c : ℕ) (more : List Item) (at : TraceState) → (heard c past).failed ≡ false → Served C c (seen past old c) → Passes (setup_of C (heard c past)) (taken (heard c past)) (stand_of C (heard c past) (old.places c)) more at
-      → OneMade (servers_made c past) (heard c past).edges → IsSought (edges_noted (notes_of c more) (heard c past).edges) → servers_made c past ≡ 0
-  front_asks c more at found k p one =
+      → ((setup_of C (heard c past)).http ≡ true → link_of at.server ≡ Absent) → OneMade (servers_made c past) (heard c past).edges → IsSought (edges_noted (notes_of c more) (heard c past).edges) → servers_made c past ≡ 0
+  front_asks c more at found k p alone one =
       let z = seen past old c in
       let h = heard c past in
       let g = setup_of C h in
@@ -200,8 +200,10 @@ module _ (C : Config) (past : Past) (old : State) (sound : Sound C past old) whe
       let same = trace_finished C c z k (heard_finish c past) found in
       let lk : Linked l.finished l s = linked_now h.finished l.finished l s s (λ x. sym same ∙ x) (λ x. refl) k.linked in
       let cs : (longer f l).answers.connects ≡ l.answers.connects = append-nil (on_last nothing_comes l.answers.connects) ∙ nothing_on_last nothing_comes l.answers.connects refl in
-      let all : Makes (longer f l) (servers_made c past) = λ x. (heard_servers c past).all (sym same ∙ x) ∙ all_made g (plain_setup C h) h z.place l k.stands ∙ ap (λ y. made y + l.sent.number) (sym cs) in
-      items_ask g (longer f l) at more c (servers_made c past) h.edges (unserved_longer f l (unserved_at g (plain_setup C h) h z.place l k.stands)) (longer_linked l.finished f l s refl lk) p.passed all one.asked
+      let all : Makes (longer f l) (servers_made c past) = λ x. (heard_servers c past).all (sym same ∙ x) ∙ all_made g h z.place l k.own k.stands ∙ ap (λ y. made y + l.sent.number) (sym cs) in
+      let un = unserved_at g h z.place l k.own k.stands in
+      let own = own_more g f l at more h.finished s refl un k.linked alone p.passed in
+      items_ask g (longer f l) at more c (servers_made c past) h.edges own (unserved_longer f l un) (longer_linked l.finished f l s refl lk) p.passed all one.asked
 
   run_one : (c : ℕ) (rest : List ℕ) (group : List Note) (new : State) → old.ring ≡ c ∷ rest → OneMade (servers_made c past) (heard c past).edges → MovesFront C (heard c past) c rest group old new → OneMade (servers_made c past + 0) (hears c (heard c past) Runs group).edges
   run_one c rest group new ring one m = by_failed (heard c past).failed refl m
@@ -209,12 +211,12 @@ module _ (C : Config) (past : Past) (old : State) (sound : Sound C past old) whe
       h : Heard
       h = heard c past
 
-      behind : (more : List Item) (at : TraceState) (last : List Note) → h.failed ≡ false → Passes (setup_of C h) (taken h) (stand_of C h (old.places c)) more at → group ≡ notes_of c more ++ last → About c last → ((e : Edges) → IsSought (edges_noted last e) → IsSought e)
+      behind : (more : List Item) (at : TraceState) (last : List Note) → h.failed ≡ false → Passes (setup_of C h) (taken h) (stand_of C h (old.places c)) more at → ((setup_of C h).http ≡ true → link_of at.server ≡ Absent) → group ≡ notes_of c more ++ last → About c last → ((e : Edges) → IsSought (edges_noted last e) → IsSought e)
           → OneMade (servers_made c past + 0) (hears c h Runs group).edges
-      behind more at last found p is a asks =
+      behind more at last found p alone is a asks =
           let v = front_served C past c rest old ring (sound.each c) in
           after_by c Runs group (notes_of c more ++ last) one is (about_joined c (notes_of c more) last (about_items c (notes_of c more) (of_items c more)) a) refl
-          (λ x. front_asks c more at found v.1 p one (asks (edges_noted (notes_of c more) h.edges) (subst IsSought (edges_joined (notes_of c more) last h.edges) x)))
+          (λ x. front_asks c more at found v.1 p alone one (asks (edges_noted (notes_of c more) h.edges) (subst IsSought (edges_joined (notes_of c more) last h.edges) x)))
 
       by_failed : (b : Bool) → h.failed ≡ b → MatchBool b (RunsFailed h c rest group old new) (RunsOn C h c rest group old new ⊎ RunsOut C h c rest group old new) → OneMade (servers_made c past + 0) (hears c h Runs group).edges
       by_failed true found k =
@@ -225,12 +227,12 @@ module _ (C : Config) (past : Past) (old : State) (sound : Sound C past old) whe
           let e = edges_noted (notes_of c k.more) h.edges in
           let d = untaken_all h (old.places c ++ k.more) in
           let due = behind_due k.turn (setup_of C h) (taken h) k.at c e d in
-          behind k.more k.at (told_behind k.turn (setup_of C h) (taken h) k.at c e d) found k.items.passes (runs_noted k.items) (due_about c _ due) (due_asks c _ due)
+          behind k.more k.at (told_behind k.turn (setup_of C h) (taken h) k.at c e d) found k.items.passes k.items.alone (runs_noted k.items) (due_about c _ due) (due_asks c _ due)
       by_failed false found (inr k) =
           let e = edges_noted (notes_of c k.more) h.edges in
           let d = untaken_all h (old.places c ++ k.more) in
           let due = closing_due c e d in
-          behind k.more k.at (Finish c Memory ∷ closing c e d) found k.passes (out_told k) (refl, due_about c (closing c e d) due) (due_asks c (closing c e d) due)
+          behind k.more k.at (Finish c Memory ∷ closing c e d) found k.passes k.alone (out_told k) (refl, due_about c (closing c e d) due) (due_asks c (closing c e d) due)
 
   rest_one : (c : ℕ) (v : EventKind) (group : List Note) → group ≡ [] → makes c v ≡ 0 → event_edges c v (heard c past).edges ≡ (heard c past).edges → OneMade (servers_made c past) (heard c past).edges → OneMade (servers_made c past + makes c v) (hears c (heard c past) v group).edges
   rest_one c v group is none same one = after_by c v group [] one is tt none (λ x. one.asked (subst IsSought same x))
@@ -300,7 +302,7 @@ one_made C (x ∷ past) s (before, leads, fine, moves) c = by_test (one_made C p
 served_one : (C : Config) (past : Past) (s : State) (c : ℕ) → Leads C past s → Served C c (seen past s c) → OneServer past s c
 served_one C past s c leads k = record {
   once = once;
-  unsent = λ none. (let m = none_made h.connects none in let a = all_made g (plain_setup C h) h (s.places c) l k.stands in none_sent g (start_of g h) l (s.places c) 1 k.stands (omega (arith, m, a)));
+  unsent = λ none. (let m = none_made h.connects none in let a = all_made g h (s.places c) l k.own k.stands in none_sent g (start_of g h) l (s.places c) 1 k.stands (omega (arith, m, a)));
   within = by_made (made h.connects) refl;
 }
   where

@@ -1,11 +1,10 @@
 -- Without HTTP one server connection is made at most, and none is given up: what the ends of a connection say then, and its queue.
-use Rattle.std.proofs.Common.{◌≡◌, ◌⊎◌, inl, inr, refl, sym, ap, subst, ◌∙◌, ℕ, zero, suc, ◌+◌, ◌-◌, List, [], ◌∷◌, ◌++◌, append-nil, append_assoc, length, Bool, true, false, true≢false, nat_eq, Option, Some, None, if◌then◌else◌, arith, eq-eqb}
-use Rattle.px_bytes.specs.declared.addr.Side.TheVariants.{Server}
+use Rattle.std.proofs.Common.{◌≡◌, ◌⊎◌, inl, inr, refl, sym, ap, subst, ◌∙◌, ℕ, ◌+◌, ◌-◌, List, [], ◌∷◌, ◌++◌, append-nil, append_assoc, length, Bool, true, false, true≢false, nat_eq, Option, Some, None, if◌then◌else◌, arith, eq-eqb}
 use Rattle.conn_trace.specs.Further.{Further, longer}
 use Rattle.conn_trace.specs.Gates.{sent_after, taken_of, untaken}
 use Rattle.conn_trace.specs.Heard.{Heard, SideHeard, servers_taken, start_of, taken}
 use Rattle.conn_trace.specs.Item.{Item, Answered, Connected, Peer, Sending, ToClient, ToServer, server_output, server_part, shown, to_server}
-use Rattle.conn_trace.specs.Phases.{OrderlyIn, Steps}
+use Rattle.conn_trace.specs.Phases.{OrderlyIn}
 use Rattle.conn_trace.specs.Places.{is_up}
 use Rattle.conn_trace.specs.Setup.{Setup}
 use Rattle.conn_trace.specs.Spoken as spoken
@@ -13,9 +12,8 @@ use Rattle.conn_trace.specs.State.{Link, Absent, Asked, Up, Left, GivenUp, Does,
 use Rattle.conn_trace.specs.Trace.{Unfolds, next_item}
 use Rattle.conn_trace.proofs.Fair.{PeerIs, SendsTo}
 use Rattle.conn_trace.proofs.Given.{sent_step}
-use Rattle.conn_trace.proofs.Stepping.{steps}
 use Rattle.conn_trace.proofs.Streams.{link_same}
-use Rattle.conn.specs.Ends.{fresh_end, has_stream, link_by, number_by, servers_by}
+use Rattle.conn.specs.Ends.{has_stream, link_by, number_by, servers_by}
 use Rattle.conn.specs.Ends as both
 use Rattle.conn.specs.Holds.{HoldsEnds}
 use Rattle.conn.specs.Servers.{ServerQueue, peer_bytes, queue_along, queue_behind, sending_bytes, servers_output, to_servers}
@@ -27,16 +25,16 @@ use Rattle.conn.proofs.Places.{link_is}
 use Rattle.conn.proofs.Servers.{left_along}
 use Rattle.proxy_core.specs.Represents.{around}
 use Rattle.proxy_core.specs.Scheduler.{last_took}
+use Rattle.proxy_core.specs.Servers.{OwnItems}
 use Rattle.proxy_core.proofs.ServerGone.{never, unlinked}
-use Rattle.proxy_core.proofs.ServerLaws.{Unserved, item_sends, number_grows, part_apart, same_number, start_unserved, unserved_step}
+use Rattle.proxy_core.proofs.ServerLaws.{Unserved, item_sends, own_first, own_rest, side_of, number_grows, part_apart, same_number, start_unserved, unserved_step}
 use Rattle.proxy_core.proofs.ServerPhases.{SideBy}
-use Rattle.proxy_core.proofs.ServerSteps.{item_side}
 
 -- ---- the trace
 
 -- none is given up
-pub plain_given : (l : TraceState) → Unserved l → given_up_at l ≡ false
-plain_given l h = by_link (link_of l.server) (h.plain.link refl)
+pub plain_given : {http : Bool} (l : TraceState) → Unserved http l → given_up_at l ≡ false
+plain_given {http} l h = by_http http h
   where
     by_link : (k : Link) → spoken.is_given_up k ≡ false → is_given_up k ≡ false
     by_link Absent e = refl
@@ -45,12 +43,16 @@ plain_given l h = by_link (link_of l.server) (h.plain.link refl)
     by_link (Left b) e = refl
     by_link GivenUp e = absurd (true≢false e)
 
+    by_http : (b : Bool) → Unserved b l → given_up_at l ≡ false
+    by_http true h = ap is_given_up (h.alone refl).absent
+    by_http false h = by_link (link_of l.server) (h.speaks.link refl)
+
 -- the first is up, or none was made
 pub record Numbered (l : TraceState) : Type 0 where
   pub down : is_up (link_of l.server) ≡ false → l.sent.number ≡ 0
   pub up : is_up (link_of l.server) ≡ true → l.sent.number ≡ 1
 
-numbered_by : (l m : TraceState) (i : Item) → Unserved l → Numbered l → m.sent ≡ sent_after i l.sent → SideBy i l.phase l m → Numbered m
+numbered_by : {http : Bool} (l m : TraceState) (i : Item) → Unserved http l → Numbered l → m.sent ≡ sent_after i l.sent → SideBy i l.phase l m → Numbered m
 numbered_by l m (Connected to) h n sent k =
     let going : l.finished ≡ false = (subst (λ p. OrderlyIn p l.finished (link_of l.server)) k.was h.orderly).0 in
     record {
@@ -74,15 +76,16 @@ numbered_by l m other h n sent k = record {
   up = λ e. ap (λ c. c.number) sent ∙ same_number other l.sent refl ∙ n.up (ap is_up (sym k.link) ∙ e);
 }
 
-pub numbered_step : (g : Setup) (l m : TraceState) (i : Item) → Unserved l → Numbered l → next_item g l ≡ Does i m → Numbered m
-numbered_step g l m i h n is = numbered_by l m i h n (sent_step g l m i is) (item_side g l m i (h.plain.plain refl) h.orderly h.not_up is)
+pub numbered_step : (g : Setup) (l m : TraceState) (i : Item) → Unserved g.http l → Numbered l → next_item g l ≡ Does i m → Numbered m
+numbered_step g l m i h n is = numbered_by l m i h n (sent_step g l m i is) (side_of g l m i h is)
 
-pub numbered : (g : Setup) (l m : TraceState) (items : List Item) → Unserved l → Numbered l → Unfolds g l items m → Numbered m
-numbered g l m [] h n is = subst Numbered is n
-numbered g l m (i ∷ items) h n (mid, step, rest) = numbered g mid m items (unserved_step g l mid i h step) (numbered_step g l mid i h n step) rest
+pub numbered : (g : Setup) (l m : TraceState) (items : List Item) → OwnItems g items → Unserved g.http l → Numbered l → Unfolds g l items m → Numbered m
+numbered g l m [] own h n is = subst Numbered is n
+numbered g l m (i ∷ items) own h n (mid, step, rest) =
+    numbered g mid m items (own_rest g i items own) (unserved_step g l mid i (own_first g i items own) h step) (numbered_step g l mid i h n step) rest
 
-pub numbered_at : (g : Setup) → g.http ≡ false → (h : Heard) (place : List Item) (at : TraceState) → Unfolds g (start_of g h) place at → Numbered at
-numbered_at g plain h place at u = let s = start_of g h in numbered g s at place (start_unserved g plain s.client s.answers) (record { down = λ e. refl; up = λ e. never e }) u
+pub numbered_at : (g : Setup) (h : Heard) (place : List Item) (at : TraceState) → OwnItems g place → Unfolds g (start_of g h) place at → Numbered at
+numbered_at g h place at own u = let s = start_of g h in numbered g s at place own (start_unserved g s.client s.answers) (record { down = λ e. refl; up = λ e. never e }) u
 
 pub numbered_longer : (f : Further) (l : TraceState) → Numbered l → Numbered (longer f l)
 numbered_longer f l n = record { down = λ e. n.down (ap is_up (sym (link_same f l)) ∙ e); up = λ e. n.up (ap is_up (sym (link_same f l)) ∙ e) }
@@ -105,7 +108,7 @@ pub record PlainEnds (h : Heard) (l : TraceState) (e : Ends) : Type 0 where
   pub server_untaken : length e.server.queued + last_took h.connects ≡ l.sent.server
   pub unsent : both.is_up e.link ≡ false → l.sent.server ≡ 0
 
-module _ (h : Heard) (l : TraceState) (e : Ends) (k : HoldsEnds (around h) l e) (un : Unserved l) (n : Numbered l) where
+module _ {http : Bool} (h : Heard) (l : TraceState) (e : Ends) (k : HoldsEnds (around h) l e) (un : Unserved http l) (n : Numbered l) where
   up_is : (x : CodeLink) → e.link ≡ x → is_up (link_of l.server) ≡ is_up (link_by x)
   up_is x is = ap is_up (link_is (around h) l e k ∙ ap link_by is)
 
@@ -208,23 +211,23 @@ queue_step : (i : Item) (q : List ℕ) → to_servers i ≡ to_server 1 i → Fi
 queue_step (Connected to) q same none = ap (λ x. record { queued = []; lost = 0 + length x }) none ∙ sym (ap (λ x. plain_queue (x ++ [])) none)
 queue_step other q same none = ap (λ x. plain_queue (q ++ x)) same
 
-asks_first : (i : Item) (l m : TraceState) (q : List ℕ) → SideBy i l.phase l m → Unserved l → Numbered l → (l.sent.number ≡ 0 → q ≡ []) → FirstAsks i q
+asks_first : {http : Bool} (i : Item) (l m : TraceState) (q : List ℕ) → SideBy i l.phase l m → Unserved http l → Numbered l → (l.sent.number ≡ 0 → q ≡ []) → FirstAsks i q
 asks_first (Connected to) l m q k h n none =
     let going : l.finished ≡ false = (subst (λ p. OrderlyIn p l.finished (link_of l.server)) k.was h.orderly).0 in
     none (n.down (h.not_up going (ap unlinked k.was)))
 asks_first other l m q k h n none = tt
 
-pub queue_plain : (g : Setup) (l m : TraceState) (items : List Item) (q : List ℕ) → Unserved l → Numbered l → Unfolds g l items m → server_output 0 items ≡ [] → (l.sent.number ≡ 0 → q ≡ []) → queue_along items (plain_queue q) ≡ plain_queue (q ++ server_output 1 items)
-queue_plain g l m [] q h n u to_none none = ap plain_queue (sym (append-nil q))
-queue_plain g l m (i ∷ items) q h n (mid, step, rest) to_none none =
-    let side = item_side g l mid i (h.plain.plain refl) h.orderly h.not_up step in
+pub queue_plain : (g : Setup) (l m : TraceState) (items : List Item) (q : List ℕ) → OwnItems g items → Unserved g.http l → Numbered l → Unfolds g l items m → server_output 0 items ≡ [] → (l.sent.number ≡ 0 → q ≡ []) → queue_along items (plain_queue q) ≡ plain_queue (q ++ server_output 1 items)
+queue_plain g l m [] q own h n u to_none none = ap plain_queue (sym (append-nil q))
+queue_plain g l m (i ∷ items) q own h n (mid, step, rest) to_none none =
+    let side = side_of g l mid i h step in
     let sends = item_sends g l mid i step in
     let first = front_none (to_server 0 i) (server_output 0 items) to_none in
     let same : to_servers i ≡ to_server 1 i = first_sent l.sent.number (shown i).sends sends first (which (is_up (link_of l.server)) refl) in
     let later : server_output 0 items ≡ [] = ap (λ x. x ++ server_output 0 items) (sym first) ∙ to_none in
     let grows = number_grows g l mid i step in
     ap (queue_along items) (queue_step i q same (asks_first i l mid q side h n none))
-    ∙ queue_plain g mid m items (q ++ to_server 1 i) (unserved_step g l mid i h step) (numbered_step g l mid i h n step) rest later
+    ∙ queue_plain g mid m items (q ++ to_server 1 i) (own_rest g i items own) (unserved_step g l mid i (own_first g i items own) h step) (numbered_step g l mid i h n step) rest later
     (λ z. (let zero_now : l.sent.number ≡ 0 = omega (arith, grows, z) in ap (λ x. x ++ to_server 1 i) (none zero_now) ∙ part_apart l.sent.number 1 (shown i).sends (omega (arith, zero_now)) sends))
     ∙ ap plain_queue (append_assoc q (to_server 1 i) (server_output 1 items))
   where
@@ -233,7 +236,7 @@ queue_plain g l m (i ∷ items) q h n (mid, step, rest) to_none none =
     which false e = inl (n.down e)
 
 -- all that they send to servers goes to the first
-pub outputs_same : (g : Setup) (l m : TraceState) (items : List Item) → Unserved l → Numbered l → Unfolds g l items m → server_output 0 items ≡ [] → length (servers_output items) ≡ length (server_output 1 items)
-outputs_same g l m items h n u to_none =
+pub outputs_same : (g : Setup) (l m : TraceState) (items : List Item) → OwnItems g items → Unserved g.http l → Numbered l → Unfolds g l items m → server_output 0 items ≡ [] → length (servers_output items) ≡ length (server_output 1 items)
+outputs_same g l m items own h n u to_none =
     let a = left_along items (plain_queue []) in
-    let b = ap (λ q. length q.queued + q.lost) (queue_plain g l m items [] h n u to_none (λ z. refl)) in omega (arith, a, b)
+    let b = ap (λ q. length q.queued + q.lost) (queue_plain g l m items [] own h n u to_none (λ z. refl)) in omega (arith, a, b)

@@ -15,7 +15,6 @@ use Rattle.proxy_core.specs.Scheduler.{State, Seen, last_took, seen, untaken_of}
 use Rattle.record_model.specs.Setup.{setup_of, stand_of}
 use Rattle.proxy_core.specs.Sound.{Rested, Served}
 use Rattle.run_config.specs.declared.config.Config.{Config}
-use Rattle.proxy_core.proofs.Setups.{plain_setup}
 use Rattle.record_model.proofs.LiveHistory.{history_is_live}
 use Rattle.proxy_core.proofs.Answering.{one_history}
 use Rattle.proxy_core.proofs.Promised.{sent_is_prefix, settled_at, settled_has_ended, drained_is_whole, half_at_rest, rest_not_cut, client_license, ended_at, ended_is_whole, ended_finished, client_counts, client_gone, client_took_all, trace_memory, once_finished, second_memory, calls_promised}
@@ -106,7 +105,7 @@ matches_by C past s leads sound = record {
   one_history = one_history C past s leads;
   store_is_live = history_is_live C past (one_history C past s leads);
   each_connection = λ c e. (let k = as_served C c (seen past s c) e (sound.each c) in
-      promised C past s c (server_facts (setup_of C (heard c past)) (plain_setup C (heard c past)) c (seen past s c) (stand_of C (heard c past) (s.places c)) k) k);
+      promised C past s c (server_facts (setup_of C (heard c past)) c (seen past s c) (stand_of C (heard c past) (s.places c)) k) k);
 }
 
 -- and so of every past

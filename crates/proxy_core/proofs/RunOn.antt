@@ -58,9 +58,10 @@ use Rattle.proxy_core.proofs.PlainRuns.{runs_noted, out_notes, out_noted}
 use Rattle.proxy_core.proofs.PlainServers.{Numbered, PlainEnds, none_of_length, numbered, numbered_at, numbered_longer, outputs_same, plain_ends, queue_plain}
 use Rattle.proxy_core.proofs.ServerLaws.{Unserved, none_sent, unserved, unserved_longer, number_along}
 use Rattle.proxy_core.proofs.ServerLeft.{unserved_at}
-use Rattle.proxy_core.proofs.Setups.{plain_setup}
 use Rattle.conn.specs.Servers.{queue_along, queue_at_server, run_notes, servers_output}
 use Rattle.conn_trace.specs.Places as model
+use Rattle.proxy_core.specs.Servers.{OwnItems}
+use Rattle.proxy_core.proofs.OwnItems.{own_more}
 
 -- ---- what is told behind its items
 
@@ -91,12 +92,12 @@ up_number link.Refused e = cc
 up_number link.Made e = cc
 up_number link.GivenUp e = cc
 
-module _ (g : Setup) (plain : g.http ≡ false) (h : Heard) (place : List Item) (l : TraceState) (e : Ends) (k : HoldsEnds (around h) l e) (u : Unfolds g (start_of g h) place l) where
-  un : Unserved l
-  un = unserved_at g plain h place l u
+module _ (g : Setup) (h : Heard) (place : List Item) (l : TraceState) (e : Ends) (k : HoldsEnds (around h) l e) (own : OwnItems g place) (u : Unfolds g (start_of g h) place l) where
+  un : Unserved g.http l
+  un = unserved_at g h place l own u
 
   first : Numbered l
-  first = numbered_at g plain h place l u
+  first = numbered_at g h place l own u
 
   one_server : PlainEnds h l e
   one_server = plain_ends h l e k un first
@@ -129,11 +130,11 @@ module _ (g : Setup) (plain : g.http ≡ false) (h : Heard) (place : List Item) 
   abbrev on_choices : List Item → TraceState
   on_choices more = longer (taken_by_items (taken h) more) l
 
-  pub queues_joined : (more : List Item) (at : TraceState) (new : Ends) → HoldsQueues h place e → new.client.queued ≡ e.client.queued ++ client_output more → queue_at_server new ≡ queue_along more (queue_at_server e) → server_output 0 more ≡ [] → Unfolds g (on_choices more) more at → HoldsQueues h (place ++ more) new
-  queues_joined more at new q client servers to_none on =
+  pub queues_joined : (more : List Item) (at : TraceState) (new : Ends) → OwnItems g more → HoldsQueues h place e → new.client.queued ≡ e.client.queued ++ client_output more → queue_at_server new ≡ queue_along more (queue_at_server e) → server_output 0 more ≡ [] → Unfolds g (on_choices more) more at → HoldsQueues h (place ++ more) new
+  queues_joined more at new later q client servers to_none on =
       let all : queue_at_server new ≡ record { queued = e.server.queued ++ server_output 1 more; lost = 0 } =
       servers ∙ ap (λ n. queue_along more (record { queued = e.server.queued; lost = n })) q.lost
-      ∙ queue_plain g (on_choices more) at more e.server.queued (unserved_longer (taken_by_items (taken h) more) l un) (numbered_longer (taken_by_items (taken h) more) l first) on to_none none_queued in
+      ∙ queue_plain g (on_choices more) at more e.server.queued later (unserved_longer (taken_by_items (taken h) more) l un) (numbered_longer (taken_by_items (taken h) more) l first) on to_none none_queued in
       record {
         client = client ∙ ap (λ x. x ++ client_output more) q.client ∙ sym (drop-append-le h.client.took (client_output place) (client_output more) client_within) ∙ ap (drop h.client.took) (sym (flat_map-append to_client place more));
         server = ap (λ x. x.queued) all ∙ ap (λ x. x ++ server_output 1 more) q.server ∙ sym (drop-append-le (last_took h.connects) (server_output 1 place) (server_output 1 more) server_within)
@@ -152,11 +153,11 @@ module _ (g : Setup) (plain : g.http ≡ false) (h : Heard) (place : List Item) 
       by_link false down = let none = one_server.unsent down in omega (arith, one_server.server_untaken, none)
 
   -- so much more was sent to the first server connection
-  sent_more : (now : Heard) (more : List Item) (at : TraceState) → Unfolds g (start_of g now) (place ++ more) at → Unfolds g (on_choices more) more at → server_output 0 more ≡ [] → at.sent.server ≡ l.sent.server + length (server_output 1 more)
-  sent_more now more at all on to_none = by_number (which (model.is_up (link_of at.server)) refl)
+  sent_more : (now : Heard) (more : List Item) (at : TraceState) → OwnItems g more → Unfolds g (start_of g now) (place ++ more) at → Unfolds g (on_choices more) more at → server_output 0 more ≡ [] → at.sent.server ≡ l.sent.server + length (server_output 1 more)
+  sent_more now more at later all on to_none = by_number (which (model.is_up (link_of at.server)) refl)
     where
       last : Numbered at
-      last = numbered g (on_choices more) at more (unserved_longer (taken_by_items (taken h) more) l un) (numbered_longer (taken_by_items (taken h) more) l first) on
+      last = numbered g (on_choices more) at more later (unserved_longer (taken_by_items (taken h) more) l un) (numbered_longer (taken_by_items (taken h) more) l first) on
 
       which : (b : Bool) → model.is_up (link_of at.server) ≡ b → (at.sent.number ≡ 0) ⊎ (at.sent.number ≡ 1)
       which true up = inr (last.up up)
@@ -197,16 +198,16 @@ module _ (g : Setup) (plain : g.http ≡ false) (h : Heard) (place : List Item) 
           let b = before (was (model.is_up (link_of l.server)) refl) in omega (arith, a, b)
 
   -- what is queued and what was given beside
-  pub out_untaken : (now : Heard) (more : List Item) (at : TraceState) → HoldsQueues h place e → Unfolds g (start_of g now) (place ++ more) at → Unfolds g (on_choices more) more at → server_output 0 more ≡ []
+  pub out_untaken : (now : Heard) (more : List Item) (at : TraceState) → OwnItems g more → HoldsQueues h place e → Unfolds g (start_of g now) (place ++ more) at → Unfolds g (on_choices more) more at → server_output 0 more ≡ []
       → queued_in e + (length (client_output more) + length (servers_output more)) ≡ untaken_all h (place ++ more)
-  out_untaken later more at q stands on to_none =
+  out_untaken now more at later q stands on to_none =
       let client : length e.client.queued ≡ length (client_output place) - h.client.took = ap length q.client ∙ length-drop h.client.took (client_output place) in
       let all : length (client_output (place ++ more)) ≡ length (client_output place) + length (client_output more) = ap length (flat_map-append to_client place more) ∙ length-append (client_output place) (client_output more) in
-      let now = ap (λ x. x.server) (sent_behind more at on) in
-      let sent = sent_more later more at stands on to_none in
-      let same = outputs_same g (on_choices more) at more (unserved_longer (taken_by_items (taken h) more) l un) (numbered_longer (taken_by_items (taken h) more) l first) on to_none in
+      let joined = ap (λ x. x.server) (sent_behind more at on) in
+      let sent = sent_more now more at later stands on to_none in
+      let same = outputs_same g (on_choices more) at more later (unserved_longer (taken_by_items (taken h) more) l un) (numbered_longer (taken_by_items (taken h) more) l first) on to_none in
       let lost = q.lost in
-      omega (arith, client, all, client_within, one_server.server_untaken, sent, now, same, lost)
+      omega (arith, client, all, client_within, one_server.server_untaken, sent, joined, same, lost)
 
 -- ---- slices
 
@@ -291,12 +292,14 @@ module _ (C : Config) (past : Past) (s : State) (c : ℕ) (rest : List ℕ) wher
         let slices = slices_in t (length group) in
         let next = ran c (ring_behind t c rest) (queue_behind t c s.queue) w.more slices s in
         let paid = slices_paid g w.at new t steps (length group) (s.spent c) place w.more whole (w.pays (1991 * s.spent c) (paid_by place) z.paid) in
-        let queues = queues_joined g (plain_setup C h) h place l old.ends z.holds.ends k.stands w.more w.at new.ends z.queues w.client_queue w.servers w.to_none w.items.passes.passed in
-        let sent = sent_behind g (plain_setup C h) h place l old.ends z.holds.ends k.stands w.more w.at w.items.passes.passed in
         let f = taken_by_items (taken h) w.more in
-        let un = unserved_longer f l (unserved_at g (plain_setup C h) h place l k.stands) in
-        let first = numbered_longer f l (numbered_at g (plain_setup C h) h place l k.stands) in
-        let plain = plain_ends h w.at new.ends w.holds.ends (unserved g (longer f l) w.at w.more un w.items.passes.passed) (numbered g (longer f l) w.at w.more un first w.items.passes.passed) in
+        let before = unserved_at g h place l k.own k.stands in
+        let own = own_more g f l w.at w.more h.finished h.edges.server.state refl before k.linked w.items.alone w.items.passes.passed in
+        let queues = queues_joined g h place l old.ends z.holds.ends k.own k.stands w.more w.at new.ends own z.queues w.client_queue w.servers w.to_none w.items.passes.passed in
+        let sent = sent_behind g h place l old.ends z.holds.ends k.own k.stands w.more w.at w.items.passes.passed in
+        let un = unserved_longer f l before in
+        let first = numbered_longer f l (numbered_at g h place l k.own k.stands) in
+        let plain = plain_ends h w.at new.ends w.holds.ends (unserved g (longer f l) w.at w.more own un w.items.passes.passed) (numbered g (longer f l) w.at w.more own un first w.items.passes.passed) in
         let left : queued_in new.ends ≡ untaken_all h all = queued_untaken h w.at all new.ends plain queues sent in
         let items = notes_of c w.more in
         let told : Edges → ℕ → List Note = λ e d. told_behind t g (taken h) w.at c (edges_noted items e) d in
@@ -322,7 +325,7 @@ module _ (C : Config) (past : Past) (s : State) (c : ℕ) (rest : List ℕ) wher
           ring = refl;
           queue = refl;
           asking = λ x. w.asking ∙ asks_behind t ∙ ap is_any (sym (calls_behind_self t c s.queue none));
-          moves = subst M (sym z.not_failed) (inl (record { more = w.more; at = w.at; turn = t; items = record { passes = w.items.passes; kept = w.items.kept; noted = run_told; stops = w.items.stops; forward = w.items.forward; calls = w.items.calls }; paid = affords g (around h) w.at new (1991 * (s.spent c + slices)) (paid_by all) w.holds paid; state = refl }));
+          moves = subst M (sym z.not_failed) (inl (record { more = w.more; at = w.at; turn = t; items = record { passes = w.items.passes; kept = w.items.kept; alone = w.items.alone; noted = run_told; stops = w.items.stops; forward = w.items.forward; calls = w.items.calls }; paid = affords g (around h) w.at new (1991 * (s.spent c + slices)) (paid_by all) w.holds paid; state = refl }));
           about = subst A (sym noted) about_all;
           ended = ap ended_in noted ∙ ended_behind c items behind ofs ∙ told_ends t g (taken h) w.at c (edges_noted items h.edges) (untaken_all h all) w.items.stops;
           setup = λ x. refl;
@@ -347,7 +350,8 @@ module _ (C : Config) (past : Past) (s : State) (c : ℕ) (rest : List ℕ) wher
         let next = ran c rest s.queue w.more 0 s in
         let items = notes_of c w.more in
         let given = queued_in old.ends + (length (client_output w.more) + length (servers_output w.more)) in
-        let left : given ≡ untaken_all h all = out_untaken g (plain_setup C h) h place l old.ends z.holds.ends k.stands (hears c h Runs (items ++ [])) w.more w.at z.queues (ran_on z.not_failed w.more w.at [] (due_quiet c [] tt) w.passes) w.passes.passed w.to_none in
+        let own = own_more g (taken_by_items (taken h) w.more) l w.at w.more h.finished h.edges.server.state refl (unserved_at g h place l k.own k.stands) k.linked w.alone w.passes.passed in
+        let left : given ≡ untaken_all h all = out_untaken g h place l old.ends z.holds.ends k.own k.stands (hears c h Runs (items ++ [])) w.more w.at own z.queues (ran_on z.not_failed w.more w.at [] (due_quiet c [] tt) w.passes) w.passes.passed w.to_none in
         let out : Edges → ℕ → List Note = λ e d. out_of_memory c e l.sent (taken h) w.more d in
         let run_told : group ≡ out h.edges (untaken_all h all) = w.noted ∙ ap (λ e. out e given) (sym edges) ∙ ap (out h.edges) left in
         let noted : group ≡ out_notes c h.edges w.more (untaken_all h all) = out_noted c h.edges l.sent (taken h) w.more (untaken_all h all) w.kept run_told in
@@ -361,7 +365,7 @@ module _ (C : Config) (past : Past) (s : State) (c : ℕ) (rest : List ℕ) wher
           ring = ap (λ x. ring_behind x c rest) (sym w.over);
           queue = ap (λ x. queue_behind x c s.queue) (sym w.over);
           asking = λ x. absurd (over_stays t w.over x);
-          moves = subst M (sym z.not_failed) (inr (record { more = w.more; at = w.at; passes = w.passes; no_call = w.no_call; kept = w.kept; notes = run_told; state = refl }));
+          moves = subst M (sym z.not_failed) (inr (record { more = w.more; at = w.at; passes = w.passes; no_call = w.no_call; kept = w.kept; alone = w.alone; notes = run_told; state = refl }));
           about = subst A (sym noted) (about_joined c items (Finish c Memory ∷ last) (about_items c items ofs) (refl, due_about c last due));
           ended = ap ended_in noted ∙ ended_behind c items (Finish c Memory ∷ last) ofs ∙ ended_closing c (edges_noted items h.edges) (untaken_all h all) ∙ ap (λ x. if ends x then c ∷ [] else []) (sym w.over);
           setup = λ x. absurd (over_stays t w.over x);
@@ -375,7 +379,7 @@ module _ (C : Config) (past : Past) (s : State) (c : ℕ) (rest : List ℕ) wher
     front_runs group t steps S edges (Some old) None z e none asks serves r whole = absurd r
     front_runs group t steps S edges (Some old) (Some new) (inr z) e none asks serves r whole =
         let x = r.failed z.there in
-        front_failed group t (Some new) (queued_in old.ends) z.failed (queued_untaken h (stand_of C h place) place old.ends (plain_ends h (stand_of C h place) old.ends z.ends (unserved_at (setup_of C h) (plain_setup C h) h place (stand_of C h place) k.stands) (numbered_at (setup_of C h) (plain_setup C h) h place (stand_of C h place) k.stands)) z.queues (sent_at (setup_of C h) h place (stand_of C h place) k.stands)) (x.0 ∙ ap (λ y. closing c y (queued_in old.ends)) (sym e)) x.1
+        front_failed group t (Some new) (queued_in old.ends) z.failed (queued_untaken h (stand_of C h place) place old.ends (plain_ends h (stand_of C h place) old.ends z.ends (unserved_at (setup_of C h) h place (stand_of C h place) k.own k.stands) (numbered_at (setup_of C h) h place (stand_of C h place) k.own k.stands)) z.queues (sent_at (setup_of C h) h place (stand_of C h place) k.stands)) (x.0 ∙ ap (λ y. closing c y (queued_in old.ends)) (sym e)) x.1
     front_runs group t steps S edges (Some old) (Some new) (inl z) e none asks serves r whole = by_end (r.runs (setup_of C h) (around h) (stand_of C h place) serves z.holds (asks ∙ ap is_any none))
       where
         by_end : GoesOnWith (setup_of C h) (around h) (stand_of C h place) c old new group t steps ⊎ StopsWithout (setup_of C h) (around h) (stand_of C h place) c old group t → RanConn C past s c rest group t (Some new)

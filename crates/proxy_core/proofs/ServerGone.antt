@@ -1,5 +1,6 @@
 -- Behind an event no answer of a server is awaited, and there is no server connection where one is selected.
-use Rattle.std.proofs.Common.{◌≡◌, refl, sym, ℕ, List, [], ◌∷◌, Bool, true, false, true≢false, if◌then◌else◌, Option, Some, None}
+use Rattle.std.proofs.Common.{◌≡◌, refl, sym, subst, ℕ, zero, suc, List, [], ◌∷◌, Bool, true, false, true≢false, if◌then◌else◌, Option, Some, None}
+use Rattle.px_bytes.specs.declared.addr.Side.TheVariants.{Client, Server}
 use Rattle.event_order.specs.declared.event.EventName.{EventName}
 use Rattle.event_order.specs.declared.event.EventName.TheVariants.{ClientAccepted, ClientData, ClientClosed, ServerConnected, ServerData, ServerClosed, LbSelected, LbFailed, HttpRequest, HttpRequestData, HttpResponse, HttpResponseData}
 use Rattle.irule_net.specs.declared.state.Asks.{Asks}
@@ -9,12 +10,15 @@ use Rattle.irule_net.specs.declared.state.Ending.TheVariants.{Rejects, Closes}
 use Rattle.irule_net.specs.declared.state.Selected.{Selected}
 use Rattle.conn_trace.specs.Host.{HostState, http_of, speaks_http}
 use Rattle.conn_trace.specs.Item.{Unselected}
-use Rattle.conn_trace.specs.Routing.{behind_accept, behind_accepted, behind_connect, behind_connected, behind_failed}
+use Rattle.conn_trace.specs.Http.{wanted_more}
+use Rattle.conn_trace.specs.Routing.{behind_accept, behind_accepted, behind_answer, behind_asked, behind_connect, behind_connected, behind_failed, behind_request, behind_request_data, behind_response, behind_told, gathering}
 use Rattle.conn_trace.specs.Places.{place, is_up, begun, bodies_left, closed_client, closed, connecting, behind_data, goes_on, unless_ended, after_event, entered, enter, next_body}
 use Rattle.conn_trace.specs.Setup.{Handler, Setup}
-use Rattle.conn_trace.specs.State.{Phase, InEvent, Choosing, Selecting, Connecting, Answering, Collecting, Finishing, Draining, Link, Absent, Asked, Up, Left, GivenUp, link_of, TraceState}
+use Rattle.irule_http.specs.State.{expects_by}
+use Rattle.conn_trace.specs.State.{Phase, Heading, InEvent, Choosing, Selecting, Connecting, Answering, Collecting, Finishing, Draining, Link, Absent, Asked, Up, Left, GivenUp, link_of, TraceState}
 use Rattle.conn_trace.specs.Spoken.{is_http_event}
 use Rattle.proxy_core.specs.Servers.{awaits}
+
 
 pub never : {A : Type 0} → false ≡ true → A
 never e = absurd (true≢false (sym e))
@@ -92,18 +96,50 @@ answer_gone : (f : Bool) (k : Link) (h : HostState) (answer : Option Bool) → (
 answer_gone f k h (Some closing) n = record { waits = refl; not_up = λ x e. never e }
 answer_gone f k h None n = failed_gone f k h.net.wishes.reselects n
 
-goes : (e : EventName) (f : Bool) (k : Link) (h : HostState) → is_http_event e ≡ false → (f ≡ false → event_unlinked e ≡ true → is_up k ≡ false) → Gone f k (goes_on e k h)
-goes ClientAccepted f k h plain n = accept_gone f k h (speaks_http h) (λ x. n x refl)
-goes ClientData f k h plain n = data_gone f k h.net.wishes.released
-goes LbSelected f k h plain n = selected_gone f k h.net.selected (λ x. n x refl)
-goes LbFailed f k h plain n = answer_gone f k h (http_of h).answer (λ x. n x refl)
-goes ServerConnected f k h plain n = connect_gone f k h (speaks_http h)
-goes ServerData f k h plain n = record { waits = refl; not_up = λ x e. never e }
-goes HttpRequest f k h plain n = absurd (true≢false plain)
-goes HttpRequestData f k h plain n = absurd (true≢false plain)
-goes HttpResponse f k h plain n = absurd (true≢false plain)
-goes HttpResponseData f k h plain n = absurd (true≢false plain)
-goes other f k h plain n = record { waits = refl; not_up = λ x e. never e }
+-- with HTTP, where there is no server connection
+absent_gone : (f : Bool) (n : ℕ) (h : HostState) → Gone f Absent (gathering Client n h Choosing)
+absent_gone f zero h = record { waits = refl; not_up = λ x e. refl }
+absent_gone f (suc n) h = record { waits = refl; not_up = λ x e. never e }
+
+pub asked_gone : (f : Bool) (k : Link) (h : HostState) → k ≡ Absent → Gone f k (behind_asked k h)
+asked_gone f k h is = subst (λ x. Gone f x (behind_asked x h)) (sym is) (absent_gone f (wanted_more (http_of h)) h)
+
+answered_gone : (f : Bool) (k : Link) (h : HostState) (expects : Bool) → Gone f k (behind_answer expects h)
+answered_gone f k h true = record { waits = refl; not_up = λ x e. never e }
+answered_gone f k h false = record { waits = refl; not_up = λ x e. never e }
+
+told_gone : (f : Bool) (k : Link) (h : HostState) (expects : Bool) → k ≡ Absent → Gone f k (behind_told expects k h)
+told_gone f k h true is = record { waits = refl; not_up = λ x e. never e }
+told_gone f k h false is = asked_gone f k h is
+
+request_gone : (f : Bool) (k : Link) (h : HostState) (answer : Option Bool) → k ≡ Absent → Gone f k (behind_request answer k h)
+request_gone f k h (Some closing) is = answered_gone f k h (expects_by (http_of h).came)
+request_gone f k h None is = told_gone f k h (expects_by (http_of h).came) is
+
+request_data_gone : (f : Bool) (k : Link) (h : HostState) (answer : Option Bool) → k ≡ Absent → Gone f k (behind_request_data answer k h)
+request_data_gone f k h (Some closing) is = record { waits = refl; not_up = λ x e. never e }
+request_data_gone f k h None is = asked_gone f k h is
+
+gathered_gone : (f : Bool) (k : Link) (n : ℕ) (h : HostState) → Gone f k (gathering Server n h (Heading Server))
+gathered_gone f k zero h = record { waits = refl; not_up = λ x e. never e }
+gathered_gone f k (suc n) h = record { waits = refl; not_up = λ x e. never e }
+
+response_gone : (f : Bool) (k : Link) (h : HostState) (answer : Option Bool) → Gone f k (behind_response answer h)
+response_gone f k h (Some closing) = record { waits = refl; not_up = λ x e. never e }
+response_gone f k h None = gathered_gone f k (wanted_more (http_of h)) h
+
+goes : (e : EventName) (f : Bool) (k : Link) (h : HostState) → (is_http_event e ≡ true → k ≡ Absent) → (f ≡ false → event_unlinked e ≡ true → is_up k ≡ false) → Gone f k (goes_on e k h)
+goes ClientAccepted f k h low n = accept_gone f k h (speaks_http h) (λ x. n x refl)
+goes ClientData f k h low n = data_gone f k h.net.wishes.released
+goes LbSelected f k h low n = selected_gone f k h.net.selected (λ x. n x refl)
+goes LbFailed f k h low n = answer_gone f k h (http_of h).answer (λ x. n x refl)
+goes ServerConnected f k h low n = connect_gone f k h (speaks_http h)
+goes ServerData f k h low n = record { waits = refl; not_up = λ x e. never e }
+goes HttpRequest f k h low n = request_gone f k h (http_of h).answer (low refl)
+goes HttpRequestData f k h low n = request_data_gone f k h (http_of h).answer (low refl)
+goes HttpResponse f k h low n = response_gone f k h (http_of h).answer
+goes HttpResponseData f k h low n = response_gone f k h (http_of h).answer
+goes other f k h low n = record { waits = refl; not_up = λ x e. never e }
 
 client_gone : (g : Setup) (k : Link) (h : HostState) (f : Bool) → Gone f k (closed_client g k h).phase
 client_gone g k h f = by_bodies (g.handlers ClientClosed)
@@ -112,25 +148,25 @@ client_gone g k h f = by_bodies (g.handlers ClientClosed)
     by_bodies [] = record { waits = refl; not_up = λ x e. never e }
     by_bodies (b ∷ bs) = record { waits = refl; not_up = λ x e. never e }
 
-after : (g : Setup) (e : EventName) (f : Bool) (k : Link) (h : HostState) → is_http_event e ≡ false → (f ≡ false → event_unlinked e ≡ true → is_up k ≡ false) → Gone f k (after_event g e f k h).phase
-after g ServerClosed true k h plain n = client_gone g k h true
-after g ServerClosed false Absent h plain n = record { waits = refl; not_up = λ x e. n x refl }
-after g ServerClosed false Asked h plain n = record { waits = refl; not_up = λ x e. n x refl }
-after g ServerClosed false Up h plain n = record { waits = refl; not_up = λ x e. n x refl }
-after g ServerClosed false (Left b) h plain n = record { waits = refl; not_up = λ x e. never e }
-after g ServerClosed false GivenUp h plain n = record { waits = refl; not_up = λ x e. n x refl }
-after g ClientClosed f k h plain n = record { waits = refl; not_up = λ x e. never e }
-after g other f k h plain n = ended_gone f k h.net.wishes.ends (goes_on other k h) (goes other f k h plain n)
+after : (g : Setup) (e : EventName) (f : Bool) (k : Link) (h : HostState) → (is_http_event e ≡ true → k ≡ Absent) → (f ≡ false → event_unlinked e ≡ true → is_up k ≡ false) → Gone f k (after_event g e f k h).phase
+after g ServerClosed true k h low n = client_gone g k h true
+after g ServerClosed false Absent h low n = record { waits = refl; not_up = λ x e. n x refl }
+after g ServerClosed false Asked h low n = record { waits = refl; not_up = λ x e. n x refl }
+after g ServerClosed false Up h low n = record { waits = refl; not_up = λ x e. n x refl }
+after g ServerClosed false (Left b) h low n = record { waits = refl; not_up = λ x e. never e }
+after g ServerClosed false GivenUp h low n = record { waits = refl; not_up = λ x e. n x refl }
+after g ClientClosed f k h low n = record { waits = refl; not_up = λ x e. never e }
+after g other f k h low n = ended_gone f k h.net.wishes.ends (goes_on other k h) (goes other f k h low n)
 
-pub next_gone : (g : Setup) (e : EventName) (f : Bool) (k : Link) (bs : List Handler) (h : HostState) → is_http_event e ≡ false → (f ≡ false → event_unlinked e ≡ true → is_up k ≡ false) → Gone f k (next_body g e f k bs h).phase
-next_gone g e f k [] h plain n = after g e f k h plain n
-next_gone g e f k (b ∷ bs) h plain n = record { waits = refl; not_up = n }
+pub next_gone : (g : Setup) (e : EventName) (f : Bool) (k : Link) (bs : List Handler) (h : HostState) → (is_http_event e ≡ true → k ≡ Absent) → (f ≡ false → event_unlinked e ≡ true → is_up k ≡ false) → Gone f k (next_body g e f k bs h).phase
+next_gone g e f k [] h low n = after g e f k h low n
+next_gone g e f k (b ∷ bs) h low n = record { waits = refl; not_up = n }
 
-pub enter_gone : (g : Setup) (e : EventName) (f : Bool) (k : Link) (h : HostState) → is_http_event e ≡ false → (event_unlinked e ≡ true → is_up k ≡ false) → Gone f k (enter g e k h).phase
-enter_gone g e f k h plain n = by_bodies (g.handlers e)
+pub enter_gone : (g : Setup) (e : EventName) (f : Bool) (k : Link) (h : HostState) → (is_http_event e ≡ true → k ≡ Absent) → (event_unlinked e ≡ true → is_up k ≡ false) → Gone f k (enter g e k h).phase
+enter_gone g e f k h low n = by_bodies (g.handlers e)
   where
     by_bodies : (bs : List Handler) → Gone f k (entered g e k bs (begun e k h)).phase
-    by_bodies [] = let a = after g e false k (begun e k h) plain (λ x. n) in record { waits = a.waits; not_up = λ x. a.not_up refl }
+    by_bodies [] = let a = after g e false k (begun e k h) low (λ x. n) in record { waits = a.waits; not_up = λ x. a.not_up refl }
     by_bodies (b ∷ bs) = record { waits = refl; not_up = λ x. n }
 
 pub closed_waits : (g : Setup) (k : Link) (h : HostState) → awaits (closed g k h).phase ≡ false
@@ -148,5 +184,5 @@ closed_waits g k h = by_link k
     by_link GivenUp = (client_gone g GivenUp h true).waits
 
 -- where a trace begins no answer is awaited
-pub enter_waits : (g : Setup) (e : EventName) (k : Link) (h : HostState) → is_http_event e ≡ false → is_up k ≡ false → awaits (enter g e k h).phase ≡ false
-enter_waits g e k h plain n = (enter_gone g e false k h plain (λ x. n)).waits
+pub enter_waits : (g : Setup) (e : EventName) (k : Link) (h : HostState) → (is_http_event e ≡ true → k ≡ Absent) → is_up k ≡ false → awaits (enter g e k h).phase ≡ false
+enter_waits g e k h low n = (enter_gone g e false k h low (λ x. n)).waits

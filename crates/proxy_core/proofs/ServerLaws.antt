@@ -1,26 +1,33 @@
 -- The server connections along items: the made ones are those that were answered and those that wait; while there is none its number is 0; a server is asked for where the one before took all; and to a later one nothing was sent.
 use Rattle.std.proofs.Common.{◌≡◌, refl, sym, ap, subst, ◌∙◌, ℕ, ◌+◌, ◌<◌, ◌≤◌, List, [], ◌∷◌, ◌++◌, length, Bool, true, false, ◌||◌, not, true≢false, if◌then◌else◌, Option, Some, None, is_some, arith, eqb-true, ne_eqb}
 use Rattle.px_bytes.specs.declared.addr.Side.TheVariants.{Server}
+use Rattle.event_order.specs.declared.event.EventName.TheVariants.{ClientAccepted}
+use Rattle.std.proofs.Math.Bool.{or_assoc}
 use Rattle.conn_trace.specs.Further.{Further, longer}
 use Rattle.conn_trace.specs.Gates.{Counts, no_bytes, TakenCounts, to_take, may_give, sent_to, sent_part, renewed, sent_after, Met}
+use Rattle.conn_trace.specs.Host.{first_host}
 use Rattle.conn_trace.specs.Item.{Item, Answered, Connected, CutBy, Peer, ToClient, ToServer, Sending, shown, bytes_to_server, server_part, server_output}
 use Rattle.conn_trace.specs.Phases.{finishes, Orderly, Steps}
 use Rattle.conn_trace.specs.Places.{is_up}
 use Rattle.conn_trace.specs.Setup.{Setup}
-use Rattle.conn_trace.specs.State.{Answers, link_of, Cut, Stream, TraceState, Next, Does, Waits, Over}
+use Rattle.conn_trace.specs.State.{Absent, Answers, link_of, Cut, Stream, TraceState, Next, Does, Waits, Over}
 use Rattle.conn_trace.specs.Places.{finish}
 use Rattle.conn_trace.specs.Trace.{uncut, phase_next, cut_takes, cut_open, cut_next, counted, next_item, Unfolds, start}
 use Rattle.conn_trace.proofs.Fair.{PeerIs, SendsTo, FairNext, phase_fair}
 use Rattle.conn_trace.proofs.Given.{sent_step}
-use Rattle.conn_trace.specs.Spoken.{Speaks}
+use Rattle.conn_trace.specs.Spoken.{Speaks, is_http_phase}
 use Rattle.conn_trace.proofs.Speaking.{item_speaks, longer_speaks, start_speaks}
 use Rattle.conn_trace.proofs.Stepping.{start_orderly, steps}
 use Rattle.conn_trace.proofs.Streams.{link_same}
-use Rattle.proxy_core.specs.Servers.{awaits, made}
+use Rattle.proxy_core.specs.Servers.{OwnItems, awaits, links, links_in, made}
 use Rattle.proxy_core.proofs.Drains.{longer_orderly}
-use Rattle.proxy_core.proofs.ServerGone.{never, unlinked, NotUp}
+use Rattle.proxy_core.proofs.ServerGone.{never, unlinked, NotUp, enter_waits}
 use Rattle.proxy_core.proofs.ServerPhases.{SideBy}
 use Rattle.proxy_core.proofs.ServerSteps.{item_side}
+
+or_left : (a b : Bool) → (a || b) ≡ false → a ≡ false
+or_left true b e = e
+or_left false b e = refl
 
 or_right : (a b : Bool) → (a || b) ≡ false → b ≡ false
 or_right true b e = absurd (true≢false e)
@@ -28,16 +35,33 @@ or_right false b e = e
 
 -- ---- where there is no server
 
+-- there is none, and none is asked for
+pub record Alone (l : TraceState) : Type 0 where
+  pub absent : link_of l.server ≡ Absent
+  pub waits : awaits l.phase ≡ false
+
 -- Of a trace that hasn't finished: in its first phases there is no server connection, and where there is none
--- there was none.
-pub record Unserved (l : TraceState) : Type 0 where
+-- there was none; with HTTP there is none at all.
+pub record Unserved (http : Bool) (l : TraceState) : Type 0 where
   pub orderly : Orderly l
-  pub plain : Speaks false l
+  pub speaks : Speaks http l
+  pub alone : http ≡ true → Alone l
   pub not_up : NotUp l
   pub first : l.finished ≡ false → is_up (link_of l.server) ≡ false → l.sent.number ≡ 0
 
-pub start_unserved : (g : Setup) → g.http ≡ false → (client : Stream) (answers : Answers) → Unserved (start g client answers)
-start_unserved g plain client answers = record { orderly = start_orderly g client answers; plain = subst (λ b. Speaks b (start g client answers)) plain (start_speaks g client answers); not_up = λ x e. refl; first = λ x e. refl }
+-- a phase of HTTP is reached only where there is no server connection
+pub low : (http : Bool) (l : TraceState) → Unserved http l → is_http_phase l.phase ≡ true → link_of l.server ≡ Absent
+low true l h e = (h.alone refl).absent
+low false l h e = absurd (true≢false (sym e ∙ h.speaks.plain refl))
+
+pub start_unserved : (g : Setup) (client : Stream) (answers : Answers) → Unserved g.http (start g client answers)
+start_unserved g client answers = record {
+  orderly = start_orderly g client answers;
+  speaks = start_speaks g client answers;
+  alone = λ e. record { absent = refl; waits = enter_waits g ClientAccepted Absent (first_host g) (λ x. never x) refl };
+  not_up = λ x e. refl;
+  first = λ x e. refl;
+}
 
 -- what is sent doesn't change the number
 part_number : (s : Option Sending) (sent : Counts) → (sent_part s sent).number ≡ sent.number
@@ -55,44 +79,69 @@ same_number i sent e = part_number (shown i).sends (renewed (shown i).renews sen
 pub went_on : (l m : TraceState) (i : Item) → Steps l i m → m.finished ≡ false → l.finished ≡ false
 went_on l m i s e = or_right (finishes i) l.finished (sym s.finished ∙ e)
 
-unserved_by : (l m : TraceState) (i : Item) → Unserved l → Speaks false m → Steps l i m → m.sent ≡ sent_after i l.sent → SideBy i l.phase l m → Unserved m
-unserved_by l m (Connected to) h plain s sent k = record {
+unserved_by : (http : Bool) (l m : TraceState) (i : Item) → (http ≡ true → links i ≡ false) → Unserved http l → Speaks http m → Steps l i m → m.sent ≡ sent_after i l.sent → SideBy i l.phase l m → Unserved http m
+unserved_by http l m (Connected to) own h speaks s sent k = record {
   orderly = s.orderly;
-  plain = plain;
+  speaks = speaks;
+  alone = λ e. absurd (true≢false (own e));
   not_up = λ x e. ap (λ v. is_up (link_of v)) k.server;
   first = λ x e. ap (λ c. c.number) sent ∙ h.first (went_on l m (Connected to) s x) (h.not_up (went_on l m (Connected to) s x) (ap unlinked k.was));
 }
-unserved_by l m (Answered true) h plain s sent k = record {
+unserved_by http l m (Answered true) own h speaks s sent k = record {
   orderly = s.orderly;
-  plain = plain;
+  speaks = speaks;
+  alone = λ e. absurd (true≢false (own e));
   not_up = k.not_up;
   first = λ x e. never (sym e ∙ ap is_up k.link);
 }
-unserved_by l m (Answered false) h plain s sent k = record {
+unserved_by http l m (Answered false) own h speaks s sent k = record {
   orderly = s.orderly;
-  plain = plain;
+  speaks = speaks;
+  alone = λ e. absurd (true≢false (own e));
   not_up = k.not_up;
   first = λ x e. ap (λ c. c.number) sent ∙ h.first (went_on l m (Answered false) s x) (h.not_up (went_on l m (Answered false) s x) (ap unlinked k.was));
 }
-unserved_by l m other h plain s sent k = record {
+unserved_by http l m other own h speaks s sent k = record {
   orderly = s.orderly;
-  plain = plain;
+  speaks = speaks;
+  alone = λ e. record { absent = k.link ∙ (h.alone e).absent; waits = k.waits };
   not_up = k.not_up;
   first = λ x e. ap (λ c. c.number) sent ∙ same_number other l.sent refl ∙ h.first (went_on l m other s x) (ap is_up (sym k.link) ∙ e);
 }
 
-pub unserved_step : (g : Setup) (l m : TraceState) (i : Item) → Unserved l → next_item g l ≡ Does i m → Unserved m
-unserved_step g l m i h is = unserved_by l m i h (item_speaks g false l m i h.plain is) (steps g l m i h.orderly is) (sent_step g l m i is) (item_side g l m i (h.plain.plain refl) h.orderly h.not_up is)
+pub side_of : (g : Setup) (l m : TraceState) (i : Item) → Unserved g.http l → next_item g l ≡ Does i m → SideBy i l.phase l m
+side_of g l m i h is = item_side g l m i (low g.http l h) h.orderly h.not_up is
 
-pub unserved : (g : Setup) (l m : TraceState) (items : List Item) → Unserved l → Unfolds g l items m → Unserved m
-unserved g l m [] h is = subst Unserved is h
-unserved g l m (i ∷ items) h (mid, step, rest) = unserved g mid m items (unserved_step g l mid i h step) rest
+pub unserved_step : (g : Setup) (l m : TraceState) (i : Item) → (g.http ≡ true → links i ≡ false) → Unserved g.http l → next_item g l ≡ Does i m → Unserved g.http m
+unserved_step g l m i own h is = unserved_by g.http l m i own h (item_speaks g g.http l m i h.speaks is) (steps g l m i h.orderly is) (sent_step g l m i is) (side_of g l m i h is)
+
+pub own_first : (g : Setup) (i : Item) (items : List Item) → OwnItems g (i ∷ items) → g.http ≡ true → links i ≡ false
+own_first g i items own e = or_left (links i) (links_in items) (own e)
+
+pub own_rest : (g : Setup) (i : Item) (items : List Item) → OwnItems g (i ∷ items) → OwnItems g items
+own_rest g i items own e = or_right (links i) (links_in items) (own e)
+
+pub own_joins : (first second : List Item) → links_in (first ++ second) ≡ (links_in first || links_in second)
+own_joins [] second = refl
+own_joins (i ∷ first) second = ap (λ b. links i || b) (own_joins first second) ∙ sym (or_assoc (links i) (links_in first) (links_in second))
+
+pub own_both : (g : Setup) (first second : List Item) → OwnItems g first → OwnItems g second → OwnItems g (first ++ second)
+own_both g first second p q e = own_joins first second ∙ ap (λ b. b || links_in second) (p e) ∙ q e
+
+pub own_front : (g : Setup) (first second : List Item) → OwnItems g (first ++ second) → OwnItems g first
+own_front g first second own e = or_left (links_in first) (links_in second) (sym (own_joins first second) ∙ own e)
+
+pub unserved : (g : Setup) (l m : TraceState) (items : List Item) → OwnItems g items → Unserved g.http l → Unfolds g l items m → Unserved g.http m
+unserved g l m [] own h is = subst (Unserved g.http) is h
+unserved g l m (i ∷ items) own h (mid, step, rest) =
+    unserved g mid m items (own_rest g i items own) (unserved_step g l mid i (own_first g i items own) h step) rest
 
 -- where more comes
-pub unserved_longer : (f : Further) (l : TraceState) → Unserved l → Unserved (longer f l)
-unserved_longer f l h = record {
+pub unserved_longer : {http : Bool} (f : Further) (l : TraceState) → Unserved http l → Unserved http (longer f l)
+unserved_longer {http} f l h = record {
   orderly = longer_orderly f l h.orderly;
-  plain = longer_speaks false f l h.plain;
+  speaks = longer_speaks http f l h.speaks;
+  alone = λ e. record { absent = link_same f l ∙ (h.alone e).absent; waits = (h.alone e).waits };
   not_up = λ x e. ap is_up (link_same f l) ∙ h.not_up x e;
   first = λ x e. h.first x (ap is_up (sym (link_same f l)) ∙ e);
 }
@@ -116,10 +165,11 @@ made_by l m (Answered b) sent k =
 made_by l m other sent k =
     ap (λ cs. made cs + l.sent.number) (sym k.connects) ∙ ap (λ n. made m.answers.connects + n) (sym (same_number other l.sent refl)) ∙ ap (λ c. made m.answers.connects + c.number) (sym sent)
 
-pub made_along : (g : Setup) (l m : TraceState) (items : List Item) → Unserved l → Unfolds g l items m → made l.answers.connects + l.sent.number ≡ made m.answers.connects + m.sent.number
-made_along g l m [] h is = ap all_made is
-made_along g l m (i ∷ items) h (mid, step, rest) =
-    made_by l mid i (sent_step g l mid i step) (item_side g l mid i (h.plain.plain refl) h.orderly h.not_up step) ∙ made_along g mid m items (unserved_step g l mid i h step) rest
+pub made_along : (g : Setup) (l m : TraceState) (items : List Item) → OwnItems g items → Unserved g.http l → Unfolds g l items m → made l.answers.connects + l.sent.number ≡ made m.answers.connects + m.sent.number
+made_along g l m [] own h is = ap all_made is
+made_along g l m (i ∷ items) own h (mid, step, rest) =
+    made_by l mid i (sent_step g l mid i step) (side_of g l mid i h step)
+    ∙ made_along g mid m items (own_rest g i items own) (unserved_step g l mid i (own_first g i items own) h step) rest
 
 -- ---- while an answer is awaited the server before took all
 
@@ -131,14 +181,14 @@ took_by took l m (Connected to) sent may k = λ e. ap (λ s. to_take s took Serv
 took_by took l m (Answered b) sent may k = λ e. never (sym k.waits ∙ e)
 took_by took l m other sent may k = λ e. never (sym k.waits ∙ e)
 
-took_along : (g : Setup) (took : TakenCounts) (l m : TraceState) (items : List Item) → Unserved l → TookAll took l → Met l.sent took items → Unfolds g l items m → TookAll took m
-took_along g took l m [] h k met is = subst (TookAll took) is k
-took_along g took l m (i ∷ items) h k met (mid, step, rest) =
+took_along : (g : Setup) (took : TakenCounts) (l m : TraceState) (items : List Item) → OwnItems g items → Unserved g.http l → TookAll took l → Met l.sent took items → Unfolds g l items m → TookAll took m
+took_along g took l m [] own h k met is = subst (TookAll took) is k
+took_along g took l m (i ∷ items) own h k met (mid, step, rest) =
     let sent = sent_step g l mid i step in
-    took_along g took mid m items (unserved_step g l mid i h step) (took_by took l mid i sent met.0 (item_side g l mid i (h.plain.plain refl) h.orderly h.not_up step)) (subst (λ s. Met s took items) (sym sent) met.1) rest
+    took_along g took mid m items (own_rest g i items own) (unserved_step g l mid i (own_first g i items own) h step) (took_by took l mid i sent met.0 (side_of g l mid i h step)) (subst (λ s. Met s took items) (sym sent) met.1) rest
 
-pub awaits_taken : (g : Setup) → g.http ≡ false → (took : TakenCounts) (client : Stream) (answers : Answers) (m : TraceState) (items : List Item) → Met no_bytes took items → Unfolds g (start g client answers) items m → awaits m.phase ≡ true → to_take m.sent took Server ≡ 0
-awaits_taken g plain took client answers m items met is = took_along g took (start g client answers) m items (start_unserved g plain client answers) (λ e. refl) met is
+pub awaits_taken : (g : Setup) (took : TakenCounts) (client : Stream) (answers : Answers) (m : TraceState) (items : List Item) → OwnItems g items → Met no_bytes took items → Unfolds g (start g client answers) items m → awaits m.phase ≡ true → to_take m.sent took Server ≡ 0
+awaits_taken g took client answers m items own met is = took_along g took (start g client answers) m items own (start_unserved g client answers) (λ e. refl) met is
 
 -- ---- nothing is sent to a server connection that isn't there yet
 

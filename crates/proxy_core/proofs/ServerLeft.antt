@@ -12,30 +12,30 @@ use Rattle.conn_trace.specs.Trace.{next_item, Unfolds, GivesNoMore}
 use Rattle.conn_trace.proofs.Sending.{sent_to_server}
 use Rattle.conn.specs.RunsItems.{licenses as licensed_at}
 use Rattle.proxy_core.specs.Scheduler.{Seen, last_took, untaken_of}
-use Rattle.proxy_core.specs.Servers.{made, took_of, last_reset, awaits}
+use Rattle.proxy_core.specs.Servers.{OwnItems, made, took_of, last_reset, awaits}
 use Rattle.proxy_core.specs.Sound.{ServedAt}
 use Rattle.proxy_core.proofs.Linking.{must_wait}
 use Rattle.proxy_core.proofs.ServerCounts.{made_as, most_untaken, taken_last, took_last}
-use Rattle.proxy_core.proofs.ServerLaws.{Unserved, start_unserved, unserved, made_along, awaits_taken, none_sent}
+use Rattle.proxy_core.proofs.ServerLaws.{low, Unserved, start_unserved, unserved, made_along, awaits_taken, none_sent}
 use Rattle.proxy_core.proofs.ServerGone.{never, unlinked}
 use Rattle.proxy_core.proofs.ServerSteps.{rest_side}
 use Rattle.proxy_core.proofs.Standing.{sent_at}
 use Rattle.conn_trace.specs.Places.{is_up}
 use Rattle.conn_trace.specs.Queries.{is_reset}
 
-pub unserved_at : (g : Setup) → g.http ≡ false → (h : Heard) (place : List Item) (at : TraceState) → Unfolds g (start_of g h) place at → Unserved at
-unserved_at g plain h place at u = let s = start_of g h in unserved g s at place (start_unserved g plain s.client s.answers) u
+pub unserved_at : (g : Setup) (h : Heard) (place : List Item) (at : TraceState) → OwnItems g place → Unfolds g (start_of g h) place at → Unserved g.http at
+unserved_at g h place at own u = let s = start_of g h in unserved g s at place own (start_unserved g s.client s.answers) u
 
 -- the made ones are those that the trace took, and those that wait
-pub all_made : (g : Setup) → g.http ≡ false → (h : Heard) (place : List Item) (at : TraceState) → Unfolds g (start_of g h) place at → made h.connects ≡ made at.answers.connects + at.sent.number
-all_made g plain h place at u =
+pub all_made : (g : Setup) (h : Heard) (place : List Item) (at : TraceState) → OwnItems g place → Unfolds g (start_of g h) place at → made h.connects ≡ made at.answers.connects + at.sent.number
+all_made g h place at own u =
     let s = start_of g h in
-    let e : made (map as_answer h.connects) + 0 ≡ made at.answers.connects + at.sent.number = made_along g s at place (start_unserved g plain s.client s.answers) u in
+    let e : made (map as_answer h.connects) + 0 ≡ made at.answers.connects + at.sent.number = made_along g s at place own (start_unserved g s.client s.answers) u in
     let m = made_as h.connects in omega (arith, e, m)
 
 -- where none waits the last is the present one
-pub last_is_present : (g : Setup) → g.http ≡ false → (h : Heard) (place : List Item) (at : TraceState) → Unfolds g (start_of g h) place at → at.answers.connects ≡ [] → made h.connects ≡ at.sent.number
-last_is_present g plain h place at u none = all_made g plain h place at u ∙ ap (λ cs. made cs + at.sent.number) none ∙ zero-add at.sent.number
+pub last_is_present : (g : Setup) (h : Heard) (place : List Item) (at : TraceState) → OwnItems g place → Unfolds g (start_of g h) place at → at.answers.connects ≡ [] → made h.connects ≡ at.sent.number
+last_is_present g h place at own u none = all_made g h place at own u ∙ ap (λ cs. made cs + at.sent.number) none ∙ zero-add at.sent.number
 
 awaits_going : (p : Phase) (f : Bool) (k : Link) → OrderlyIn p f k → awaits p ≡ true → f ≡ false
 awaits_going (Answering a) f k o e = o.0
@@ -59,7 +59,7 @@ unmade_reset [] e = refl
 unmade_reset (None ∷ more) e = unmade_reset more e
 unmade_reset (Some s ∷ more) e = absurd (omega (arith, e))
 
-module _ (g : Setup) (plain : g.http ≡ false) (c : ℕ) (z : Seen) (at : TraceState) (k : ServedAt g c z at) where
+module _ (g : Setup) (c : ℕ) (z : Seen) (at : TraceState) (k : ServedAt g c z at) where
   sent : at.sent ≡ sent_from no_bytes z.place
   sent = sent_at g z.heard z.place at k.stands
 
@@ -75,7 +75,7 @@ module _ (g : Setup) (plain : g.http ≡ false) (c : ℕ) (z : Seen) (at : Trace
 
   -- where an answer waits the one before took all
   none_left : awaits at.phase ≡ true → untaken at.sent.server (taken_of (servers_taken z.heard.connects) at.sent.number) ≡ 0
-  none_left waits = let s = start_of g z.heard in awaits_taken g plain (taken z.heard) s.client s.answers at z.place k.met k.stands waits
+  none_left waits = let s = start_of g z.heard in awaits_taken g (taken z.heard) s.client s.answers at z.place k.own k.met k.stands waits
 
   -- what the last took and what is pending were sent to it
   pub server_left : took_of z.heard.connects (made z.heard.connects) + untaken_of z.heard z.place Server ≤ length (server_output (made z.heard.connects) z.place)
@@ -86,7 +86,7 @@ module _ (g : Setup) (plain : g.http ≡ false) (c : ℕ) (z : Seen) (at : Trace
 
       by_waiting : (cs : List (Option Stream)) → at.answers.connects ≡ cs → L (made z.heard.connects)
       by_waiting [] e =
-          let number = last_is_present g plain z.heard z.place at k.stands e in
+          let number = last_is_present g z.heard z.place at k.own k.stands e in
           let most = most_untaken z.heard.connects at.sent.number at.sent.server in
           let within = k.within.servers at.sent.number in
           subst L (sym number) (omega (arith, left, most, all_sent, within))
@@ -99,7 +99,7 @@ module _ (g : Setup) (plain : g.http ≡ false) (c : ℕ) (z : Seen) (at : Trace
   present_facts : at.answers.connects ≡ [] → FactsAt g z.heard z.place at
   present_facts e =
       let cs = z.heard.connects in
-      let number = last_is_present g plain z.heard z.place at k.stands e in
+      let number = last_is_present g z.heard z.place at k.own k.stands e in
       let last : took_of cs at.sent.number ≡ last_took cs = ap (took_of cs) (sym number) ∙ took_last cs in
       let took = k.within.servers at.sent.number in
       let fits : last_took cs ≤ at.sent.server = omega (arith, last, took, all_sent) in
@@ -116,15 +116,15 @@ module _ (g : Setup) (plain : g.http ≡ false) (c : ℕ) (z : Seen) (at : Trace
       by_up : at.finished ≡ false → last_reset z.heard.connects ≡ true → (b : Bool) → is_up (link_of at.server) ≡ b → is_reset at.sent (taken z.heard) Server ≡ true → (is_up (link_of at.server) && is_reset at.sent (taken z.heard) Server) ≡ true
       by_up going r true up reset = ap (λ b. b && is_reset at.sent (taken z.heard) Server) up ∙ reset
       by_up going r false down reset =
-          let none = (unserved_at g plain z.heard z.place at k.stands).first going down in
-          let count = last_is_present g plain z.heard z.place at k.stands e in
+          let none = (unserved_at g z.heard z.place at k.own k.stands).first going down in
+          let count = last_is_present g z.heard z.place at k.own k.stands e in
           never (sym (unmade_reset z.heard.connects (count ∙ none)) ∙ r)
 
   -- while an answer waits there was no server before, and the new one took nothing
   waiting_facts : awaits at.phase ≡ true → (at.answers.connects ≡ [] → ⊥) → FactsAt g z.heard z.place at
   waiting_facts waits some =
       let cs = z.heard.connects in
-      let un = unserved_at g plain z.heard z.place at k.stands in
+      let un = unserved_at g z.heard z.place at k.own k.stands in
       let going = awaits_going at.phase at.finished (link_of at.server) un.orderly waits in
       let number = un.first going (un.not_up going (awaits_unlinked at.phase waits)) in
       let none = none_left waits in
@@ -134,7 +134,7 @@ module _ (g : Setup) (plain : g.http ≡ false) (c : ℕ) (z : Seen) (at : Trace
         kept = λ r. omega (arith, left, none, empty, nothing, server);
         gone = λ r. left ∙ none;
         within = omega (arith, nothing);
-        license = λ going rests r. absurd (some (rest_side g at (taken z.heard) (un.plain.plain refl) un.orderly un.not_up rests waits));
+        license = λ going rests r. absurd (some (rest_side g at (taken z.heard) (low g.http at un) un.orderly un.not_up rests waits));
       }
     where
       took_none : at.sent.number ≡ 0 → (i : ℕ) → took_of z.heard.connects i ≡ 0

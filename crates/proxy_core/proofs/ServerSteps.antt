@@ -4,13 +4,14 @@ use Rattle.conn_trace.specs.Gates.{Counts, TakenCounts, may_give}
 use Rattle.conn_trace.specs.Item.{Item, Reason, CutBy, Answered, Connected}
 use Rattle.conn_trace.specs.Phases.{Orderly}
 use Rattle.conn_trace.specs.Setup.{Setup}
-use Rattle.conn_trace.specs.State.{Phase, link_of, Cut, TraceState, Next, Does, Waits, Over}
+use Rattle.conn_trace.specs.State.{Absent, Phase, link_of, Cut, TraceState, Next, Does, Waits, Over}
 use Rattle.conn_trace.specs.Places.{finish}
 use Rattle.conn_trace.specs.Trace.{phase_next, cut_takes, uncut, cut_open, cut_next, counted, next_item, GivesNoMore}
 use Rattle.proxy_core.specs.Servers.{awaits}
 use Rattle.conn_trace.specs.Spoken.{is_http_phase}
 use Rattle.proxy_core.proofs.ServerGone.{never, NotUp, closed_waits}
 use Rattle.proxy_core.proofs.ServerPhases.{SideBy, SideNext, phase_side}
+
 
 -- behind a closed gate no answer waits
 shut_waits : (i : Item) (p : Phase) (l m : TraceState) (sent : Counts) (took : TakenCounts) → SideBy i p l m → may_give i sent took ≡ false → awaits p ≡ true → l.answers.connects ≡ []
@@ -56,16 +57,16 @@ counted_side p l sent (Does i m) k = sent_side i p l m _ k
 counted_side p l sent (Waits w) k = k
 counted_side p l sent Over k = k
 
-pub next_side : (g : Setup) (l : TraceState) → is_http_phase l.phase ≡ false → Orderly l → NotUp l → SideNext l.phase l (next_item g l)
+pub next_side : (g : Setup) (l : TraceState) → (is_http_phase l.phase ≡ true → link_of l.server ≡ Absent) → Orderly l → NotUp l → SideNext l.phase l (next_item g l)
 unfolding next_item
-next_side g l plain was k = counted_side l.phase l l.sent _ (cut_side g l.phase l l.answers.cut (phase_next g l.phase l) (phase_side g l.phase l plain was k))
+next_side g l low was k = counted_side l.phase l l.sent _ (cut_side g l.phase l l.answers.cut (phase_next g l.phase l) (phase_side g l.phase l low was k))
 
-pub item_side : (g : Setup) (l m : TraceState) (i : Item) → is_http_phase l.phase ≡ false → Orderly l → NotUp l → next_item g l ≡ Does i m → SideBy i l.phase l m
-item_side g l m i plain was k is = subst (SideNext l.phase l) is (next_side g l plain was k)
+pub item_side : (g : Setup) (l m : TraceState) (i : Item) → (is_http_phase l.phase ≡ true → link_of l.server ≡ Absent) → Orderly l → NotUp l → next_item g l ≡ Does i m → SideBy i l.phase l m
+item_side g l m i low was k is = subst (SideNext l.phase l) is (next_side g l low was k)
 
 -- where no more may be given no answer waits
-pub rest_side : (g : Setup) (l : TraceState) (took : TakenCounts) → is_http_phase l.phase ≡ false → Orderly l → NotUp l → GivesNoMore false l.sent took (next_item g l) → awaits l.phase ≡ true → l.answers.connects ≡ []
-rest_side g l took plain was k rests = by_next (next_item g l) (next_side g l plain was k) rests
+pub rest_side : (g : Setup) (l : TraceState) (took : TakenCounts) → (is_http_phase l.phase ≡ true → link_of l.server ≡ Absent) → Orderly l → NotUp l → GivesNoMore false l.sent took (next_item g l) → awaits l.phase ≡ true → l.answers.connects ≡ []
+rest_side g l took low was k rests = by_next (next_item g l) (next_side g l low was k) rests
   where
     by_next : (o : Next) → SideNext l.phase l o → GivesNoMore false l.sent took o → awaits l.phase ≡ true → l.answers.connects ≡ []
     by_next (Does i m) s shut = shut_waits i l.phase l m l.sent took s shut

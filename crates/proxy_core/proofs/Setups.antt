@@ -1,12 +1,12 @@
 -- What the code's connections run on is the setup of their traces.
-use Rattle.std.proofs.Common.{◌≡◌, refl, sym, ap, ◌∙◌, ℕ, List, [], length, Bool, true, false, true≢false, Option, Some, None}
+use Rattle.std.proofs.Common.{◌≡◌, refl, sym, ap, ◌∙◌, ℕ, List, [], length, Option, Some, None}
 use Rattle.std.specs.Prelude.{option_and_then, slice_get, slice_index_or}
 use Rattle.tcl_vars.specs.Scopes.{Level}
 use Rattle.event_order.specs.declared.event.EventName.{EventName}
 use Rattle.conn_trace.specs.Bounds.{HeadsFit}
 use Rattle.conn_trace.specs.Heard.{Accepted, Heard}
 use Rattle.conn_trace.specs.Setup.{Setup}
-use Rattle.conn_trace.proofs.PendingFits.{no_heads_fit}
+use Rattle.conn_trace.proofs.TheHeads.{the_heads_fit}
 use Rattle.conn.specs.Setups as conn
 use Rattle.conn.specs.Setups.{body_in, places_in}
 use Rattle.conn.specs.declared.setup.Place.{Place}
@@ -27,7 +27,7 @@ serves_code C level places vs s g all i k =
       port = k.port ∙ sym i.port;
       pool = k.pool ∙ sym i.pool;
       http = k.http ∙ sym i.http;
-      heads = λ speaks. absurd (true≢false (sym speaks ∙ i.http));
+      heads = λ speaks. k.heads;
       budget = k.budget ∙ sym i.budget;
       statics = k.statics ∙ sym i.statics;
       groups = k.groups ∙ sym i.groups;
@@ -37,17 +37,10 @@ serves_code C level places vs s g all i k =
           ∙ ap (λ rules. option_and_then (body_in rules e) (slice_get (places_in s.places.now e) n)) (sym i.rules);
     }
 
--- no virtual server of today speaks HTTP, so no head is read
-pub plain_setup : (C : Config) (h : Heard) → (setup_of C h).http ≡ false
-plain_setup C h = by_accept h.accepted
-  where
-    by_accept : (o : Option Accepted) → (setup_in C o).http ≡ false
-    by_accept None = refl
-    by_accept (Some a) = refl
-
+-- its heads are those of every connection that speaks HTTP
 pub heads_fit : (C : Config) (h : Heard) → HeadsFit (setup_of C h)
 heads_fit C h = by_accept h.accepted
   where
     by_accept : (o : Option Accepted) → HeadsFit (setup_in C o)
-    by_accept None = no_heads_fit (setup_in C None) refl
-    by_accept (Some a) = no_heads_fit (setup_in C (Some a)) refl
+    by_accept None = the_heads_fit (setup_in C None) refl
+    by_accept (Some a) = the_heads_fit (setup_in C (Some a)) refl

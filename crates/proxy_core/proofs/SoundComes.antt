@@ -9,7 +9,7 @@ use Rattle.core_events.specs.declared.edges.Edges.{Edges}
 use Rattle.core_events.specs.declared.note.Note.{Note}
 use Rattle.core_events.specs.declared.note.Note.TheVariants.{Ended}
 use Rattle.core_events.specs.Edges.{edge_of, edges_noted}
-use Rattle.conn_trace.specs.Further.{Further, Same, longer, first_cut, replies_only, choosing, CutMeets, nothing_further}
+use Rattle.conn_trace.specs.Further.{Further, Same, longer, first_cut, replies_only, nothing_further}
 use Rattle.conn_trace.specs.Further as further
 use Rattle.conn_trace.specs.Gates.{Counts, TakenCounts, no_bytes, sent_from, to_take, untaken}
 use Rattle.core_events.specs.declared.event_kind.EventKind.TheVariants.{Comes}
@@ -59,7 +59,6 @@ use Rattle.proxy_core.proofs.SoundAccepts.{or_false}
 use Rattle.proxy_core.proofs.PlainServers.{plain_given}
 use Rattle.proxy_core.proofs.ServerLaws.{unserved_longer}
 use Rattle.proxy_core.proofs.ServerLeft.{unserved_at}
-use Rattle.proxy_core.proofs.Setups.{plain_setup}
 
 -- Comes
 pub ring_came : (over : Bool) (c : ℕ) (old : State) → entries c (came c over old).ring ≡ (if over then rest_of (entries c old.ring) else woken_of (is_any (calls_of c old.queue)) c (entries c old.ring))
@@ -251,7 +250,7 @@ come_served C past c input group over old distinct m found is drained =
     let took = taken h' in
     let d = untaken_all h' z.place in
     let e = edges_met input h.edges in
-    let p = plain_given at (unserved_longer f l (unserved_at g (plain_setup C h) h z.place l k.stands)) in
+    let p = plain_given at (unserved_longer f l (unserved_at g h z.place l k.own k.stands)) in
     let due : AreDue c group = (let D : List Note → Type 0 = λ ns. AreDue c ns in subst D (sym is) (settling_due (is_over (next_item g at)) (given_up_at at) c e (took_all at took Server) (took_all at took Client) d)) in
     let about = due_about c group due in
     let t = come_told c h input group about in
@@ -298,6 +297,7 @@ come_served C past c input group over old distinct m found is drained =
           (λ x side q. (now side q).none);
       closed_over = λ x side q. ((now side q).next, (now side q).finished);
       linked = come_linked h.finished h'.finished input f l h.edges h'.edges (come_further c h input group quiet going) finished m.asked state k.linked;
+      own = k.own;
       licensed = come_licensed c h input group uncut quiet.cut k.licensed;
       told = subst K (sym t.notes) (calls_on h.failed h'.failed z.asked z'.asked z.place h.notes group k.told (due_entries c group due) (λ x. (sym failed ∙ x, refl)));
       spot = subst F (sym (failed ∙ found)) (subst L (sym live) (subst R (sym ready) spot));

@@ -7,7 +7,7 @@ use Rattle.core_events.specs.declared.note.Cause.{Cause}
 use Rattle.core_events.specs.declared.note.Cause.TheVariants.{Memory}
 use Rattle.core_events.specs.declared.note.Note.{Note}
 use Rattle.core_events.specs.declared.note.Note.TheVariants.{Finish}
-use Rattle.conn_trace.specs.Further.{Further, Same, longer, first_cut, replies_only, choosing, CutMeets, nothing_further}
+use Rattle.conn_trace.specs.Further.{Further, longer, replies_only, nothing_further}
 use Rattle.conn_trace.specs.Further as further
 use Rattle.conn_trace.specs.Gates.{TakenCounts, no_bytes}
 use Rattle.core_events.specs.declared.event_kind.EventKind.TheVariants.{Comes}
@@ -101,6 +101,7 @@ failed_comes C past c input old m has_failed =
       ends = ends_told c z z' [] false k.ends m.live t.notes m.live (none_ends c (untaken_all h' z.place)) (λ o. absurd (let x : false ≡ true = o in cc)) (λ o. t.finished ∙ or_first h.finished (finish_told (map tells [])) o) (λ o. absurd (let x : false ≡ true = o in cc)) (λ x side q. absurd (let y : true ≡ false = sym failed ∙ x in cc));
       closed_over = λ x side q. absurd (let y : true ≡ false = sym failed ∙ x in cc);
       linked = linked_over h.finished h'.finished at h.edges.server.state h'.edges.server.state (t.finished ∙ or_first h.finished (finish_told (map tells [])) finished) (longer_linked h.finished f l h.edges.server.state none k.linked);
+      own = k.own;
       licensed = come_licensed c h input [] (heard_uncut c past) quiet.cut k.licensed;
       told = subst K (sym t.notes) (calls_on h.failed h'.failed z.asked z'.asked z.place h.notes [] k.told refl (λ x. (sym same ∙ x, refl)));
       spot = subst F (sym failed) (subst L (sym m.live) (subst R (sym ready) spot));
@@ -163,6 +164,7 @@ lack_served C past c input old m found =
       ends = ends_told c z z' group false k.ends m.live t.notes m.live (record { going = λ n. refl; last = λ o. absurd (let x : false ≡ true = o in cc) }) (λ o. absurd (let x : false ≡ true = o in cc)) (λ o. finished) (λ o. finished) (λ x side q. absurd (let y : true ≡ false = sym failed ∙ x in cc));
       closed_over = λ x side q. absurd (let y : true ≡ false = sym failed ∙ x in cc);
       linked = linked_over h.finished h'.finished at h.edges.server.state h'.edges.server.state finished (longer_linked h.finished nothing_further l h.edges.server.state refl k.linked);
+      own = k.own;
       licensed = come_licensed c h input group (heard_uncut c past) (quiet_finish c).cut k.licensed;
       told = subst K (sym t.notes) (calls_on h.failed h'.failed z.asked z'.asked z.place h.notes group k.told refl (λ x. absurd (let y : true ≡ false = sym failed ∙ x in cc)));
       spot = subst F (sym failed) (subst L (sym m.live) (subst R (sym ready) (subst A (sym asked) spot)));

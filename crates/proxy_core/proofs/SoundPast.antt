@@ -1,5 +1,5 @@
 -- What holds of every state that a past leads to.
-use Rattle.std.proofs.Common.{◌≡◌, refl, sym, ap, subst, ◌∙◌, ℕ, zero, suc, ◌+◌, ◌*◌, ◌-◌, ◌≤◌, ◌<◌, List, [], ◌∷◌, ◌++◌, length, Bool, true, false, ◌⊎◌, inl, inr, Some, None, nat_eq, nat_lt, arith, zero-add, if◌then◌else◌}
+use Rattle.std.proofs.Common.{◌≡◌, refl, sym, ap, subst, ◌∙◌, ℕ, zero, suc, ◌+◌, ◌-◌, ◌≤◌, ◌<◌, List, [], ◌∷◌, ◌++◌, length, Bool, true, false, ◌⊎◌, inl, inr, Some, None, nat_eq, nat_lt, arith, zero-add, if◌then◌else◌}
 use Rattle.std.specs.Prelude.{is_none, is_some, not}
 use Rattle.std.specs.Bool.{MatchBool}
 use Rattle.std.specs.List.{IsDistinct}
@@ -26,7 +26,7 @@ use Rattle.conn_trace.specs.Heard.{Accepted, Heard, taken, taken_by, event_marks
 use Rattle.conn_trace.specs.Heard.{edges_met, further_of, hears}
 use Rattle.core_events.specs.declared.edges.Edges.{Edges}
 use Rattle.conn_trace.specs.Item.{Item, client_output, notes_of, server_output}
-use Rattle.conn_trace.specs.State.{TraceState}
+use Rattle.conn_trace.specs.State.{link_of, Absent, TraceState}
 use Rattle.conn_trace.specs.Setup.{Setup}
 use Rattle.conn_trace.proofs.Hearing.{others_not_heard}
 use Rattle.px_bytes.specs.declared.fault.Reply.{Reply}
@@ -52,7 +52,6 @@ use Rattle.proxy_core.specs.Scheduler.{State, no_connections, entries, Seen, see
 use Rattle.record_model.specs.Setup.{setup_in, setup_of, stand_of}
 use Rattle.proxy_core.specs.Sound.{unseen, Spot, Served, SoundAt, Sound}
 use Rattle.run_config.specs.declared.config.Config.{Config}
-use Rattle.proxy_core.proofs.Setups.{plain_setup}
 use Rattle.proxy_core.proofs.Entries.{entries_behind_self, ready_behind, asked_behind, calls_behind_self, calls_front}
 use Rattle.proxy_core.specs.Others.{about, front}
 use Rattle.proxy_core.proofs.Finished.{heard_finish, stands_orderly, trace_finished}
@@ -78,6 +77,7 @@ use Rattle.proxy_core.proofs.Standing.{drained_at, from_served, is_served, is_un
 use Rattle.proxy_core.proofs.PlainRuns.{runs_noted, out_notes, out_told}
 use Rattle.proxy_core.proofs.PlainServers.{plain_given}
 use Rattle.proxy_core.proofs.ServerLaws.{unserved, unserved_longer}
+use Rattle.proxy_core.proofs.OwnItems.{own_more}
 
 -- no row holds
 abbrev pub NoneHolds : List Row → Type 0
@@ -150,7 +150,7 @@ servers_within C c z input group s few (suc k) = by_number (come_took c z.heard 
     by_number (inl e) = let w = s.within.servers (suc k) in omega (arith, e, w)
     by_number (inr (e, f)) =
         let L : ℕ → Type 0 = λ n. took_of z.heard.connects n + untaken_of z.heard z.place Server ≤ length (server_output n z.place) in
-        let w = subst L (sym e) (server_left (setup_of C z.heard) (plain_setup C z.heard) c z (stand_of C z.heard z.place) s) in
+        let w = subst L (sym e) (server_left (setup_of C z.heard) c z (stand_of C z.heard z.place) s) in
         omega (arith, f, w, few)
 
 pub may_come_at : (C : Config) (past : Past) (old : State) (c : ℕ) (input : Input) → SoundAt C c (seen past old c) → refused C past old (Comes c input) ≡ None → MayCome C c input (seen past old c)
@@ -310,16 +310,17 @@ asks_alike turn.Over = refl
 run_sound : (C : Config) (past : Past) (c : ℕ) (rest after ready : List ℕ) (queue : List Asked) (called asked : List (List (List ℕ))) (old : State) (more : List Item) (slices : ℕ) (at : TraceState) (behind : List Note) (fails over : Bool)
     → IsDistinct nat_eq (shared past).live → old.ring ≡ c ∷ rest → (heard c past).failed ≡ false → is_some (heard c past).accepted ≡ true → Served C c (seen past old c)
     → Passes (setup_of C (heard c past)) (taken (heard c past)) (stand_of C (heard c past) (old.places c)) more at
+    → ((setup_of C (heard c past)).http ≡ true → link_of at.server ≡ Absent)
     → Behind (setup_of C (heard c past)) (taken (heard c past)) at c (untaken_all (heard c past) (old.places c ++ more)) (edges_noted (notes_of c more) (heard c past).edges) behind fails over
     → (entries c rest ≡ [] → entries c after ≡ ready) → (calls_of c old.queue ≡ [] → calls_of c queue ≡ asked) → calls_in more ≡ called → length called ≤ 1 → (fails ≡ false → called ≡ asked)
     → Spot fails (not over) ready asked (setup_of C (heard c past)) (taken (heard c past)) at (edges_noted behind (edges_noted (notes_of c more) (heard c past).edges))
     → SlicesPaid (setup_of C (heard c past)) (old.places c ++ more) at (old.spent c + slices)
     → SoundAt C c (seen_after past Runs (notes_of c more ++ behind) (ran c after queue more slices old) c)
-run_sound C past c rest after ready queue called asked old more slices at behind fails over distinct e f a v p b put puts all few opens spot pays =
+run_sound C past c rest after ready queue called asked old more slices at behind fails over distinct e f a v p alone b put puts all few opens spot pays =
     let group = notes_of c more ++ behind in
     from_served C c (seen_after past Runs group (ran c after queue more slices old) c)
     (still_accepted c (heard c past) Runs group (run_told c (heard c past) group (run_about c more behind b.about)) a)
-    (run_served C past c rest after ready queue called asked old more slices at behind fails over distinct e f v p b put puts all few opens spot pays)
+    (run_served C past c rest after ready queue called asked old more slices at behind fails over distinct e f v p alone b put puts all few opens spot pays)
 
 failed_sound : (C : Config) (past : Past) (c : ℕ) (rest : List ℕ) (old : State) → IsDistinct nat_eq (shared past).live → old.ring ≡ c ∷ rest → (heard c past).failed ≡ true → is_some (heard c past).accepted ≡ true → Served C c (seen past old c)
     → SoundAt C c (seen_after past Runs (closing c (heard c past).edges (untaken_all (heard c past) (old.places c))) (record old { ring = rest }) c)
@@ -356,9 +357,11 @@ own_run C past c rest group old new d e s m = by_failed (heard c past).failed re
         let g = setup_of C h in
         let l = stand_of C h (old.places c) in
         let f' = taken_by_items (taken h) k.more in
-        let kept = plain_given k.at (unserved g (longer f' l) k.at k.more (unserved_longer f' l (unserved_at g (plain_setup C h) h (old.places c) l v.1.stands)) k.items.passes.passed) in
+        let un = unserved_at g h (old.places c) l v.1.own v.1.stands in
+        let own = own_more g f' l k.at k.more h.finished h.edges.server.state refl un v.1.linked k.items.alone k.items.passes.passed in
+        let kept = plain_given k.at (unserved g (longer f' l) k.at k.more own (unserved_longer f' l un) k.items.passes.passed) in
         moved (notes_of c k.more ++ behind) (ran c (ring_behind k.turn c rest) (queue_behind k.turn c old.queue) k.more (slices_in k.turn (length group)) old) (runs_noted k.items) k.state
-        (run_sound C past c rest (ring_behind k.turn c rest) (ready_behind k.turn c) (queue_behind k.turn c old.queue) (asked_at k.turn) (asked_behind k.turn) old k.more (slices_in k.turn (length group)) k.at behind false (ends k.turn) d e f v.0 v.1 k.items.passes
+        (run_sound C past c rest (ring_behind k.turn c rest) (ready_behind k.turn c) (queue_behind k.turn c old.queue) (asked_at k.turn) (asked_behind k.turn) old k.more (slices_in k.turn (length group)) k.at behind false (ends k.turn) d e f v.0 v.1 k.items.passes k.items.alone
         (stop_behind k.turn (setup_of C h) (taken h) k.at c left e' kept k.items.stops) (entries_behind_self k.turn c rest) (calls_behind_self k.turn c old.queue) k.items.calls (few_asked k.turn) (λ x. asks_alike k.turn) (spot_ran k.turn c left (setup_of C h) (taken h) k.at e' kept k.items.stops) k.paid)
     by_failed false f (inr k) =
         let v = front_served C past c rest old e s in
@@ -367,7 +370,7 @@ own_run C past c rest group old new d e s m = by_failed (heard c past).failed re
         let kept = more_pays (setup_of C h) (old.places c) k.more (stand_of C h (old.places c)) k.at (taken_by_items (taken h) k.more) (old.spent c) v.1.paid k.passes.passed in
         let unspent : SlicesPaid (setup_of C h) (old.places c ++ k.more) k.at (old.spent c + 0) = omega (arith, kept) in
         moved (out_notes c h.edges k.more left) (ran c rest old.queue k.more 0 old) (out_told k) k.state
-        (run_sound C past c rest rest [] old.queue [] [] old k.more 0 k.at (Finish c Memory ∷ closing c e' left) true true d e f v.0 v.1 k.passes (memory_behind (setup_of C h) (taken h) k.at c left e') (λ x. x) (λ x. x) k.no_call (omega arith) (λ x. refl) tt unspent)
+        (run_sound C past c rest rest [] old.queue [] [] old k.more 0 k.at (Finish c Memory ∷ closing c e' left) true true d e f v.0 v.1 k.passes k.alone (memory_behind (setup_of C h) (taken h) k.at c left e') (λ x. x) (λ x. x) k.no_call (omega arith) (λ x. refl) tt unspent)
 
 -- where items and what is told behind them lead
 pub ran_on : (C : Config) (past : Past) (s : State) (c : ℕ) → Served C c (seen past s c) → RunStood C c (heard c past) (s.places c)

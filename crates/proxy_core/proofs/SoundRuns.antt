@@ -1,5 +1,5 @@
 -- What a Run owes: the connection that is first in the ring.
-use Rattle.std.proofs.Common.{◌≡◌, refl, sym, ap, subst, ◌∙◌, ℕ, ◌+◌, ◌*◌, ◌≤◌, List, [], ◌∷◌, ◌++◌, length, map, Bool, true, false, ◌||◌, not, Option, Some, None, nat_eq, append-nil, append_assoc, if◌then◌else◌, ◌⊎◌, inl, inr, eqb-true}
+use Rattle.std.proofs.Common.{◌≡◌, refl, sym, ap, subst, ◌∙◌, ℕ, ◌+◌, ◌≤◌, List, [], ◌∷◌, ◌++◌, length, map, Bool, true, false, ◌||◌, not, Option, Some, None, nat_eq, append-nil, append_assoc, if◌then◌else◌, ◌⊎◌, inl, inr, eqb-true}
 use Rattle.std.specs.List.{IsDistinct, filter, list_any}
 use Rattle.std.proofs.lemmas.Grind.{flat_map-append}
 use Rattle.px_bytes.specs.declared.addr.Side.{Side}
@@ -7,7 +7,7 @@ use Rattle.px_bytes.specs.declared.fault.Reply.{Reply}
 use Rattle.core_events.specs.declared.edges.Edges.{Edges}
 use Rattle.core_events.specs.declared.note.Note.{Note}
 use Rattle.core_events.specs.Edges.{edge_of, edges_noted}
-use Rattle.conn_trace.specs.Further.{Further, Same, longer, first_cut, replies_only, choosing, CutMeets, nothing_further}
+use Rattle.conn_trace.specs.Further.{Further, longer, replies_only, choosing, CutMeets}
 use Rattle.conn_trace.specs.Further as further
 use Rattle.conn_trace.specs.Costs.{SlicesPaid}
 use Rattle.conn_trace.specs.Gates.{Counts, TakenCounts, no_bytes, sent_from, to_take, Met}
@@ -17,7 +17,7 @@ use Rattle.conn_trace.specs.HeardLaws.{cut_in, cut_for, taken_by_items, TellsNot
 use Rattle.conn_trace.specs.Item.{Item, Reason, Closed, Tcl, Http, Unselected, Rejected, CutBy, Choice, note_of, shown, listed, calls_in, cause_of, notes_of, reasons_in}
 use Rattle.conn_trace.specs.Phases.{Orderly}
 use Rattle.conn_trace.specs.Setup.{Setup}
-use Rattle.conn_trace.specs.State.{Cut, TraceState}
+use Rattle.conn_trace.specs.State.{link_of, Absent, Cut, TraceState}
 use Rattle.conn_trace.specs.Tellings.{tells, notes_about, choices_told, finish_told, failure_told}
 use Rattle.conn_trace.specs.Trace.{next_item, Unfolds}
 use Rattle.conn_trace.proofs.Hearing.{finished_stands, run_stands}
@@ -39,7 +39,6 @@ use Rattle.record_model.specs.Setup.{begins_at, setup_in, setup_of, stand_of}
 use Rattle.proxy_core.specs.Shown.{shows, closes, causes_told, causes_behind}
 use Rattle.proxy_core.specs.Sound.{is_closed, Spot, CallsTold, ServedAt, Served}
 use Rattle.run_config.specs.declared.config.Config.{Config}
-use Rattle.proxy_core.proofs.Setups.{plain_setup}
 use Rattle.proxy_core.proofs.CameAt.{UncutOr, heard_uncut, stands_uncut}
 use Rattle.proxy_core.proofs.Closings.{EndsBy, none_on, closing_ends, closing_gone, ends_behind, items_closed, items_go_on, items_open}
 use Rattle.proxy_core.proofs.EdgeNotes.{edges_joined, edges_told}
@@ -49,7 +48,7 @@ use Rattle.proxy_core.proofs.Hearing.{run_told, run_stays, run_further}
 use Rattle.proxy_core.proofs.Members.{eq_self, not_in_without}
 use Rattle.proxy_core.proofs.Licensing.{cut_stays, run_licensed, stays_licensed}
 use Rattle.proxy_core.proofs.Linking.{linked_now, linked_over, longer_linked, run_linked}
-use Rattle.proxy_core.proofs.ServerLaws.{unserved_longer}
+use Rattle.proxy_core.proofs.ServerLaws.{own_both, unserved_longer}
 use Rattle.proxy_core.proofs.ServerLeft.{unserved_at}
 use Rattle.proxy_core.proofs.Overs.{over_at, over_done, still_over}
 use Rattle.proxy_core.proofs.Drains.{drained_items, longer_orderly}
@@ -60,6 +59,7 @@ use Rattle.proxy_core.proofs.SoundAccepts.{or_false}
 use Rattle.proxy_core.proofs.SoundComes.{calls_on, calls_more, took_each, or_split, or_true, or_first, unless, ends_told, ended_if, ClosedNow, either}
 use Rattle.proxy_core.proofs.SoundLacks.{failed_finished}
 use Rattle.proxy_core.proofs.SoundTurns.{within_same, same_within, left_same}
+use Rattle.proxy_core.proofs.OwnItems.{own_more}
 
 -- the front of the ring is there once, and no call of it waits
 pub record AtFront (live : Bool) (more : List ℕ) (asked : List (List (List ℕ))) : Type 0 where
@@ -137,6 +137,7 @@ failed_served C past c rest old distinct front_is has_failed k =
           (λ x side q. absurd (let y : true ≡ false = sym failed ∙ x in cc));
       closed_over = λ x side q. absurd (let y : true ≡ false = sym failed ∙ x in cc);
       linked = linked_over h.finished h'.finished at h.edges.server.state h'.edges.server.state (t.finished ∙ or_first h.finished (finish_told (map tells group)) finished) (longer_linked h.finished (replies_only []) l h.edges.server.state refl k.linked);
+      own = k.own;
       licensed = stays_licensed h h' (cut_stays c h Runs group (due_quiet c group due).cut) s.client s.connects k.licensed;
       told = subst K (sym t.notes) (calls_on h.failed h'.failed z.asked z'.asked z.place h.notes group k.told (due_entries c group due) (λ x. (sym same ∙ x, refl)));
       spot = subst F (sym failed) (subst L (sym live) (subst R (sym f.once) (subst A (sym f.none_asked) tt)));
@@ -194,12 +195,13 @@ run_about c more behind a = about_joined c (notes_of c more) behind (about_items
 pub run_served : (C : Config) (past : Past) (c : ℕ) (rest after ready : List ℕ) (queue : List Asked) (called asked : List (List (List ℕ))) (old : State) (more : List Item) (slices : ℕ) (at : TraceState) (behind : List Note) (fails over : Bool)
     → IsDistinct nat_eq (shared past).live → old.ring ≡ c ∷ rest → (heard c past).failed ≡ false → Served C c (seen past old c)
     → Passes (setup_of C (heard c past)) (taken (heard c past)) (stand_of C (heard c past) (old.places c)) more at
+    → ((setup_of C (heard c past)).http ≡ true → link_of at.server ≡ Absent)
     → Behind (setup_of C (heard c past)) (taken (heard c past)) at c (untaken_all (heard c past) (old.places c ++ more)) (edges_noted (notes_of c more) (heard c past).edges) behind fails over
     → (entries c rest ≡ [] → entries c after ≡ ready) → (calls_of c old.queue ≡ [] → calls_of c queue ≡ asked) → calls_in more ≡ called → length called ≤ 1 → (fails ≡ false → called ≡ asked)
     → Spot fails (not over) ready asked (setup_of C (heard c past)) (taken (heard c past)) at (edges_noted behind (edges_noted (notes_of c more) (heard c past).edges))
     → SlicesPaid (setup_of C (heard c past)) (old.places c ++ more) at (old.spent c + slices)
     → Served C c (seen_after past Runs (notes_of c more ++ behind) (ran c after queue more slices old) c)
-run_served C past c rest after ready queue called asked old more slices at behind fails over distinct front_is not_failed k p b put puts all few opens spot pays =
+run_served C past c rest after ready queue called asked old more slices at behind fails over distinct front_is not_failed k p alone b put puts all few opens spot pays =
     let z = seen past old c in
     let h = z.heard in
     let notes = notes_of c more in
@@ -238,8 +240,10 @@ run_served C past c rest after ready queue called asked old more slices at behin
     record { next = still.next; finished = still.finished; none = ap (λ x. to_take (sent_from no_bytes (z.place ++ more)) x side) s.taken ∙ ap (λ ms. to_take (sent_from no_bytes (z.place ++ ms)) (taken h) side) still.none ∙ ap (λ ms. to_take (sent_from no_bytes ms) (taken h) side) (append-nil z.place) ∙ took_each c z k.ends not_failed side v })) in
     let f' = taken_by_items (taken h) more in
     let state = h.edges.server.state in
+    let un = unserved_at g h z.place l k.own k.stands in
+    let own = own_more g f' l at more h.finished state refl un k.linked alone p.passed in
     let was_linked : Linked l.finished l state = linked_now h.finished l.finished l state state (λ x. sym same ∙ x) (λ x. refl) k.linked in
-    let ran = run_linked g (longer f' l) at more c h.edges (unserved_longer f' l (unserved_at g (plain_setup C h) h z.place l k.stands)) (longer_linked l.finished f' l state refl was_linked) p.passed in
+    let ran = run_linked g (longer f' l) at more c h.edges own (unserved_longer f' l un) (longer_linked l.finished f' l state refl was_linked) p.passed in
     let closed_finishes : list_any closes behind ≡ true → h'.finished ≡ true = λ o. by_opens (b.opens o) t.finished over_finishes in
     let M : TakenCounts → Type 0 = λ y. Met no_bytes y (z.place ++ more) in
     let N : Counts → Type 0 = λ x. Met x (taken h) more in
@@ -282,7 +286,8 @@ run_served C past c rest after ready queue called asked old more slices at behin
       closed_over = λ found side q. ((now side q found).next, (now side q found).finished);
       linked = linked_now at.finished h'.finished at ends.server.state h'.edges.server.state (λ x. unless at.finished (λ o. (let y = sym (finishes o) ∙ x in cc)))
           (λ x. ap (λ y. y.server.state) edges ∙ b.kept (unless (list_any closes behind) (λ o. (let y = sym (closed_finishes o) ∙ x in cc)))) ran.linked;
-      licensed = run_licensed g (plain_setup C h) c h z.place more behind l at h.edges k.stands was_linked b.quiet p k.licensed;
+      own = own_both g z.place more k.own own;
+      licensed = run_licensed g c h z.place more behind l at h.edges k.own own k.stands was_linked b.quiet p k.licensed;
       told = subst K (sym t.notes) (calls_more h'.failed called z'.asked z.place more h.notes group was none_told all few (λ e. opens (sym failed ∙ e) ∙ sym asks));
       spot = subst F (sym failed) (subst L (sym live) (subst R (sym (put f.once)) (subst A (sym asks) (subst T (sym s.taken) (subst E (sym edges) spot)))));
     })))

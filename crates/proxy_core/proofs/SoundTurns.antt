@@ -161,6 +161,7 @@ turn_served C past a rest old group fails e k b entry =
       ends = ends_told c z z' group false k.ends f.is_live t.notes live (record { going = λ n. b.goes_on; last = λ o. absurd (let x : false ≡ true = o in cc) }) (λ o. absurd (let x : false ≡ true = o in cc)) (λ o. t.finished ∙ or_first h.finished (finish_told (map tells group)) o) (λ o. absurd (let x : false ≡ true = sym b.opens ∙ o in cc)) (λ x side q. absurd (none side q));
       closed_over = λ x side q. absurd (none side q);
       linked = linked_now h.finished h'.finished at h.edges.server.state h'.edges.server.state (λ x. or_none h.finished (finish_told (map tells group)) (sym t.finished ∙ x)) (λ x. ap (λ y. y.server.state) edges) (longer_linked h.finished (replies_only (replies_told (notes_about c group))) l h.edges.server.state refl k.linked);
+      own = k.own;
       licensed = stays_licensed h h' (cut_stays c h Turns group cut) s.client s.connects k.licensed;
       told = subst K (sym t.notes) (subst A (sym f.one) told);
       spot = subst F (sym failed) (subst L (sym live) (subst R (sym ready) (subst Q (sym f.one) (ready_once fails c g (taken h') at h'.edges))));

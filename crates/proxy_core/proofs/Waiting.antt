@@ -23,7 +23,6 @@ use Rattle.run_config.specs.declared.config.Config.{Config}
 use Rattle.proxy_core.proofs.Standing.{sent_at}
 use Rattle.proxy_core.proofs.PlainServers.{numbered_at, plain_ends}
 use Rattle.proxy_core.proofs.ServerLeft.{unserved_at}
-use Rattle.proxy_core.proofs.Setups.{plain_setup}
 
 -- its ends and queues, whether it goes on or found no memory
 ends_of : (C : Config) (z : Seen) (conn : Conn) → ConnectionContinues C z (Some conn) → HoldsEnds (around z.heard) (stand_of C z.heard z.place) conn.ends
@@ -109,7 +108,7 @@ queue_same C c z Server (Some conn) v k =
     let n = last_took z.heard.connects in
     let g = setup_of C z.heard in
     let at = stand_of C z.heard z.place in
-    let h = plain_ends z.heard at conn.ends (ends_of C z conn k) (unserved_at g (plain_setup C z.heard) z.heard z.place at v.stands) (numbered_at g (plain_setup C z.heard) z.heard z.place at v.stands) in
+    let h = plain_ends z.heard at conn.ends (ends_of C z conn k) (unserved_at g z.heard z.place at v.own v.stands) (numbered_at g z.heard z.place at v.own v.stands) in
     let number : number_by conn.ends.link 0 ≡ (sent_from no_bytes z.place).number = sym h.number ∙ ap (λ s. s.number) (sent_is C c z v) in
     let all : at.sent.server ≡ length (server_output (number_by conn.ends.link 0) z.place) =
     sent_to_server (setup_of C z.heard) (begins_at C z.heard).client (begins_at C z.heard).answers at z.place v.stands ∙ ap (λ m. length (server_output m z.place)) h.number in

@@ -33,7 +33,6 @@ use Rattle.run_config.specs.declared.config.Config.{Config}
 use Rattle.proxy_core.proofs.Finished.{stands_orderly, trace_finished}
 use Rattle.proxy_core.proofs.PlainServers.{plain_given}
 use Rattle.proxy_core.proofs.ServerLeft.{unserved_at}
-use Rattle.proxy_core.proofs.Setups.{plain_setup}
 
 -- where the server's end says that none is there, bytes of one can't come
 no_stream : (l : TraceState) (e : Ends) (edge : EdgeState) → given_up_at l ≡ false → edge ≡ state.Absent → l.server ≡ server_by e.link e.server → l.answers.connects ≡ connects_by e.link e.server → Linked false l edge → has_stream e.link ≡ false
@@ -70,7 +69,7 @@ module _ (C : Config) (c : ℕ) (z : Seen) (v : Served C c z) (told : z.heard.fi
   closed_wants conn state.Absent is e same going k =
       let P : Bool → Type 0 = λ b. Linked b at z.heard.edges.server.state in
       let h = k.holds.ends in
-      fresh_wants (has_finished conn.stage) conn.ends.server (counted_held Server conn) (h.nothing_came (no_stream at conn.ends z.heard.edges.server.state (plain_given at (unserved_at (setup_of C z.heard) (plain_setup C z.heard) z.heard z.place at v.stands)) is h.server h.connects (subst P going v.linked)))
+      fresh_wants (has_finished conn.stage) conn.ends.server (counted_held Server conn) (h.nothing_came (no_stream at conn.ends z.heard.edges.server.state (plain_given at (unserved_at (setup_of C z.heard) z.heard z.place at v.own v.stands)) is h.server h.connects (subst P going v.linked)))
   closed_wants conn state.Connecting is e same going k =
       let asked : conn.ends.link ≡ link.Asked = k.holds.ends.connecting (ap (λ x. is_connecting x.server.state) (sym same) ∙ ap is_connecting is) in
       fresh_wants (has_finished conn.stage) conn.ends.server (counted_held Server conn) (k.holds.ends.nothing_came (ap has_stream asked))

@@ -1,7 +1,7 @@
 -- The server connections of one connection: what each was told to have taken, what was heard of the
 -- last, and where the server's end stands while the trace stands somewhere.
 use Rattle.std.specs.Prelude.{◌≡◌, ◌≤◌, ℕ, zero, suc, List, [], ◌∷◌, length, Bool, true, false}
-use Rattle.std.specs.Prelude.{◌+◌, Option, Some, None, nat_eq, if◌then◌else◌}
+use Rattle.std.specs.Prelude.{◌+◌, ◌||◌, Option, Some, None, nat_eq, if◌then◌else◌}
 use Rattle.std.specs.Bool.{MatchBool}
 use Rattle.core_events.specs.declared.edges.EdgeState.{EdgeState}
 use Rattle.core_events.specs.declared.edges.EdgeState.TheVariants.{Absent, Connecting}
@@ -13,7 +13,9 @@ use Rattle.core_events.specs.declared.event_kind.EventKind.{EventKind}
 use Rattle.core_events.specs.declared.event_kind.EventKind.TheVariants.{Comes}
 use Rattle.core_events.specs.declared.input.Input.TheVariants.{Connects}
 use Rattle.conn_trace.specs.Heard.{SideHeard, Heard, has_made}
+use Rattle.conn_trace.specs.Item.{Answered, Connected, Item}
 use Rattle.conn_trace.specs.Places.{is_up}
+use Rattle.conn_trace.specs.Setup.{Setup}
 use Rattle.conn_trace.specs.State.{Stream, Phase, Answering, TraceState, link_of}
 use Rattle.core_events.specs.Kinds.{kind_of}
 use Rattle.record_model.specs.Past.{Past}
@@ -96,3 +98,17 @@ pub record Linked (finished : Bool) (at : TraceState) (server : EdgeState) : Typ
   pub edge : finished ≡ false
       → MatchBool (awaits at.phase) (AskedAt at.answers.connects server)
       (LinkedAt (is_up (link_of at.server)) server)
+
+-- an item that asks for a server connection, or takes the answer
+abbrev pub links : Item → Bool
+links (Connected to) = true
+links (Answered made) = true
+links other = false
+
+abbrev pub links_in : List Item → Bool
+links_in [] = false
+links_in (i ∷ items) = links i || links_in items
+
+-- with HTTP none is asked for yet
+abbrev pub OwnItems : Setup → List Item → Type 0
+OwnItems g items = g.http ≡ true → links_in items ≡ false

@@ -26,7 +26,7 @@ use Rattle.proxy_core.specs.Moves.{Leads}
 use Rattle.record_model.specs.Past.{Past, heard, shared}
 use Rattle.proxy_core.specs.Scheduler.{State, Seen, seen, untaken_all, untaken_of}
 use Rattle.proxy_core.specs.Shown.{shows, closes, ends_it, causes_told, causes_behind}
-use Rattle.proxy_core.specs.Servers.{Linked, licenses, took_of}
+use Rattle.proxy_core.specs.Servers.{Linked, OwnItems, licenses, took_of}
 use Rattle.record_model.specs.Setup.{setup_of, stand_of}
 use Rattle.run_config.specs.declared.config.Config.{Config}
 
@@ -100,8 +100,8 @@ pub record CallsTold (failed : Bool) (asked : List (List (List ℕ))) (place : L
   pub open_now : failed ≡ false → unanswered ≡ asked
 
 -- A connection that was accepted, by the state where it stands. The slices that it spent are paid for. While nothing failed an end is
--- closed where its trace is over alone; its server's end stands where the trace says; a cut was
--- allowed.
+-- closed where its trace is over alone; its server's end stands where the trace says; with HTTP none was asked for yet;
+-- a cut was allowed.
 pub record ServedAt (g : Setup) (c : ℕ) (z : Seen) (at : TraceState) : Type 0 where
   pub stands : Unfolds g (start_of g z.heard) z.place at
   pub met : Met no_bytes (taken z.heard) z.place
@@ -115,6 +115,7 @@ pub record ServedAt (g : Setup) (c : ℕ) (z : Seen) (at : TraceState) : Type 0 
       → is_closed (edge_of side z.heard.edges).state ≡ true
       → (next_item g at ≡ Over) × (at.finished ≡ true)
   pub linked : Linked z.heard.finished at z.heard.edges.server.state
+  pub own : OwnItems g z.place
   pub licensed : (cut : Cut) → z.heard.cut ≡ Some cut → licenses z.heard cut.reason ≡ true
   pub told : CallsTold z.heard.failed z.asked z.place z.heard.notes
   pub spot : Spot z.heard.failed z.live z.ready z.asked g (taken z.heard) at z.heard.edges

@@ -2,7 +2,7 @@
 
 ghost use Rattle.std.specs.Prelude.{◌≡◌, [], slice_index_or};
 ghost use Rattle.proxy_core.specs.Serving.{IsSetup};
-ghost use Rattle.record_model.specs.Setup.{name_at, pool_at, port_of};
+ghost use Rattle.record_model.specs.Setup.{http_at, name_at, pool_at, port_of};
 
 use crate::server_bodies::EventPlaces;
 use conn::{Places, Setup};
@@ -24,7 +24,7 @@ pub fn setup_at<'a>(
         name: name_at(config, place),
         port: port_at(config, place),
         pool: pool_at(config, place),
-        http: false,
+        http: http_at(config, place),
         budget: config.budget,
         statics,
         groups: &config.groups,
@@ -48,6 +48,15 @@ fn pool_at(config: &Config, place: usize) -> &[u8]
     match config.virtuals.get(place) {
         Some(server) => server.pool.as_bytes(),
         None => &[],
+    }
+}
+
+fn http_at(config: &Config, place: usize) -> bool
+    ensures { result ≡ http_at config.now place }
+{
+    match config.virtuals.get(place) {
+        Some(server) => server.http,
+        None => false,
     }
 }
 

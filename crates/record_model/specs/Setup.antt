@@ -1,6 +1,6 @@
 -- What a connection runs on, by the configuration and what was heard of the connection, and where
 -- it stands.
-use Rattle.std.specs.Prelude.{ℕ, List, [], map, length, false, slice_get, option_and_then}
+use Rattle.std.specs.Prelude.{ℕ, List, [], map, length, Bool, false, slice_get, option_and_then}
 use Rattle.std.specs.Prelude.{Option, Some, None}
 use Rattle.std.specs.List.{position_from}
 use Rattle.std.specs.Str.{bytes_eq}
@@ -10,7 +10,7 @@ use Rattle.event_order.specs.declared.event.EventName.{EventName}
 use Rattle.core_events.specs.declared.note.Note.{Note}
 use Rattle.core_events.specs.declared.note.Note.TheVariants.{Log}
 use Rattle.conn_trace.specs.Heard.{Accepted, Heard, start_of}
-use Rattle.conn_trace.specs.Http.{no_heads}
+use Rattle.conn_trace.specs.Http.{the_heads}
 use Rattle.conn_trace.specs.Item.{Item}
 use Rattle.conn_trace.specs.Setup.{Handler, Setup}
 use Rattle.conn_trace.specs.State.{TraceState}
@@ -41,6 +41,14 @@ pool_in (Some v) = v.pool
 abbrev pub pool_at : Config → ℕ → List ℕ
 pool_at C place = pool_in (slice_get C.virtuals place)
 
+-- whether it speaks HTTP
+abbrev pub http_in : Option Virtual → Bool
+http_in None = false
+http_in (Some v) = v.http
+
+abbrev pub http_at : Config → ℕ → Bool
+http_at C place = http_in (slice_get C.virtuals place)
+
 -- its port
 abbrev pub port_in : Option Virtual → ℕ
 port_in None = 0
@@ -69,19 +77,18 @@ statics_of C = (init C).vars.statics
 abbrev pub init_notes : Config → List Note
 init_notes C = map (λ line. Log 0 line) (init C).lines
 
--- the setup of a connection that the virtual server of this name accepts from an address; those of
--- today have no HTTP
+-- the setup of a connection that the virtual server of this name accepts from an address
 abbrev pub setup_for : Config → List ℕ → Addr → Setup
 setup_for C name from = record {
   name = name;
   port = port_in (virtual_named C name);
   pool = pool_in (virtual_named C name);
-  http = false;
+  http = http_in (virtual_named C name);
   from = from;
   budget = C.budget;
   statics = statics_of C;
   groups = C.groups;
-  heads = no_heads;
+  heads = the_heads;
   handlers = handlers_in C (virtual_named C name);
 }
 
