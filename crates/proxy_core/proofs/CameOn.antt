@@ -1,5 +1,5 @@
 -- A connection of the code on which something came: what it goes on with, for what was heard then.
-use Rattle.std.proofs.Common.{◌≡◌, ◌⊎◌, inl, inr, refl, sym, ap, subst, ◌∙◌, ℕ, ◌+◌, ◌*◌, ◌-◌, List, [], ◌∷◌, length, drop, append-nil, Bool, true, false, ◌||◌, Option, Some, None, if◌then◌else◌, arith, length-append}
+use Rattle.std.proofs.Common.{◌≡◌, ◌⊎◌, inl, inr, refl, sym, ap, subst, ◌∙◌, ℕ, ◌*◌, ◌-◌, List, [], ◌∷◌, length, drop, append-nil, Bool, true, false, ◌||◌, Option, Some, None, if◌then◌else◌, arith, length-append}
 use Rattle.std.specs.Bool.{MatchBool}
 use Rattle.std.proofs.lemmas.List.{length-drop}
 use Rattle.px_bytes.specs.declared.addr.Side.TheVariants.{Client, Server}
@@ -13,7 +13,7 @@ use Rattle.conn_trace.specs.Gates.{no_bytes, sent_from}
 use Rattle.core_events.specs.declared.event_kind.EventKind.TheVariants.{Comes}
 use Rattle.core_events.specs.declared.input.Input.{Input}
 use Rattle.core_events.specs.declared.input.Input.TheVariants.{Bytes, Ends, Resets, Connects, Takes}
-use Rattle.conn_trace.specs.Heard.{Heard, taken, edges_met, hears, taken_by}
+use Rattle.conn_trace.specs.Heard.{Heard, taken, edges_met, hears, taken_by, has_made}
 use Rattle.conn_trace.specs.Heard.{further_of, start_of}
 use Rattle.conn_trace.specs.HeardLaws.{TellsNothing}
 use Rattle.conn_trace.specs.Costs.{paid_by}
@@ -53,9 +53,10 @@ use Rattle.proxy_core.proofs.Coming.{ends_edges}
 use Rattle.proxy_core.proofs.GroupNotes.{About, AreDue, due_about, due_asks, due_failure, due_finish, due_quiet, ended_settling, quiet_finish, settling_due, tells_all}
 use Rattle.proxy_core.proofs.Meeting.{AnswersFirst, TakesThere, around_last, around_met, come_further, come_told, last_further, none_made, queues_met}
 use Rattle.proxy_core.proofs.Standing.{sent_at, stands_at}
-use Rattle.proxy_core.proofs.PlainServers.{PlainEnds, none_taken, numbered_at, plain_ends}
+use Rattle.proxy_core.proofs.PlainServers.{PlainEnds, none_taken, numbered_at, plain_ends, few_made}
 use Rattle.proxy_core.proofs.ServerLeft.{unserved_at}
 use Rattle.proxy_core.specs.Servers.{Linked, OwnItems}
+use Rattle.proxy_core.proofs.AllServers.{one_left}
 
 -- what goes on is what was told of it
 pub to_standing : (C : Config) (h : Heard) (g : Setup) (place : List Item) (at : TraceState) (conn : Conn) → setup_of C h ≡ g → Unfolds g (start_of g h) place at → Holds g (around h) at conn → Holds (setup_of C h) (around h) (stand_of C h place) conn
@@ -136,12 +137,16 @@ nothing_ends : (a : Around) (l : TraceState) (e : BothEnds) → HoldsEnds a l e 
 nothing_ends a l e h = ends_kept a l (longer nothing_further l) e e h (nothing_stream nothing_comes l.client refl) (nothing_server nothing_comes l.answers.connects l.server refl) (append-nil _ ∙ nothing_on_last nothing_comes l.answers.connects refl) refl refl
 
 -- what is queued to both is what was sent to them and not taken
-pub queued_untaken : (h : Heard) (l : TraceState) (place : List Item) (e : BothEnds) → PlainEnds h l e → HoldsQueues h place e → l.sent ≡ sent_from no_bytes place → queued_in e ≡ untaken_all h place
-queued_untaken h l place e k q sent =
+pub queued_untaken : (h : Heard) (l : TraceState) (place : List Item) (e : BothEnds) → HoldsEnds (around h) l e → PlainEnds h l e → HoldsQueues h place e → queued_in e ≡ untaken_all h place
+queued_untaken h l place e k p q =
     let client : length e.client.queued ≡ length (client_output place) - h.client.took = ap length q.client ∙ length-drop h.client.took (client_output place) in
-    let server : length e.server.queued + last_took h.connects ≡ (sent_from no_bytes place).server = k.server_untaken ∙ ap (λ x. x.server) sent in
+    let server = one_left h.connects place (few_made h l e p) ∙ by_made (has_made h.connects) refl in
     let lost = q.lost in
     omega (arith, client, server, lost)
+  where
+    by_made : (b : Bool) → has_made h.connects ≡ b → (if b then length (server_output 1 place) - last_took h.connects else 0) ≡ length e.server.queued
+    by_made true made = sym (ap length q.server ∙ length-drop (last_took h.connects) (server_output 1 place))
+    by_made false none = sym (ap (λ x. length x.queued) (k.nothing_came (no_stream k.earlier e.link e.server.reset (last_took h.connects) (sym k.servers_took ∙ none_made h.connects none))))
 
 -- ---- what came
 
@@ -309,7 +314,7 @@ module _ (C : Config) (past : Past) (s : State) (c : ℕ) (input : Input) (k : S
       let again : Unfolds (setup_of C h') (start_of (setup_of C h') h') place (stand_of C h' place) = standing_unfolds C h' g place (longer f l) (same_setup group) stands in
       let own : OwnItems (setup_of C h') place = subst (λ y. OwnItems y place) (sym (same_setup group)) k.own in
       let plain_now = plain_ends h' (stand_of C h' place) mid.ends standing.ends (unserved_at (setup_of C h') h' place (stand_of C h' place) own again) (numbered_at (setup_of C h') h' place (stand_of C h' place) own again) in
-      let left : queued_in mid.ends ≡ untaken_all h' place = queued_untaken h' (stand_of C h' place) place mid.ends plain_now queues sent in
+      let left : queued_in mid.ends ≡ untaken_all h' place = queued_untaken h' (stand_of C h' place) place mid.ends standing.ends plain_now queues in
       let edges_are : mid.ends.edges ≡ edges_met input h.edges = ap (λ x. x.edges) ends_are ∙ ends_edges input (has_finished old.stage) old.ends ∙ ap (edges_met input) (sym edges) in
       let settled = settling_at (setup_of C h') (taken h') (stand_of C h' place) c in
       let notes : group ≡ settled (edges_met input h.edges) (untaken_all h' place) =

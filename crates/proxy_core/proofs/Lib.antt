@@ -32,6 +32,7 @@ pub mod ServerCounts
 pub mod Linking
 pub mod OwnItems
 pub mod LinkedComes
+pub mod AllServers
 pub mod ServerLeft
 pub mod PlainServers
 pub mod PlainRuns

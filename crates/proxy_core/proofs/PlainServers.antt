@@ -1,5 +1,5 @@
 -- Without HTTP one server connection is made at most, and none is given up: what the ends of a connection say then, and its queue.
-use Rattle.std.proofs.Common.{◌≡◌, ◌⊎◌, inl, inr, refl, sym, ap, subst, ◌∙◌, ℕ, ◌+◌, ◌-◌, List, [], ◌∷◌, ◌++◌, append-nil, append_assoc, length, Bool, true, false, true≢false, nat_eq, Option, Some, None, if◌then◌else◌, arith, eq-eqb}
+use Rattle.std.proofs.Common.{◌≡◌, ◌⊎◌, inl, inr, refl, sym, ap, subst, ◌∙◌, ℕ, ◌+◌, ◌-◌, List, [], ◌∷◌, ◌++◌, append-nil, append_assoc, length, Bool, true, false, true≢false, nat_eq, Option, Some, None, if◌then◌else◌, arith, eq-eqb, ◌≤◌}
 use Rattle.conn_trace.specs.Further.{Further, longer}
 use Rattle.conn_trace.specs.Gates.{sent_after, taken_of, untaken}
 use Rattle.conn_trace.specs.Heard.{Heard, SideHeard, servers_taken, start_of, taken}
@@ -25,10 +25,11 @@ use Rattle.conn.proofs.Places.{link_is}
 use Rattle.conn.proofs.Servers.{left_along}
 use Rattle.proxy_core.specs.Represents.{around}
 use Rattle.proxy_core.specs.Scheduler.{last_took}
-use Rattle.proxy_core.specs.Servers.{OwnItems}
+use Rattle.proxy_core.specs.Servers.{OwnItems, made}
 use Rattle.proxy_core.proofs.ServerGone.{never, unlinked}
 use Rattle.proxy_core.proofs.ServerLaws.{Unserved, item_sends, own_first, own_rest, side_of, number_grows, part_apart, same_number, start_unserved, unserved_step}
 use Rattle.proxy_core.proofs.ServerPhases.{SideBy}
+use Rattle.proxy_core.proofs.AllServers.{made_taken}
 
 -- ---- the trace
 
@@ -176,6 +177,18 @@ module _ {http : Bool} (h : Heard) (l : TraceState) (e : Ends) (k : HoldsEnds (a
     server_untaken = untaken_is;
     unsent = none_sent;
   }
+
+-- one was made at most
+pub few_made : (h : Heard) (l : TraceState) (e : Ends) → PlainEnds h l e → made h.connects ≤ 1
+few_made h l e p = let n = sym (made_taken h.connects) ∙ ap length p.servers_took in let f = few e.link in omega (arith, n, f)
+  where
+    few : (x : CodeLink) → length (servers_by [] x e.server.reset (last_took h.connects)) ≤ 1
+    few link.Absent = omega arith
+    few link.Asked = omega arith
+    few link.Refused = omega arith
+    few link.Made = omega arith
+    few link.Up = omega arith
+    few link.GivenUp = omega arith
 
 -- ---- the queue
 

@@ -1,27 +1,30 @@
 -- The promise, of every past that leads to a state, from what holds of it.
-use Rattle.std.proofs.Common.{◌≡◌, refl, sym, subst, ◌∙◌, ℕ, ◌+◌, ◌-◌, ◌≤◌, List, length, true, false, arith}
-use Rattle.px_bytes.specs.declared.addr.Side.TheVariants.{Server}
+use Rattle.std.proofs.Common.{◌≡◌, refl, sym, subst, ◌∙◌, ℕ, ◌+◌, ◌-◌, ◌≤◌, List, length, true, false, arith, suc, ◌<◌, nat_lt, ap, Bool}
 use Rattle.conn_trace.specs.Gates.{Counts, no_bytes, sent_from}
-use Rattle.conn_trace.specs.Heard.{Heard, taken}
-use Rattle.conn_trace.specs.Item.{Item, client_output}
+use Rattle.conn_trace.specs.Heard.{Heard, taken, start_of}
+use Rattle.conn_trace.specs.Item.{Item, client_output, server_output}
 use Rattle.conn_trace.specs.Setup.{Setup}
 use Rattle.conn_trace.specs.State.{TraceState}
-use Rattle.conn_trace.specs.Trace.{next_item, GivesNoMore}
+use Rattle.conn_trace.specs.Trace.{next_item, GivesNoMore, Unfolds}
 use Rattle.core_events.specs.declared.note.CutReason.TheVariants.{ClientReset, ServerReset, Idle}
 use Rattle.proxy_core.specs.Headline.{IsSettled, NoCutIsDue, ConnectionPromise, EveryPastMatches, OutputMatchesEvaluator}
 use Rattle.proxy_core.specs.Moves.{Leads}
 use Rattle.record_model.specs.Past.{Past, heard}
-use Rattle.proxy_core.specs.Scheduler.{State, Seen, last_took, seen, untaken_of}
+use Rattle.proxy_core.specs.Scheduler.{State, Seen, seen, servers_left}
 use Rattle.record_model.specs.Setup.{setup_of, stand_of}
-use Rattle.proxy_core.specs.Sound.{Rested, Served}
+use Rattle.proxy_core.specs.Sound.{Rested, Served, TookWithin}
 use Rattle.run_config.specs.declared.config.Config.{Config}
 use Rattle.record_model.proofs.LiveHistory.{history_is_live}
 use Rattle.proxy_core.proofs.Answering.{one_history}
 use Rattle.proxy_core.proofs.Promised.{sent_is_prefix, settled_at, settled_has_ended, drained_is_whole, half_at_rest, rest_not_cut, client_license, ended_at, ended_is_whole, ended_finished, client_counts, client_gone, client_took_all, trace_memory, once_finished, second_memory, calls_promised}
-use Rattle.proxy_core.proofs.ServerLeft.{FactsAt, server_facts}
+use Rattle.proxy_core.proofs.ServerLeft.{FactsAt, server_facts, all_made}
 use Rattle.proxy_core.proofs.SoundPast.{leads_sound}
 use Rattle.proxy_core.proofs.Standing.{as_served, sent_at}
 use Rattle.proxy_core.specs.Sound.{Sound}
+use Rattle.proxy_core.proofs.AllServers.{left_none}
+use Rattle.proxy_core.proofs.ServerLaws.{none_sent}
+use Rattle.proxy_core.specs.Servers.{OwnItems, made, took_of}
+use Rattle.std.proofs.lemmas.Bool.Decides.{nat_tests}
 
 -- what holds of its server, where it stands
 abbrev ServerFacts : Config → Heard → List Item → Type 0
@@ -32,12 +35,27 @@ none_due C h place f r ClientReset e = rest_not_cut (setup_of C h) (taken h) (st
 none_due C h place f r ServerReset e = rest_not_cut (setup_of C h) (taken h) (stand_of C h place) r.no_cut ServerReset (λ going. f.license going r.gives_no_more e)
 none_due C h place f r Idle e = cc
 
--- where nothing is dropped both sides took all
-both_took : (a b t s : ℕ) → t ≤ a → s ≤ b → (a - t) + (b - s) ≡ 0 → (t ≡ a) × (s ≡ b)
-both_took a b t s x y e = (omega (arith, x, e), omega (arith, y, e))
+-- where nothing is dropped each side took all
+client_took : (a t b : ℕ) → t ≤ a → (a - t) + b ≡ 0 → t ≡ a
+client_took a t b x e = omega (arith, x, e)
 
-none_dropped : (a b t s n : ℕ) → a ≡ t → s + n ≡ b → n ≡ 0 → (a - t) + (b - s) ≡ 0
-none_dropped a b t s n x y z = omega (arith, x, y, z)
+servers_took : (C : Config) (h : Heard) (place : List Item) (l : TraceState) → OwnItems (setup_of C h) place → Unfolds (setup_of C h) (start_of (setup_of C h) h) place l → TookWithin h place → servers_left 1 h.connects place ≡ 0 → (k : ℕ) → took_of h.connects (suc k) ≡ length (server_output (suc k) place)
+servers_took C h place l own u w none k = by_made (nat_lt k (made h.connects)) refl
+  where
+    by_made : (b : Bool) → nat_lt k (made h.connects) ≡ b → took_of h.connects (suc k) ≡ length (server_output (suc k) place)
+    by_made true is =
+        let below : k < made h.connects = grind (arith, nat_tests, is) in
+        let least = left_none 1 h.connects place none (suc k) k (omega arith) (omega (arith, below)) in
+        let most = w.servers (suc k) in omega (arith, least, most)
+    by_made false is =
+        let above : made h.connects ≤ k = grind (arith, nat_tests, is) in
+        let g = setup_of C h in
+        let number = all_made g h place l own u in
+        let out = ap length (none_sent g (start_of g h) l place (suc k) u (omega (arith, number, above))) in
+        let most = w.servers (suc k) in omega (arith, out, most)
+
+none_dropped : (a t b : ℕ) → a ≡ t → b ≡ 0 → (a - t) + b ≡ 0
+none_dropped a t b x z = omega (arith, x, z)
 
 promised : (C : Config) (past : Past) (s : State) (c : ℕ) → ServerFacts C (heard c past) (s.places c) → Served C c (seen past s c) → ConnectionPromise C past s c (seen past s c)
 promised C past s c f k = record {
@@ -50,8 +68,11 @@ promised C past s c f k = record {
     half_close_when_due = λ e live. half_at_rest g (taken h) l h.edges (rests e live).1;
     finished_has_ended = settled_has_ended C past s c k;
     ended_gave_whole_trace = ended_is_whole C c z k;
-    ended_clean_sent_all = λ e n none. (let t = both_took (length (client_output z.place)) (sent_from no_bytes z.place).server h.client.took (last_took h.connects) k.within.client f.within none in
-        record { no_more = ended_is_whole C c z k e n; took_all = t.0; server_took_all = t.1 });
+    ended_clean_sent_all = λ e n none. record {
+      no_more = ended_is_whole C c z k e n;
+      took_all = client_took (length (client_output z.place)) h.client.took (servers_left 1 h.connects z.place) k.within.client none;
+      servers_took_all = servers_took C h z.place l k.own k.stands k.within (let x : servers_left 1 h.connects z.place ≡ 0 = omega (arith, none) in x);
+    };
   };
   finish_causes = record {
     shown = k.shown;
@@ -64,8 +85,7 @@ promised C past s c f k = record {
   };
   closes_rightly = record {
     told = k.ends;
-    dropped = λ e n kept up. none_dropped (length (client_output z.place)) (sent_from no_bytes z.place).server h.client.took (last_took h.connects) (untaken_of h z.place Server)
-        (client_took_all C c z k e n kept) (f.kept up) (ended_at C c z k e n).1.1;
+    dropped = λ e n kept up. none_dropped (length (client_output z.place)) h.client.took (servers_left 1 h.connects z.place) (client_took_all C c z k e n kept) (f.left (ended_at C c z k e n).1.1 up);
   };
   entries_are_calls = calls_promised past s c C k;
   open_line_counts = record {

@@ -1,5 +1,5 @@
 -- A connection of the code that runs: what it goes on with, for what was heard then.
-use Rattle.std.proofs.Common.{◌≡◌, ◌⊎◌, inl, inr, refl, sym, ap, subst, ◌∙◌, ℕ, ◌+◌, ◌*◌, ◌-◌, ◌≤◌, ◌<◌, nat_lt, List, [], ◌∷◌, ◌++◌, length, drop, Bool, true, false, ◌||◌, Option, Some, None, nat_eq, if◌then◌else◌, arith, length-append}
+use Rattle.std.proofs.Common.{◌≡◌, ◌⊎◌, inl, inr, refl, sym, ap, subst, ◌∙◌, ℕ, ◌+◌, ◌*◌, ◌-◌, ◌≤◌, ◌<◌, nat_lt, List, [], ◌∷◌, ◌++◌, length, drop, Bool, true, false, ◌||◌, Option, Some, None, nat_eq, if◌then◌else◌, arith, length-append, append-nil}
 use Rattle.std.specs.Bool.{MatchBool}
 use Rattle.std.proofs.lemmas.List.{length-drop, drop-append-le}
 use Rattle.std.proofs.lemmas.Bool.Decides.{nat_tests}
@@ -9,21 +9,21 @@ use Rattle.core_events.specs.declared.note.Cause.TheVariants.{Memory}
 use Rattle.core_events.specs.declared.note.Note.{Note}
 use Rattle.core_events.specs.declared.note.Note.TheVariants.{Finish}
 use Rattle.core_events.specs.Edges.{edges_noted}
-use Rattle.conn_trace.specs.Further.{longer}
+use Rattle.conn_trace.specs.Further.{longer, nothing_comes, on_last}
 use Rattle.conn_trace.specs.Gates.{Counts, TakenCounts, no_bytes, sent_after, sent_from}
 use Rattle.core_events.specs.declared.event_kind.EventKind.TheVariants.{Runs}
-use Rattle.conn_trace.specs.Heard.{Heard, taken, hears, start_of}
+use Rattle.conn_trace.specs.Heard.{Heard, taken, hears, start_of, SideHeard, has_made, servers_taken}
 use Rattle.conn_trace.specs.HeardLaws.{TellsNothing, taken_by_items}
 use Rattle.conn_trace.specs.Costs.{paid_by}
 use Rattle.conn_trace.specs.Item.{Item, to_client, to_server, client_output, server_output, notes_of}
 use Rattle.conn_trace.specs.Setup.{Setup}
-use Rattle.conn_trace.specs.State.{TraceState, link_of}
+use Rattle.conn_trace.specs.State.{TraceState}
 use Rattle.conn_trace.specs.Tellings.{notes_about, failure_told}
 use Rattle.conn_trace.specs.Trace.{Unfolds}
 use Rattle.conn_trace.proofs.Costs.{paid_joins}
 use Rattle.conn_trace.proofs.Given.{sent_counted, sent_output}
 use Rattle.conn_trace.proofs.Sending.{sent_to_server}
-use Rattle.conn.specs.Ends.{is_up, number_by, queued_in}
+use Rattle.conn.specs.Ends.{is_up, number_by, queued_in, has_stream, servers_by}
 use Rattle.conn.specs.Holds.{Around, Holds, HoldsEnds}
 use Rattle.conn.specs.Paid.{Paid}
 use Rattle.conn.specs.Runs.{GoesOnWith, IsWhole, StopsWithout}
@@ -55,13 +55,16 @@ use Rattle.proxy_core.proofs.Meeting.{around_quiet}
 use Rattle.proxy_core.proofs.Members.{eq_self}
 use Rattle.proxy_core.proofs.Standing.{sent_at}
 use Rattle.proxy_core.proofs.PlainRuns.{runs_noted, out_notes, out_noted}
-use Rattle.proxy_core.proofs.PlainServers.{Numbered, PlainEnds, none_of_length, numbered, numbered_at, numbered_longer, outputs_same, plain_ends, queue_plain}
-use Rattle.proxy_core.proofs.ServerLaws.{Unserved, none_sent, unserved, unserved_longer, number_along}
-use Rattle.proxy_core.proofs.ServerLeft.{unserved_at}
+use Rattle.proxy_core.proofs.PlainServers.{Numbered, PlainEnds, none_of_length, numbered, numbered_at, numbered_longer, outputs_same, plain_ends, queue_plain, few_made}
+use Rattle.proxy_core.proofs.ServerLaws.{Unserved, none_sent, unserved, unserved_longer, made_along}
+use Rattle.proxy_core.proofs.ServerLeft.{unserved_at, all_made}
 use Rattle.conn.specs.Servers.{queue_along, queue_at_server, run_notes, servers_output}
 use Rattle.conn_trace.specs.Places as model
-use Rattle.proxy_core.specs.Servers.{OwnItems}
+use Rattle.proxy_core.proofs.AllServers.{one_left, silent_left}
+use Rattle.proxy_core.proofs.ServerCounts.{none_made}
+use Rattle.proxy_core.specs.Servers.{OwnItems, made}
 use Rattle.proxy_core.proofs.OwnItems.{own_more}
+use Rattle.conn_trace.proofs.Streams.{nothing_on_last}
 
 -- ---- what is told behind its items
 
@@ -145,69 +148,49 @@ module _ (g : Setup) (h : Heard) (place : List Item) (l : TraceState) (e : Ends)
   pub sent_behind : (more : List Item) (at : TraceState) → Unfolds g (on_choices more) more at → at.sent ≡ sent_from no_bytes (place ++ more)
   sent_behind more at on = sent_counted g (on_choices more) at more on ∙ ap (λ s. sent_from s more) (sent_at g h place l u) ∙ sym (sent_joined no_bytes place more)
 
-  took_none : l.sent.number ≡ 0 → last_took h.connects ≡ 0
-  took_none z = by_link (is_up e.link) refl
-    where
-      by_link : (b : Bool) → is_up e.link ≡ b → last_took h.connects ≡ 0
-      by_link true up = absurd (let number : l.sent.number ≡ 1 = one_server.number ∙ up_number e.link up in omega (arith, z, number))
-      by_link false down = let none = one_server.unsent down in omega (arith, one_server.server_untaken, none)
-
-  -- so much more was sent to the first server connection
-  sent_more : (now : Heard) (more : List Item) (at : TraceState) → OwnItems g more → Unfolds g (start_of g now) (place ++ more) at → Unfolds g (on_choices more) more at → server_output 0 more ≡ [] → at.sent.server ≡ l.sent.server + length (server_output 1 more)
-  sent_more now more at later all on to_none = by_number (which (model.is_up (link_of at.server)) refl)
-    where
-      last : Numbered at
-      last = numbered g (on_choices more) at more later (unserved_longer (taken_by_items (taken h) more) l un) (numbered_longer (taken_by_items (taken h) more) l first) on
-
-      which : (b : Bool) → model.is_up (link_of at.server) ≡ b → (at.sent.number ≡ 0) ⊎ (at.sent.number ≡ 1)
-      which true up = inr (last.up up)
-      which false down = inl (last.down down)
-
-      joined : (n : ℕ) → length (server_output n (place ++ more)) ≡ length (server_output n place) + length (server_output n more)
-      joined n = ap length (flat_map-append (to_server n) place more) ∙ length-append (server_output n place) (server_output n more)
-
-      sent_then : at.sent.server ≡ length (server_output at.sent.number (place ++ more))
-      sent_then = sent_to_server g _ _ at (place ++ more) all
-
-      sent_here : l.sent.server ≡ length (server_output l.sent.number place)
-      sent_here = sent_to_server g _ _ l place u
-
-      grows : l.sent.number ≤ at.sent.number
-      grows = number_along g (on_choices more) at more on
-
-      before : (l.sent.number ≡ 0) ⊎ (l.sent.number ≡ 1) → l.sent.server ≡ length (server_output 1 place)
-      before (inl z) =
-          let none = ap length (none_sent g (start_of g h) l place 1 u (omega (arith, z))) in
-          let q = ap length (none_queued z) in
-          let t = took_none z in omega (arith, one_server.server_untaken, q, t, none)
-      before (inr o) = sent_here ∙ ap (λ n. length (server_output n place)) o
-
-      was : (b : Bool) → model.is_up (link_of l.server) ≡ b → (l.sent.number ≡ 0) ⊎ (l.sent.number ≡ 1)
-      was true up = inr (first.up up)
-      was false down = inl (first.down down)
-
-      by_number : (at.sent.number ≡ 0) ⊎ (at.sent.number ≡ 1) → at.sent.server ≡ l.sent.server + length (server_output 1 more)
-      by_number (inl z) =
-          let here : l.sent.number ≡ 0 = omega (arith, grows, z) in
-          let a = sent_then ∙ ap (λ n. length (server_output n (place ++ more))) z ∙ joined 0 in
-          let b = sent_here ∙ ap (λ n. length (server_output n place)) here in
-          let c = ap length to_none in
-          let d = ap length (none_sent g (on_choices more) at more 1 on (omega (arith, z))) in omega (arith, a, b, c, d)
-      by_number (inr o) =
-          let a = sent_then ∙ ap (λ n. length (server_output n (place ++ more))) o ∙ joined 1 in
-          let b = before (was (model.is_up (link_of l.server)) refl) in omega (arith, a, b)
+  -- where none was made none is made by items
+  none_first : made h.connects ≡ 0 → (more : List Item) (at : TraceState) → OwnItems g more → Unfolds g (on_choices more) more at → length (server_output 1 more) ≡ 0
+  none_first none more at later on =
+      let f = taken_by_items (taken h) more in
+      let here = all_made g h place l own u in
+      let same : made (on_choices more).answers.connects ≡ made l.answers.connects = ap made (append-nil (on_last nothing_comes l.answers.connects) ∙ nothing_on_last nothing_comes l.answers.connects refl) in
+      let there = made_along g (on_choices more) at more later (unserved_longer f l un) on in
+      ap length (none_sent g (on_choices more) at more 1 on (omega (arith, none, here, same, there)))
 
   -- what is queued and what was given beside
-  pub out_untaken : (now : Heard) (more : List Item) (at : TraceState) → OwnItems g more → HoldsQueues h place e → Unfolds g (start_of g now) (place ++ more) at → Unfolds g (on_choices more) more at → server_output 0 more ≡ []
+  pub out_untaken : (more : List Item) (at : TraceState) → OwnItems g more → HoldsQueues h place e → Unfolds g (on_choices more) more at → server_output 0 more ≡ []
       → queued_in e + (length (client_output more) + length (servers_output more)) ≡ untaken_all h (place ++ more)
-  out_untaken now more at later q stands on to_none =
+  out_untaken more at later q on to_none =
       let client : length e.client.queued ≡ length (client_output place) - h.client.took = ap length q.client ∙ length-drop h.client.took (client_output place) in
       let all : length (client_output (place ++ more)) ≡ length (client_output place) + length (client_output more) = ap length (flat_map-append to_client place more) ∙ length-append (client_output place) (client_output more) in
-      let joined = ap (λ x. x.server) (sent_behind more at on) in
-      let sent = sent_more now more at later stands on to_none in
       let same = outputs_same g (on_choices more) at more later (unserved_longer (taken_by_items (taken h) more) l un) (numbered_longer (taken_by_items (taken h) more) l first) on to_none in
       let lost = q.lost in
-      omega (arith, client, all, client_within, one_server.server_untaken, sent, joined, same, lost)
+      let server = one_left h.connects (place ++ more) (few_made h l e one_server) ∙ by_made (has_made h.connects) refl in
+      omega (arith, client, all, client_within, server, same, lost)
+    where
+      by_made : (b : Bool) → has_made h.connects ≡ b → (if b then length (server_output 1 (place ++ more)) - last_took h.connects else 0) ≡ length e.server.queued + length (server_output 1 more)
+      by_made true made =
+          let queued = ap length q.server ∙ length-drop (last_took h.connects) (server_output 1 place) in
+          let joined = ap length (flat_map-append (to_server 1) place more) ∙ length-append (server_output 1 place) (server_output 1 more) in
+          omega (arith, queued, joined, server_within)
+      by_made false none =
+          let count = none_made h.connects none in
+          let more_none = none_first count more at later on in
+          let queued : length e.server.queued ≡ 0 = ap (λ x. length x.queued) (k.nothing_came (unmade_stream e.link (sym one_server.servers_took ∙ none_taken_of h.connects count))) in
+          omega (arith, more_none, queued)
+
+      unmade_stream : (x : Link) → servers_by [] x e.server.reset (last_took h.connects) ≡ [] → has_stream x ≡ false
+      unmade_stream link.Absent z = refl
+      unmade_stream link.Asked z = refl
+      unmade_stream link.Refused z = refl
+      unmade_stream link.Made z = cc
+      unmade_stream link.Up z = cc
+      unmade_stream link.GivenUp z = cc
+
+      none_taken_of : (cs : List (Option SideHeard)) → made cs ≡ 0 → servers_taken cs ≡ []
+      none_taken_of [] z = refl
+      none_taken_of (None ∷ more) z = none_taken_of more z
+      none_taken_of (Some s ∷ more) z = absurd (omega (arith, z))
 
 -- ---- slices
 
@@ -296,11 +279,10 @@ module _ (C : Config) (past : Past) (s : State) (c : ℕ) (rest : List ℕ) wher
         let before = unserved_at g h place l k.own k.stands in
         let own = own_more g f l w.at w.more h.finished h.edges.server.state refl before k.linked w.items.alone w.items.passes.passed in
         let queues = queues_joined g h place l old.ends z.holds.ends k.own k.stands w.more w.at new.ends own z.queues w.client_queue w.servers w.to_none w.items.passes.passed in
-        let sent = sent_behind g h place l old.ends z.holds.ends k.own k.stands w.more w.at w.items.passes.passed in
         let un = unserved_longer f l before in
         let first = numbered_longer f l (numbered_at g h place l k.own k.stands) in
         let plain = plain_ends h w.at new.ends w.holds.ends (unserved g (longer f l) w.at w.more own un w.items.passes.passed) (numbered g (longer f l) w.at w.more own un first w.items.passes.passed) in
-        let left : queued_in new.ends ≡ untaken_all h all = queued_untaken h w.at all new.ends plain queues sent in
+        let left : queued_in new.ends ≡ untaken_all h all = queued_untaken h w.at all new.ends w.holds.ends plain queues in
         let items = notes_of c w.more in
         let told : Edges → ℕ → List Note = λ e d. told_behind t g (taken h) w.at c (edges_noted items e) d in
         let behind = told h.edges (untaken_all h all) in
@@ -351,7 +333,7 @@ module _ (C : Config) (past : Past) (s : State) (c : ℕ) (rest : List ℕ) wher
         let items = notes_of c w.more in
         let given = queued_in old.ends + (length (client_output w.more) + length (servers_output w.more)) in
         let own = own_more g (taken_by_items (taken h) w.more) l w.at w.more h.finished h.edges.server.state refl (unserved_at g h place l k.own k.stands) k.linked w.alone w.passes.passed in
-        let left : given ≡ untaken_all h all = out_untaken g h place l old.ends z.holds.ends k.own k.stands (hears c h Runs (items ++ [])) w.more w.at own z.queues (ran_on z.not_failed w.more w.at [] (due_quiet c [] tt) w.passes) w.passes.passed w.to_none in
+        let left : given ≡ untaken_all h all = out_untaken g h place l old.ends z.holds.ends k.own k.stands w.more w.at own z.queues w.passes.passed w.to_none in
         let out : Edges → ℕ → List Note = λ e d. out_of_memory c e l.sent (taken h) w.more d in
         let run_told : group ≡ out h.edges (untaken_all h all) = w.noted ∙ ap (λ e. out e given) (sym edges) ∙ ap (out h.edges) left in
         let noted : group ≡ out_notes c h.edges w.more (untaken_all h all) = out_noted c h.edges l.sent (taken h) w.more (untaken_all h all) w.kept run_told in
@@ -375,11 +357,11 @@ module _ (C : Config) (past : Past) (s : State) (c : ℕ) (rest : List ℕ) wher
     pub front_runs : (group : List Note) (t : ConnTurn) (steps : ℕ) (S : given.Setup) (edges : Edges) (o o' : Option Conn) → ConnectionContinues C (seen past s c) o → h.edges ≡ edges_by_conn o edges → calls_of c s.queue ≡ [] → asks_in o ≡ is_any (calls_of c s.queue)
         → conn.Serves S (setup_of C h) → LiveRuns S c edges o o' group t steps → IsWhole t steps (length group) → RanConn C past s c rest group t o'
     front_runs group t steps S edges None o' z e none asks serves r whole =
-        front_failed group t o' 0 z.failed (let n : untaken_all h [] ≡ 0 = omega arith in sym (ap (untaken_all h) z.no_items ∙ n)) (r.0 ∙ ap (λ x. closing c x 0) (sym e)) r.1
+        front_failed group t o' 0 z.failed (let none = silent_left 1 h.connects [] (λ n le. refl) in let n : untaken_all h [] ≡ 0 = omega (arith, none) in sym (ap (untaken_all h) z.no_items ∙ n)) (r.0 ∙ ap (λ x. closing c x 0) (sym e)) r.1
     front_runs group t steps S edges (Some old) None z e none asks serves r whole = absurd r
     front_runs group t steps S edges (Some old) (Some new) (inr z) e none asks serves r whole =
         let x = r.failed z.there in
-        front_failed group t (Some new) (queued_in old.ends) z.failed (queued_untaken h (stand_of C h place) place old.ends (plain_ends h (stand_of C h place) old.ends z.ends (unserved_at (setup_of C h) h place (stand_of C h place) k.own k.stands) (numbered_at (setup_of C h) h place (stand_of C h place) k.own k.stands)) z.queues (sent_at (setup_of C h) h place (stand_of C h place) k.stands)) (x.0 ∙ ap (λ y. closing c y (queued_in old.ends)) (sym e)) x.1
+        front_failed group t (Some new) (queued_in old.ends) z.failed (queued_untaken h (stand_of C h place) place old.ends z.ends (plain_ends h (stand_of C h place) old.ends z.ends (unserved_at (setup_of C h) h place (stand_of C h place) k.own k.stands) (numbered_at (setup_of C h) h place (stand_of C h place) k.own k.stands)) z.queues) (x.0 ∙ ap (λ y. closing c y (queued_in old.ends)) (sym e)) x.1
     front_runs group t steps S edges (Some old) (Some new) (inl z) e none asks serves r whole = by_end (r.runs (setup_of C h) (around h) (stand_of C h place) serves z.holds (asks ∙ ap is_any none))
       where
         by_end : GoesOnWith (setup_of C h) (around h) (stand_of C h place) c old new group t steps ⊎ StopsWithout (setup_of C h) (around h) (stand_of C h place) c old group t → RanConn C past s c rest group t (Some new)

@@ -1,9 +1,9 @@
 -- What was told of a server connection agrees with what was sent to it: what it took, what is pending, and its reset.
-use Rattle.std.proofs.Common.{◌≡◌, refl, sym, ap, subst, ◌∙◌, ℕ, zero, suc, ◌+◌, ◌-◌, ◌≤◌, ◌<◌, List, [], ◌∷◌, length, map, Bool, true, false, Option, is_none, arith, zero-add, ◌&&◌, Some, None}
+use Rattle.std.proofs.Common.{◌≡◌, refl, sym, ap, subst, ◌∙◌, ℕ, zero, suc, ◌+◌, ◌-◌, ◌≤◌, ◌<◌, List, [], ◌∷◌, length, map, Bool, true, false, Option, is_none, arith, zero-add, ◌&&◌, Some, None, ◌⊎◌, inl, inr, if◌then◌else◌}
 use Rattle.px_bytes.specs.declared.addr.Side.TheVariants.{Server}
 use Rattle.core_events.specs.declared.note.CutReason.TheVariants.{ServerReset}
 use Rattle.conn_trace.specs.Gates.{no_bytes, sent_from, to_take, taken_of, untaken}
-use Rattle.conn_trace.specs.Heard.{Heard, taken, taken_by, servers_taken, as_answer, start_of, SideHeard}
+use Rattle.conn_trace.specs.Heard.{Heard, taken, taken_by, servers_taken, as_answer, start_of, SideHeard, has_made}
 use Rattle.conn_trace.specs.Item.{Item, server_output}
 use Rattle.conn_trace.specs.Phases.{OrderlyIn}
 use Rattle.conn_trace.specs.Setup.{Setup}
@@ -11,7 +11,7 @@ use Rattle.conn_trace.specs.State.{Phase, Answering, Link, Stream, TraceState, l
 use Rattle.conn_trace.specs.Trace.{next_item, Unfolds, GivesNoMore}
 use Rattle.conn_trace.proofs.Sending.{sent_to_server}
 use Rattle.conn.specs.RunsItems.{licenses as licensed_at}
-use Rattle.proxy_core.specs.Scheduler.{Seen, last_took, untaken_of}
+use Rattle.proxy_core.specs.Scheduler.{Seen, last_took, untaken_of, servers_left}
 use Rattle.proxy_core.specs.Servers.{OwnItems, made, took_of, last_reset, awaits}
 use Rattle.proxy_core.specs.Sound.{ServedAt}
 use Rattle.proxy_core.proofs.Linking.{must_wait}
@@ -22,6 +22,8 @@ use Rattle.proxy_core.proofs.ServerSteps.{rest_side}
 use Rattle.proxy_core.proofs.Standing.{sent_at}
 use Rattle.conn_trace.specs.Places.{is_up}
 use Rattle.conn_trace.specs.Queries.{is_reset}
+use Rattle.proxy_core.proofs.AllServers.{none_left, one_left, silent_left}
+use Rattle.proxy_core.proofs.PlainServers.{Numbered, numbered_at}
 
 pub unserved_at : (g : Setup) (h : Heard) (place : List Item) (at : TraceState) → OwnItems g place → Unfolds g (start_of g h) place at → Unserved g.http at
 unserved_at g h place at own u = let s = start_of g h in unserved g s at place own (start_unserved g s.client s.answers) u
@@ -51,6 +53,7 @@ pub record FactsAt (g : Setup) (h : Heard) (place : List Item) (at : TraceState)
   pub kept : last_reset h.connects ≡ false → last_took h.connects + untaken_of h place Server ≡ (sent_from no_bytes place).server
   pub gone : last_reset h.connects ≡ true → untaken_of h place Server ≡ 0
   pub within : last_took h.connects ≤ (sent_from no_bytes place).server
+  pub left : untaken_of h place Server ≡ 0 → last_reset h.connects ≡ false → servers_left 1 h.connects place ≡ 0
   pub license : at.finished ≡ false → GivesNoMore false at.sent (taken h) (next_item g at) → last_reset h.connects ≡ true → licensed_at ServerReset at (taken h) ≡ true
 
 -- none that was made was reset where none was made
@@ -109,9 +112,32 @@ module _ (g : Setup) (c : ℕ) (z : Seen) (at : TraceState) (k : ServedAt g c z 
         kept = λ r. (let b : untaken_of z.heard z.place Server ≡ at.sent.server - last_took cs = by ∙ ap (λ x. untaken at.sent.server (taken_by x (last_took cs))) r in omega (arith, b, fits, server));
         gone = λ r. by ∙ ap (λ x. untaken at.sent.server (taken_by x (last_took cs))) r;
         within = omega (arith, fits, server);
+        left = λ none r. by_number none r (which (is_up (link_of at.server)) refl);
         license = λ going rests r. by_up going r (is_up (link_of at.server)) refl (ap is_none is ∙ ap (λ x. is_none (taken_by x (last_took cs))) r);
       }
     where
+      numbers : Numbered at
+      numbers = numbered_at g z.heard z.place at k.own k.stands
+
+      which : (b : Bool) → is_up (link_of at.server) ≡ b → (at.sent.number ≡ 0) ⊎ (at.sent.number ≡ 1)
+      which true up = inr (numbers.up up)
+      which false down = inl (numbers.down down)
+
+      by_number : untaken_of z.heard z.place Server ≡ 0 → last_reset z.heard.connects ≡ false → (at.sent.number ≡ 0) ⊎ (at.sent.number ≡ 1) → servers_left 1 z.heard.connects z.place ≡ 0
+      by_number none r (inl o) = none_left 1 z.heard.connects z.place (last_is_present g z.heard z.place at k.own k.stands e ∙ o)
+      by_number none r (inr o) =
+          let cs = z.heard.connects in
+          let number = last_is_present g z.heard z.place at k.own k.stands e in
+          let one : made cs ≡ 1 = number ∙ o in
+          let out : at.sent.server ≡ length (server_output 1 z.place) = all_sent ∙ ap (λ n. length (server_output n z.place)) o in
+          let is : taken_of (servers_taken cs) at.sent.number ≡ taken_by (last_reset cs) (last_took cs) = ap (taken_of (servers_taken cs)) (sym number) ∙ taken_last cs in
+          let gone : at.sent.server - last_took cs ≡ 0 = sym (left ∙ ap (untaken at.sent.server) is ∙ ap (λ x. untaken at.sent.server (taken_by x (last_took cs))) r) ∙ none in
+          one_left cs z.place (omega (arith, one)) ∙ by_made cs (has_made cs) (omega (arith, gone, out))
+        where
+          by_made : (cs : List (Option SideHeard)) (b : Bool) → length (server_output 1 z.place) - last_took cs ≡ 0 → (if b then length (server_output 1 z.place) - last_took cs else 0) ≡ 0
+          by_made cs true z = z
+          by_made cs false z = refl
+
       -- where none is up none was made
       by_up : at.finished ≡ false → last_reset z.heard.connects ≡ true → (b : Bool) → is_up (link_of at.server) ≡ b → is_reset at.sent (taken z.heard) Server ≡ true → (is_up (link_of at.server) && is_reset at.sent (taken z.heard) Server) ≡ true
       by_up going r true up reset = ap (λ b. b && is_reset at.sent (taken z.heard) Server) up ∙ reset
@@ -134,6 +160,7 @@ module _ (g : Setup) (c : ℕ) (z : Seen) (at : TraceState) (k : ServedAt g c z 
         kept = λ r. omega (arith, left, none, empty, nothing, server);
         gone = λ r. left ∙ none;
         within = omega (arith, nothing);
+        left = λ gone r. silent_left 1 cs z.place (λ n le. ap length (none_sent g (start_of g z.heard) at z.place n k.stands (omega (arith, number, le))));
         license = λ going rests r. absurd (some (rest_side g at (taken z.heard) (low g.http at un) un.orderly un.not_up rests waits));
       }
     where

@@ -7,7 +7,7 @@ use Rattle.core_events.specs.declared.edges.Edges.{Edges}
 use Rattle.core_events.specs.declared.note.Note.{Note}
 use Rattle.core_events.specs.Edges.{edge_of, edges_noted}
 use Rattle.conn_trace.specs.Further.{Further, longer, replies_only, CutMeets}
-use Rattle.conn_trace.specs.Gates.{TakenCounts, no_bytes, sent_from, Met}
+use Rattle.conn_trace.specs.Gates.{TakenCounts, no_bytes, Met}
 use Rattle.core_events.specs.declared.event_kind.EventKind.TheVariants.{Turns}
 use Rattle.conn_trace.specs.Heard.{SideHeard, Heard, taken, hears, start_of}
 use Rattle.conn_trace.specs.Item.{Item, to_client, to_server, cause_of, client_output, server_output, reasons_in}
@@ -21,7 +21,7 @@ use Rattle.record_model.specs.History.{called_in, entries_in}
 use Rattle.proxy_core.specs.declared.call.Asked.{Asked}
 use Rattle.record_model.specs.Past.{Past, heard, ended_in, without_all, shared}
 use Rattle.proxy_core.specs.Ready.{is_in, with_ready}
-use Rattle.proxy_core.specs.Scheduler.{State, seen, seen_after, last_took, untaken_all}
+use Rattle.proxy_core.specs.Scheduler.{State, seen, seen_after, untaken_all, servers_left}
 use Rattle.proxy_core.specs.Servers.{took_of}
 use Rattle.record_model.specs.Setup.{setup_in, setup_of, stand_of}
 use Rattle.proxy_core.specs.Shown.{shows, closes, ends_it, causes_told, causes_behind}
@@ -54,7 +54,7 @@ same_within h h' place e f k = record {
 
 pub left_same : (h h' : Heard) (place : List Item) → h'.client ≡ h.client → h'.connects ≡ h.connects → untaken_all h' place ≡ untaken_all h place
 left_same h h' place e f =
-    let left : SideHeard → List (Option SideHeard) → ℕ = λ s cs. (length (client_output place) - s.took) + ((sent_from no_bytes place).server - last_took cs) in
+    let left : SideHeard → List (Option SideHeard) → ℕ = λ s cs. (length (client_output place) - s.took) + servers_left 1 cs place in
     ap (λ s. left s h'.connects) e ∙ ap (left h.client) f
 
 -- Turns: the notes of an answered call, by whether memory was refused

@@ -1,6 +1,6 @@
 -- The promise: what holds of every connection, for every configuration and every past that leads
 -- to a state of the scheduler.
-use Rattle.std.specs.Prelude.{◌≡◌, ℕ, ◌+◌, ◌≤◌, List, [], ◌∷◌, ◌++◌, length, take, map}
+use Rattle.std.specs.Prelude.{◌≡◌, ℕ, suc, ◌+◌, ◌≤◌, List, [], ◌∷◌, ◌++◌, length, take, map}
 use Rattle.std.specs.Prelude.{Bool, true, false, Some, is_some}
 use Rattle.std.specs.List.{filter}
 use Rattle.px_bytes.specs.declared.addr.Side.{Side}
@@ -51,12 +51,13 @@ pub record SentIsPrefix (C : Config) (h : Heard) (place : List Item) : Type 0 wh
       → take (took_of h.connects k) (server_output k (first_items C h (length place + n)))
       ≡ take (took_of h.connects k) (server_output k place)
 
--- its trace is no longer, and its client and its present server connection took all that was sent
--- to them
+-- its trace is no longer, and its client and each server connection, by its number, took all that was
+-- sent to it
 pub record IsWhole (C : Config) (h : Heard) (place : List Item) : Type 0 where
   pub no_more : (n : ℕ) → first_items C h (length place + n) ≡ place
   pub took_all : h.client.took ≡ length (client_output place)
-  pub server_took_all : last_took h.connects ≡ (sent_from no_bytes place).server
+  pub servers_took_all :
+      (k : ℕ) → took_of h.connects (suc k) ≡ length (server_output (suc k) place)
 
 -- all that the gates let through was passed, and it waits for no answer of the proxy's own
 abbrev pub GaveDeliverable : Config → Heard → List Item → Type 0

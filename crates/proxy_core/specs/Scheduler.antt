@@ -1,6 +1,6 @@
 -- Where the scheduler stands: which connections are ready to run, which shared calls wait, and how
 -- far each connection came in its trace; and all of it that concerns one connection.
-use Rattle.std.specs.Prelude.{ℕ, ◌+◌, ◌-◌, length, List, [], ◌∷◌, Bool, Option, Some, None, nat_eq}
+use Rattle.std.specs.Prelude.{ℕ, suc, ◌+◌, ◌-◌, length, List, [], ◌∷◌, Bool, Option, Some, None, nat_eq}
 use Rattle.std.specs.Prelude.{if◌then◌else◌}
 use Rattle.std.specs.List.{filter}
 use Rattle.px_bytes.specs.declared.addr.Side.{Side}
@@ -8,7 +8,7 @@ use Rattle.core_events.specs.declared.note.Note.{Note}
 use Rattle.conn_trace.specs.Gates.{no_bytes, sent_from, to_take}
 use Rattle.core_events.specs.declared.event_kind.EventKind.{EventKind}
 use Rattle.conn_trace.specs.Heard.{SideHeard, Heard, has_made, taken, hears}
-use Rattle.conn_trace.specs.Item.{Item, client_output}
+use Rattle.conn_trace.specs.Item.{Item, client_output, server_output}
 use Rattle.proxy_core.specs.Calls.{calls_of}
 use Rattle.record_model.specs.Past.{Past, heard, shared, shared_after}
 use Rattle.proxy_core.specs.Ready.{is_in}
@@ -76,12 +76,19 @@ last_took [] = 0
 last_took (None ∷ more) = last_took more
 last_took (Some s ∷ more) = if has_made more then last_took more else s.took
 
--- what a side was told to have taken is missing of what was sent to it, also behind its reset; to
--- the server's, of its present connection
+-- what the server connections from this number on were told to have taken is missing of what was
+-- sent to them
+abbrev pub servers_left : (number : ℕ) → List (Option SideHeard) → List Item → ℕ
+servers_left number [] place = 0
+servers_left number (None ∷ more) place = servers_left number more place
+servers_left number (Some s ∷ more) place =
+    (length (server_output number place) - s.took) + servers_left (suc number) more place
+
+-- what the client and each server connection was told to have taken is missing of what was sent to
+-- it, also behind its reset
 abbrev pub untaken_all : Heard → List Item → ℕ
 untaken_all h place =
-    (length (client_output place) - h.client.took)
-    + ((sent_from no_bytes place).server - last_took h.connects)
+    (length (client_output place) - h.client.took) + servers_left 1 h.connects place
 
 -- the bytes that are pending to a side of connection c
 abbrev pub pending : Past → State → ℕ → Side → ℕ
