@@ -16,10 +16,10 @@ has_none (None ∷ more) e = has_none more e
 has_none (Some s ∷ more) e = absurd (omega (arith, e))
 
 -- nothing is left of none, of no items, and where nothing was sent to them
-pub none_left : (j : ℕ) (cs : List (Option SideHeard)) (place : List Item) → made cs ≡ 0 → servers_left j cs place ≡ 0
-none_left j [] place e = refl
-none_left j (None ∷ more) place e = none_left j more place e
-none_left j (Some s ∷ more) place e = absurd (omega (arith, e))
+pub nothing_left : (j : ℕ) (cs : List (Option SideHeard)) (place : List Item) → made cs ≡ 0 → servers_left j cs place ≡ 0
+nothing_left j [] place e = refl
+nothing_left j (None ∷ more) place e = nothing_left j more place e
+nothing_left j (Some s ∷ more) place e = absurd (omega (arith, e))
 
 pub silent_left : (j : ℕ) (cs : List (Option SideHeard)) (place : List Item) → ((n : ℕ) → j ≤ n → length (server_output n place) ≡ 0) → servers_left j cs place ≡ 0
 silent_left j [] place none = refl
@@ -34,7 +34,7 @@ one_left [] place few = refl
 one_left (None ∷ more) place few = one_left more place few
 one_left (Some s ∷ more) place few =
     let none : made more ≡ 0 = omega (arith, few) in
-    let rest = none_left 2 more place none in
+    let rest = nothing_left 2 more place none in
     let first : (length (server_output 1 place) - s.took) + servers_left 2 more place ≡ length (server_output 1 place) - s.took = omega (arith, rest) in
     first ∙ ap (λ b. length (server_output 1 place) - (if b then last_took more else s.took)) (sym (has_none more none))
 

@@ -168,17 +168,6 @@ module _ (g : Setup) (h : Heard) (place : List Item) (l : TraceState) (e : Ends)
       let server = one_left h.connects (place ++ more) (few_made h l e one_server) ∙ by_made (has_made h.connects) refl in
       omega (arith, client, all, client_within, server, same, lost)
     where
-      by_made : (b : Bool) → has_made h.connects ≡ b → (if b then length (server_output 1 (place ++ more)) - last_took h.connects else 0) ≡ length e.server.queued + length (server_output 1 more)
-      by_made true made =
-          let queued = ap length q.server ∙ length-drop (last_took h.connects) (server_output 1 place) in
-          let joined = ap length (flat_map-append (to_server 1) place more) ∙ length-append (server_output 1 place) (server_output 1 more) in
-          omega (arith, queued, joined, server_within)
-      by_made false none =
-          let count = none_made h.connects none in
-          let more_none = none_first count more at later on in
-          let queued : length e.server.queued ≡ 0 = ap (λ x. length x.queued) (k.nothing_came (unmade_stream e.link (sym one_server.servers_took ∙ none_taken_of h.connects count))) in
-          omega (arith, more_none, queued)
-
       unmade_stream : (x : Link) → servers_by [] x e.server.reset (last_took h.connects) ≡ [] → has_stream x ≡ false
       unmade_stream link.Absent z = refl
       unmade_stream link.Asked z = refl
@@ -191,6 +180,17 @@ module _ (g : Setup) (h : Heard) (place : List Item) (l : TraceState) (e : Ends)
       none_taken_of [] z = refl
       none_taken_of (None ∷ more) z = none_taken_of more z
       none_taken_of (Some s ∷ more) z = absurd (omega (arith, z))
+
+      by_made : (b : Bool) → has_made h.connects ≡ b → (if b then length (server_output 1 (place ++ more)) - last_took h.connects else 0) ≡ length e.server.queued + length (server_output 1 more)
+      by_made true made =
+          let queued = ap length q.server ∙ length-drop (last_took h.connects) (server_output 1 place) in
+          let joined = ap length (flat_map-append (to_server 1) place more) ∙ length-append (server_output 1 place) (server_output 1 more) in
+          omega (arith, queued, joined, server_within)
+      by_made false none =
+          let count = none_made h.connects none in
+          let more_none = none_first count more at later on in
+          let queued : length e.server.queued ≡ 0 = ap (λ x. length x.queued) (k.nothing_came (unmade_stream e.link (sym one_server.servers_took ∙ none_taken_of h.connects count))) in
+          omega (arith, more_none, queued)
 
 -- ---- slices
 

@@ -22,7 +22,7 @@ use Rattle.proxy_core.proofs.ServerSteps.{rest_side}
 use Rattle.proxy_core.proofs.Standing.{sent_at}
 use Rattle.conn_trace.specs.Places.{is_up}
 use Rattle.conn_trace.specs.Queries.{is_reset}
-use Rattle.proxy_core.proofs.AllServers.{none_left, one_left, silent_left}
+use Rattle.proxy_core.proofs.AllServers.{nothing_left, one_left, silent_left}
 use Rattle.proxy_core.proofs.PlainServers.{Numbered, numbered_at}
 
 pub unserved_at : (g : Setup) (h : Heard) (place : List Item) (at : TraceState) → OwnItems g place → Unfolds g (start_of g h) place at → Unserved g.http at
@@ -124,7 +124,7 @@ module _ (g : Setup) (c : ℕ) (z : Seen) (at : TraceState) (k : ServedAt g c z 
       which false down = inl (numbers.down down)
 
       by_number : untaken_of z.heard z.place Server ≡ 0 → last_reset z.heard.connects ≡ false → (at.sent.number ≡ 0) ⊎ (at.sent.number ≡ 1) → servers_left 1 z.heard.connects z.place ≡ 0
-      by_number none r (inl o) = none_left 1 z.heard.connects z.place (last_is_present g z.heard z.place at k.own k.stands e ∙ o)
+      by_number none r (inl o) = nothing_left 1 z.heard.connects z.place (last_is_present g z.heard z.place at k.own k.stands e ∙ o)
       by_number none r (inr o) =
           let cs = z.heard.connects in
           let number = last_is_present g z.heard z.place at k.own k.stands e in
