@@ -15,10 +15,10 @@ use Rattle.tcl_trees.specs.TreeView.{nodes_view}
 use Rattle.tcl_trees.specs.declared.node.Node.{Node}
 
 -- a word of several parts tells no name
-pub several_parts : (parts : List Node) → 2 ≤ length parts → may_all_stand (only_text (trees_of (nodes_view parts))) ≡ true
-several_parts [] h = absurd (omega arith)
-several_parts (p ∷ []) h = absurd (omega arith)
-several_parts (p ∷ q ∷ parts) h = refl
+pub several_parts : (http : Bool) (parts : List Node) → 2 ≤ length parts → may_all_stand http (only_text (trees_of (nodes_view parts))) ≡ true
+several_parts http [] h = absurd (omega arith)
+several_parts http (p ∷ []) h = absurd (omega arith)
+several_parts http (p ∷ q ∷ parts) h = refl
 
 -- a host command's name, as a test
 
@@ -50,13 +50,13 @@ only_if true b P Q one other = (λ h p. one.0 refl, λ f. refl)
 only_if false true P Q one other = (λ h. absurd (false≢true h), λ f. one.1 (f (other.0 refl)))
 only_if false false P Q one other = (λ h p. absurd (false≢true (other.1 p)), λ f. refl)
 
-stands_if : (name : List ℕ) → IsTrue (may_stand name) ↔ (IsHostCommand name → IsTrue (is_built_name name))
-stands_if name =
-    only_if (is_built_name name) (is_host_name name) (IsHostCommand name) (IsTrue (is_built_name name))
+stands_if : (http : Bool) (name : List ℕ) → IsTrue (may_stand http name) ↔ (IsHostCommand name → IsTrue (is_built_name http name))
+stands_if http name =
+    only_if (is_built_name http name) (is_host_name name) (IsHostCommand name) (IsTrue (is_built_name http name))
     (λ h. h, λ h. h) (host_named name)
 
-pub built_if : (t : Tree) → IsTrue (is_built t) ↔ NamesBuilt t
-built_if t = (
-  λ h k d there. (stands_if _).0 (AllPass-from_list_all may_stand (names_in t) h k d there),
-  λ each. list_all-from_AllPass may_stand (names_in t) (λ k d there. (stands_if _).1 (each k d there)),
+pub built_if : (http : Bool) (t : Tree) → IsTrue (is_built http t) ↔ NamesBuilt http t
+built_if http t = (
+  λ h k d there. (stands_if http _).0 (AllPass-from_list_all (may_stand http) (names_in t) h k d there),
+  λ each. list_all-from_AllPass (may_stand http) (names_in t) (λ k d there. (stands_if http _).1 (each k d there)),
 )

@@ -15,26 +15,31 @@ call verb name = script (trees_of (command verb (trees_of (text name ∷ text (c
 
 record Rows : Type 0 where
   -- after p
-  host : is_built (call Named (codes "after")) ≡ false
+  host : is_built false (call Named (codes "after")) ≡ false
   -- table p
-  table : is_built (call Named (codes "table")) ≡ true
+  table : is_built false (call Named (codes "table")) ≡ true
   -- clock p
-  clock : is_built (call Named (codes "clock")) ≡ true
+  clock : is_built false (call Named (codes "clock")) ≡ true
   -- TCP::collect p
-  collect : is_built (call Named (codes "TCP::collect")) ≡ true
+  collect : is_built false (call Named (codes "TCP::collect")) ≡ true
   -- HTTP::uri p
-  uri : is_built (call Named (codes "HTTP::uri")) ≡ false
+  uri : is_built false (call Named (codes "HTTP::uri")) ≡ false
   -- pool p
-  pool : is_built (call Named (codes "pool")) ≡ true
+  pool : is_built false (call Named (codes "pool")) ≡ true
   -- TCP::respond p
-  respond : is_built (call Named (codes "TCP::respond")) ≡ true
+  respond : is_built false (call Named (codes "TCP::respond")) ≡ true
   -- active_members p
-  members : is_built (call Named (codes "active_members")) ≡ true
+  members : is_built false (call Named (codes "active_members")) ≡ true
   -- string p
-  pure : is_built (call Named (codes "string")) ≡ true
+  pure : is_built false (call Named (codes "string")) ≡ true
+  -- with HTTP its commands are there, and those of selection and of bodies aren't
+  asked : is_built true (call Named (codes "HTTP::uri")) ≡ true
+  chosen : is_built true (call Named (codes "pool")) ≡ false
+  gathered : is_built true (call Named (codes "HTTP::collect")) ≡ false
+  logged : is_built true (call Named (codes "log")) ≡ true
   -- afte\x72 p: a name with a backslash is a name when the command runs
-  backslash : is_built (call Computed (codes "after")) ≡ true
+  backslash : is_built false (call Computed (codes "after")) ≡ true
 
 rows : Rows
 unfolding is_host_name is_built_name
-rows = record { host = refl; table = refl; clock = refl; collect = refl; uri = refl; pool = refl; respond = refl; members = refl; pure = refl; backslash = refl }
+rows = record { host = refl; table = refl; clock = refl; collect = refl; uri = refl; pool = refl; respond = refl; members = refl; pure = refl; asked = refl; chosen = refl; gathered = refl; logged = refl; backslash = refl }

@@ -1,8 +1,8 @@
 -- What is read of files that are told: a configuration that loads isn't faulty, and what the core
 -- runs for it is told by its document alone.
-use Rattle.std.proofs.Common.{◌≡◌, ◌⊎◌, ℕ, ◌+◌, zero, suc, Bool, true, false, if◌then◌else◌, ◌&&◌, List, [], ◌∷◌, Option, Some, None, IfSome, IsSome, inl, inr, refl, sym, ap, ap₂, subst, ◌∙◌, map}
-use Rattle.std.specs.Prelude.{Result, Ok, Err, not, option_map, option_and_then, slice_get}
-use Rattle.std.specs.List.{list_all}
+use Rattle.std.proofs.Common.{◌≡◌, ◌⊎◌, ℕ, ◌+◌, zero, suc, Bool, true, false, if◌then◌else◌, ◌&&◌, ◌||◌, List, [], ◌∷◌, Option, Some, None, IfSome, IsSome, inl, inr, refl, sym, ap, ap₂, subst, ◌∙◌, map}
+use Rattle.std.specs.Prelude.{Result, Ok, Err, option_map, option_and_then, slice_get}
+use Rattle.std.specs.List.{list_all, list_any}
 use Rattle.std.specs.Option.{option_or}
 use Rattle.event_order.specs.Event.{every_event}
 use Rattle.event_order.specs.declared.event.EventName.{EventName}
@@ -35,10 +35,10 @@ use Rattle.config.specs.declared.rule_text.LoadedRule.{LoadedRule}
 use Rattle.config.specs.declared.rule_text.RuleText.{RuleText}
 use Rattle.proxy.specs.Complete.{AreTold, IsTold, MayLoad}
 use Rattle.proxy.specs.Loads.{Loads, is_read_fault}
-use Rattle.config.specs.Filled.{filled, server_of}
+use Rattle.config.specs.Filled.{filled, pool_of, server_of}
 use Rattle.config.proofs.Filling.{parts_of}
 use Rattle.run_config.specs.declared.config.Config as core
-use Rattle.proxy.specs.Runnable.{are_built, bodies_at, can_run, has_built_bodies, has_few, is_plain, is_rule_built, sets_no_cookie}
+use Rattle.proxy.specs.Runnable.{are_built, bodies_at, can_run, has_built_bodies, has_few, is_plain, is_rule_built, sets_no_cookie, may_serve, speaks_http}
 use Rattle.proxy.proofs.ConfigAnswers.{other_kind}
 use Rattle.proxy.proofs.ListTests.{all_map}
 
@@ -59,27 +59,27 @@ same_text told None file a b (inr some) one other =
 -- ---- what is seen of a rule
 
 -- whether it can be run
-abbrev built : LoadedRule → Bool
-built r = is_rule_built r.rule
+abbrev built : (http : Bool) → LoadedRule → Bool
+built http r = is_rule_built http r.rule
 
-same_built : (r s : Rule) → procs_view r.procs ≡ procs_view s.procs → ((event : EventName) → bodies_at event r ≡ bodies_at event s) → is_rule_built r ≡ is_rule_built s
-same_built r s procs bodies = ap₂ (λ a b. a && b) (each every_event) (ap (λ ps. has_few ps && are_built ps) procs)
+same_built : (http : Bool) (r s : Rule) → procs_view r.procs ≡ procs_view s.procs → ((event : EventName) → bodies_at event r ≡ bodies_at event s) → is_rule_built http r ≡ is_rule_built http s
+same_built http r s procs bodies = ap₂ (λ a b. a && b) (each every_event) (ap (λ ps. has_few ps && are_built http ps) procs)
   where
-    each : (events : List EventName) → list_all (has_built_bodies r) events ≡ list_all (has_built_bodies s) events
+    each : (events : List EventName) → list_all (has_built_bodies http r) events ≡ list_all (has_built_bodies http s) events
     each [] = refl
-    each (e ∷ events) = ap₂ (λ a b. a && b) (ap (λ hs. list_all (λ h. is_built h.body) hs) (bodies e)) (each events)
+    each (e ∷ events) = ap₂ (λ a b. a && b) (ap (λ hs. list_all (λ h. is_built http h.body) hs) (bodies e)) (each events)
 
-by_text : (r s : LoadedRule) (says : Result Loaded RuleFault) → Gives (Ok r.rule) says → Gives (Ok s.rule) says → built r ≡ built s
-by_text r s (Ok of) one other = same_built r.rule s.rule (one.procedures ∙ sym other.procedures) (λ event. one.bodies event ∙ sym (other.bodies event))
-by_text r s (Err f) one other = absurd one
+by_text : (http : Bool) (r s : LoadedRule) (says : Result Loaded RuleFault) → Gives (Ok r.rule) says → Gives (Ok s.rule) says → built http r ≡ built http s
+by_text http r s (Ok of) one other = same_built http r.rule s.rule (one.procedures ∙ sym other.procedures) (λ event. one.bodies event ∙ sym (other.bodies event))
+by_text http r s (Err f) one other = absurd one
 
 module _ (told : List ℕ → Option (List ℕ)) where
   one_text : (d : Data) (r s : LoadedRule) → IsTold told d → (p : IsLoaded told d r) (q : IsLoaded told d s) → p.text.bytes ≡ q.text.bytes
   one_text d r s is p q = same_text told (text_in (Some rule_text.name) d) (file_name d) p.text q.text is p.contents q.contents
 
-  same_rule : (d : Data) (r s : LoadedRule) → IsTold told d → IsLoaded told d r → IsLoaded told d s → built r ≡ built s
-  same_rule d r s is p q =
-      by_text r s (rule_of (rule_name d) q.text.bytes) (subst (λ b. Gives (Ok r.rule) (rule_of (rule_name d) b)) (one_text d r s is p q) p.rule.rule) q.rule.rule
+  same_rule : (http : Bool) (d : Data) (r s : LoadedRule) → IsTold told d → IsLoaded told d r → IsLoaded told d s → built http r ≡ built http s
+  same_rule http d r s is p q =
+      by_text http r s (rule_of (rule_name d) q.text.bytes) (subst (λ b. Gives (Ok r.rule) (rule_of (rule_name d) b)) (one_text d r s is p q) p.rule.rule) q.rule.rule
 
   same_events : (d : Data) (r s : LoadedRule) → IsTold told d → IsLoaded told d r → IsLoaded told d s → r.events ≡ s.events
   same_events d r s is p q =
@@ -131,19 +131,32 @@ module _ (index : List ℕ → Option ℕ) (rs ss : List LoadedRule) (same : map
 some_is : {A : Type 0} (x y : A) → Some x ≡ Some y → x ≡ y
 some_is x y e = cc
 
-all_built : (rs : List LoadedRule) → list_all built rs ≡ list_all (λ b. b) (map built rs)
-all_built [] = refl
-all_built (r ∷ rs) = ap (λ b. built r && b) (all_built rs)
+all_built : (http : Bool) (rs : List LoadedRule) → list_all (built http) rs ≡ list_all (λ b. b) (map (built http) rs)
+all_built http [] = refl
+all_built http (r ∷ rs) = ap (λ b. built http r && b) (all_built http rs)
 
--- whether a virtual server can be run
+-- whether a virtual server can be run, and whether one speaks HTTP
 abbrev plain : VirtualSettings → Bool
-plain v = not v.http && sets_no_cookie v.persist
+plain v = may_serve v.http (pool_of v) && sets_no_cookie v.persist
 
-can_of : (C : LoadedConfig) (K : core.Config) → filled C ≡ Some K → can_run K ≡ (list_all plain C.settings.virtuals && list_all built C.rules)
+abbrev speaks : List VirtualSettings → Bool
+speaks virtuals = list_any (λ v. v.http) virtuals
+
+same_speaks : (rs : List LoadedRule) (vs : List VirtualSettings) → speaks_http (map (server_of rs) vs) ≡ speaks vs
+same_speaks rs [] = refl
+same_speaks rs (v ∷ vs) = ap (λ b. v.http || b) (same_speaks rs vs)
+
+-- whether what is filled can be run, by the settings and the rules
+abbrev can_be : List VirtualSettings → List LoadedRule → Bool
+can_be virtuals rs = list_all plain virtuals && list_all (built (speaks virtuals)) rs
+
+can_of : (C : LoadedConfig) (K : core.Config) → filled C ≡ Some K → can_run K ≡ can_be C.settings.virtuals C.rules
 can_of C K e =
     let parts = parts_of C K e in
-    ap₂ (λ vs rs. list_all is_plain vs && list_all is_rule_built rs) parts.0 parts.1
-    ∙ ap₂ (λ a b. a && b) (all_map is_plain (server_of C.rules) C.settings.virtuals) (all_map is_rule_built (λ r. r.rule) C.rules)
+    let vs = C.settings.virtuals in
+    ap₂ (λ vs rs. list_all is_plain vs && list_all (is_rule_built (speaks_http vs)) rs) parts.0 parts.1
+    ∙ ap₂ (λ a http. a && list_all (is_rule_built http) (map (λ r. r.rule) C.rules)) (all_map is_plain (server_of C.rules) vs) (same_speaks C.rules vs)
+    ∙ ap (λ b. list_all plain vs && b) (all_map (is_rule_built (speaks vs)) (λ r. r.rule) C.rules)
 
 module _ (told : List ℕ → Option (List ℕ)) (name : List ℕ) (C : LoadedConfig) (m : MayLoad told name C) where
   same_bytes : (bytes : List ℕ) → IsContents told name bytes → bytes ≡ m.bytes
@@ -164,9 +177,10 @@ module _ (told : List ℕ → Option (List ℕ)) (name : List ℕ) (C : LoadedCo
       let top : l.top ≡ m.top = same_document l.holds.bytes l.top l.holds.contents l.holds.document in
       let D_is : Configures told m.top D = subst (λ t. Configures told t D) top l.configures in
       let settings : D.settings ≡ C.settings = same_settings D l in
-      let alike : map built D.rules ≡ map built C.rules = all_same told built (same_rule told) (items_at rules m.top) D.rules C.rules m.texts D_is.loaded m.configures.loaded in
-      let all : list_all built D.rules ≡ list_all built C.rules = all_built D.rules ∙ ap (λ bs. list_all (λ b. b) bs) alike ∙ sym (all_built C.rules) in
-      can_of D L of_D ∙ ap₂ (λ st b. list_all plain st.virtuals && b) settings all ∙ sym (can_of C K of_C)
+      let http = speaks C.settings.virtuals in
+      let alike : map (built http) D.rules ≡ map (built http) C.rules = all_same told (built http) (same_rule told http) (items_at rules m.top) D.rules C.rules m.texts D_is.loaded m.configures.loaded in
+      let all : list_all (built http) D.rules ≡ list_all (built http) C.rules = all_built http D.rules ∙ ap (λ bs. list_all (λ b. b) bs) alike ∙ sym (all_built http C.rules) in
+      can_of D L of_D ∙ ap (λ st. can_be st.virtuals D.rules) settings ∙ ap (λ b. list_all plain C.settings.virtuals && b) all ∙ sym (can_of C K of_C)
 
   -- it isn't faulty
   module _ (before now : ℕ) (f : ConfigFault) (was : is_read_fault f.kind ≡ false) where

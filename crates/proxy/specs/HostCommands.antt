@@ -1,9 +1,12 @@
 -- The host commands that a tree names.
-use Rattle.std.specs.Prelude.{ℕ, List, [], ◌∷◌, ◌++◌, Bool, ◌||◌, not, find, is_some, IsTrue}
+use Rattle.std.specs.Prelude.{ℕ, List, [], ◌∷◌, ◌++◌, Bool, true, false, ◌||◌, not, find, is_some, IsTrue}
+use Rattle.std.specs.Prelude.{Option, Some, None}
 use Rattle.std.specs.List.{All, list_all}
 use Rattle.std.specs.Str.{bytes_eq}
-use Rattle.conn_trace.specs.Host.{names_one}
+use Rattle.conn_trace.specs.Host.{is_there}
 use Rattle.event_order.specs.Command.{IsHostCommand, command_row, every_command}
+use Rattle.event_order.specs.declared.command.HostCommand.{HostCommand}
+use Rattle.event_order.specs.declared.command.HostCommand.TheVariants as host
 use Rattle.irule_net.specs.Checks.{command_of}
 use Rattle.tcl_trees.specs.Tree.{Tree, plain, variable, element, word, script, command, expr}
 use Rattle.tcl_trees.specs.Tree.{branches, loop, each, switch, catch, catch_in, next_body}
@@ -75,21 +78,56 @@ abbrev mutual
 unfoldable pub is_host_name : List ℕ → Bool
 is_host_name name = is_some (find (λ c. bytes_eq (command_row c).name name) every_command)
 
--- a connection has the host command of this name today
-unfoldable pub is_built_name : List ℕ → Bool
-is_built_name name = names_one (command_of name)
+-- What HTTP changes of the commands that there are today: a connection that speaks it has no server yet, and gathers no
+-- body.
+abbrev pub http_alone : HostCommand → Option Bool
+http_alone host.Pool = Some false
+http_alone host.Node = Some false
+http_alone host.LbReselect = Some false
+http_alone host.HttpUri = Some true
+http_alone host.HttpPath = Some true
+http_alone host.HttpQuery = Some true
+http_alone host.HttpMethod = Some true
+http_alone host.HttpHost = Some true
+http_alone host.HttpRequestNum = Some true
+http_alone host.HttpVersion = Some true
+http_alone host.HttpHeader = Some true
+http_alone host.HttpCookie = Some true
+http_alone host.HttpStatus = Some true
+http_alone host.HttpRelease = Some true
+http_alone host.HttpClose = Some true
+http_alone host.HttpRespond = Some true
+http_alone host.HttpRedirect = Some true
+http_alone other = None
+
+abbrev pub changed_by : Option Bool → Bool → Bool
+changed_by None there = there
+changed_by (Some serves) there = serves
+
+-- a connection has the command today, where it speaks HTTP or doesn't
+abbrev pub serves : (http : Bool) → HostCommand → Bool
+serves true c = changed_by (http_alone c) (is_there c)
+serves false c = is_there c
+
+abbrev pub serves_one : (http : Bool) → Option HostCommand → Bool
+serves_one http None = false
+serves_one http (Some c) = serves http c
+
+-- it has the host command of this name
+unfoldable pub is_built_name : (http : Bool) → List ℕ → Bool
+is_built_name http name = serves_one http (command_of name)
 
 -- a name may stand in a rule; one that nothing has is a fault when it runs
-abbrev pub may_stand : List ℕ → Bool
-may_stand name = is_built_name name || not (is_host_name name)
+abbrev pub may_stand : (http : Bool) → List ℕ → Bool
+may_stand http name = is_built_name http name || not (is_host_name name)
 
-abbrev pub may_all_stand : List (List ℕ) → Bool
-may_all_stand names = list_all may_stand names
+abbrev pub may_all_stand : (http : Bool) → List (List ℕ) → Bool
+may_all_stand http names = list_all (may_stand http) names
 
 -- each host command that the tree names can be run
-abbrev pub is_built : Tree → Bool
-is_built t = may_all_stand (names_in t)
+abbrev pub is_built : (http : Bool) → Tree → Bool
+is_built http t = may_all_stand http (names_in t)
 
 -- the same, name by name
-abbrev pub NamesBuilt : Tree → Type 0
-NamesBuilt t = All (λ name. IsHostCommand name → IsTrue (is_built_name name)) (names_in t)
+abbrev pub NamesBuilt : (http : Bool) → Tree → Type 0
+NamesBuilt http t = All (λ name. IsHostCommand name → IsTrue (is_built_name http name)) (names_in t)

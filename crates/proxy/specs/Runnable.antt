@@ -1,10 +1,11 @@
 -- Which of the configurations that load can be run today, and what the core runs for them: virtual
--- servers without HTTP and cookies, and rules that name no command of the host but those that a
--- connection has today, and have 65,536 procedures at most.
-use Rattle.std.specs.Prelude.{◌≡◌, ℕ, List, map, Bool, true, false, not, ◌&&◌}
+-- servers without cookies, of which those that speak HTTP have no pool, and rules that name no command of the host
+-- but those that a connection has today, and have 65,536 procedures at most. Where one virtual server speaks HTTP,
+-- all rules may name what such a connection has.
+use Rattle.std.specs.Prelude.{◌≡◌, ℕ, ◌==◌, List, length, map, Bool, true, false, ◌&&◌}
 use Rattle.std.specs.Prelude.{Option}
 use Rattle.std.specs.Prelude.{Some, None, is_none, slice_get, if◌then◌else◌}
-use Rattle.std.specs.List.{list_all}
+use Rattle.std.specs.List.{list_all, list_any}
 use Rattle.run_config.specs.declared.config.Persist.{Persist}
 use Rattle.run_config.specs.declared.config.Persist.TheVariants as persist
 use Rattle.config.specs.Filled.{filled}
@@ -23,8 +24,8 @@ use Rattle.tcl_trees.specs.Procedures.{Procedure, procs_view}
 abbrev pub bodies_at : EventName → Rule → List Handled
 bodies_at event r = map handler_view (handlers_at event r.bodies)
 
-abbrev pub has_built_bodies : Rule → EventName → Bool
-has_built_bodies r event = list_all (λ h. is_built h.body) (bodies_at event r)
+abbrev pub has_built_bodies : (http : Bool) → Rule → EventName → Bool
+has_built_bodies http r event = list_all (λ h. is_built http h.body) (bodies_at event r)
 
 abbrev pub most_procedures : ℕ
 most_procedures = 65536
@@ -32,14 +33,14 @@ most_procedures = 65536
 abbrev pub has_few : List Procedure → Bool
 has_few ps = is_none (slice_get ps most_procedures)
 
-abbrev pub are_built : List Procedure → Bool
-are_built ps = list_all (λ p. is_built p.body) ps
+abbrev pub are_built : (http : Bool) → List Procedure → Bool
+are_built http ps = list_all (λ p. is_built http p.body) ps
 
 -- its bodies and procedures name no command that can't be run
-abbrev pub is_rule_built : Rule → Bool
-is_rule_built r =
-    list_all (has_built_bodies r) every_event
-    && (has_few (procs_view r.procs) && are_built (procs_view r.procs))
+abbrev pub is_rule_built : (http : Bool) → Rule → Bool
+is_rule_built http r =
+    list_all (has_built_bodies http r) every_event
+    && (has_few (procs_view r.procs) && are_built http (procs_view r.procs))
 
 -- ---- a virtual server
 
@@ -48,13 +49,22 @@ sets_no_cookie persist.None = true
 sets_no_cookie persist.SourceAddr = true
 sets_no_cookie persist.Cookie = false
 
+-- with HTTP it has no pool
+abbrev pub may_serve : (http : Bool) → (pool : List ℕ) → Bool
+may_serve true pool = length pool == 0
+may_serve false pool = true
+
 abbrev pub is_plain : Virtual → Bool
-is_plain v = not v.http && sets_no_cookie v.persist
+is_plain v = may_serve v.http v.pool && sets_no_cookie v.persist
+
+abbrev pub speaks_http : List Virtual → Bool
+speaks_http virtuals = list_any (λ v. v.http) virtuals
 
 -- ---- a configuration
 
 abbrev pub can_run : Config → Bool
-can_run K = list_all is_plain K.virtuals && list_all is_rule_built K.rules
+can_run K =
+    list_all is_plain K.virtuals && list_all (is_rule_built (speaks_http K.virtuals)) K.rules
 
 abbrev pub if_built : Option Config → Option Config
 if_built None = None

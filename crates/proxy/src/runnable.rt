@@ -7,7 +7,8 @@ ghost use Rattle.proxy.specs.HostCommands.{is_built};
 ghost use Rattle.tcl_trees.specs.Procedures.{procs_view};
 ghost use Rattle.tcl_trees.specs.TreeView.{node_view};
 ghost use Rattle.proxy.specs.Runnable.{are_built, can_run, has_built_bodies, has_few, if_built};
-ghost use Rattle.proxy.specs.Runnable.{is_plain, is_rule_built, run_of, sets_no_cookie};
+ghost use Rattle.proxy.specs.Runnable.{is_plain, is_rule_built, may_serve, run_of, sets_no_cookie};
+ghost use Rattle.proxy.specs.Runnable.{speaks_http};
 
 use crate::interim_rules::is_built;
 use config::LoadedConfig;
@@ -21,24 +22,24 @@ use tcl_trees::Procs;
 /// The most procedures of a rule that can be run today.
 const MOST_PROCEDURES: usize = 65_536;
 
-fn has_built_bodies(rule: &Rule, event: EventName) -> bool
-    ensures { result ≡ has_built_bodies rule.now event }
+fn has_built_bodies(http: bool, rule: &Rule, event: EventName) -> bool
+    ensures { result ≡ has_built_bodies http rule.now event }
 {
-    are_bodies_built(rule.handlers(event).as_slice())
+    are_bodies_built(http, rule.handlers(event).as_slice())
 }
 
-fn are_bodies_built(handlers: &[Handler]) -> bool
-    ensures { result ≡ list_all (λ h. is_built (node_view h.body)) handlers.now }
+fn are_bodies_built(http: bool, handlers: &[Handler]) -> bool
+    ensures { result ≡ list_all (λ h. is_built http (node_view h.body)) handlers.now }
 {
-    handlers.iter().all(|handler| is_built(&handler.body))
+    handlers.iter().all(|handler| is_built(http, &handler.body))
 }
 
-fn has_all_built_bodies(rule: &Rule) -> bool
-    ensures { result ≡ list_all (has_built_bodies rule.now) every_event }
+fn has_all_built_bodies(http: bool, rule: &Rule) -> bool
+    ensures { result ≡ list_all (has_built_bodies http rule.now) every_event }
 {
     EventName::ALL
         .iter()
-        .all(|event| has_built_bodies(rule, *event))
+        .all(|event| has_built_bodies(http, rule, *event))
 }
 
 fn has_few(procs: &Procs) -> bool
@@ -48,22 +49,22 @@ fn has_few(procs: &Procs) -> bool
 }
 
 // Whether the procedure of this number, if there is one, names no command that can't be run.
-fn built_at(procs: &Procs, number: usize) -> Option<bool>
+fn built_at(http: bool, procs: &Procs, number: usize) -> Option<bool>
     ensures { result
-        ≡ option_map (λ p. is_built p.body) (slice_get (procs_view procs.now) number) }
+        ≡ option_map (λ p. is_built http p.body) (slice_get (procs_view procs.now) number) }
 {
     match procs.at(number) {
-        Some(procedure) => Some(is_built(&procedure.body)),
+        Some(procedure) => Some(is_built(http, &procedure.body)),
         None => None,
     }
 }
 
-fn are_built(procs: &Procs) -> bool
+fn are_built(http: bool, procs: &Procs) -> bool
     requires { has_few (procs_view procs.now) ≡ true }
-    ensures { result ≡ are_built (procs_view procs.now) }
+    ensures { result ≡ are_built http (procs_view procs.now) }
 {
     for number in 0..MOST_PROCEDURES {
-        let Some(built) = built_at(procs, number) else {
+        let Some(built) = built_at(http, procs, number) else {
             return true;
         };
         if !built {
@@ -73,10 +74,10 @@ fn are_built(procs: &Procs) -> bool
     true
 }
 
-fn is_rule_built(rule: &Rule) -> bool
-    ensures { result ≡ is_rule_built rule.now }
+fn is_rule_built(http: bool, rule: &Rule) -> bool
+    ensures { result ≡ is_rule_built http rule.now }
 {
-    has_all_built_bodies(rule) && has_few(&rule.procs) && are_built(&rule.procs)
+    has_all_built_bodies(http, rule) && has_few(&rule.procs) && are_built(http, &rule.procs)
 }
 
 fn sets_no_cookie(persist: Persist) -> bool
@@ -91,7 +92,20 @@ fn sets_no_cookie(persist: Persist) -> bool
 fn is_plain(server: &Virtual) -> bool
     ensures { result ≡ is_plain server.now }
 {
-    !server.http && sets_no_cookie(server.persist)
+    may_serve(server.http, server.pool.as_bytes()) && sets_no_cookie(server.persist)
+}
+
+// With HTTP it has no pool.
+fn may_serve(http: bool, pool: &[u8]) -> bool
+    ensures { result ≡ may_serve http pool.now }
+{
+    !http || pool.is_empty()
+}
+
+fn speaks_http(servers: &[Virtual]) -> bool
+    ensures { result ≡ speaks_http servers.now }
+{
+    servers.iter().any(|server| server.http)
 }
 
 fn are_plain(servers: &[Virtual]) -> bool
@@ -100,16 +114,17 @@ fn are_plain(servers: &[Virtual]) -> bool
     servers.iter().all(is_plain)
 }
 
-fn are_rules_built(rules: &[Rule]) -> bool
-    ensures { result ≡ list_all is_rule_built rules.now }
+fn are_rules_built(http: bool, rules: &[Rule]) -> bool
+    ensures { result ≡ list_all (is_rule_built http) rules.now }
 {
-    rules.iter().all(is_rule_built)
+    rules.iter().all(|rule| is_rule_built(http, rule))
 }
 
 fn can_run(config: &Config) -> bool
     ensures { result ≡ can_run config.now }
 {
-    are_plain(config.virtuals.as_slice()) && are_rules_built(config.rules.as_slice())
+    let servers = config.virtuals.as_slice();
+    are_plain(servers) && are_rules_built(speaks_http(servers), config.rules.as_slice())
 }
 
 /// What the core runs for a configuration that loaded, if that can be run.

@@ -4,4 +4,4 @@ use Rattle.proxy.specs.Runnable.{are_built}
 use Rattle.proxy.proofs.runnable.are_built.Given as goal
 
 abbrev pub invariant-loop-number : goal.invariant-loop-number
-invariant-loop-number l = are_built (drop l.number (procs_view l.procs)) ≡ are_built (procs_view l.procs)
+invariant-loop-number l = are_built l.http (drop l.number (procs_view l.procs)) ≡ are_built l.http (procs_view l.procs)
