@@ -5,6 +5,7 @@
 mod made;
 mod offline;
 mod peers;
+mod requests;
 mod served;
 mod texts;
 mod wanted;

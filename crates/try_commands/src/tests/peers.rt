@@ -29,6 +29,18 @@ pub(super) const CLIENT: Peer = Peer {
     takes: &[],
 };
 
+/// A client that sends a request.
+pub(super) const ASKS: Peer = Peer {
+    sends: b"GET / HTTP/1.1\r\nHost: a\r\n\r\n",
+    ..CLIENT
+};
+
+/// A client that waits for the end of the second link, and sends a request.
+pub(super) const ASKS_LATER: Peer = Peer {
+    after: Some(2),
+    ..ASKS
+};
+
 /// A client that waits for the end of the second link, and takes an answer by and by.
 pub(super) const SLOW: Peer = Peer {
     after: Some(2),

@@ -14,19 +14,19 @@ use std::alloc::Global;
 /// A `serve`, who connects, which calls fail, and what it comes to: its status, what the first two
 /// links take, the journal, and a replay of it.
 #[derive(Clone, Copy)]
-struct Row {
-    shows: &'static str,
-    words: &'static str,
-    peers: &'static [Peer],
-    fails: Fails,
-    status: u8,
-    first: Wanted,
-    second: Wanted,
-    journal: Wanted,
-    replay: Option<Offline>,
+pub(super) struct Row {
+    pub(super) shows: &'static str,
+    pub(super) words: &'static str,
+    pub(super) peers: &'static [Peer],
+    pub(super) fails: Fails,
+    pub(super) status: u8,
+    pub(super) first: Wanted,
+    pub(super) second: Wanted,
+    pub(super) journal: Wanted,
+    pub(super) replay: Option<Offline>,
 }
 
-const ANSWERS: Row = Row {
+pub(super) const ANSWERS: Row = Row {
     shows: "a client is answered, and the journal replayed",
     words: "serve hi.toml --conns 1 --turns=50",
     peers: &[CLIENT],
@@ -43,7 +43,7 @@ const ANSWERS: Row = Row {
 };
 
 /// Nothing is looked at but the status.
-const ENDS: Row = Row {
+pub(super) const ENDS: Row = Row {
     shows: "one turn without a client",
     words: "serve hi.toml --turns 1",
     peers: &[],
@@ -181,7 +181,8 @@ fn journal_of(alloc: Global, row: &Row) -> M<Text> {
     served.made.sink.written().copy()
 }
 
-fn comes_true(alloc: Global, row: &Row) -> M<bool> {
+/// Whether a row comes to what it must.
+pub(super) fn comes_true(alloc: Global, row: &Row) -> M<bool> {
     let mut served = Served::new(alloc, row)?;
     served.ends(alloc, row)
 }

@@ -39,8 +39,27 @@ pub(super) const UNREAD_RULE: &[u8] = b"config fault 1 at r.tcl
 r.tcl: this file can't be read
 ";
 
-/// A virtual server of HTTP, whose rule stands in a file.
+/// A virtual server of HTTP with a pool, whose rule stands in a file.
 const OF_FILES: &[u8] = b"version = 1
+
+[[virtual]]
+name = \"v\"
+listen = \"127.0.0.1:9000\"
+http = true
+pool = \"p\"
+rules = [\"r\"]
+
+[[rule]]
+name = \"r\"
+file = \"r.tcl\"
+
+[[pool]]
+name = \"p\"
+members = [{ addr = \"10.0.0.1:80\" }]
+";
+
+/// A virtual server of HTTP, whose rule answers each request.
+const WEB: &[u8] = b"version = 1
 
 [[virtual]]
 name = \"v\"
@@ -50,8 +69,12 @@ rules = [\"r\"]
 
 [[rule]]
 name = \"r\"
-file = \"r.tcl\"
+text = \"when HTTP_REQUEST { HTTP::respond 200 content ok }\"
 ";
+
+/// What its clients take.
+pub(super) const OK_ANSWER: &[u8] =
+    b"HTTP/1.0 200 OK\r\nServer: BigIP\r\nConnection: Keep-Alive\r\nContent-Length: 2\r\n\r\nok";
 
 const RULE: &[u8] = b"when CLIENT_ACCEPTED { TCP::respond hello }";
 
@@ -69,11 +92,12 @@ members = [{ addr = \"10.0.0.1:80\" }]
 ";
 
 /// The files by their names.
-pub(super) static FILES: [(&str, &[u8]); 6] = [
+pub(super) static FILES: [(&str, &[u8]); 7] = [
     ("hi.toml", HI),
     ("hi.txt", SCHEDULE),
     ("files.toml", OF_FILES),
     ("r.tcl", RULE),
     ("pool.toml", POOL),
+    ("web.toml", WEB),
     ("bad.toml", b"x"),
 ];
