@@ -19,7 +19,6 @@ use Rattle.conn_trace.specs.State.{Phase, Heading, InEvent, Choosing, Selecting,
 use Rattle.conn_trace.specs.Spoken.{is_http_event}
 use Rattle.proxy_core.specs.Servers.{awaits}
 
-
 pub never : {A : Type 0} → false ≡ true → A
 never e = absurd (true≢false (sym e))
 

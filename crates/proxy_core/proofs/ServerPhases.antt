@@ -47,7 +47,6 @@ use Rattle.conn_trace.specs.Spoken.{is_http_phase, is_http_event}
 use Rattle.proxy_core.specs.Servers.{awaits}
 use Rattle.proxy_core.proofs.ServerGone.{never, event_unlinked, unlinked, NotUpIn, NotUp, Gone, asked_gone, next_gone, enter_gone, closed_waits}
 
-
 -- an item that asks for no server and takes no answer
 pub record Quiet (p : Phase) (l m : TraceState) : Type 0 where
   pub connects : m.answers.connects ≡ l.answers.connects

@@ -12,7 +12,6 @@ use Rattle.conn_trace.specs.Spoken.{is_http_phase}
 use Rattle.proxy_core.proofs.ServerGone.{never, NotUp, closed_waits}
 use Rattle.proxy_core.proofs.ServerPhases.{SideBy, SideNext, phase_side}
 
-
 -- behind a closed gate no answer waits
 shut_waits : (i : Item) (p : Phase) (l m : TraceState) (sent : Counts) (took : TakenCounts) → SideBy i p l m → may_give i sent took ≡ false → awaits p ≡ true → l.answers.connects ≡ []
 shut_waits (Connected to) p l m sent took k shut e = never (sym (ap awaits k.was) ∙ e)
