@@ -10,8 +10,8 @@ use Rattle.config.specs.Keys as key
 use Rattle.config.specs.Keys.{TableKey, addr, group_keys, groups, listen, member_keys, members, name_key, persist, pool_keys, pool_name, pools, rows, rule_file, rule_keys, rule_names, rule_text, servers, top_keys, virtual_back, virtual_front, virtual_keys, http}
 use Rattle.config.specs.Names.{missing, once_faults, there_faults, twice}
 use Rattle.config.specs.Places.{item_place, key_place, prefix_of}
-use Rattle.config.specs.Pools.{member_at, members_from, members_of, pool_faults}
-use Rattle.config.specs.Read.{array_at, truth_at}
+use Rattle.config.specs.Pools.{member_at, members_from, members_of, pool_faults, pool_keys_faults}
+use Rattle.config.specs.Read.{array_at, member_count, truth_at}
 use Rattle.config.specs.Rules as rules
 use Rattle.config.specs.Rules.{has, source_faults}
 use Rattle.config.specs.Tables.{faults_of, flaw_of, is_known, key_faults, key_flaw, keys_faults, unknown_at, unknown_faults}
@@ -135,21 +135,25 @@ server n prefix at ms =
 
 -- of a pool
 
-a_member : (own : List ℕ → Option ℕ) (place : List ℕ) (at : ℕ) (o : Option Members) → AllFine (member_at own place at o)
-a_member own place at None = (refl, tt)
-a_member own place at (Some ms) = both _ _ (keys (prefix_of place) member_keys ms) (both _ _ (unknown (prefix_of place) member_keys ms) (once own at (prefix_of place) addr ms))
+a_member : (n : Names) (own : List ℕ → Option ℕ) (place : List ℕ) (at : ℕ) (o : Option Members) → AllFine (member_at n.version own place at o)
+a_member n own place at None = (refl, tt)
+a_member n own place at (Some ms) =
+    both _ _ (keys (prefix_of place) (member_keys n.version) ms) (both _ _ (unknown (prefix_of place) (member_keys n.version) ms) (once own at (prefix_of place) addr ms))
 
-member_list : (own : List ℕ → Option ℕ) (prefix : List ℕ) (at : ℕ) (ds : Items) → AllFine (members_from own prefix at ds)
-member_list own prefix at no_items = tt
-member_list own prefix at (item d ds) =
-    both (member_at own (item_place prefix members.name at) at (as_table d)) (members_from own prefix (at + 1) ds) (a_member own (item_place prefix members.name at) at (as_table d)) (member_list own prefix (at + 1) ds)
+member_list : (n : Names) (own : List ℕ → Option ℕ) (prefix : List ℕ) (at : ℕ) (ds : Items) → AllFine (members_from n.version own prefix at ds)
+member_list n own prefix at no_items = tt
+member_list n own prefix at (item d ds) =
+    both (member_at n.version own (item_place prefix members.name at) at (as_table d)) (members_from n.version own prefix (at + 1) ds)
+    (a_member n own (item_place prefix members.name at) at (as_table d)) (member_list n own prefix (at + 1) ds)
 
-its_members : (prefix : List ℕ) (o : Option Items) → AllFine (members_of prefix o)
-its_members prefix None = tt
-its_members prefix (Some ds) = member_list (first_place (Some addr.name) ds) prefix 0 ds
+its_members : (n : Names) (prefix : List ℕ) (o : Option Items) → AllFine (members_of n.version prefix o)
+its_members n prefix None = tt
+its_members n prefix (Some ds) = member_list n (first_place (Some addr.name) ds) prefix 0 ds
 
-pool : (n : Names) (prefix : List ℕ) (at : ℕ) (ms : Members) → AllFine (pool_faults n.pools prefix at ms)
-pool n prefix at ms = both _ _ (keys prefix pool_keys ms) (both _ _ (unknown prefix pool_keys ms) (both _ _ (once n.pools at prefix name_key ms) (its_members prefix (array_at members ms))))
+pool : (n : Names) (prefix : List ℕ) (at : ℕ) (ms : Members) → AllFine (pool_faults n.version n.pools prefix at ms)
+pool n prefix at ms =
+    let known = pool_keys n.version (member_count ms) in
+    both (pool_keys_faults n.version prefix ms) _ (both _ _ (keys prefix known ms) (unknown prefix known ms)) (both _ _ (once n.pools at prefix name_key ms) (its_members n prefix (array_at members ms)))
 
 -- of a rule
 
@@ -197,7 +201,7 @@ module _ (n : Names) (s : Section) (tables : (prefix : List ℕ) (at : ℕ) (ms 
 
 document : (n : Names) (ms : Members) → AllFine (faults_with n ms)
 document n ms =
-    both _ _ (keys [] top_keys ms) (both _ _ (unknown [] top_keys ms) (both _ _ (a_section n Virtual (server n) (array_at servers ms)) (both _ _ (a_section n Pool (pool n) (array_at pools ms))
+    both _ _ (keys [] (top_keys n.version) ms) (both _ _ (unknown [] (top_keys n.version) ms) (both _ _ (a_section n Virtual (server n) (array_at servers ms)) (both _ _ (a_section n Pool (pool n) (array_at pools ms))
     (both _ _ (a_section n Rule (rule n) (array_at key.rules ms)) (a_section n Group (group n) (array_at groups ms))))))
 
 pub document_was_read : (ms : Members) → IfSome (document_fault ms) (λ f. is_read_fault f.kind ≡ false)
