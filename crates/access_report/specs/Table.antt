@@ -1,5 +1,5 @@
 -- The text of the report, in this project's own format.
-use Rattle.std.specs.Prelude.{◌≡◌, ℕ, ◌-◌, List, ◌++◌, length, map, flat_map, codes}
+use Rattle.std.specs.Prelude.{◌≡◌, ℕ, ◌-◌, List, ◌++◌, length, map, flat_map, codes, reverse}
 use Rattle.std.specs.Prelude.{Some, None, if◌then◌else◌}
 use Rattle.std.specs.Cmp.Lexicographic.{slice_cmp}
 use Rattle.std.specs.Fmt.{decimal}
@@ -8,6 +8,7 @@ use Rattle.std.proofs.Math.ListN.{replicate}
 use Rattle.std.specs.Map.{lookup}
 use Rattle.std.specs.Ordering.{nat_cmp}
 use Rattle.std.specs.Str.{bytes_eq}
+use Rattle.journal_value.specs.Journal.{IsJournal}
 use Rattle.journal_value.specs.declared.journal.JournalLine.{JournalLine}
 use Rattle.access_report.specs.declared.counts.ServerCounts.{ServerCounts}
 use Rattle.access_report.specs.Sums.{column, is_named, total}
@@ -49,3 +50,9 @@ IsReport past text =
     (rows : List (List ℕ × ServerCounts)) × IsTable past rows
     × (text ≡ header ++ flat_map (λ row. counts_row row.0 row.1) rows
     ++ counts_row (codes "total") (total past))
+
+-- the text is the access report of the journal that the record is
+pub record ReportsRecord (record_text text : List ℕ) : Type 0 where
+  pub told : List JournalLine
+  pub journal : IsJournal record_text told
+  pub report : IsReport (reverse told) text

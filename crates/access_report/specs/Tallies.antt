@@ -1,8 +1,9 @@
 -- How the sums of a report are kept.
-use Rattle.std.specs.Prelude.{◌≡◌, ℕ, List, Some, None, nat_eq, if◌then◌else◌}
+use Rattle.std.specs.Prelude.{◌≡◌, ℕ, List, Some, None, nat_eq, reverse, if◌then◌else◌}
 use Rattle.std.specs.HashMap.{get}
 use Rattle.std.specs.Map.{lookup}
 use Rattle.std.specs.Str.{bytes_eq}
+use Rattle.journal_value.specs.Journal.{IsJournal}
 use Rattle.journal_value.specs.declared.journal.JournalLine.{JournalLine}
 use Rattle.access_report.specs.Raising.{raised, raised_if}
 use Rattle.access_report.specs.Sums.{column, is_named, one_conn, plus, server_of, total}
@@ -29,3 +30,9 @@ pub record Tallies (past : List JournalLine) (tally : Tally) : Type 0 where
   pub rows : (name : List ℕ) → lookup (bytes_eq name) tally.rows
       ≡ (if is_named name past then Some (column name past) else None)
   pub total_is : tally.total ≡ total past
+
+-- those of a record, which is a journal
+pub record TalliesRecord (record_text : List ℕ) (tally : Tally) : Type 0 where
+  pub told : List JournalLine
+  pub journal : IsJournal record_text told
+  pub tallies : Tallies (reverse told) tally

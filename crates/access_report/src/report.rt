@@ -1,26 +1,29 @@
 // The report.
 
-ghost use Rattle.std.specs.Prelude.{◌≡◌, ◌++◌, codes, flat_map, IfOk, map, reverse};
+ghost use Rattle.std.specs.Prelude.{◌≡◌, ◌++◌, ◌∷◌, codes, flat_map, IfErr, IfOk, List, map, OnOk};
 ghost use Rattle.std.specs.Cmp.Lexicographic.{slice_cmp};
 ghost use Rattle.std.specs.List.Sorted.{IsStrictlySortedBy};
 ghost use Rattle.std.specs.Ordering.{nat_cmp};
-ghost use Rattle.access_report.specs.Table.{IsReport, counts_row, header};
-ghost use Rattle.access_report.specs.Tallies.{Tallies};
+ghost use Rattle.access_report.specs.Table.{ReportsRecord, counts_row, header};
+ghost use Rattle.access_report.specs.Tallies.{Tallies, TalliesRecord};
+ghost use Rattle.journal_value.specs.Journal.{FirstFault};
+ghost use Rattle.journal_value.specs.declared.journal.JournalLine.{JournalLine};
 
 use crate::table::counts_row;
 use crate::tally::Tally;
-use journal_value::{JournalLine, JournalLines};
+use journal_value::{JournalLine, JournalReader, LineFault};
 use px_bytes::{M, Text};
 use std::alloc::Global;
 
 /// The report of a journal: for each virtual server that an accepted connection names, and for all
 /// together, the connections, the bytes that their clients took, their shared calls and their early
-/// ends.
-pub fn report_of(alloc: Global, journal: &JournalLines) -> M<Text>
-    ensures { IfOk result (IsReport (reverse journal.now)) }
+/// ends. Its lines are read one after another, and none is kept.
+pub fn report_of(alloc: Global, text: &[u8]) -> Result<Text, LineFault>
+    ensures report { IfOk result (ReportsRecord text.now) }
+    ensures fault { IfErr result (FirstFault text.now) }
 {
-    let tally = tally_of(alloc, journal.as_slice())?;
-    table_text(alloc, &tally)
+    let tally = tally_of(alloc, text)?;
+    Ok(table_text(alloc, &tally)?)
 }
 
 // The header, the rows and the last row.
@@ -44,12 +47,22 @@ fn header() -> &'static [u8]
 }
 
 // What all lines count.
-fn tally_of(alloc: Global, lines: &[JournalLine]) -> M<Tally>
-    ensures { IfOk result (Tallies (reverse lines.now)) }
+fn tally_of(alloc: Global, text: &[u8]) -> Result<Tally, LineFault>
+    ensures tallies { IfOk result (TalliesRecord text.now) }
+    ensures fault { IfErr result (FirstFault text.now) }
 {
+    let mut reader = JournalReader::new(text);
     let mut tally = Tally::new(alloc);
-    for line in lines {
-        tally.add(alloc, line)?;
+    while let Some(line) = reader.next(alloc)? {
+        count(alloc, &mut tally, line)?;
     }
     Ok(tally)
+}
+
+// Counts one more line, which goes with that.
+fn count(alloc: Global, tally: &mut Tally, line: JournalLine) -> M<()>
+    ensures { OnOk result ((past : List JournalLine) → Tallies past tally.old
+        → Tallies (line ∷ past) tally.new) }
+{
+    tally.add(alloc, &line)
 }

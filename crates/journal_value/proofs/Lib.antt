@@ -11,4 +11,5 @@ pub mod NoteTexts
 pub mod Told
 pub mod WrittenJournal
 pub mod NoJournal
+pub mod Lines
 pub mod Reading

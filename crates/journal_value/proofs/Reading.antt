@@ -1,123 +1,78 @@
 -- Lines that were read one by one.
-use Rattle.std.proofs.Common.{◌≡◌, ℕ, ◌+◌, ◌<◌, ◌≤◌, List, [], ◌∷◌, ◌++◌, suc, ◌-◌, length, map, take, drop, get_or, Bor, length-append, Option, refl, sym, ap, subst, ◌∙◌, append_assoc, arith}
-use Rattle.std.proofs.Math.Seq.{drop-cons, get_or-append_seam, take-append_seam}
-use Rattle.std.proofs.lemmas.List.{get_or-map, length-map, length-take-le, take-append-drop, take_all, take-map, take_more}
+use Rattle.std.proofs.Common.{◌≡◌, ℕ, ◌+◌, ◌==◌, true, false, List, [], ◌∷◌, ◌++◌, length, length-append, Option, None, refl, sym, ap, subst, ◌∙◌, append_assoc, arith}
+use Rattle.std.proofs.lemmas.Bool.{eqb-true}
+use Rattle.std.proofs.lemmas.List.{append_cancel_right}
 use Rattle.std.proofs.lemmas.List.Splits.{length-slice_split}
 use Rattle.journal_text.specs.declared.line_kind.LineKind.{LineKind}
-use Rattle.journal_value.specs.Journal.{AllFit, FailsBefore, Fails, FaultyAmong, FitsLine, IsJournal, Tell, TellBefore, Tells, behind, is_lf, parts_of}
+use Rattle.journal_value.specs.Journal.{AllFit, Fails, FailsBefore, FirstFault, FitsLine, IsJournal, Tell, Tells, behind, is_lf, parts_of, unended_kind}
+use Rattle.journal_value.specs.Reading.{HasNext, HasRead, IsNextLine}
 use Rattle.journal_value.specs.declared.journal.JournalLine.{JournalLine}
 use Rattle.journal_value.proofs.Told.{tell_last, tell_more}
 
--- so many lines tell this, and nothing else that fits
-pub record Read (lines : List (List ℕ)) (at : ℕ) (told : List JournalLine) : Type 0 where
-  pub tell : Tell (take at lines) told
-  pub only : (other : List JournalLine) → AllFit other → Tell (take at lines) other → told ≡ other
+pub read_none : (text : List ℕ) → HasRead text (text, 0) []
+read_none text = record { lines = []; text_is = refl; number = refl; tell = refl; only_told = λ other fit tell. sym tell }
 
-take_none : (lines : List (List ℕ)) → take 0 lines ≡ []
-take_none [] = refl
-take_none (line ∷ lines) = refl
+module _ (text : List ℕ) (old : List ℕ × ℕ) (past : List JournalLine) (read : HasRead text old past) where
+  module _ (line : List ℕ) (new : List ℕ × ℕ) (next : IsNextLine old line new) where
+    -- one more line that tells something
+    pub read_line : (first : Option JournalLine) → Tells line first → ((told : Option JournalLine) → FitsLine told → Tells line told → first ≡ told)
+        → HasRead text new (behind past first)
+    read_line first tells only = record {
+      lines = read.lines ++ line ∷ [];
+      text_is = read.text_is ∙ ap (λ l. read.lines ++ l) next.parts ∙ sym (append_assoc read.lines (line ∷ []) (parts_of new.0));
+      number = next.number ∙ ap (λ k. k + 1) read.number ∙ sym (length-append read.lines (line ∷ []));
+      tell = tell_more read.lines past line first read.tell tells;
+      only_told = λ other fit tell.
+          let l = tell_last read.lines line other tell in
+          let fits = l.fits fit in
+          ap (λ x. behind past x) (only l.last fits.1 l.tells) ∙ ap (λ front. behind front l.last) (read.only_told l.front fits.0 l.tell) ∙ sym l.told_is;
+    }
 
-pub read_none : (lines : List (List ℕ)) → Read lines 0 []
-read_none lines = record {
-  tell = subst (λ ls. Tell ls []) (sym (take_none lines)) refl;
-  only = λ other fit t. let u : Tell [] other = subst (λ ls. Tell ls other) (take_none lines) t in sym u;
-}
+    -- or is faulty
+    pub line_fails : (k : LineKind) → Fails line k → FirstFault text (record { line = new.1; kind = k })
+    line_fails k fails other = record {
+      front = read.lines;
+      line = line;
+      behind = parts_of new.0;
+      parts_are = read.text_is ∙ ap (λ l. read.lines ++ l) next.parts;
+      number = next.number ∙ ap (λ m. m + 1) read.number;
+      told = past;
+      tell = read.tell;
+      fails = among (parts_of new.0) refl;
+    }
+      where
+        among : (parts : List (List ℕ)) → parts_of new.0 ≡ parts → FailsBefore parts line k
+        among [] none = absurd (omega (arith, length-slice_split is_lf new.0, ap length none))
+        among (part ∷ parts) some = fails
 
-pub read_next : (lines : List (List ℕ)) (at : ℕ) (told new : List JournalLine) (text : List ℕ) → at < length lines → get_or lines at [] ≡ text → Read lines at told
-    → (first : Option JournalLine) × Tells text first × (new ≡ behind told first)
-    → ((first : Option JournalLine) → FitsLine first → Tells text first → new ≡ behind told first) → Read lines (at + 1) new
-read_next lines at told new text within is r f only = record {
-  tell = subst (λ ls. Tell ls new) (sym more) (subst (Tell (take at lines ++ text ∷ [])) (sym f.2) (tell_more (take at lines) told text f.0 r.tell f.1));
-  only = λ other fit t.
-      let l = tell_last (take at lines) text other (subst (λ ls. Tell ls other) more t) in
-      let fits = l.fits fit in
-      only l.last fits.1 l.tells ∙ ap (λ front. behind front l.last) (r.only l.front fits.0 l.tell) ∙ sym l.told_is;
-}
-  where
-    more : take (at + 1) lines ≡ take at lines ++ text ∷ []
-    more = take_more lines at [] within ∙ ap (λ x. take at lines ++ x ∷ []) is
+  -- all was read
+  pub read_all : old.0 ≡ [] → HasNext text old past None
+  read_all none = (record { lines = read.lines; text_is = whole; tell = read.tell }, only)
+    where
+      whole : parts_of text ≡ read.lines ++ [] ∷ []
+      whole = read.text_is ∙ ap (λ r. read.lines ++ parts_of r) none
 
-pub read_whole : (lines : List (List ℕ)) (at : ℕ) (told : List JournalLine) → length lines ≤ at → Read lines at told → Read lines (length lines) told
-read_whole lines at told over r =
-    let all : take at lines ≡ take (length lines) lines = take_all at lines over ∙ sym (take_all (length lines) lines (omega arith)) in
-    record { tell = subst (λ ls. Tell ls told) all r.tell; only = λ other fit t. r.only other fit (subst (λ ls. Tell ls other) (sym all) t) }
+      only : (other : List JournalLine) → AllFit other → IsJournal text other → past ≡ other
+      only other fit j =
+          let same = append_cancel_right read.lines j.lines ([] ∷ []) (sym whole ∙ j.text_is) in
+          read.only_told other fit (subst (λ ls. Tell ls other) (sym same) j.tell)
 
-pub whole_tells : (lines : List (List ℕ)) (told : List JournalLine) → Read lines (length lines) told → Tell lines told
-whole_tells lines told r = subst (λ ls. Tell ls told) (take_all (length lines) lines (omega arith)) r.tell
+  -- or what is left has no LF
+  pub rest_fails : parts_of old.0 ≡ old.0 ∷ [] → ¬ (old.0 ≡ []) → FirstFault text (record { line = old.1 + 1; kind = unended_kind old.0 })
+  rest_fails is some other = record {
+    front = read.lines;
+    line = old.0;
+    behind = [];
+    parts_are = read.text_is ∙ ap (λ l. read.lines ++ l) is;
+    number = ap (λ m. m + 1) read.number;
+    told = past;
+    tell = read.tell;
+    fails = (some, refl);
+  }
 
-pub whole_only : (lines : List (List ℕ)) (told : List JournalLine) → Read lines (length lines) told → (other : List JournalLine) → AllFit other → Tell lines other → told ≡ other
-whole_only lines told r other fit t = r.only other fit (subst (λ ls. Tell ls other) (sym (take_all (length lines) lines (omega arith))) t)
+pub none_left : (rest : List ℕ) → true ≡ (length rest == 0) → rest ≡ []
+none_left [] is = refl
+none_left (x ∷ rest) is = absurd (omega (arith, eqb-true (length (x ∷ rest)) 0 (sym is)))
 
--- ---- a fault behind them
-
-cut_at : (lines : List (List ℕ)) (at : ℕ) → at < length lines → take at lines ++ get_or lines at [] ∷ drop (suc at) lines ≡ lines
-cut_at lines at within = ap (λ l. take at lines ++ l) (sym (drop-cons lines at [] within)) ∙ take-append-drop at lines
-
-before_more : (parts : List (List ℕ)) (rest text : List ℕ) (k : LineKind) → Fails text k → FailsBefore (parts ++ rest ∷ []) text k
-before_more [] rest text k f = f
-before_more (part ∷ parts) rest text k f = f
-
-pub read_fault : (lines : List (List ℕ)) (at : ℕ) (told : List JournalLine) (text : List ℕ) (k : LineKind) → at < length lines → get_or lines at [] ≡ text → Read lines at told → Fails text k → FaultyAmong lines (record { line = at + 1; kind = k })
-read_fault lines at told text k within is r f = λ other rest. record {
-  front = take at lines;
-  line = text;
-  behind = drop (suc at) lines ++ rest ∷ [];
-  parts_are =
-      ap (λ l. l ++ rest ∷ []) (sym (cut_at lines at within) ∙ ap (λ x. take at lines ++ x ∷ drop (suc at) lines) is)
-      ∙ append_assoc (take at lines) (text ∷ drop (suc at) lines) (rest ∷ []);
-  number = ap (λ n. n + 1) (sym (length-take-le at lines (omega arith)));
-  told = told;
-  tell = r.tell;
-  fails = before_more (drop (suc at) lines) rest text k f;
-}
-
--- ---- as the lines are seen
-
-abbrev seen : List (Bor (List ℕ)) → List (List ℕ)
-seen lines = map (λ line. line.now) lines
-
-here : (lines : List (Bor (List ℕ))) (at : ℕ) (d : Bor (List ℕ)) → at < length lines → get_or (seen lines) at [] ≡ (get_or lines at d).now
-here lines at d within = get_or-map (λ line. line.now) lines at d [] within
-
-inside : (lines : List (Bor (List ℕ))) (at : ℕ) → at < length lines → at < length (seen lines)
-inside lines at within = rw (length-map lines (λ line. line.now)) within
-
-pub fault_among : (lines : List (Bor (List ℕ))) (at : ℕ) (told : List JournalLine) (d : Bor (List ℕ)) (k : LineKind) → at < length lines → Read (seen lines) at told → Fails (get_or lines at d).now k → FaultyAmong (seen lines) (record { line = at + 1; kind = k })
-fault_among lines at told d k within r f = read_fault (seen lines) at told (get_or lines at d).now k (inside lines at within) (here lines at d within) r f
-
-pub next_among : (lines : List (Bor (List ℕ))) (at : ℕ) (told new : List JournalLine) (d : Bor (List ℕ)) → at < length lines → Read (seen lines) at told
-    → (first : Option JournalLine) × Tells (get_or lines at d).now first × (new ≡ behind told first)
-    → ((first : Option JournalLine) → FitsLine first → Tells (get_or lines at d).now first → new ≡ behind told first) → Read (seen lines) (at + 1) new
-next_among lines at told new d within r f only = read_next (seen lines) at told new (get_or lines at d).now (inside lines at within) (here lines at d within) r f only
-
--- ---- the parts before the last one, and that one
-
-parts_some : (text : List ℕ) → parts_of text ≡ [] → ⊥
-parts_some text none =
-    let count = length-slice_split is_lf text in
-    let zero : length (parts_of text) ≡ 0 = ap length none in
-    omega arith
-
-pub no_parts : (parts : List (Bor (List ℕ))) (text : List ℕ) → length parts < 1 → seen parts ≡ parts_of text → ⊥
-no_parts [] text short is = parts_some text (sym is)
-no_parts (part ∷ parts) text short is = omega arith
-
-pub last_before : (parts : List (Bor (List ℕ))) (d : Bor (List ℕ)) (lines : List (List ℕ)) → seen parts ≡ lines ++ [] ∷ [] → (seen (take (length parts - 1) parts) ≡ lines) × ((get_or parts (length parts - 1) d).now ≡ [])
-last_before parts d lines is = (front, last)
-  where
-    count : length parts ≡ length lines + 1
-    count = sym (length-map parts (λ line. line.now)) ∙ ap length is ∙ length-append lines ([] ∷ [])
-
-    less : length parts - 1 ≡ length lines
-    less = omega (arith, count)
-
-    front : seen (take (length parts - 1) parts) ≡ lines
-    front = rw less (sym (take-map (λ line. line.now) (length lines) parts) ∙ ap (take (length lines)) is ∙ take-append_seam lines ([] ∷ []))
-
-    last : (get_or parts (length parts - 1) d).now ≡ []
-    last = rw less (sym (here parts (length lines) d (omega (arith, count))) ∙ ap (λ xs. get_or xs (length lines) []) is ∙ get_or-append_seam lines [] [] [])
-
-pub journal_before : (parts : List (Bor (List ℕ))) (d : Bor (List ℕ)) (text : List ℕ) (told : List JournalLine) → seen parts ≡ parts_of text → IsJournal text told → TellBefore (seen (take (length parts - 1) parts)) (get_or parts (length parts - 1) d).now told
-journal_before parts d text told is j =
-    let last = last_before parts d j.lines (is ∙ j.text_is) in
-    (last.1, subst (λ ls. Tell ls told) (sym last.0) j.tell)
+pub some_left : (rest : List ℕ) → false ≡ (length rest == 0) → ¬ (rest ≡ [])
+some_left rest is none = let both : false ≡ true = is ∙ ap (λ r. length r == 0) none in cc

@@ -2,3 +2,4 @@ pub mod Exact
 pub mod Unescaped
 pub mod Words
 pub mod Journal
+pub mod Reading

@@ -7,10 +7,12 @@ mod head;
 mod history;
 mod journal;
 mod laws;
+mod line;
 mod log;
 mod note;
 mod note_verb;
 mod notes;
+mod reader;
 mod texts;
 mod words;
 
@@ -18,3 +20,4 @@ pub use journal::{JournalLine, JournalLines, LineFault, read_journal};
 pub use laws::{fault_has_no_journal, written_journal_is_read};
 pub use note::read_note;
 pub use note_verb::NoteVerb;
+pub use reader::JournalReader;

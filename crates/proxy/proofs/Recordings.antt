@@ -1,19 +1,18 @@
 -- What `report` comes to, from what it said.
 use Rattle.std.proofs.Common.{◌≡◌, ◌⊎◌, ℕ, List, Option, inl, inr, refl, sym, subst}
-use Rattle.std.specs.Prelude.{reverse}
-use Rattle.access_report.specs.Table.{IsReport}
+use Rattle.access_report.specs.Table.{ReportsRecord}
 use Rattle.config.specs.Loading.{IsContents}
-use Rattle.journal_value.specs.Journal.{FirstFault, IsJournal}
+use Rattle.journal_value.specs.Journal.{FirstFault}
 use Rattle.px_outside.specs.Outside.{Rose}
 use Rattle.px_outside.specs.declared.failed.Failed.{Failed}
 use Rattle.px_outside.specs.declared.failed.Failed.TheVariants as failed
 use Rattle.proxy.specs.Offline.{end_of_read}
-use Rattle.journal_value.specs.declared.journal.JournalLine.{JournalLine}
 use Rattle.journal_value.specs.declared.journal.LineFault.{LineFault}
 use Rattle.proxy.specs.declared.end.End.{End}
 use Rattle.proxy.specs.declared.end.End.TheVariants.{Done, Usage, Config, Schedule, ReadFault, WriteFault, Memory, Differs}
-use Rattle.proxy.specs.Recorded.{FaultsRecord, IsRecordText, ReportsFile, ReportsRecord, TellsLineFault, TellsRecord, TellsReport, WritesRecordText}
+use Rattle.proxy.specs.Recorded.{FaultsRecord, IsRecordText, ReportsFile, TellsLineFault, TellsRecord, WritesRecordText}
 use Rattle.proxy.specs.Report.{text_fault}
+use Rattle.proxy.specs.Says.{Tells}
 use Rattle.proxy.specs.Written.{WritesFrontOf}
 use Rattle.proxy.proofs.Ends.{by_end}
 
@@ -22,13 +21,11 @@ module _ (record_text : List ℕ) (old new : Option (List ℕ)) (before now : �
   due text is (inl same) = inl same
   due text is (inr front) = inr (text, is, front)
 
-  pub journal_told : (told : List JournalLine) → IsJournal record_text told → (end : End) → TellsReport told old new before now end → TellsRecord record_text old new before now end
-  journal_told told journal end (inl t) =
-      let is : ReportsRecord record_text t.0 = record { told = told; journal = journal; report = t.1 } in
-      by_end t.0 Done old new before now (λ e. TellsRecord record_text old new before now e)
-      (λ written. (t.0, is, written)) (λ rose front. (rose, (t.0, inl is, front)))
-      (λ part. due t.0 (inl is) part) end t.2
-  journal_told told journal end (inr t) = subst (λ e. TellsRecord record_text old new before now e) (sym t.0) (inl t.1)
+  pub report_told : (text : List ℕ) → ReportsRecord record_text text → (end : End) → Tells text Done old new before now end → TellsRecord record_text old new before now end
+  report_told text is end tells =
+      by_end text Done old new before now (λ e. TellsRecord record_text old new before now e)
+      (λ written. (text, is, written)) (λ rose front. (rose, (text, inl is, front)))
+      (λ part. due text (inl is) part) end tells
 
   pub fault_told : (fault : LineFault) → FirstFault record_text fault → (end : End) → TellsLineFault fault old new before now end → TellsRecord record_text old new before now end
   fault_told fault first end (inl t) =

@@ -1,10 +1,9 @@
 -- What `report RECORD` comes to.
-use Rattle.std.specs.Prelude.{◌≡◌, ◌⊎◌, ℕ, List, Option, reverse}
-use Rattle.access_report.specs.Table.{IsReport}
+use Rattle.std.specs.Prelude.{◌≡◌, ◌⊎◌, ℕ, List, Option}
+use Rattle.access_report.specs.Table.{ReportsRecord}
 use Rattle.config.specs.Loading.{IsContents}
 use Rattle.journal_text.specs.declared.line_kind.LineKind.TheVariants as kind
-use Rattle.journal_value.specs.Journal.{FirstFault, IsJournal}
-use Rattle.journal_value.specs.declared.journal.JournalLine.{JournalLine}
+use Rattle.journal_value.specs.Journal.{FirstFault}
 use Rattle.journal_value.specs.declared.journal.LineFault.{LineFault}
 use Rattle.px_outside.specs.Outside.{told_more, Rose}
 use Rattle.proxy.specs.declared.end.End.{End}
@@ -13,12 +12,6 @@ use Rattle.proxy.specs.declared.end.End.TheVariants.{WriteFault, Memory, Differs
 use Rattle.proxy.specs.Report.{text_fault}
 use Rattle.proxy.specs.Says.{Tells}
 use Rattle.proxy.specs.Written.{WritesFrontOf}
-
--- the text is the access report of the journal that the record is
-pub record ReportsRecord (record_text text : List ℕ) : Type 0 where
-  pub told : List JournalLine
-  pub journal : IsJournal record_text told
-  pub report : IsReport (reverse told) text
 
 -- or the line of its first fault
 pub record FaultsRecord (record_text text : List ℕ) : Type 0 where
@@ -68,12 +61,7 @@ ReportsFile name told old new reads_before reads_now before now Memory =
 ReportsFile name told old new reads_before reads_now before now end =
     TellsContents told name old new before now end
 
--- ---- what is told of a journal, and of a fault
-
-abbrev pub TellsReport : List JournalLine → Option (List ℕ) → Option (List ℕ) → ℕ → ℕ → End → Type 0
-TellsReport told old new before now end =
-    ((text : List ℕ) × IsReport (reverse told) text × Tells text Done old new before now end)
-    ⊎ ((end ≡ Memory) × (new ≡ old))
+-- ---- what is told of a fault
 
 abbrev pub TellsLineFault : LineFault → Option (List ℕ) → Option (List ℕ) → ℕ → ℕ → End → Type 0
 TellsLineFault fault old new before now end =

@@ -1,14 +1,14 @@
 // The access report of a record.
 
 ghost use Rattle.std.specs.Prelude.{◌≡◌, ◌↔◌, true};
-ghost use Rattle.proxy.specs.Recorded.{ReportsFile, TellsLineFault, TellsRecord, TellsReport};
+ghost use Rattle.proxy.specs.Recorded.{ReportsFile, TellsLineFault, TellsRecord};
 
 use crate::end::End;
 use crate::offline_commands::{read_end, tell};
 use crate::report::text_fault_line;
 use access_report::report_of;
 use journal_text::LineKind;
-use journal_value::{JournalLines, LineFault, read_journal};
+use journal_value::LineFault;
 use px_outside::{Files, Sink};
 use std::alloc::Global;
 
@@ -27,19 +27,9 @@ fn report_record<K: Sink>(alloc: Global, bytes: &[u8], out: &mut K) -> End
     ensures { TellsRecord bytes.now (K.written out.old) (K.written out.new) (K.faults out.old)
         (K.faults out.new) result }
 {
-    match read_journal(alloc, bytes) {
-        Ok(journal) => tell_report(alloc, &journal, out),
-        Err(fault) => tell_line_fault(alloc, fault, out),
-    }
-}
-
-fn tell_report<K: Sink>(alloc: Global, journal: &JournalLines, out: &mut K) -> End
-    ensures { TellsReport journal.now (K.written out.old) (K.written out.new) (K.faults out.old)
-        (K.faults out.new) result }
-{
-    match report_of(alloc, journal) {
+    match report_of(alloc, bytes) {
         Ok(text) => tell(End::Done, text.as_bytes(), out),
-        Err(_) => End::Memory,
+        Err(fault) => tell_line_fault(alloc, fault, out),
     }
 }
 

@@ -1,5 +1,5 @@
 use Rattle.journal_value.proofs.NoJournal.{note_only}
-use Rattle.journal_value.proofs.journal.note_of.Goals as goal
+use Rattle.journal_value.proofs.line.note_of.Goals as goal
 
 pub returns-in-Some-clause-only_told : goal.returns-in-Some-clause-only_told
 returns-in-Some-clause-only_told c =

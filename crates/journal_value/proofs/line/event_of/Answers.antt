@@ -2,7 +2,7 @@ use Rattle.std.proofs.Common.{◌≡◌}
 use Rattle.core_events.specs.declared.event.Event.{Event}
 use Rattle.journal_text.specs.Line.{IsSkipped, SpellsEvent}
 use Rattle.journal_value.proofs.NoJournal.{event_only, is_event}
-use Rattle.journal_value.proofs.journal.event_of.Goals as goal
+use Rattle.journal_value.proofs.line.event_of.Goals as goal
 
 pub returns-in-Some-clause-only_told : goal.returns-in-Some-clause-only_told
 returns-in-Some-clause-only_told c =
