@@ -6,9 +6,10 @@ use Rattle.journal_value.proofs.reader.JournalReader.next.Goals as goal
 pub loop-line-preserved : goal.loop-line-preserved
 loop-line-preserved c =
     let next = c.in-Some.ensures.some in
-    let told = c.in-Ok-None.ensures in
-    (λ text past read. rw c.in-Ok-None.field-0-is at (read_line text c.loop-line.self past (c.loop-line.invariant.0 text past read) c.in-Some.line.now c.next_line.new.self next c.in-Ok-None.field-0 told.told told.only_told),
-    omega (arith, next.shorter, c.loop-line.invariant.1))
+    let told = c.in-Ok-None.ensures in (
+      λ text past read. rw c.in-Ok-None.field-0-is at (read_line text c.loop-line.self past (c.loop-line.invariant.0 text past read) c.in-Some.line.now c.next_line.new.self next c.in-Ok-None.field-0 told.told told.only_told),
+      omega (arith, next.shorter, c.loop-line.invariant.1),
+    )
 
 pub returns-in-Ok-Some-clause-told : goal.returns-in-Ok-Some-clause-told
 returns-in-Ok-Some-clause-told c = λ text past read.
