@@ -1,0 +1,13 @@
+use Rattle.std.proofs.Common.{rules}
+use Rattle.std.specs.Prelude.{IsTrue}
+use Rattle.test_run.specs.Due.{Stays, Then}
+use Rattle.test_run.specs.Stand.{stand}
+use Rattle.test_run.proofs.run.TestRun.go.Goals as goal
+
+pub loop-init : goal.loop-init
+loop-init g c = Stays
+
+pub loop-preserved : goal.loop-preserved
+loop-preserved g c =
+    let taken : IsTrue c.in_ok-do_due.field-0 = search rules in
+    Then (stand c.loop.self) c.in-Some.due c.loop.invariant c.in-Some.ensures.some (c.in_ok-do_due.ensures taken)
