@@ -8,6 +8,7 @@ mod Items
 mod LineEnds
 mod Marks
 mod MayBeMembers
+mod Migrating
 mod MisplacedWords
 mod OneReading
 mod Readings

@@ -11,6 +11,7 @@ pub mod Keys
 pub mod Laws
 pub mod LineEnds
 pub mod Loading
+pub mod Migrated
 pub mod Misplaced
 pub mod Names
 pub mod Outcomes

@@ -60,8 +60,8 @@ fn not_toml(alloc: Global, name: &[u8], bytes: &[u8], place: usize, said: &str) 
     })
 }
 
-// The table of a document's bytes.
-fn read_table(alloc: Global, name: &[u8], bytes: &[u8]) -> Result<Table, ConfigError>
+/// The table of a document's bytes.
+pub(crate) fn read_table(alloc: Global, name: &[u8], bytes: &[u8]) -> Result<Table, ConfigError>
     ensures table { IfOk result (λ t. IsDocument bytes.now (table_view t)) }
     ensures refused { IfErr result (OfFault (RefusesDocument name.now bytes.now)) }
 {
@@ -107,8 +107,8 @@ fn loaded<F: Files>(alloc: Global, files: &mut F, top: &Table) -> Result<LoadedC
     }
 }
 
-// The configuration that the document of these bytes is.
-fn of_document<F: Files>(
+/// The configuration that the document of these bytes is.
+pub(crate) fn of_document<F: Files>(
     alloc: Global,
     files: &mut F,
     bytes: &[u8],
