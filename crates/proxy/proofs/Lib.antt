@@ -14,8 +14,7 @@ pub mod OneRun
 pub mod Building
 pub mod Ends
 pub mod Recordings
-pub mod Migrations
-mod Mirrors
+pub mod Mirrors
 pub mod Stopping
 pub mod LineStops
 pub mod ScheduleStops

@@ -14,7 +14,6 @@ pub mod Runnable
 pub mod Says
 pub mod Explain
 pub mod Complete
-pub mod Migrating
 pub mod Mirroring
 pub mod Offline
 pub mod Serving
