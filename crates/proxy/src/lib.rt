@@ -27,5 +27,6 @@ mod taken;
 pub use end::Status;
 pub use laws::{journal_has_no_fault, journal_is_read, journal_replays, loaded_is_run};
 pub use offline_commands::offline;
+pub use runnable::core_config;
 pub use serve::serve_command;
 pub use serve_words::{Serve, UsageFault, serve_of};
