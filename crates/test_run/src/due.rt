@@ -17,7 +17,7 @@ use test_text::Meeting;
 
 /// What goes on by itself.
 #[derive(Clone, Copy)]
-pub(crate) enum Due {
+pub enum Due {
     /// The connection that is ready for the longest time goes on.
     Runs,
     /// A shared call is answered.

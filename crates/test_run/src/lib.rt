@@ -11,6 +11,7 @@ mod rest;
 mod run;
 mod told;
 
+pub use due::Due;
 pub use known::{Amount, Known, Meets, SendingText};
 pub use moves::SendingSide;
 pub use run::TestRun;
