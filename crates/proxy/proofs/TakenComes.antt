@@ -27,7 +27,8 @@ use Rattle.run_config.specs.declared.config.Config.{Config}
 use Rattle.core_events.specs.declared.event.Event.{Event}
 use Rattle.core_events.specs.declared.event.Event.TheVariants.{Connected}
 use Rattle.proxy_core.specs.Others.{about}
-use Rattle.proxy_core.proofs.Meeting.{TakesThere, around_met, around_last, none_took}
+use Rattle.proxy_core.proofs.HeardServers.{late_alone}
+use Rattle.proxy_core.proofs.Meeting.{LateAlone, TakesThere, around_met, around_last, none_took}
 use Rattle.proxy_core.proofs.Members.{eq_self, eq_same, eq_turned}
 use Rattle.proxy_core.proofs.ReadyRing.{absent_all}
 use Rattle.proxy.specs.declared.taken.Taken.{Taken}
@@ -132,12 +133,13 @@ TakesNone (Takes side n) = ⊥
 TakesNone (Connects true) = ⊥
 TakesNone other = Unit {0}
 
-none_there : (i : Input) (h : Heard) → TakesNone i → TakesThere i h
-none_there (Bytes side bytes) h k = tt
-none_there (Ends side) h k = tt
-none_there (Resets side) h k = tt
-none_there (Connects made) h k = tt
-none_there (Takes side n) h k = absurd k
+none_there : (i : Input) (h : Heard) → LateAlone h → TakesNone i → TakesThere i h
+none_there (Bytes side bytes) h alone k = tt
+none_there (Ends side) h alone k = tt
+none_there (Resets Client) h alone k = tt
+none_there (Resets Server) h alone k = alone
+none_there (Connects made) h alone k = tt
+none_there (Takes side n) h alone k = absurd k
 
 none_makes : (i : Input) (c : ℕ) → TakesNone i → makes c (Comes c i) ≡ 0
 none_makes (Bytes side bytes) c k = refl
@@ -163,7 +165,7 @@ pub came_kept : (C : Config) (past : Past) (s next : State) (c : ℕ) (i : Input
 came_kept C past s next c i e group is none one one' m =
     let x : Happened = record { event = e; group = group } in
     let h = heard c past in
-    let k = counted c h i group (none_there i h none) in
+    let k = counted c h i group (none_there i h (late_alone c past one.once) none) in
     let a = none_counted i k.finished (around h) none in
     let more : servers_made c past + makes c (Comes c i) ≡ servers_made c past = let z = none_makes i c none in omega (arith, z) in
     let own : taken_by (x ∷ past) next c ≡ taken_by past s c =

@@ -30,7 +30,8 @@ use Rattle.run_config.specs.declared.config.Config.{Config}
 use Rattle.proxy_core.specs.declared.core_state.Core.{Core}
 use Rattle.core_events.specs.declared.event.Event.{Event}
 use Rattle.proxy_core.specs.declared.live.Live.{Live}
-use Rattle.proxy_core.proofs.Meeting.{TakesThere}
+use Rattle.proxy_core.proofs.HeardServers.{late_alone}
+use Rattle.proxy_core.proofs.Meeting.{LateAlone, TakesThere}
 use Rattle.proxy_core.proofs.SoundPast.{none_holds}
 use Rattle.proxy.specs.declared.taken.Taken.{Taken}
 use Rattle.proxy_core.specs.OneServer.{OneServer}
@@ -107,9 +108,9 @@ pending_few C z (Some conn) n k few e =
     by_reset true = refl
     by_reset false = refl
 
-took_there : (C : Config) (z : Seen) (o : Option Conn) (side : Side) (n : ℕ) → (has_made z.heard.connects ≡ false → server_output 1 z.place ≡ []) → ConnectionContinues C z o → n ≤ pending_in side o → TakesThere (Takes side n) z.heard
-took_there C z o Client n unsent k few = tt
-took_there C z o Server n unsent k few = λ e. pending_few C z o n k few (unsent e)
+took_there : (C : Config) (z : Seen) (o : Option Conn) (side : Side) (n : ℕ) → (has_made z.heard.connects ≡ false → server_output 1 z.place ≡ []) → LateAlone z.heard → ConnectionContinues C z o → n ≤ pending_in side o → TakesThere (Takes side n) z.heard
+took_there C z o Client n unsent alone k few = tt
+took_there C z o Server n unsent alone k few = (λ e. pending_few C z o n k few (unsent e), alone)
 
 abbrev if_side : {A : Type 0} → Side → A → A → A
 if_side Client a b = a
@@ -152,7 +153,7 @@ took_kept C past s next core c n side e group is r one one' h m =
     let a = let P : Option Live → Type 0 = λ o. AgreesAt C z o in subst P f.1 (r.agrees.each c) in
     let bytes = take n (queue_on side f.0.conn) in
     let front : front_of side n (live_at core.live.items c) ≡ Some bytes = ap (front_of side n) f.1 ∙ front_is n side f.0 f.2 in
-    let k = counted c z.heard (Takes side n) group (took_there C z f.0.conn side n one.unsent a.continues f.2) in
+    let k = counted c z.heard (Takes side n) group (took_there C z f.0.conn side n one.unsent (late_alone c past one.once) a.continues f.2) in
     let t = took_counted side n k.finished (around z.heard) in
     let own : taken_by (x ∷ past) next c ≡ took_on side bytes (taken_by past s c) =
     came_entry C past s next c (Takes side n) e group (z.heard.client.took + more_at Client side n) (last_took z.heard.connects + more_at Server side n) is one' m

@@ -51,7 +51,7 @@ use Rattle.run_config.specs.declared.config.Config.{Config}
 use Rattle.proxy_core.proofs.CameAt.{UncutOr, heard_uncut, stands_come, stands_uncut}
 use Rattle.proxy_core.proofs.Coming.{ends_edges}
 use Rattle.proxy_core.proofs.GroupNotes.{About, AreDue, due_about, due_asks, due_failure, due_finish, due_quiet, ended_settling, quiet_finish, settling_due, tells_all}
-use Rattle.proxy_core.proofs.Meeting.{AnswersFirst, TakesThere, around_last, around_met, come_further, come_told, last_further, none_made, queues_met}
+use Rattle.proxy_core.proofs.Meeting.{AnswersFirst, LateAlone, TakesThere, around_last, around_met, come_further, come_told, last_further, none_made, queues_met}
 use Rattle.proxy_core.proofs.Standing.{sent_at, stands_at}
 use Rattle.proxy_core.proofs.PlainServers.{PlainEnds, none_taken, numbered_at, plain_ends, few_made}
 use Rattle.proxy_core.proofs.ServerLeft.{unserved_at}
@@ -104,15 +104,19 @@ none_queued : (e : End) → e ≡ fresh_end → length (queue_of e) ≡ 0
 none_queued e is = ap (λ x. length (queue_of x)) is
 
 -- what a server takes is taken by one that was made
-pub takes_there : (i : Input) (h : Heard) (l : TraceState) (conn : Conn) → HoldsEnds (around h) l conn.ends → ConnMay i conn → TakesThere i h
-takes_there (Bytes side bytes) h l conn k m = tt
-takes_there (Ends side) h l conn k m = tt
-takes_there (Resets side) h l conn k m = tt
-takes_there (Connects made) h l conn k m = tt
-takes_there (Takes Client n) h l conn k m = tt
-takes_there (Takes Server n) h l conn k m = λ none.
-    let e = no_stream k.earlier conn.ends.link conn.ends.server.reset (last_took h.connects) (sym k.servers_took ∙ none_made h.connects none) in
-    let z = none_queued conn.ends.server (k.nothing_came e) in omega (arith, m, z)
+pub takes_there : (i : Input) (h : Heard) (l : TraceState) (conn : Conn) → LateAlone h → HoldsEnds (around h) l conn.ends → ConnMay i conn → TakesThere i h
+takes_there (Bytes side bytes) h l conn alone k m = tt
+takes_there (Ends side) h l conn alone k m = tt
+takes_there (Resets Client) h l conn alone k m = tt
+takes_there (Resets Server) h l conn alone k m = alone
+takes_there (Connects made) h l conn alone k m = tt
+takes_there (Takes Client n) h l conn alone k m = tt
+takes_there (Takes Server n) h l conn alone k m = (
+  λ none.
+      let e = no_stream k.earlier conn.ends.link conn.ends.server.reset (last_took h.connects) (sym k.servers_took ∙ none_made h.connects none) in
+      let z = none_queued conn.ends.server (k.nothing_came e) in omega (arith, m, z),
+  alone,
+)
 
 -- an answer comes where no server took anything
 pub answers_first : (i : Input) (h : Heard) (l : TraceState) (conn : Conn) → HoldsEnds (around h) l conn.ends → PlainEnds h l conn.ends → ConnMay i conn → AnswersFirst i (around h)
@@ -191,7 +195,7 @@ or_true : (b : Bool) → (b || true) ≡ true
 or_true true = refl
 or_true false = refl
 
-module _ (C : Config) (past : Past) (s : State) (c : ℕ) (input : Input) (k : Stood C (heard c past) (s.places c)) where
+module _ (C : Config) (past : Past) (s : State) (c : ℕ) (input : Input) (k : Stood C (heard c past) (s.places c)) (alone : LateAlone (heard c past)) where
   abbrev h : Heard
   h = heard c past
 
@@ -251,7 +255,7 @@ module _ (C : Config) (past : Past) (s : State) (c : ℕ) (input : Input) (k : S
       let new_is : new ≡ w.mid = w.is ∙ ap (λ ns. noted_in ns w.mid) silent in
       let quiet : TellsNothing c group = (let P : List Note → Type 0 = λ x. TellsNothing c x in subst P (sym none) (due_quiet c [] tt)) in
       let no_end : finish_told (notes_about c group) ≡ false = ap (λ x. finish_told (notes_about c x)) none in
-      let first = takes_there input h (stand_of C h place) old z.ends may in
+      let first = takes_there input h (stand_of C h place) old alone z.ends may in
       let ends_are : new.ends ≡ ends_met input true old.ends = ap (λ x. x.ends) new_is ∙ ap (λ x. x.ends) w.hears.is ∙ ap (λ st. ends_met input (has_finished st) old.ends) z.there in
       let told : around (now group) ≡ met_by input true (around h) = around_met c h input group no_end first ∙ ap (λ b. met_by input b (around h)) z.finished in
       let further : further_of c h (Comes c input) group ≡ nothing_further = come_further c h input group quiet no_end ∙ ap (λ b. unless_finished b (further_in input)) z.finished in
@@ -291,7 +295,7 @@ module _ (C : Config) (past : Past) (s : State) (c : ℕ) (input : Input) (k : S
       let finished : l.finished ≡ h.finished = k.finished z.not_failed in
       let un = unserved_at g h place l k.own k.stands in
       let plain = plain_ends h l old.ends z.holds.ends un (numbered_at g h place l k.own k.stands) in
-      let there = takes_there input h l old z.holds.ends may in
+      let there = takes_there input h l old alone z.holds.ends may in
       let told : around h' ≡ met_by input h.finished (around h) = around_met c h input group no_end there in
       let stands = stands_come g c h input group place l (heard_uncut c past) quiet no_end k.stands in
       let same : longer (unless_finished l.finished (further_in input)) l ≡ longer f l =
@@ -357,7 +361,7 @@ module _ (C : Config) (past : Past) (s : State) (c : ℕ) (input : Input) (k : S
       let fails_it : failure_told (notes_about c last) ≡ true = ap failure_told (tells_all c last (refl, tt)) in
       let stands = stands_uncut g c h (Comes c input) last place l uncut (quiet_finish c) k.stands in
       let F : _ → Type 0 = λ f. Unfolds g (start_of g h') place (longer f l) in
-      let told : around h' ≡ around h = around_last c h input last ends_it (takes_there input h l old z.holds.ends may) ∙ met_bytes input (around h) lacks.memory in
+      let told : around h' ≡ around h = around_last c h input last ends_it (takes_there input h l old alone z.holds.ends may) ∙ met_bytes input (around h) lacks.memory in
       let A : Around → Type 0 = λ a. HoldsEnds a (longer nothing_further l) new.ends in
       let E : BothEnds → Type 0 = λ e. HoldsEnds (around h) l e in
       let Q : BothEnds → Type 0 = λ e. HoldsQueues h' place e in

@@ -29,6 +29,8 @@ use Rattle.proxy_core.proofs.Places.{number_at, live_there}
 use Rattle.proxy_core.proofs.Entries.{calls_without_self, none_without}
 use Rattle.proxy_core.proofs.Standing.{as_live}
 use Rattle.proxy_core.proofs.CameOn.{AsksOn, MayConn, Stood, came_on, state_came}
+use Rattle.proxy_core.proofs.HeardServers.{late_alone}
+use Rattle.proxy_core.proofs.OneServer.{one_made}
 use Rattle.proxy_core.proofs.Agreeing.{After, assemble, its, distinct_live, one_changed, is_live_over, serves_still}
 
 none_any : {A : Type 0} (xs : List A) → is_any xs ≡ false → xs ≡ []
@@ -114,7 +116,7 @@ comes C past s old new c input group r k =
     let there = live_there c k.at old.live.items k.before k.place k.found in
     let i = its C (seen past s c) (live_at old.live.items c) k.before (r.agrees.each c) there in
     let served = as_live C c (seen past s c) i.live (r.sound.each c) in
-    let w = came_on C past s c input (stood_of C past s c served) k.before.conn k.after.conn k.before.edges group k.over i.continues i.edges (may_conn input k.before k.may) k.came in
+    let w = came_on C past s c input (stood_of C past s c served) (late_alone c past (one_made C past s r.sound.leads c).once) k.before.conn k.after.conn k.before.edges group k.over i.continues i.edges (may_conn input k.before k.may) k.came in
     let number = number_at c k.at old.live.items k.before k.place k.found in
     let number' : k.after.number ≡ c = k.same.number ∙ number in
     let t = core_came c w.lacks k.over s old new k.at k.before k.after number number' r.agrees.ring r.agrees.queue i.asking w.asks w.stays k.goes_on k.ends in

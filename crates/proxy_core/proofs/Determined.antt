@@ -137,7 +137,7 @@ one_run g took l m n some others t t' p q w w' k k' choices cuts =
 
 -- without what notes tell of it besides
 bare : Heard → Heard
-bare h = record h { finished = false; failed = false; notes = []; edges = no_edges }
+bare h = record h { late = false; finished = false; failed = false; notes = []; edges = no_edges }
 
 -- by what a group tells
 heard_by : ℕ → Heard → EventKind → (finishes : Bool) → List Reply → List Choice → Option Cut → Heard
@@ -148,6 +148,7 @@ heard_by c h v finishes replies choices cut =
       accepted = m.accepted;
       client = hears_more b.client m.client;
       connects = at_last (hears_more b.server) m.connects ++ b.connects;
+      late = false;
       replies = m.replies ++ replies;
       choices = m.choices ++ choices;
       cut = first_cut m.cut cut;

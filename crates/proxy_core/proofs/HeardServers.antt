@@ -7,18 +7,23 @@ use Rattle.core_events.specs.declared.event_kind.EventKind.TheVariants.{Accepts,
 use Rattle.core_events.specs.declared.event_kind.EventKind.TheVariants.{Turns, Runs, Marks}
 use Rattle.core_events.specs.declared.input.Input.{Input}
 use Rattle.core_events.specs.declared.input.Input.TheVariants.{Bytes, Ends, Resets, Connects, Takes}
-use Rattle.conn_trace.specs.Heard.{SideHeard, Heard, hears_more, at_last, Brought, brought_nothing}
+use Rattle.conn_trace.specs.Heard.{SideHeard, Heard, hears_more, at_last, unless_late, Brought, brought_nothing}
 use Rattle.conn_trace.specs.Heard.{brings_in, event_brings, accepts, marks, event_marks, brought}
-use Rattle.conn_trace.specs.Heard.{hears}
+use Rattle.conn_trace.specs.Heard.{hears, event_late, has_made}
 use Rattle.conn_trace.specs.Tellings.{notes_about, finish_told}
 use Rattle.core_events.specs.Kinds.{kind_of}
 use Rattle.record_model.specs.Past.{Past, heard}
 use Rattle.proxy_core.specs.Servers.{made, makes, servers_made}
+use Rattle.proxy_core.proofs.AllServers.{has_none}
 
 last_made : (f : SideHeard → SideHeard) (cs : List (Option SideHeard)) → made (at_last f cs) ≡ made cs
 last_made f [] = refl
 last_made f (None ∷ more) = last_made f more
 last_made f (Some s ∷ more) = ap suc (last_made f more)
+
+last_unless : (late : Bool) (f : SideHeard → SideHeard) (cs : List (Option SideHeard)) → made (unless_late late f cs) ≡ made cs
+last_unless true f cs = refl
+last_unless false f cs = last_made f cs
 
 joined_made : (cs ds : List (Option SideHeard)) → made (cs ++ ds) ≡ made cs + made ds
 joined_made [] ds = omega arith
@@ -38,9 +43,9 @@ marks_same (Bytes side bytes) h = same h
 marks_same (Ends side) h = same h
 marks_same (Connects answer) h = same h
 marks_same (Resets Client) h = record { servers = refl; finished = refl }
-marks_same (Resets Server) h = record { servers = last_made (λ s. record s { reset = true }) h.connects; finished = refl }
+marks_same (Resets Server) h = record { servers = last_unless h.late (λ s. record s { reset = true }) h.connects; finished = refl }
 marks_same (Takes Client n) h = record { servers = refl; finished = refl }
-marks_same (Takes Server n) h = record { servers = last_made (λ s. record s { took = s.took + n }) h.connects; finished = refl }
+marks_same (Takes Server n) h = record { servers = last_unless h.late (λ s. record s { took = s.took + n }) h.connects; finished = refl }
 
 event_same : (c : ℕ) (v : EventKind) (h : Heard) → Same h (event_marks c v h)
 event_same c (Accepts d vs from) h = by_number (nat_eq d c)
@@ -113,14 +118,58 @@ or_none : (a b : Bool) → (a || b) ≡ false → a ≡ false
 or_none true b e = absurd (true≢false e)
 or_none false b e = refl
 
+-- one that was made behind the finish
+abbrev late_count : Bool → ℕ
+late_count true = 1
+late_count false = 0
+
+late_step : (c : ℕ) (v : EventKind) (late : Bool) (n m : ℕ) → m ≤ n → late_count late + m ≤ n → late_count (event_late c v late) + m ≤ n + makes c v
+late_step c (Comes d (Connects true)) late n m few k = by_number (nat_eq d c)
+  where
+    by_number : (b : Bool) → late_count (if b then true else late) + m ≤ n + (if b then 1 else 0)
+    by_number true = omega (arith, few)
+    by_number false = omega (arith, k)
+late_step c (Comes d (Connects false)) late n m few k = by_number (nat_eq d c)
+  where
+    by_number : (b : Bool) → late_count (if b then false else late) + m ≤ n + 0
+    by_number true = omega (arith, few)
+    by_number false = omega (arith, k)
+late_step c (Comes d (Bytes side bytes)) late n m few k = by_number (nat_eq d c)
+  where
+    by_number : (b : Bool) → late_count (if b then late else late) + m ≤ n + 0
+    by_number true = omega (arith, k)
+    by_number false = omega (arith, k)
+late_step c (Comes d (Ends side)) late n m few k = by_number (nat_eq d c)
+  where
+    by_number : (b : Bool) → late_count (if b then late else late) + m ≤ n + 0
+    by_number true = omega (arith, k)
+    by_number false = omega (arith, k)
+late_step c (Comes d (Resets side)) late n m few k = by_number (nat_eq d c)
+  where
+    by_number : (b : Bool) → late_count (if b then late else late) + m ≤ n + 0
+    by_number true = omega (arith, k)
+    by_number false = omega (arith, k)
+late_step c (Comes d (Takes side t)) late n m few k = by_number (nat_eq d c)
+  where
+    by_number : (b : Bool) → late_count (if b then late else late) + m ≤ n + 0
+    by_number true = omega (arith, k)
+    by_number false = omega (arith, k)
+late_step c (Accepts d vs from) late n m few k = omega (arith, k)
+late_step c (Ticks moment) late n m few k = omega (arith, k)
+late_step c Turns late n m few k = omega (arith, k)
+late_step c Runs late n m few k = omega (arith, k)
+late_step c (Marks pool member up) late n m few k = omega (arith, k)
+
 -- so many were made
 pub record HeardOf (n : ℕ) (h : Heard) : Type 0 where
   pub few : made h.connects ≤ n
+  pub late : late_count h.late + made h.connects ≤ n
   pub all : h.finished ≡ false → n ≡ made h.connects
 
 heard_more : (c n : ℕ) (h : Heard) (v : EventKind) (group : List Note) → HeardOf n h → HeardOf (n + makes c v) (hears c h v group)
 heard_more c n h v group k = record {
   few = (let few = k.few in let most = by_finish (h.finished || told) in omega (arith, few, most, counted));
+  late = by_late (h.finished || told) counted;
   all = λ e. (let over : (h.finished || told) ≡ false = ap (λ b. b || told) (sym marked.finished) ∙ e in
       let some = k.all (or_none h.finished told over) in
       let all = ap (λ b. made (if b then brought_nothing else event_brings c v).connects) over ∙ event_makes c v in
@@ -141,10 +190,22 @@ heard_more c n h v group k = record {
         joined_made (at_last (hears_more b.server) (event_marks c v h).connects) b.connects
         ∙ ap (λ n. n + made b.connects) (last_made (hears_more b.server) (event_marks c v h).connects ∙ marked.servers)
 
+    by_late : (f : Bool) → made (hears c h v group).connects ≡ made h.connects + made (if f then brought_nothing else event_brings c v).connects
+        → late_count (if f then event_late c v h.late else h.late) + made (hears c h v group).connects ≤ n + makes c v
+    by_late true e = let s = late_step c v h.late n (made h.connects) k.few k.late in omega (arith, s, e)
+    by_late false e = let s = event_makes c v in let l = k.late in omega (arith, s, l, e)
+
     by_finish : (f : Bool) → made (if f then brought_nothing else event_brings c v).connects ≤ makes c v
     by_finish true = omega arith
     by_finish false = let e = event_makes c v in omega (arith, e)
 
 pub heard_servers : (c : ℕ) (past : Past) → HeardOf (servers_made c past) (heard c past)
-heard_servers c [] = record { few = omega arith; all = λ e. refl }
+heard_servers c [] = record { few = omega arith; late = omega arith; all = λ e. refl }
 heard_servers c (x ∷ past) = heard_more c (servers_made c past) (heard c past) (kind_of x.event) x.group (heard_servers c past)
+
+-- where one is made at most, one that was made behind the finish is the only one
+pub late_alone : (c : ℕ) (past : Past) → servers_made c past ≤ 1 → (heard c past).late ≡ true → has_made (heard c past).connects ≡ false
+late_alone c past once is =
+    let k = (heard_servers c past).late in
+    let one : late_count (heard c past).late ≡ 1 = ap late_count is in
+    has_none (heard c past).connects (let z : made (heard c past).connects ≡ 0 = omega (arith, k, one, once) in z)

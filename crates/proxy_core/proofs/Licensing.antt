@@ -12,7 +12,7 @@ use Rattle.core_events.specs.declared.event_kind.EventKind.TheVariants.{Comes, R
 use Rattle.core_events.specs.declared.input.Input.{Input}
 use Rattle.core_events.specs.declared.input.Input.TheVariants.{Bytes, Ends, Resets, Connects, Takes}
 use Rattle.conn_trace.specs.Heard.{SideHeard, Heard, taken, taken_by, servers_taken, has_made}
-use Rattle.conn_trace.specs.Heard.{hears_by, hears_more, at_last, brought_nothing, event_brings}
+use Rattle.conn_trace.specs.Heard.{hears_by, hears_more, at_last, unless_late, brought_nothing, event_brings}
 use Rattle.conn_trace.specs.Heard.{brought, hear_brought, marks, event_marks, hears_event, hears}
 use Rattle.conn_trace.specs.Heard.{start_of}
 use Rattle.conn_trace.specs.HeardLaws.{cut_for, cut_in, TellsNothing}
@@ -85,14 +85,18 @@ reset_last f keeps (Some s ∷ more) e = ap (λ b. if b then last_reset (at_last
     by_made true e rest = rest e
     by_made false e rest = keeps s e
 
+reset_unless : (late : Bool) (f : SideHeard → SideHeard) → ((s : SideHeard) → s.reset ≡ true → (f s).reset ≡ true) → (cs : List (Option SideHeard)) → last_reset cs ≡ true → last_reset (unless_late late f cs) ≡ true
+reset_unless true f keeps cs e = e
+reset_unless false f keeps cs e = reset_last f keeps cs e
+
 marks_more : (input : Input) (h : Heard) → AllowsMore h (marks input h)
 marks_more (Bytes side bytes) h = record { client = λ e. e; server = λ e. e }
 marks_more (Ends side) h = record { client = λ e. e; server = λ e. e }
 marks_more (Resets Client) h = record { client = λ e. refl; server = λ e. e }
-marks_more (Resets Server) h = record { client = λ e. e; server = λ e. reset_last (λ s. record s { reset = true }) (λ s x. refl) h.connects e }
+marks_more (Resets Server) h = record { client = λ e. e; server = λ e. reset_unless h.late (λ s. record s { reset = true }) (λ s x. refl) h.connects e }
 marks_more (Connects made) h = record { client = λ e. e; server = λ e. e }
 marks_more (Takes Client n) h = record { client = λ e. e; server = λ e. e }
-marks_more (Takes Server n) h = record { client = λ e. e; server = λ e. reset_last (λ s. record s { took = s.took + n }) (λ s x. x) h.connects e }
+marks_more (Takes Server n) h = record { client = λ e. e; server = λ e. reset_unless h.late (λ s. record s { took = s.took + n }) (λ s x. x) h.connects e }
 
 heard_reset : (c : Coming) (s : SideHeard) → s.reset ≡ true → (hears_more c s).reset ≡ true
 heard_reset c s e = by_end s.ended

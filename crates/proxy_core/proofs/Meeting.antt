@@ -9,7 +9,7 @@ use Rattle.core_events.specs.declared.event_kind.EventKind.TheVariants.{Comes}
 use Rattle.core_events.specs.declared.input.Input.{Input}
 use Rattle.core_events.specs.declared.input.Input.TheVariants.{Bytes, Ends, Resets, Connects, Takes}
 use Rattle.conn_trace.specs.Heard.{SideHeard, fresh_side, Heard, taken_by, side_taken}
-use Rattle.conn_trace.specs.Heard.{servers_taken, taken, hears_by, hears_more, has_made, at_last}
+use Rattle.conn_trace.specs.Heard.{servers_taken, taken, hears_by, hears_more, has_made, at_last, unless_late}
 use Rattle.conn_trace.specs.Heard.{answer, as_answer, Brought, brought_nothing, brings_in}
 use Rattle.conn_trace.specs.Heard.{event_brings, marks, event_marks, brought, hears_event, hears}
 use Rattle.conn_trace.specs.Heard.{further_of}
@@ -192,9 +192,14 @@ around_answered made h = by_made made
     by_made true = all (servers_taken h.connects ++ Some 0 ∷ []) 0 (Some fresh_side) (taken_answered cs ∙ ap (λ x. x ++ Some 0 ∷ []) (taken_keeps (hears_more nothing_comes) (hears_taken nothing_comes) h.connects)) (took_answered cs)
     by_made false = all (servers_taken h.connects) (last_took h.connects) None (taken_refused cs ∙ taken_keeps (hears_more nothing_comes) (hears_taken nothing_comes) h.connects) (took_refused cs ∙ last_keeps (hears_more nothing_comes) (hears_took nothing_comes) h.connects)
 
+-- one that is made behind the finish is the only one
+abbrev pub LateAlone : Heard → Type 0
+LateAlone h = h.late ≡ true → has_made h.connects ≡ false
+
 -- what a server takes is taken by one that was made
 abbrev pub TakesThere : Input → Heard → Type 0
-TakesThere (Takes Server n) h = has_made h.connects ≡ false → n ≡ 0
+TakesThere (Takes Server n) h = (has_made h.connects ≡ false → n ≡ 0) × LateAlone h
+TakesThere (Resets Server) h = LateAlone h
 TakesThere other h = Unit {0}
 
 counted_more : (b : Bool) (k n : ℕ) → taken_by b (k + n) ≡ option_map (λ x. x + n) (taken_by b k)
@@ -213,20 +218,36 @@ around_marked (Bytes side bytes) h t = refl
 around_marked (Ends side) h t = refl
 around_marked (Connects made) h t = refl
 around_marked (Resets Client) h t = refl
-around_marked (Resets Server) h t =
-    ap (λ x. told_by (side_taken h.client) x h.client.took (last_took (at_last reset_side h.connects))) (taken_last reset_side (λ t. None) none_at_last (λ s. refl) refl (λ t. refl) (λ t u more. refl) h.connects)
-    ∙ ap (λ x. told_by (side_taken h.client) (none_at_last (servers_taken h.connects)) h.client.took x) (last_keeps reset_side (λ s. refl) h.connects)
-around_marked (Takes Client n) h t = ap (λ x. told_by x (servers_taken h.connects) (h.client.took + n) (last_took h.connects)) (counted_more h.client.reset h.client.took n)
-around_marked (Takes Server n) h t =
-    ap (λ x. told_by (side_taken h.client) x h.client.took (last_took (at_last (took_side n) h.connects))) (taken_last (took_side n) (option_map (λ k. k + n)) (more_at_last n) (λ s. counted_more s.reset s.took n) refl (λ t. refl) (λ t u more. refl) h.connects)
-    ∙ ap (λ x. told_by (side_taken h.client) (more_at_last n (servers_taken h.connects)) h.client.took x) (server_took n h t)
+around_marked (Resets Server) h t = by_late h.late refl
   where
-    server_took : (n : ℕ) (h : Heard) → (has_made h.connects ≡ false → n ≡ 0) → last_took (at_last (took_side n) h.connects) ≡ last_took h.connects + n
-    server_took n h t = by_made (has_made h.connects) refl
+    by_late : (b : Bool) → h.late ≡ b
+        → told_by (side_taken h.client) (servers_taken (unless_late b reset_side h.connects)) h.client.took (last_took (unless_late b reset_side h.connects)) ≡ told_by (side_taken h.client) (none_at_last (servers_taken h.connects)) h.client.took (last_took h.connects)
+    by_late true e = (let n = none_made h.connects (t e) in ap (λ x. told_by (side_taken h.client) x h.client.took (last_took h.connects)) (n ∙ sym (ap none_at_last n)))
+    by_late false e =
+        ap (λ x. told_by (side_taken h.client) x h.client.took (last_took (at_last reset_side h.connects))) (taken_last reset_side (λ t. None) none_at_last (λ s. refl) refl (λ t. refl) (λ t u more. refl) h.connects)
+        ∙ ap (λ x. told_by (side_taken h.client) (none_at_last (servers_taken h.connects)) h.client.took x) (last_keeps reset_side (λ s. refl) h.connects)
+around_marked (Takes Client n) h t = ap (λ x. told_by x (servers_taken h.connects) (h.client.took + n) (last_took h.connects)) (counted_more h.client.reset h.client.took n)
+around_marked (Takes Server n) h t = by_late h.late refl
+  where
+    server_took : last_took (at_last (took_side n) h.connects) ≡ last_took h.connects + n
+    server_took = by_made (has_made h.connects) refl
       where
         by_made : (b : Bool) → has_made h.connects ≡ b → last_took (at_last (took_side n) h.connects) ≡ last_took h.connects + n
         by_made true e = last_more (took_side n) n (λ s. refl) h.connects e
-        by_made false e = let z = t e in let u = unmade (took_side n) h.connects e in let v = none_took h.connects e in omega (arith, z, u, v)
+        by_made false e = let z = t.0 e in let u = unmade (took_side n) h.connects e in let v = none_took h.connects e in omega (arith, z, u, v)
+
+    by_late : (b : Bool) → h.late ≡ b
+        → told_by (side_taken h.client) (servers_taken (unless_late b (took_side n) h.connects)) h.client.took (last_took (unless_late b (took_side n) h.connects))
+        ≡ told_by (side_taken h.client) (more_at_last n (servers_taken h.connects)) h.client.took (last_took h.connects + n)
+    by_late true e =
+        let alone = t.1 e in
+        let none = none_made h.connects alone in
+        let z = t.0 alone in
+        ap (λ x. told_by (side_taken h.client) x h.client.took (last_took h.connects)) (none ∙ sym (ap (more_at_last n) none))
+        ∙ ap (told_by (side_taken h.client) (more_at_last n (servers_taken h.connects)) h.client.took) (let k : last_took h.connects ≡ last_took h.connects + n = omega (arith, z) in k)
+    by_late false e =
+        ap (λ x. told_by (side_taken h.client) x h.client.took (last_took (at_last (took_side n) h.connects))) (taken_last (took_side n) (option_map (λ k. k + n)) (more_at_last n) (λ s. counted_more s.reset s.took n) refl (λ t. refl) (λ t u more. refl) h.connects)
+        ∙ ap (λ x. told_by (side_taken h.client) (more_at_last n (servers_taken h.connects)) h.client.took x) server_took
 
 or_false : (b : Bool) → (b || false) ≡ b
 or_false true = refl

@@ -16,6 +16,7 @@ use Rattle.proxy_core.specs.Steps.{KeepsStanding}
 use Rattle.proxy_core.specs.Moves.{MovesBy}
 use Rattle.proxy_core.specs.Refusal.{refused}
 use Rattle.proxy_core.specs.Scheduler.{State, last_took, no_connections}
+use Rattle.proxy_core.proofs.HeardServers.{late_alone}
 use Rattle.proxy_core.proofs.OneServer.{one_server}
 use Rattle.run_config.specs.declared.config.Config.{Config}
 use Rattle.proxy_core.specs.declared.core_state.Core.{Core}
@@ -66,7 +67,7 @@ took_then C past s next core new e group took piece r fine moves r' pieces each 
     let after = last_took (hears c (heard c past) v group).connects in
     let grown = grows C past v group s next moves c in
     let one' = one_server C (x ∷ past) next r'.sound.leads c in
-    let sum = server_heard c (heard c past) v group (pieces.first c) (first_made c past x one'.once) in
+    let sum = server_heard c (heard c past) v group (pieces.first c) (late_alone c past (one_server C past s r.sound.leads c).once) (first_made c past x one'.once) in
     one_more (to_server 1) before (server_in c v) after (took Server c) (piece Server c) (s.places c) grown.more (next.places c)
     (each Server c) (pieces.is Server c)
     (server_fits C past s next v group c after (one_server C past s r.sound.leads c) moves sum one'.within) sum grown.place

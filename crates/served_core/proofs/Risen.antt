@@ -8,7 +8,7 @@ use Rattle.core_events.specs.declared.event_kind.EventKind.TheVariants.{Turns, R
 use Rattle.core_events.specs.declared.input.Input.{Input}
 use Rattle.core_events.specs.declared.input.Input.TheVariants.{Bytes, Ends, Resets, Connects, Takes}
 use Rattle.core_events.specs.declared.note.Note.{Note}
-use Rattle.conn_trace.specs.Heard.{Heard, SideHeard, accepts, at_last, brings_in, brought, brought_nothing, event_brings, event_marks, has_made, hears, hears_by, hears_more, marks}
+use Rattle.conn_trace.specs.Heard.{Heard, SideHeard, accepts, at_last, brings_in, brought, brought_nothing, event_brings, event_marks, has_made, hears, hears_by, hears_more, marks, unless_late}
 use Rattle.conn_trace.specs.Further.{Coming}
 use Rattle.conn_trace.specs.Tellings.{finish_told, notes_about}
 use Rattle.proxy_core.specs.Scheduler.{last_took}
@@ -87,14 +87,19 @@ same_more n = omega arith
 plus_more : (n k : ℕ) → n ≤ n + k
 plus_more n k = omega arith
 
+unless_risen : (late : Bool) (f : SideHeard → SideHeard) → ((s : SideHeard) → s.took ≤ (f s).took) → ((s : SideHeard) → (f s).reset ≡ false → s.reset ≡ false)
+    → (cs : List (Option SideHeard)) → Risen cs (unless_late late f cs)
+unless_risen true f took reset cs = risen_same cs cs refl
+unless_risen false f took reset cs = last_risen f took reset cs
+
 marks_risen : (i : Input) (h : Heard) → Risen h.connects (marks i h).connects
 marks_risen (Bytes side bytes) h = risen_same h.connects h.connects refl
 marks_risen (Ends side) h = risen_same h.connects h.connects refl
 marks_risen (Resets Client) h = risen_same h.connects h.connects refl
-marks_risen (Resets Server) h = last_risen (λ s. record s { reset = true }) (λ s. same_more s.took) (λ s e. cc) h.connects
+marks_risen (Resets Server) h = unless_risen h.late (λ s. record s { reset = true }) (λ s. same_more s.took) (λ s e. cc) h.connects
 marks_risen (Connects made) h = risen_same h.connects h.connects refl
 marks_risen (Takes Client n) h = risen_same h.connects h.connects refl
-marks_risen (Takes Server n) h = last_risen (λ s. record s { took = s.took + n }) (λ s. plus_more s.took n) (λ s e. e) h.connects
+marks_risen (Takes Server n) h = unless_risen h.late (λ s. record s { took = s.took + n }) (λ s. plus_more s.took n) (λ s e. e) h.connects
 
 marks_by : (b : Bool) (i : Input) (h : Heard) → Risen h.connects (if b then marks i h else h).connects
 marks_by true i h = marks_risen i h

@@ -51,6 +51,7 @@ use Rattle.proxy_core.proofs.Framing.{only_changed, touches}
 use Rattle.proxy_core.proofs.GroupNotes.{About, AreDue, IsDue, settling_due}
 use Rattle.proxy_core.proofs.Fresh.{not_accepted}
 use Rattle.proxy_core.proofs.Members.{eq_same, eq_self}
+use Rattle.proxy_core.proofs.HeardServers.{late_alone}
 use Rattle.proxy_core.proofs.OneServer.{one_server}
 use Rattle.proxy_core.proofs.Promises.{every_past_matches}
 use Rattle.proxy_core.proofs.Standing.{is_served}
@@ -335,7 +336,7 @@ module _ (x : Happened) (a b : Core) (C : Config) (past : Past) (s next : State)
           let once = (one_server C (x ∷ past) next w.behind.sound.leads c).once in
           let there = queued C past s a c Server (to_write past s c Server) w.before refl some in
           server_heard c (heard c past) V x.group (λ none. absurd (nothing_left (last_took (heard c past).connects) (server_output 1 (s.places c)) _ (one.unsent none) there some))
-          (first_made c past x once)
+          (late_alone c past one.once) (first_made c past x once)
           ∙ ap (λ k. last_took (heard c past).connects + k) (ap (server_in c) e ∙ ap (λ b. if b then n else 0) (eq_self c))
 
       took_client : (n : ℕ) → V ≡ Comes c (Takes Client n) → (heard c (x ∷ past)).client.took ≡ (heard c past).client.took + n

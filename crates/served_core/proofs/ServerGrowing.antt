@@ -12,7 +12,7 @@ use Rattle.core_events.specs.declared.input.Input.{Input}
 use Rattle.core_events.specs.declared.input.Input.TheVariants.{Bytes, Ends, Resets, Connects, Takes}
 use Rattle.conn_trace.specs.Heard.{Heard, SideHeard, at_last, brings_in, brought, brought_nothing}
 use Rattle.conn_trace.specs.Heard.{event_brings, event_marks, accepts}
-use Rattle.conn_trace.specs.Heard.{fresh_side, has_made, hears, hears_more, marks}
+use Rattle.conn_trace.specs.Heard.{fresh_side, has_made, hears, hears_more, marks, unless_late}
 use Rattle.conn_trace.specs.Item.{Item, server_output}
 use Rattle.conn_trace.specs.Tellings.{finish_told, notes_about}
 use Rattle.proxy_core.specs.Moves.{MovesBy}
@@ -23,7 +23,7 @@ use Rattle.proxy_core.specs.Scheduler.{State, last_took}
 use Rattle.proxy_core.specs.Servers.{made, makes, servers_made}
 use Rattle.run_config.specs.declared.config.Config.{Config}
 use Rattle.proxy_core.proofs.HeardServers.{heard_servers}
-use Rattle.proxy_core.proofs.Meeting.{last_keeps, last_more, none_took, took_answered, took_refused}
+use Rattle.proxy_core.proofs.Meeting.{LateAlone, last_keeps, last_more, none_took, took_answered, took_refused}
 use Rattle.served_core.proofs.Growing.{come_stays, none_more, took_same}
 
 -- how many bytes more an event says that the server of connection c took
@@ -35,33 +35,41 @@ keeps : (b : Bool) (x h : Heard) → last_took x.connects ≡ last_took h.connec
 keeps true x h e = e ∙ none_more (last_took h.connects)
 keeps false x h e = none_more (last_took h.connects)
 
-adds : (b : Bool) (n : ℕ) (h : Heard) → (has_made h.connects ≡ false → (if b then n else 0) ≡ 0)
+adds : (b : Bool) (n : ℕ) (h : Heard) → (has_made h.connects ≡ false → (if b then n else 0) ≡ 0) → LateAlone h
     → last_took (if b then marks (Takes Server n) h else h).connects ≡ last_took h.connects + (if b then n else 0)
-adds false n h none = none_more (last_took h.connects)
-adds true n h none = by_made (has_made h.connects) refl
+adds false n h none alone = none_more (last_took h.connects)
+adds true n h none alone = by_late h.late refl
   where
-    by_made : (m : Bool) → has_made h.connects ≡ m → last_took (marks (Takes Server n) h).connects ≡ last_took h.connects + n
-    by_made true e = last_more (λ s. record s { took = s.took + n }) n (λ s. refl) h.connects e
-    by_made false e =
+    taken_by : (m : Bool) → has_made h.connects ≡ m → last_took (at_last (λ s. record s { took = s.took + n }) h.connects) ≡ last_took h.connects + n
+    taken_by true e = last_more (λ s. record s { took = s.took + n }) n (λ s. refl) h.connects e
+    taken_by false e =
         let zero_more : n ≡ 0 = none e in
-        let P : ℕ → Type 0 = λ k. last_took (marks (Takes Server k) h).connects ≡ last_took h.connects + k in
+        let P : ℕ → Type 0 = λ k. last_took (at_last (λ s. record s { took = s.took + k }) h.connects) ≡ last_took h.connects + k in
         subst P (sym zero_more) (last_keeps (λ s. record s { took = s.took + 0 }) (λ s. sym (none_more s.took)) h.connects ∙ none_more (last_took h.connects))
 
-marked : (c : ℕ) (v : EventKind) (h : Heard) → (has_made h.connects ≡ false → server_in c v ≡ 0)
+    by_late : (b : Bool) → h.late ≡ b → last_took (unless_late b (λ s. record s { took = s.took + n }) h.connects) ≡ last_took h.connects + n
+    by_late true e = let z = none (alone e) in omega (arith, z)
+    by_late false e = taken_by (has_made h.connects) refl
+
+kept_unless : (late : Bool) (f : SideHeard → SideHeard) → ((s : SideHeard) → (f s).took ≡ s.took) → (cs : List (Option SideHeard)) → last_took (unless_late late f cs) ≡ last_took cs
+kept_unless true f same cs = refl
+kept_unless false f same cs = last_keeps f same cs
+
+marked : (c : ℕ) (v : EventKind) (h : Heard) → (has_made h.connects ≡ false → server_in c v ≡ 0) → LateAlone h
     → last_took (event_marks c v h).connects ≡ last_took h.connects + server_in c v
-marked c (Accepts d vs from) h none = keeps (nat_eq d c) (accepts vs from h) h refl
-marked c (Comes d (Bytes side bytes)) h none = keeps (nat_eq d c) (marks (Bytes side bytes) h) h refl
-marked c (Comes d (Ends side)) h none = keeps (nat_eq d c) (marks (Ends side) h) h refl
-marked c (Comes d (Resets Client)) h none = keeps (nat_eq d c) (marks (Resets Client) h) h refl
-marked c (Comes d (Resets Server)) h none =
-    keeps (nat_eq d c) (marks (Resets Server) h) h (last_keeps (λ s. record s { reset = true }) (λ s. refl) h.connects)
-marked c (Comes d (Connects answer)) h none = keeps (nat_eq d c) (marks (Connects answer) h) h refl
-marked c (Comes d (Takes Client n)) h none = keeps (nat_eq d c) (marks (Takes Client n) h) h refl
-marked c (Comes d (Takes Server n)) h none = adds (nat_eq d c) n h none
-marked c (Ticks moment) h none = none_more (last_took h.connects)
-marked c Turns h none = none_more (last_took h.connects)
-marked c Runs h none = none_more (last_took h.connects)
-marked c (Marks pool member up) h none = none_more (last_took h.connects)
+marked c (Accepts d vs from) h none alone = keeps (nat_eq d c) (accepts vs from h) h refl
+marked c (Comes d (Bytes side bytes)) h none alone = keeps (nat_eq d c) (marks (Bytes side bytes) h) h refl
+marked c (Comes d (Ends side)) h none alone = keeps (nat_eq d c) (marks (Ends side) h) h refl
+marked c (Comes d (Resets Client)) h none alone = keeps (nat_eq d c) (marks (Resets Client) h) h refl
+marked c (Comes d (Resets Server)) h none alone =
+    keeps (nat_eq d c) (marks (Resets Server) h) h (kept_unless h.late (λ s. record s { reset = true }) (λ s. refl) h.connects)
+marked c (Comes d (Connects answer)) h none alone = keeps (nat_eq d c) (marks (Connects answer) h) h refl
+marked c (Comes d (Takes Client n)) h none alone = keeps (nat_eq d c) (marks (Takes Client n) h) h refl
+marked c (Comes d (Takes Server n)) h none alone = adds (nat_eq d c) n h none alone
+marked c (Ticks moment) h none alone = none_more (last_took h.connects)
+marked c Turns h none alone = none_more (last_took h.connects)
+marked c Runs h none alone = none_more (last_took h.connects)
+marked c (Marks pool member up) h none alone = none_more (last_took h.connects)
 
 -- no answer to a connect, that there is no connection, or the first one that is made
 abbrev NewOne : List (Option SideHeard) → List (Option SideHeard) → Type 0
@@ -110,12 +118,12 @@ group_new : (c : ℕ) (v : EventKind) (h : Heard) → FirstMade c v h → (b : B
 group_new c v h first true = inl refl
 group_new c v h first false = event_new c v h first
 
-pub server_heard : (c : ℕ) (h : Heard) (v : EventKind) (group : List Note) → (has_made h.connects ≡ false → server_in c v ≡ 0) → FirstMade c v h
+pub server_heard : (c : ℕ) (h : Heard) (v : EventKind) (group : List Note) → (has_made h.connects ≡ false → server_in c v ≡ 0) → LateAlone h → FirstMade c v h
     → last_took (hears c h v group).connects ≡ last_took h.connects + server_in c v
-server_heard c h v group none first =
+server_heard c h v group none alone first =
     let b = brought c h v group in
     kept_by (hears_more b.server) (λ s. took_same s.ended b.server s) (event_marks c v h).connects b.connects
-    (group_new c v h first (h.finished || finish_told (notes_about c group))) ∙ marked c v h none
+    (group_new c v h first (h.finished || finish_told (notes_about c group))) ∙ marked c v h none alone
 
 none_has : (cs : List (Option SideHeard)) → made cs ≤ 0 → has_made cs ≡ false
 none_has [] few = refl
