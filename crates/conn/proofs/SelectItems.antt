@@ -112,16 +112,12 @@ module _ (g : Setup) (k : Link) (h : HostState) (l : TraceState) where
   connecting_item a s = next_in g (Connecting a) h k l s
 
   -- the connection was made
-  pub made_item : (a : Addr) (s' : Stream) → h.http ≡ None → StandsIn (Answering a) h k l → l.answers.connects ≡ Some s' ∷ []
-      → next_item g l ≡ Does (Answered true) (record (put (enter g ServerConnected Up h) (with_connects [] (record l { server = There s' }))) { sent = sent_after (Answered true) l.sent })
-  made_item a s' plain s came =
+  pub made_item : (a : Addr) (s' : Stream) → StandsIn (Answering a) h k l → l.answers.connects ≡ Some s' ∷ []
+      → next_item g l ≡ Does (Answered true) (record (put (enter g ServerConnected Up (serving h)) (with_connects [] (record l { server = There s' }))) { sent = sent_after (Answered true) l.sent })
+  made_item a s' s came =
       next_in g (Answering a) h k l s
       ∙ ap (λ cs. counted l.sent (answering_next g l cs)) came
       ∙ ap (λ x. Does (Answered true) (record (put (enter g ServerConnected Up (serving x)) (with_connects [] (record l { server = There s' }))) { sent = sent_after (Answered true) l.sent })) s.host
-      ∙ ap (λ x. Does (Answered true) (record (put (enter g ServerConnected Up x) (with_connects [] (record l { server = There s' }))) { sent = sent_after (Answered true) l.sent })) (serves_none plain)
-    where
-      serves_none : h.http ≡ None → serving h ≡ h
-      serves_none e = ap (λ o. record h { http = option_map (served_by (chosen h)) o }) e ∙ ap (λ o. record h { http = o }) (sym e)
 
   -- or refused
   pub refused_item : (a : Addr) → StandsIn (Answering a) h k l → l.answers.connects ≡ None ∷ []

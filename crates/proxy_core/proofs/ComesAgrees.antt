@@ -77,7 +77,7 @@ stood_of C past s c v = record {
   stands = v.stands;
   orderly = stands_orderly C c (seen past s c) v;
   finished = λ found. trace_finished C c (seen past s c) v (heard_finish c past) found;
-  own = v.own;
+  within = v.within;
   linked = v.linked;
 }
 

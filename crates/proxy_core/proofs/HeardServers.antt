@@ -15,12 +15,12 @@ use Rattle.core_events.specs.Kinds.{kind_of}
 use Rattle.record_model.specs.Past.{Past, heard}
 use Rattle.proxy_core.specs.Servers.{made, makes, servers_made}
 
-last_made : (f : SideHeard → SideHeard) (cs : List (Option SideHeard)) → made (at_last f cs) ≡ made cs
+pub last_made : (f : SideHeard → SideHeard) (cs : List (Option SideHeard)) → made (at_last f cs) ≡ made cs
 last_made f [] = refl
 last_made f (None ∷ more) = last_made f more
 last_made f (Some s ∷ more) = ap suc (last_made f more)
 
-joined_made : (cs ds : List (Option SideHeard)) → made (cs ++ ds) ≡ made cs + made ds
+pub joined_made : (cs ds : List (Option SideHeard)) → made (cs ++ ds) ≡ made cs + made ds
 joined_made [] ds = omega arith
 joined_made (None ∷ more) ds = joined_made more ds
 joined_made (Some s ∷ more) ds = let k = joined_made more ds in omega (arith, k)

@@ -13,6 +13,7 @@ pub mod Hearing
 pub mod Meeting
 pub mod CameAt
 pub mod Coming
+pub mod QueuesCame
 pub mod CameOn
 pub mod RunOn
 pub mod TurnOn
@@ -25,17 +26,17 @@ pub mod Overs
 pub mod Drains
 pub mod Finished
 pub mod ServerGone
+pub mod ServerSends
 pub mod ServerPhases
 pub mod ServerSteps
 pub mod ServerLaws
 pub mod ServerCounts
 pub mod Linking
-pub mod OwnItems
 pub mod LinkedComes
 pub mod AllServers
 pub mod ServerLeft
-pub mod PlainServers
-pub mod PlainRuns
+pub mod ServerQueues
+pub mod RunNotes
 pub mod Licensing
 pub mod SoundAccepts
 pub mod SoundComes
@@ -48,7 +49,7 @@ pub mod Answering
 pub mod DueFits
 pub mod Fitting
 pub mod HeardServers
-pub mod OneServer
+pub mod Numbered
 pub mod Promises
 pub mod Ordering
 pub mod BodyPlaces

@@ -157,7 +157,7 @@ hears_took c s = by_end s.ended
     by_end true = refl
     by_end false = refl
 
-abbrev heard_connects : Brought → Heard → List (Option SideHeard)
+abbrev pub heard_connects : Brought → Heard → List (Option SideHeard)
 heard_connects b h = at_last (hears_more b.server) h.connects ++ b.connects
 
 -- what is brought, beside answers, changes nothing of it
@@ -233,12 +233,12 @@ or_false true = refl
 or_false false = refl
 
 -- what it brings, where its notes don't finish it
-brought_is : (c : ℕ) (h : Heard) (input : Input) (group : List Note) → finish_told (notes_about c group) ≡ false → brought c h (Comes c input) group ≡ (if h.finished then brought_nothing else brings_in input)
+pub brought_is : (c : ℕ) (h : Heard) (input : Input) (group : List Note) → finish_told (notes_about c group) ≡ false → brought c h (Comes c input) group ≡ (if h.finished then brought_nothing else brings_in input)
 brought_is c h input group none =
     ap (λ b. if h.finished || b then brought_nothing else event_brings c (Comes c input)) none ∙ ap (λ b. if b then brought_nothing else event_brings c (Comes c input)) (or_false h.finished)
     ∙ ap (λ b. if h.finished then brought_nothing else (if b then brings_in input else brought_nothing)) (eq_self c)
 
-marked_is : (c : ℕ) (h : Heard) (input : Input) → event_marks c (Comes c input) h ≡ marks input h
+pub marked_is : (c : ℕ) (h : Heard) (input : Input) → event_marks c (Comes c input) h ≡ marks input h
 marked_is c h input = ap (λ b. if b then marks input h else h) (eq_self c)
 
 abbrev around_after : Brought → Heard → Around
@@ -341,15 +341,15 @@ come_told c h input group =
 -- ---- what waits for the sides
 
 -- how many bytes more a side took by it
-abbrev took_client : Input → ℕ
+abbrev pub took_client : Input → ℕ
 took_client (Takes Client n) = n
 took_client other = 0
 
-abbrev took_server : Input → ℕ
+abbrev pub took_server : Input → ℕ
 took_server (Takes Server n) = n
 took_server other = 0
 
-client_counted : (i : Input) (finished : Bool) (a : Around) → (met_by i finished a).counted ≡ a.counted + took_client i
+pub client_counted : (i : Input) (finished : Bool) (a : Around) → (met_by i finished a).counted ≡ a.counted + took_client i
 client_counted (Bytes side bytes) f a = omega arith
 client_counted (Ends side) f a = omega arith
 client_counted (Resets Client) f a = omega arith
@@ -360,27 +360,11 @@ client_counted (Connects made) true a = omega arith
 client_counted (Connects true) false a = omega arith
 client_counted (Connects false) false a = omega arith
 
-heard_queued : (b : Bool) (c : Coming) (e : End) → (heard_by b c e).queued ≡ e.queued
+pub heard_queued : (b : Bool) (c : Coming) (e : End) → (heard_by b c e).queued ≡ e.queued
 heard_queued true c e = refl
 heard_queued false c e = refl
 
--- an answer comes where none was made before
-abbrev pub AnswersFirst : Input → Around → Type 0
-AnswersFirst (Connects made) a = a.counted_server ≡ 0
-AnswersFirst other a = Unit {0}
-
-server_counted : (i : Input) (finished : Bool) (a : Around) → AnswersFirst i a → (met_by i finished a).counted_server ≡ a.counted_server + took_server i
-server_counted (Bytes side bytes) f a z = omega arith
-server_counted (Ends side) f a z = omega arith
-server_counted (Resets Client) f a z = omega arith
-server_counted (Resets Server) f a z = omega arith
-server_counted (Takes Client n) f a z = omega arith
-server_counted (Takes Server n) f a z = refl
-server_counted (Connects made) true a z = omega arith
-server_counted (Connects true) false a z = omega (arith, z)
-server_counted (Connects false) false a z = omega arith
-
-client_queued : (i : Input) (finished : Bool) (e : BothEnds) → (ends_met i finished e).client.queued ≡ drop (took_client i) e.client.queued
+pub client_queued : (i : Input) (finished : Bool) (e : BothEnds) → (ends_met i finished e).client.queued ≡ drop (took_client i) e.client.queued
 client_queued (Bytes Client bytes) true e = refl
 client_queued (Bytes Client bytes) false e = heard_queued e.client.ended _ e.client
 client_queued (Bytes Server bytes) true e = refl
@@ -403,7 +387,7 @@ client_queued (Takes Client n) f e = refl
 client_queued (Takes Server n) f e = refl
 client_queued (Connects made) f e = refl
 
-server_queued : (i : Input) (finished : Bool) (e : BothEnds) → (ends_met i finished e).server.queued ≡ drop (took_server i) e.server.queued
+pub server_queued : (i : Input) (finished : Bool) (e : BothEnds) → (ends_met i finished e).server.queued ≡ drop (took_server i) e.server.queued
 server_queued (Bytes Client bytes) true e = refl
 server_queued (Bytes Client bytes) false e = refl
 server_queued (Bytes Server bytes) true e = refl
@@ -430,7 +414,7 @@ server_queued (Takes Client n) f e = refl
 server_queued (Takes Server n) f e = refl
 server_queued (Connects made) f e = refl
 
-ends_lost : (i : Input) (finished : Bool) (e : BothEnds) → (ends_met i finished e).lost ≡ e.lost
+pub ends_lost : (i : Input) (finished : Bool) (e : BothEnds) → (ends_met i finished e).lost ≡ e.lost
 ends_lost (Bytes Client bytes) true e = refl
 ends_lost (Bytes Client bytes) false e = refl
 ends_lost (Bytes Server bytes) true e = refl
@@ -452,15 +436,6 @@ ends_lost (Resets Server) f e = refl
 ends_lost (Takes Client n) f e = refl
 ends_lost (Takes Server n) f e = refl
 ends_lost (Connects made) f e = refl
-
-pub queues_met : (h h' : Heard) (i : Input) (finished : Bool) (place : List Item) (e : BothEnds) → around h' ≡ met_by i finished (around h) → AnswersFirst i (around h) → HoldsQueues h place e → HoldsQueues h' place (ends_met i finished e)
-queues_met h h' i f place e is first q = record {
-  client = client_queued i f e ∙ ap (drop (took_client i)) q.client ∙ drop-drop (took_client i) h.client.took (client_output place)
-      ∙ ap (λ n. drop n (client_output place)) (sym (ap (λ x. x.counted) is ∙ client_counted i f (around h)));
-  server = server_queued i f e ∙ ap (drop (took_server i)) q.server ∙ drop-drop (took_server i) (last_took h.connects) (server_output 1 place)
-      ∙ ap (λ n. drop n (server_output 1 place)) (sym (ap (λ x. x.counted_server) is ∙ server_counted i f (around h) first));
-  lost = ends_lost i f e ∙ q.lost;
-}
 
 -- an event that neither brings nor marks anything leaves what was told
 pub around_quiet : (c : ℕ) (h : Heard) (v : EventKind) (group : List Note) → event_marks c v h ≡ h → event_brings c v ≡ brought_nothing → around (hears c h v group) ≡ around h
