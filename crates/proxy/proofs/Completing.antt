@@ -5,8 +5,9 @@ use Rattle.run_config.specs.declared.config.Config as core
 use Rattle.proxy.specs.declared.end.End.{End}
 use Rattle.proxy.specs.declared.end.End.TheVariants.{Done, Usage, Config, Schedule, ReadFault}
 use Rattle.proxy.specs.declared.end.End.TheVariants.{WriteFault, Memory, Differs}
-use Rattle.proxy.specs.Command.{Command, Checks as Checking, Explains as Explaining}
+use Rattle.proxy.specs.Command.{Command, Checks as Checking, Explains as Explaining, Migrates as Migrating}
 use Rattle.proxy.specs.Complete.{Completes, IsRefused, MayLoad, MayMirror, MayReplay, MayReport, MayTell}
+use Rattle.proxy.specs.Migrating.{MigratesFile}
 use Rattle.proxy.specs.Mirroring.{IsMirror, MirrorsFiles, MirrorsTo, OfMoments, outcome_end, outcome_text}
 use Rattle.proxy.specs.Offline.{ChecksFile, ExplainsFile, IsNotBuilt, IsRefusal, OfCommand, Offline, ReplaysFiles, Runs}
 use Rattle.proxy.specs.Says.{TellsFault}
@@ -63,6 +64,16 @@ module _ (words : List (List ℕ)) (told : List ℕ → Option (List ℕ)) (old 
   explains WriteFault m k = absurd (m.no_write_fault k.0)
   explains Memory m k = inr refl
   explains Differs m k = absurd k
+
+  migrates : (end : End) (m : MayTell Migrating words told rb rn b n) → MigratesFile m.name told old new rb rn b n end → (end ≡ Done) ⊎ (end ≡ Memory)
+  migrates Done m k = inl refl
+  migrates Usage m k = absurd k
+  migrates Config m k = absurd (loads_rightly told rb rn m.name m.C m.loads k.0 k.1)
+  migrates Schedule m k = absurd k
+  migrates ReadFault m k = absurd (m.no_read_fault k.0)
+  migrates WriteFault m k = absurd (m.no_write_fault k.0)
+  migrates Memory m k = inr refl
+  migrates Differs m k = absurd k
 
   no_fault : (m : MayReport words told rb rn b n) (record_text text : List ℕ) → IsContents told m.name record_text → FaultsRecord record_text text → ⊥
   no_fault m record_text text contents f =
@@ -139,4 +150,4 @@ module _ (words : List (List ℕ)) (told : List ℕ → Option (List ℕ)) (old 
   pub completes : (end : End) → Offline words told old new rb rn b n end → Completes words told old new rb rn b n end
   completes end k =
       let P : Option Command → Type 0 = λ o. OfCommand o told old new rb rn b n end in
-      record { check = λ m. checks end m (subst P m.command k); explain = λ m. explains end m (subst P m.command k); report = λ m. reports end m (subst P m.command k); mirror = λ m. mirrors end m (subst P m.command k); replay = λ m. replays end m (subst P m.command k) }
+      record { check = λ m. checks end m (subst P m.command k); explain = λ m. explains end m (subst P m.command k); migrate = λ m. migrates end m (subst P m.command k); report = λ m. reports end m (subst P m.command k); mirror = λ m. mirrors end m (subst P m.command k); replay = λ m. replays end m (subst P m.command k) }

@@ -14,7 +14,8 @@ pub mod OneRun
 pub mod Building
 pub mod Ends
 pub mod Recordings
-pub mod Mirrors
+pub mod Migrations
+mod Mirrors
 pub mod Stopping
 pub mod LineStops
 pub mod ScheduleStops

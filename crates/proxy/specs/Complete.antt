@@ -17,7 +17,7 @@ use Rattle.proxy.specs.declared.end.End.{End}
 use Rattle.proxy.specs.declared.end.End.TheVariants.{Done, Schedule, Memory}
 use Rattle.journal_value.specs.Journal.{AllFit, IsJournal}
 use Rattle.journal_value.specs.declared.journal.JournalLine.{JournalLine}
-use Rattle.proxy.specs.Command.{Command, Checks, Explains, Mirrors, MirrorNames, Replays, Reports, Named, command_of}
+use Rattle.proxy.specs.Command.{Command, Checks, Explains, Migrates, Mirrors, MirrorNames, Replays, Reports, Named, command_of}
 use Rattle.proxy.specs.Lines.{IsEnd, Reads}
 use Rattle.proxy.specs.Mirroring.{outcome_end, outcome_text}
 use Rattle.proxy.specs.Offline.{Runs}
@@ -43,7 +43,7 @@ pub record MayLoad (told : List ℕ → Option (List ℕ)) (name : List ℕ) (C 
   pub texts : AreTold told (items_at rules top)
   pub configures : Configures told top C
 
--- ---- `check CONFIG` and `explain CONFIG`
+-- ---- `check CONFIG`, `explain CONFIG` and `migrate CONFIG`
 
 -- the command is asked of a configuration that loads, and no count rose
 pub record MayTell (asked : List ℕ → Command) (words : List (List ℕ))
@@ -122,7 +122,7 @@ abbrev pub IsRefused : (List ℕ → Option (List ℕ)) → Named → List ℕ �
 IsRefused told named schedule old new =
     (K : core.Config) × Runs told named K schedule × MeetsRefusal K schedule old new
 
--- Then a check, an explanation or a report is done, or memory was refused; a mirror tells what its plan comes to, or memory
+-- Then a check, an explanation, a migration or a report is done, or memory was refused; a mirror tells what its plan comes to, or memory
 -- was refused; a replay is done, or an event is refused at its place, or memory was refused.
 pub record Completes (words : List (List ℕ)) (told : List ℕ → Option (List ℕ))
     (old new : Option (List ℕ)) (reads_before reads_now before now : ℕ) (end : End)
@@ -130,6 +130,8 @@ pub record Completes (words : List (List ℕ)) (told : List ℕ → Option (List
   pub check : MayTell Checks words told reads_before reads_now before now
       → (end ≡ Done) ⊎ (end ≡ Memory)
   pub explain : MayTell Explains words told reads_before reads_now before now
+      → (end ≡ Done) ⊎ (end ≡ Memory)
+  pub migrate : MayTell Migrates words told reads_before reads_now before now
       → (end ≡ Done) ⊎ (end ≡ Memory)
   pub report : MayReport words told reads_before reads_now before now
       → (end ≡ Done) ⊎ (end ≡ Memory)

@@ -14,6 +14,7 @@ pub mod Runnable
 pub mod Says
 pub mod Explain
 pub mod Complete
+pub mod Migrating
 pub mod Mirroring
 pub mod Offline
 pub mod Serving

@@ -16,10 +16,11 @@ use Rattle.proxy.specs.declared.end.End.TheVariants.{Done, Usage, Config, Schedu
 use Rattle.proxy.specs.declared.end.End.TheVariants.{WriteFault, Memory, Differs}
 use Rattle.proxy.specs.Command.{Command, Checks as Checking, Explains as Explaining}
 use Rattle.proxy.specs.Command.{Replays as Replaying, Named}
-use Rattle.proxy.specs.Command.{Reports as Reporting, Mirrors as Mirroring}
+use Rattle.proxy.specs.Command.{Reports as Reporting, Migrates as Migrating, Mirrors as Mirroring}
 use Rattle.proxy.specs.Command.{command_of}
 use Rattle.proxy.specs.Explain.{explanation, loads_text}
 use Rattle.proxy.specs.Loads.{Loads, LoadsSome, IsFaulty, IsUnread}
+use Rattle.proxy.specs.Migrating.{MigratesFile}
 use Rattle.proxy.specs.Mirroring.{MirrorsFiles}
 use Rattle.proxy.specs.Recorded.{ReportsFile}
 use Rattle.proxy.specs.Report.{config_fault, ok_text, usage_fault}
@@ -177,6 +178,8 @@ OfCommand (Some (Checking name)) told old new reads_before reads_now before now 
     ChecksFile name told old new reads_before reads_now before now end
 OfCommand (Some (Explaining name)) told old new reads_before reads_now before now end =
     ExplainsFile name told old new reads_before reads_now before now end
+OfCommand (Some (Migrating name)) told old new reads_before reads_now before now end =
+    MigratesFile name told old new reads_before reads_now before now end
 OfCommand (Some (Reporting name)) told old new reads_before reads_now before now end =
     ReportsFile name told old new reads_before reads_now before now end
 OfCommand (Some (Replaying named)) told old new reads_before reads_now before now end =

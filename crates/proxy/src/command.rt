@@ -27,6 +27,8 @@ pub enum Command<'a> {
     Check(&'a [u8]),
     /// Says why it doesn't, for a reader.
     Explain(&'a [u8]),
+    /// Writes it in version 2.
+    Migrate(&'a [u8]),
     /// Says what the virtual servers of a record had.
     Report(&'a [u8]),
     Replay(Replay<'a>),
@@ -35,7 +37,8 @@ pub enum Command<'a> {
 }
 
 /// The command that the words are; None exactly where they are none of `check CONFIG`, `explain
-/// CONFIG`, `report RECORD`, `replay CONFIG SCHEDULE` and `mirror CONFIG RECORD PLAN`.
+/// CONFIG`, `migrate CONFIG`, `report RECORD`, `replay CONFIG SCHEDULE` and `mirror CONFIG RECORD
+/// PLAN`.
 pub fn command_of(words: &Texts) -> Option<Command<'_>>
     ensures { option_map command_view result ≡ command_of words.now }
 {
@@ -45,6 +48,9 @@ pub fn command_of(words: &Texts) -> Option<Command<'_>>
         }
         [command, config] if command.as_bytes() == b"explain".as_slice() && is_name(config) => {
             Some(Command::Explain(config.as_bytes()))
+        }
+        [command, config] if command.as_bytes() == b"migrate".as_slice() && is_name(config) => {
+            Some(Command::Migrate(config.as_bytes()))
         }
         [command, record] if command.as_bytes() == b"report".as_slice() && is_name(record) => {
             Some(Command::Report(record.as_bytes()))

@@ -10,6 +10,7 @@ mod finish;
 mod interim_rules;
 mod laws;
 mod lines;
+mod migrate_command;
 mod mirror_command;
 mod offline_commands;
 mod outcome;

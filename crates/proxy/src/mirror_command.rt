@@ -186,8 +186,8 @@ fn stop_line(alloc: Global, line: u64, stop: MirrorStop) -> M<Text>
     }
 }
 
-// Says a text that was made, and ends so.
-fn tell_made<K: Sink>(usual: End, text: M<Text>, out: &mut K) -> End
+/// Says a text that was made, and ends so.
+pub fn tell_made<K: Sink>(usual: End, text: M<Text>, out: &mut K) -> End
     ensures { TellsMade text usual (K.written out.old) (K.written out.new) (K.faults out.old)
         (K.faults out.new) result }
 {

@@ -13,6 +13,7 @@ ghost use Rattle.proxy.specs.declared.end.End.TheVariants.{Config};
 use crate::command::{Command, Replay, command_of};
 use crate::end::{End, Status};
 use crate::explain_command::explain;
+use crate::migrate_command::migrate;
 use crate::mirror_command::mirror;
 use crate::report::{config_fault_line, ok_line, usage_fault_line};
 use crate::report_command::report;
@@ -50,6 +51,7 @@ fn run<F: Files, K: Sink>(alloc: Global, words: &Texts, files: &mut F, out: &mut
     match command_of(words) {
         Some(Command::Check(name)) => check(alloc, name, files, out),
         Some(Command::Explain(name)) => explain(alloc, name, files, out),
+        Some(Command::Migrate(name)) => migrate(alloc, name, files, out),
         Some(Command::Report(name)) => report(alloc, name, files, out),
         Some(Command::Replay(named)) => replay_files(alloc, named, files, out),
         Some(Command::Mirror(named)) => mirror(alloc, named, files, out),
