@@ -1,0 +1,4 @@
+pub mod Runs
+pub mod Sources
+pub mod Tests
+pub mod Words
